@@ -1,0 +1,97 @@
+-- What the words of `IndexSet` say of its keys as a list, where `==` at the keys tells exactly whether they are equal.
+use Rattle.std.proofs.Common.{◌≡◌, ℕ, ◌<◌, ◌+◌, Bool, true, false, cond, not, ◌||◌, List, [], ◌∷◌, ◌++◌, length, get_or, take, Contains, refl, sym, ap, subst, ◌∙◌, true≢false, arith, Result, Ok, Err, IfOk, OnErr, MatchResult, if◌then◌else◌, suc, zero}
+use Rattle.std.specs.Bool.{Decides}
+use Rattle.std.specs.List.{list_any, IsDistinct}
+use Rattle.std.specs.Result.{IsErrAnd}
+use Rattle.std.proofs.lemmas.List.Elements.{All-from_recursion, All-contains, Contains-get_or}
+use Rattle.std.proofs.lemmas.List.{take_more}
+use Rattle.std.proofs.lemmas.Map.Keys.{IsDistinct-head, IsDistinct-tail}
+use Rattle.indexmap.specs.IndexSet.{insert_key, remove_key}
+use Rattle.enf_value.specs.Decided.{list_any-Decides}
+use Rattle.enf_value.specs.Membership.{HasNoRepeats, Inserts, TakesOut, Removes}
+
+-- two facts of what is in an `Ok`
+pub ok_both : {T E : Type 0} (r : Result T E) (P Q R : T → Type 0) → IfOk r P → IfOk r Q → ((x : T) → P x → Q x → R x) → IfOk r R
+ok_both (Ok x) P Q R p q f = f x p q
+ok_both (Err e) P Q R p q f = tt
+
+-- what an `Ok` says stands when the error alone is changed
+pub ok_through : {T E F : Type 0} (P : T → Type 0) (Q : E → F → Type 0) (r : Result T E) (s : Result T F) → MatchResult r (λ x. s ≡ Ok x) (λ e. IsErrAnd s (Q e)) → IfOk r P → IfOk s P
+ok_through P Q (Ok x) s is p = subst (λ t. IfOk t P) (sym is) p
+ok_through P Q (Err e) (Ok y) is p = absurd is
+ok_through P Q (Err e) (Err f) is p = tt
+
+-- and so does what an error says
+pub err_through : {T E F : Type 0} (P : Type 0) (Q : E → F → Type 0) (r : Result T E) (s : Result T F) → MatchResult r (λ x. s ≡ Ok x) (λ e. IsErrAnd s (Q e)) → OnErr r P → OnErr s P
+err_through P Q (Ok x) s is p = subst (λ t. OnErr t P) (sym is) tt
+err_through P Q (Err e) (Ok y) is p = absurd is
+err_through P Q (Err e) (Err f) is p = p
+
+module _ {K : Type 0} (eq : K → K → Bool) (decides : (x y : K) → Decides (eq x y) (x ≡ y)) where
+  pub no_Contains : (ks : List K) (k : K) → list_any (eq k) ks ≡ false → Contains ks k → ⊥
+  no_Contains ks k none there = true≢false (sym ((list_any-Decides eq decides ks k).1 there) ∙ none)
+
+  -- keys that are distinct by `==` do not repeat
+  pub HasNoRepeats-from_distinct : (ks : List K) → IsDistinct eq ks → HasNoRepeats ks
+  HasNoRepeats-from_distinct [] d = tt
+  HasNoRepeats-from_distinct (x ∷ xs) d = (
+    λ there. true≢false (sym ((decides x x).1 refl) ∙ All-contains (λ y. eq x y ≡ false) xs x (All-from_recursion (λ y. eq x y ≡ false) xs (IsDistinct-head eq x xs d)) there),
+    HasNoRepeats-from_distinct xs (IsDistinct-tail eq x xs d),
+  )
+
+  -- what an insertion does to the keys
+  pub Inserts-insert_key : (ks after : List K) (k : K) (new : Bool) → new ≡ not (list_any (eq k) ks) → after ≡ insert_key eq ks k → Inserts k ks new after
+  Inserts-insert_key ks after k new added is = by (list_any (eq k) ks) refl
+    where
+      by : (b : Bool) → list_any (eq k) ks ≡ b → Inserts k ks new after
+      by true e = record {
+        absent = λ t. absurd (true≢false (sym t ∙ added ∙ ap not e));
+        present = λ f. ((list_any-Decides eq decides ks k).0 e, is ∙ ap (λ c. if c then ks else ks ++ k ∷ []) e);
+      }
+      by false e = record {
+        absent = λ t. (no_Contains ks k e, is ∙ ap (λ c. if c then ks else ks ++ k ∷ []) e);
+        present = λ f. absurd (true≢false (sym (added ∙ ap not e) ∙ f));
+      }
+
+  takes_out : (ks : List K) (k : K) → list_any (eq k) ks ≡ true → TakesOut k ks (remove_key (eq k) ks)
+  takes_out [] k h = absurd (true≢false (sym h))
+  takes_out (x ∷ xs) k h = by (eq k x) refl (λ e. takes_out xs k (sym (ap (λ c. c || list_any (eq k) xs) e) ∙ h))
+    where
+      by : (b : Bool) → eq k x ≡ b → (eq k x ≡ false → TakesOut k xs (remove_key (eq k) xs)) → TakesOut k (x ∷ xs) (cond b xs (x ∷ remove_key (eq k) xs))
+      by true e rest = record { front = []; back = xs; was = ap (λ y. y ∷ xs) (sym ((decides k x).0 e)); is = refl }
+      by false e rest =
+          let r = rest e in
+          record { front = x ∷ r.front; back = r.back; was = ap (λ l. x ∷ l) r.was; is = ap (λ l. x ∷ l) r.is }
+
+  leaves : (ks : List K) (k : K) → list_any (eq k) ks ≡ false → remove_key (eq k) ks ≡ ks
+  leaves [] k h = refl
+  leaves (x ∷ xs) k h = by (eq k x) refl (λ e. leaves xs k (sym (ap (λ c. c || list_any (eq k) xs) e) ∙ h))
+    where
+      by : (b : Bool) → eq k x ≡ b → (eq k x ≡ false → remove_key (eq k) xs ≡ xs) → cond b xs (x ∷ remove_key (eq k) xs) ≡ x ∷ xs
+      by true e rest = absurd (true≢false (sym (ap (λ c. c || list_any (eq k) xs) e) ∙ h))
+      by false e rest = ap (λ l. x ∷ l) (rest e)
+
+  -- what a removal does to the keys
+  pub Removes-remove_key : (ks after : List K) (k : K) (found : Bool) → found ≡ list_any (eq k) ks → after ≡ remove_key (eq k) ks → Removes k ks found after
+  Removes-remove_key ks after k found seen is = record {
+    present = λ t. subst (TakesOut k ks) (sym is) (takes_out ks k (sym seen ∙ t));
+    absent = λ f. (no_Contains ks k (sym seen ∙ f), is ∙ leaves ks k (sym seen ∙ f));
+  }
+
+-- an item of a list without repeats is not among those before it
+pub not_before : {X : Type 0} (xs : List X) (i : ℕ) (d : X) → HasNoRepeats xs → i < length xs → Contains (take i xs) (get_or xs i d) → ⊥
+not_before [] i d distinct inside there = absurd (omega arith)
+not_before (x ∷ xs) zero d distinct inside there = absurd (omega (arith, there.1))
+not_before (x ∷ xs) (suc i) d distinct inside there =
+    by there.0 there.1 there.2 (omega arith) (not_before xs i d distinct.1 (omega arith))
+  where
+    by : (k : ℕ) → k < length (take (suc i) (x ∷ xs)) → get_or (take (suc i) (x ∷ xs)) k (get_or xs i d) ≡ get_or xs i d → i < length xs → (Contains (take i xs) (get_or xs i d) → ⊥) → ⊥
+    by zero l e within rest = distinct.0 (subst (Contains xs) (sym e) (Contains-get_or xs i d within))
+    by (suc k) l e within rest = rest (k, omega (arith, l), e)
+
+-- so an insertion of it puts it last
+pub after_insert : {X : Type 0} (xs before after : List X) (i : ℕ) (d x : X) (new : Bool) → HasNoRepeats xs → i < length xs → before ≡ take i xs → x ≡ get_or xs i d → Inserts x before new after → after ≡ take (i + 1) xs
+after_insert xs before after i d x true distinct inside front at inserted =
+    (inserted.absent refl).1 ∙ (λ j. front j ++ at j ∷ []) ∙ sym (take_more xs i d inside)
+after_insert xs before after i d x false distinct inside front at inserted =
+    absurd (not_before xs i d distinct inside (subst (λ l. Contains l (get_or xs i d)) front (subst (Contains before) at (inserted.present refl).0)))

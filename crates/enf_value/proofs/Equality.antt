@@ -1,0 +1,21 @@
+-- The derived `==` of events tells exactly whether they are equal.
+use Rattle.std.proofs.Common.{◌≡◌, ap, refl}
+use Rattle.std.specs.Bool.{Decides}
+use Rattle.std.proofs.lemmas.Bool.Decides.{Decides-eqb, Decides-like, Decides-and}
+use Rattle.std.proofs.lemmas.Slice.Eq.{slice_eq-Decides}
+use Rattle.enf_value.specs.Decided.{value_eq-Decides}
+use Rattle.enf_value.specs.declared.events.Event.{Event}
+use Rattle.enf_value.specs.declared.values.Value.{Value}
+use Rattle.enf_value.specs.declared.values.Value.TheVariants.{Num, Text}
+use Rattle.enf_value.specs.contracts.values.ValuePartialEq.TheImpl as values
+use Rattle.enf_value.specs.contracts.events.EventPartialEq.TheImpl as events
+
+pub derived_value_eq-Decides : (a b : Value) → Decides (values.eq-value.it a b) (a ≡ b)
+derived_value_eq-Decides (Num x) (Num y) = value_eq-Decides (Num x) (Num y)
+derived_value_eq-Decides (Num x) (Text t) = value_eq-Decides (Num x) (Text t)
+derived_value_eq-Decides (Text s) (Num y) = value_eq-Decides (Text s) (Num y)
+derived_value_eq-Decides (Text s) (Text t) = value_eq-Decides (Text s) (Text t)
+
+pub derived_event_eq-Decides : (a b : Event) → Decides (events.eq-value.it a b) (a ≡ b)
+derived_event_eq-Decides a b =
+    Decides-like (events.eq-value.it a b) (λ h i. record { name = record { 0 = h.0 i }; args = h.1 i }) (λ e. (ap (λ x. x.name.0) e, ap (λ x. x.args) e)) (Decides-and _ _ (Decides-eqb a.name.0 b.name.0) (slice_eq-Decides derived_value_eq-Decides a.args b.args _ refl))

@@ -1,0 +1,151 @@
+-- The pieces of a text up to its last quote, found from the front.
+use Rattle.std.proofs.Common.{◌≡◌, ◌≢◌, ℕ, ◌<◌, ◌≤◌, ◌+◌, ◌==◌, Bool, true, false, inl, inr, List, [], ◌∷◌, ◌++◌, length, get_or, drop, refl, sym, ap, subst, ◌∙◌, arith, append_assoc, append-nil, add-zero, if◌then◌else◌, suc, Option, Some, None}
+use Rattle.std.proofs.lemmas.Bool.{eqb-true, eqb-false}
+use Rattle.std.proofs.lemmas.Bool.Decides.{nat_tests}
+use Rattle.std.proofs.Math.ListN.{drop_of_length-le}
+use Rattle.std.proofs.Math.Seq.{drop-cons}
+use Rattle.enf_value.specs.Tokens.{meaning, IsWritten, WrittenAt}
+
+-- one byte of the text more, written as one byte more
+abbrev pub with_byte : ℕ → Option (List ℕ × ℕ) → Option (List ℕ × ℕ)
+with_byte byte None = None
+with_byte byte (Some found) = Some (byte ∷ found.0, suc found.1)
+
+abbrev pub with_escape : Option ℕ → Option (List ℕ × ℕ) → Option (List ℕ × ℕ)
+with_escape None found = None
+with_escape (Some byte) found = with_byte byte found
+
+abbrev pub with_backslash : Option (List ℕ × ℕ) → Option (List ℕ × ℕ)
+with_backslash None = None
+with_backslash (Some found) = Some (found.0, suc found.1)
+
+-- the text up to the first quote that is no piece, and the place of that quote; first whether a backslash stands before the bytes
+abbrev pub scan : Bool → List ℕ → Option (List ℕ × ℕ)
+scan escape [] = None
+scan true (byte ∷ bytes) = with_escape (meaning byte) (scan false bytes)
+scan false (byte ∷ bytes) = if byte == 34 then Some ([], 0) else (if byte == 92 then with_backslash (scan true bytes) else with_byte byte (scan false bytes))
+
+-- behind a text and the bytes that are written for it
+abbrev pub behind : List ℕ → ℕ → Option (List ℕ × ℕ) → Option (List ℕ × ℕ)
+behind text place None = None
+behind text place (Some found) = Some (text ++ found.0, place + found.1)
+
+pub behind-byte : (text : List ℕ) (place byte : ℕ) (r : Option (List ℕ × ℕ)) → behind text place (with_byte byte r) ≡ behind (text ++ byte ∷ []) (place + 1) r
+behind-byte text place byte None = refl
+behind-byte text place byte (Some found) =
+    let e : place + suc found.1 ≡ place + 1 + found.1 = omega arith in
+    λ j. Some (sym (append_assoc text (byte ∷ []) found.0) j, e j)
+
+pub behind-backslash : (text : List ℕ) (place : ℕ) (r : Option (List ℕ × ℕ)) → behind text place (with_backslash r) ≡ behind text (place + 1) r
+behind-backslash text place None = refl
+behind-backslash text place (Some found) =
+    let e : place + suc found.1 ≡ place + 1 + found.1 = omega arith in
+    ap (λ n. Some (text ++ found.0, n)) e
+
+from_byte : (byte : ℕ) (r : Option (List ℕ × ℕ)) (p : List ℕ × ℕ) → with_byte byte r ≡ Some p → (q : List ℕ × ℕ) × (r ≡ Some q) × ((byte ∷ q.0, suc q.1) ≡ p)
+from_byte byte None p e = cc
+from_byte byte (Some q) p e = (q, refl, cc)
+
+from_escape : (m : Option ℕ) (r : Option (List ℕ × ℕ)) (p : List ℕ × ℕ) → with_escape m r ≡ Some p → (byte : ℕ) × (m ≡ Some byte) × (with_byte byte r ≡ Some p)
+from_escape None r p e = cc
+from_escape (Some byte) r p e = (byte, refl, e)
+
+from_backslash : (r : Option (List ℕ × ℕ)) (p : List ℕ × ℕ) → with_backslash r ≡ Some p → (q : List ℕ × ℕ) × (r ≡ Some q) × ((q.0, suc q.1) ≡ p)
+from_backslash None p e = cc
+from_backslash (Some q) p e = (q, refl, cc)
+
+written_plain : (byte : ℕ) (bytes text : List ℕ) (end : ℕ) → byte ≢ 34 → byte ≢ 92 → WrittenAt bytes end text → WrittenAt (byte ∷ bytes) (suc end) (byte ∷ text)
+written_plain byte bytes text end quote backslash w = record {
+  written = byte ∷ w.written;
+  rest = w.rest;
+  splits = ap (λ l. byte ∷ l) w.splits;
+  ends = ap suc w.ends;
+  pieces = (byte ∷ [], w.written, inl (refl, quote, backslash), w.pieces, refl);
+}
+
+written_escape : (letter byte : ℕ) (bytes text : List ℕ) (end : ℕ) → meaning letter ≡ Some byte → WrittenAt bytes end text → WrittenAt (92 ∷ letter ∷ bytes) (suc (suc end)) (byte ∷ text)
+written_escape letter byte bytes text end is w = record {
+  written = 92 ∷ letter ∷ w.written;
+  rest = w.rest;
+  splits = ap (λ l. 92 ∷ letter ∷ l) w.splits;
+  ends = ap (λ n. suc (suc n)) w.ends;
+  pieces = (92 ∷ letter ∷ [], w.written, inr (letter, refl, is), w.pieces, refl);
+}
+
+-- what is found stands there, behind no backslash and behind one
+abbrev IsSound : List ℕ → Type 0
+IsSound bytes =
+    ((p : List ℕ × ℕ) → scan false bytes ≡ Some p → WrittenAt bytes p.1 p.0)
+    × ((p : List ℕ × ℕ) → scan true bytes ≡ Some p → WrittenAt (92 ∷ bytes) (suc p.1) p.0)
+
+sound_plain : (byte : ℕ) (bytes : List ℕ) (a b : Bool) → (byte == 34) ≡ a → (byte == 92) ≡ b → IsSound bytes → (p : List ℕ × ℕ) → (if a then Some ([], 0) else (if b then with_backslash (scan true bytes) else with_byte byte (scan false bytes))) ≡ Some p → WrittenAt (byte ∷ bytes) p.1 p.0
+sound_plain byte bytes true b quote backslash rest p e =
+    let is : ([], 0) ≡ p = cc in
+    subst (λ q. WrittenAt (byte ∷ bytes) q.1 q.0) is
+    (record { written = []; rest = bytes; splits = ap (λ x. x ∷ bytes) (eqb-true byte 34 quote); ends = refl; pieces = refl })
+sound_plain byte bytes false true quote backslash rest p e =
+    let q = from_backslash (scan true bytes) p e in
+    subst (λ r. WrittenAt (byte ∷ bytes) r.1 r.0) q.2 (subst (λ x. WrittenAt (x ∷ bytes) (suc q.0.1) q.0.0) (sym (eqb-true byte 92 backslash)) (rest.1 q.0 q.1))
+sound_plain byte bytes false false quote backslash rest p e =
+    let q = from_byte byte (scan false bytes) p e in
+    subst (λ r. WrittenAt (byte ∷ bytes) r.1 r.0) q.2 (written_plain byte bytes q.0.0 q.0.1 (eqb-false byte 34 quote) (eqb-false byte 92 backslash) (rest.0 q.0 q.1))
+
+sound_escape : (letter : ℕ) (bytes : List ℕ) → IsSound bytes → (p : List ℕ × ℕ) → scan true (letter ∷ bytes) ≡ Some p → WrittenAt (92 ∷ letter ∷ bytes) (suc p.1) p.0
+sound_escape letter bytes rest p e =
+    let m = from_escape (meaning letter) (scan false bytes) p e in
+    let q = from_byte m.0 (scan false bytes) p m.2 in
+    subst (λ r. WrittenAt (92 ∷ letter ∷ bytes) (suc r.1) r.0) q.2 (written_escape letter m.0 bytes q.0.0 q.0.1 m.1 (rest.0 q.0 q.1))
+
+sound : (bytes : List ℕ) → IsSound bytes
+sound [] = (λ p e. cc, λ p e. cc)
+sound (byte ∷ bytes) = (sound_plain byte bytes _ _ refl refl (sound bytes), sound_escape byte bytes (sound bytes))
+
+pub written_from_scan : (bytes text : List ℕ) (end : ℕ) → scan false bytes ≡ Some (text, end) → WrittenAt bytes end text
+written_from_scan bytes text end e = (sound bytes).0 (text, end) e
+
+-- and what stands there is found
+finds : (text written rest : List ℕ) → IsWritten written text → scan false (written ++ 34 ∷ rest) ≡ Some (text, length written)
+finds [] written rest w = rw w refl
+finds (byte ∷ text) written rest (piece, more, inl (plain, quote, backslash), pieces, split) =
+    let tail = more ++ 34 ∷ rest in
+    let no_quote : (byte == 34) ≡ false = grind (arith, nat_tests) in
+    let no_backslash : (byte == 92) ≡ false = grind (arith, nat_tests) in
+    subst (λ w. scan false (w ++ 34 ∷ rest) ≡ Some (byte ∷ text, length w)) (sym (split ∙ ap (λ l. l ++ more) plain))
+    (ap (λ b. if b then Some ([], 0) else (if byte == 92 then with_backslash (scan true tail) else with_byte byte (scan false tail))) no_quote
+    ∙ ap (λ b. if b then with_backslash (scan true tail) else with_byte byte (scan false tail)) no_backslash
+    ∙ ap (with_byte byte) (finds text more rest pieces))
+finds (byte ∷ text) written rest (piece, more, inr (letter, plain, is), pieces, split) =
+    subst (λ w. scan false (w ++ 34 ∷ rest) ≡ Some (byte ∷ text, length w)) (sym (split ∙ ap (λ l. l ++ more) plain))
+    (ap (λ m. with_backslash (with_escape m (scan false (more ++ 34 ∷ rest)))) is
+    ∙ ap (λ r. with_backslash (with_byte byte r)) (finds text more rest pieces))
+
+pub scan_from_written : (bytes text : List ℕ) (end : ℕ) → WrittenAt bytes end text → scan false bytes ≡ Some (text, end)
+scan_from_written bytes text end w = ap (scan false) w.splits ∙ finds text w.written w.rest w.pieces ∙ ap (λ n. Some (text, n)) (sym w.ends)
+
+-- so there is one text at most
+pub one_written : (bytes a b : List ℕ) (m n : ℕ) → WrittenAt bytes m a → WrittenAt bytes n b → (a ≡ b) × (m ≡ n)
+one_written bytes a b m n v w =
+    let e : ◌≡◌ {A = Option (List ℕ × ℕ)} (Some (a, m)) (Some (b, n)) = sym (scan_from_written bytes a m v) ∙ scan_from_written bytes b n w in
+    let p : ◌≡◌ {A = List ℕ × ℕ} (a, m) (b, n) = cc in
+    (ap (λ q. q.0) p, ap (λ q. q.1) p)
+
+-- what a loop over the bytes knows where it stops: at a quote, at a letter of no meaning, at the end
+pub scan_at_quote : (bytes : List ℕ) (place : ℕ) → place < length bytes → get_or bytes place 0 ≡ 34 → scan false (drop place bytes) ≡ Some ([], 0)
+scan_at_quote bytes place within is =
+    ap (scan false) (drop-cons bytes place 0 within ∙ ap (λ b. b ∷ drop (suc place) bytes) is)
+
+pub scan_at_letter : (bytes : List ℕ) (place : ℕ) → place < length bytes → meaning (get_or bytes place 0) ≡ None → scan true (drop place bytes) ≡ None
+scan_at_letter bytes place within none =
+    ap (scan true) (drop-cons bytes place 0 within) ∙ ap (λ m. with_escape m (scan false (drop (suc place) bytes))) none
+
+pub scan_at_end : (escape : Bool) (bytes : List ℕ) (place : ℕ) → length bytes ≤ place → scan escape (drop place bytes) ≡ None
+scan_at_end true bytes place past = ap (scan true) (drop_of_length-le bytes past)
+scan_at_end false bytes place past = ap (scan false) (drop_of_length-le bytes past)
+
+pub written_at_quote : (bytes text : List ℕ) (place : ℕ) (r : Option (List ℕ × ℕ)) → scan false bytes ≡ behind text place r → r ≡ Some ([], 0) → WrittenAt bytes place text
+written_at_quote bytes text place r known found =
+    written_from_scan bytes text place (known ∙ ap (behind text place) found ∙ (λ j. Some (append-nil text j, add-zero place j)))
+
+pub not_written : (bytes text : List ℕ) (place : ℕ) (r : Option (List ℕ × ℕ)) → scan false bytes ≡ behind text place r → r ≡ None → (t : List ℕ) (end : ℕ) → WrittenAt bytes end t → ⊥
+not_written bytes text place r known none t end w =
+    let e = sym (scan_from_written bytes t end w) ∙ known ∙ ap (behind text place) none in cc

@@ -1,0 +1,195 @@
+-- The number tokens at the front of bytes, and what `parse` makes of them.
+use Rattle.std.proofs.Common.{◌≡◌, ◌≢◌, ℕ, ◌<◌, ◌≤◌, ◌+◌, ◌==◌, ℤ, pos, negsuc, neg_ℤ, Bool, true, false, cond, inl, inr, List, [], ◌∷◌, ◌++◌, length, slice_index, take, drop, refl, sym, ap, subst, ◌∙◌, true≢false, arith, if◌then◌else◌, suc, zero, FitsSigned, zero-add, Result, Ok, Err, Some, None, MatchResult}
+use Rattle.std.specs.Char.{is_ascii_digit, digit_value}
+use Rattle.std.specs.List.{prefix_len}
+use Rattle.std.specs.Int.{w64}
+use Rattle.std.specs.Result.{result_ok}
+use Rattle.std.specs.Str.{IsAscii, IsUtf8}
+use Rattle.std.specs.Str.Parse.{AllDigits, IsNumeral, digits_value, signed_digits_value, without_leading_sign, without_leading_plus, ParsesSigned}
+use Rattle.std.proofs.lemmas.Bool.{eqb-true}
+use Rattle.std.proofs.lemmas.Bool.Decides.{nat_tests}
+use Rattle.std.proofs.lemmas.List.{take-append-drop, length-take-le}
+use Rattle.std.proofs.lemmas.Result.{Ok-from_Ok_iff, OkIff-at_ok}
+use Rattle.std.proofs.lemmas.Str.{IsUtf8-from_ascii}
+use Rattle.std.proofs.Math.Seq.{take-append_seam}
+use Rattle.enf_value.specs.Tokens.{IsNumberToken, IsNoDigit, IsNumber, TokenAt}
+use Rattle.enf_value.specs.declared.values.Value.TheVariants.{Num}
+
+digit_from_test : (c : ℕ) → is_ascii_digit c ≡ true → digit_value c < 10
+digit_from_test c h = grind (arith, nat_tests)
+
+pub range_from_digit : (c : ℕ) → digit_value c < 10 → (48 ≤ c) × (c ≤ 57)
+range_from_digit c h = (grind (arith, nat_tests), grind (arith, nat_tests))
+
+test_from_range : (c : ℕ) → 48 ≤ c → c ≤ 57 → is_ascii_digit c ≡ true
+test_from_range c low high = grind (arith, nat_tests)
+
+no_digit : (c : ℕ) → is_ascii_digit c ≡ false → 48 ≤ c → c ≤ 57 → ⊥
+no_digit c none low high = true≢false (sym (test_from_range c low high) ∙ none)
+
+one_more : (n : ℕ) → 1 + n ≡ suc n
+one_more n = omega arith
+
+-- the digits at the front, and what follows them
+front_digits : (xs : List ℕ) → AllDigits 10 (take (prefix_len is_ascii_digit xs) xs)
+front_digits [] = tt
+front_digits (x ∷ xs) = by (is_ascii_digit x) refl (front_digits xs)
+  where
+    by : (b : Bool) → is_ascii_digit x ≡ b → AllDigits 10 (take (prefix_len is_ascii_digit xs) xs) → AllDigits 10 (take (cond b (1 + prefix_len is_ascii_digit xs) 0) (x ∷ xs))
+    by true e rest = rw one_more (digit_from_test x e, rest)
+    by false e rest = tt
+
+behind_digits : (xs : List ℕ) → IsNoDigit (drop (prefix_len is_ascii_digit xs) xs)
+behind_digits [] = tt
+behind_digits (x ∷ xs) = by (is_ascii_digit x) refl (behind_digits xs)
+  where
+    by : (b : Bool) → is_ascii_digit x ≡ b → IsNoDigit (drop (prefix_len is_ascii_digit xs) xs) → IsNoDigit (drop (cond b (1 + prefix_len is_ascii_digit xs) 0) (x ∷ xs))
+    by true e rest = rw one_more rest
+    by false e rest = no_digit x e
+
+-- digits before no digit are all the digits at the front
+all_digits : (digits rest : List ℕ) → AllDigits 10 digits → IsNoDigit rest → prefix_len is_ascii_digit (digits ++ rest) ≡ length digits
+all_digits [] [] each end = refl
+all_digits [] (x ∷ xs) each end = by (is_ascii_digit x) refl
+  where
+    by : (b : Bool) → is_ascii_digit x ≡ b → cond b (1 + prefix_len is_ascii_digit xs) 0 ≡ 0
+    by true e = let r = range_from_digit x (digit_from_test x e) in absurd (end r.0 r.1)
+    by false e = refl
+all_digits (x ∷ digits) rest each end =
+    let r = range_from_digit x each.0 in
+    ap (λ b. cond b (1 + prefix_len is_ascii_digit (digits ++ rest)) 0) (test_from_range x r.0 r.1) ∙ one_more _ ∙ ap suc (all_digits digits rest each.1 end)
+
+-- where a minus and digits at the front end
+abbrev pub end_of : List ℕ → ℕ
+end_of bytes = if slice_index bytes 0 == 45 then 1 + prefix_len is_ascii_digit (drop 1 bytes) else prefix_len is_ascii_digit bytes
+
+pub end_of_token : (token rest : List ℕ) (number : ℤ) → IsNumberToken token number → IsNoDigit rest → end_of (token ++ rest) ≡ length token
+end_of_token [] rest number (inl (numeral, is)) end = absurd (omega (arith, numeral.0))
+end_of_token (x ∷ digits) rest number (inl (numeral, is)) end =
+    let r = range_from_digit x numeral.1.0 in
+    let plain : (x == 45) ≡ false = grind (arith, nat_tests) in
+    ap (λ b. if b then 1 + prefix_len is_ascii_digit (digits ++ rest) else prefix_len is_ascii_digit (x ∷ digits ++ rest)) plain ∙ all_digits (x ∷ digits) rest numeral.1 end
+end_of_token token rest number (inr (digits, split, numeral, is)) end =
+    subst (λ t. end_of (t ++ rest) ≡ length t) (sym split) (one_more _ ∙ ap suc (all_digits digits rest numeral.1 end))
+
+behind_end : (bytes : List ℕ) → IsNoDigit (drop (end_of bytes) bytes)
+behind_end [] = tt
+behind_end (x ∷ xs) = by (x == 45)
+  where
+    by : (b : Bool) → IsNoDigit (drop (if b then 1 + prefix_len is_ascii_digit xs else prefix_len is_ascii_digit (x ∷ xs)) (x ∷ xs))
+    by true = rw one_more (behind_digits xs)
+    by false = behind_digits (x ∷ xs)
+
+-- bytes that begin with no sign are read as they are
+plain_sign : (x : ℕ) (digits : List ℕ) → (x == 45) ≡ false → (x == 43) ≡ false → without_leading_sign (x ∷ digits) ≡ x ∷ digits
+plain_sign x digits minus plus =
+    ap (λ b. cond b digits (without_leading_plus (x ∷ digits))) minus ∙ ap (λ b. drop (cond b 1 0) (x ∷ digits)) plus
+
+plain_value : (x : ℕ) (digits : List ℕ) → (x == 45) ≡ false → (x == 43) ≡ false → signed_digits_value 10 (x ∷ digits) ≡ pos (digits_value 10 (x ∷ digits))
+plain_value x digits minus plus =
+    ap (λ b. cond b (neg_ℤ (pos (digits_value 10 (without_leading_sign (x ∷ digits))))) (pos (digits_value 10 (without_leading_sign (x ∷ digits))))) minus
+    ∙ ap (λ l. pos (digits_value 10 l)) (plain_sign x digits minus plus)
+
+-- what is read behind a sign is what the token stands for
+pub value_of_token : (token : List ℕ) (number : ℤ) → IsNumberToken token number → IsNumeral 10 (without_leading_sign token) × (signed_digits_value 10 token ≡ number)
+value_of_token [] number (inl (numeral, is)) = absurd (omega (arith, numeral.0))
+value_of_token (x ∷ digits) number (inl (numeral, is)) =
+    let r = range_from_digit x numeral.1.0 in
+    let minus : (x == 45) ≡ false = grind (arith, nat_tests) in
+    let plus : (x == 43) ≡ false = grind (arith, nat_tests) in
+    (subst (IsNumeral 10) (sym (plain_sign x digits minus plus)) numeral, plain_value x digits minus plus ∙ sym is)
+value_of_token token number (inr (digits, split, numeral, is)) =
+    subst (λ t. IsNumeral 10 (without_leading_sign t) × (signed_digits_value 10 t ≡ number)) (sym split) (numeral, sym is)
+
+-- and the other way round, where no plus stands first
+token_from_value : (token : List ℕ) → slice_index token 0 ≢ 43 → IsNumeral 10 (without_leading_sign token) → IsNumberToken token (signed_digits_value 10 token)
+token_from_value [] first numeral = absurd (omega (arith, numeral.0))
+token_from_value (x ∷ digits) first numeral = by (x == 45) refl
+  where
+    plus : (x == 43) ≡ false
+    plus = grind (arith, nat_tests)
+
+    by : (b : Bool) → (x == 45) ≡ b → IsNumberToken (x ∷ digits) (signed_digits_value 10 (x ∷ digits))
+    by true e =
+        let behind : without_leading_sign (x ∷ digits) ≡ digits = ap (λ b. cond b digits (without_leading_plus (x ∷ digits))) e in
+        inr (
+          digits,
+          ap (λ y. y ∷ digits) (eqb-true x 45 e),
+          subst (IsNumeral 10) behind numeral,
+          ap (λ b. cond b (neg_ℤ (pos (digits_value 10 (without_leading_sign (x ∷ digits))))) (pos (digits_value 10 (without_leading_sign (x ∷ digits))))) e ∙ ap (λ l. neg_ℤ (pos (digits_value 10 l))) behind,
+        )
+    by false e = inl (subst (IsNumeral 10) (plain_sign x digits e plus) numeral, plain_value x digits e plus)
+
+first_of_take : (n x : ℕ) (xs : List ℕ) → slice_index (take n (x ∷ xs)) 0 ≡ 43 → (x ≡ 43) × (0 < n)
+first_of_take zero x xs e = absurd (omega (arith, e))
+first_of_take (suc n) x xs e = (e, omega arith)
+
+no_plus : (bytes : List ℕ) → slice_index (take (end_of bytes) bytes) 0 ≢ 43
+no_plus [] e = absurd (omega (arith, e))
+no_plus (x ∷ xs) e =
+    let first = first_of_take (end_of (x ∷ xs)) x xs e in
+    let none : 0 < 0 = subst (λ y. 0 < end_of (y ∷ xs)) first.0 first.1 in
+    absurd (omega (arith, none))
+
+IsAscii-digits : (digits : List ℕ) → AllDigits 10 digits → IsAscii digits
+IsAscii-digits [] each i = omega arith
+IsAscii-digits (x ∷ digits) each zero = let r = range_from_digit x each.0 in omega arith
+IsAscii-digits (x ∷ digits) each (suc i) = IsAscii-digits digits each.1 i
+
+IsAscii-after_minus : (digits : List ℕ) → AllDigits 10 digits → IsAscii (45 ∷ digits)
+IsAscii-after_minus digits each zero = omega arith
+IsAscii-after_minus digits each (suc i) = IsAscii-digits digits each i
+
+IsAscii-token : (token : List ℕ) (number : ℤ) → IsNumberToken token number → IsAscii token
+IsAscii-token token number (inl (numeral, is)) = IsAscii-digits token numeral.1
+IsAscii-token token number (inr (digits, split, numeral, is)) = subst IsAscii (sym split) (IsAscii-after_minus digits numeral.1)
+
+pub fits_from_number : (number : ℤ) → IsNumber number → FitsSigned w64 number
+fits_from_number (pos n) small = record { sfits = small }
+fits_from_number (negsuc n) small = record { sfits = small }
+
+number_from_fits : (number : ℤ) → FitsSigned w64 number → IsNumber number
+number_from_fits (pos n) fits = fits.sfits
+number_from_fits (negsuc n) fits = fits.sfits
+
+-- a number token at the front is the minus and the digits there
+pub front_is : (bytes : List ℕ) (end : ℕ) (number : ℤ) → (t : TokenAt bytes 0 end (Num number)) → t.token ≡ take (end_of bytes) bytes
+front_is bytes end number t =
+    sym (ap (λ n. take n bytes) (ap end_of t.splits ∙ end_of_token t.token t.rest number t.stands t.whole) ∙ ap (take (length t.token)) t.splits ∙ take-append_seam t.token t.rest)
+
+pub front_utf8 : (bytes : List ℕ) (end : ℕ) (number : ℤ) → TokenAt bytes 0 end (Num number) → IsUtf8 (take (end_of bytes) bytes)
+front_utf8 bytes end number t = subst IsUtf8 (front_is bytes end number t) (IsUtf8-from_ascii t.token (IsAscii-token t.token number t.stands))
+
+pub front_parses : {E : Type 0} (bytes text : List ℕ) (end : ℕ) (number : ℤ) (r : Result ℤ E) → text ≡ take (end_of bytes) bytes → ParsesSigned w64 10 text r → TokenAt bytes 0 end (Num number) → r ≡ Ok number
+front_parses bytes text end number r is parses t =
+    let v = subst (λ l. IsNumeral 10 (without_leading_sign l) × (signed_digits_value 10 l ≡ number)) (front_is bytes end number t ∙ sym is) (value_of_token t.token number t.stands) in
+    Ok-from_Ok_iff r _ _ parses (v.0, subst (FitsSigned w64) (sym v.1) (fits_from_number number t.fits)) ∙ ap Ok v.1
+
+token_at : (bytes : List ℕ) (end : ℕ) → end ≡ end_of bytes → IsNumeral 10 (without_leading_sign (take end bytes)) → IsNumberToken (take end bytes) (signed_digits_value 10 (take end bytes))
+token_at bytes end at =
+    token_from_value (take end bytes) (subst (λ n. slice_index (take n bytes) 0 ≢ 43) (sym at) (no_plus bytes))
+
+pub parsed_front : {E : Type 0} (bytes text : List ℕ) (end : ℕ) (number : ℤ) (r : Result ℤ E) → end ≡ end_of bytes → end ≤ length bytes → text ≡ take end bytes → ParsesSigned w64 10 text r → r ≡ Ok number → TokenAt bytes 0 end (Num number)
+parsed_front bytes text end number r at within is parses ok =
+    let p = OkIff-at_ok r _ _ number parses ok in
+    record {
+      token = take end bytes;
+      rest = drop end bytes;
+      splits = sym (take-append-drop end bytes);
+      ends = sym (length-take-le end bytes within) ∙ sym (zero-add (length (take end bytes)));
+      stands = subst (IsNumberToken (take end bytes)) (sym p.1) (subst (λ l. IsNumeral 10 (without_leading_sign l) → IsNumberToken (take end bytes) (signed_digits_value 10 l)) (sym is) (token_at bytes end at) p.0.0);
+      whole = subst (λ n. IsNoDigit (drop n bytes)) (sym at) (behind_end bytes);
+      fits = number_from_fits number (subst (FitsSigned w64) (sym p.1) p.0.1);
+    }
+
+-- what `?` on what `ok` answers tells of the call before it
+pub ok_some : {T E : Type 0} (r : Result T E) (x : T) → result_ok r ≡ Some x → r ≡ Ok x
+ok_some (Ok y) x e = cc
+ok_some (Err y) x e = cc
+
+pub none_ok : {T E A : Type 0} (r : Result T E) (x : T) → result_ok r ≡ None → r ≡ Ok x → A
+none_ok r x none e = let f = sym none ∙ ap result_ok e in cc
+
+pub err_utf8 : {T E A : Type 0} (P : T → Type 0) (U : Type 0) (V : E → Type 0) (r : Result T E) → result_ok r ≡ None → MatchResult r P (λ e. ¬ U × V e) → U → A
+err_utf8 P U V (Ok x) none cases u = let f = none in cc
+err_utf8 P U V (Err e) none cases u = absurd (cases.0 u)

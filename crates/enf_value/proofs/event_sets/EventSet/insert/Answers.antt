@@ -1,0 +1,24 @@
+use Rattle.std.proofs.Common.{subst, IfOk, OnErr, Contains}
+use Rattle.std.proofs.lemmas.Result.{on_err_weaker}
+use Rattle.enf_value.specs.Membership.{Inserts}
+use Rattle.enf_value.proofs.Distinct.{HasNoRepeats-from_distinct, Inserts-insert_key, no_Contains, ok_both, ok_through, err_through}
+use Rattle.enf_value.proofs.Equality.{derived_event_eq-Decides}
+use Rattle.enf_value.proofs.event_sets.EventSet.insert.Goals as goal
+
+pub invariant_of-self : goal.invariant_of-self
+invariant_of-self c = HasNoRepeats-from_distinct _ derived_event_eq-Decides _ c.insert.ensures.unique
+
+pub returns-clause-inserted : goal.returns-clause-inserted
+returns-clause-inserted c =
+    subst (λ events. IfOk c.map_err.result (λ new. Inserts c.args.event events new c.insert.new.self.keys)) c.self.view_is
+    (ok_through _ _ c.insert.result c.map_err.result c.map_err.ensures.cases
+    (ok_both c.insert.result _ _ _ c.insert.ensures.added c.insert.ensures.keys (λ new added is. Inserts-insert_key _ derived_event_eq-Decides c.self.inside.events.keys c.insert.new.self.keys c.args.event new added is)))
+
+pub returns-clause-absent : goal.returns-clause-absent
+returns-clause-absent c =
+    subst (λ events. OnErr c.map_err.result (Contains events c.args.event → ⊥)) c.self.view_is
+    (err_through _ _ c.insert.result c.map_err.result c.map_err.ensures.cases
+    (on_err_weaker c.insert.result (no_Contains _ derived_event_eq-Decides c.self.inside.events.keys c.args.event) c.insert.ensures.absent))
+
+pub returns-clause-distinct : goal.returns-clause-distinct
+returns-clause-distinct c = HasNoRepeats-from_distinct _ derived_event_eq-Decides _ c.insert.ensures.unique

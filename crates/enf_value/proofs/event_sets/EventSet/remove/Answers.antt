@@ -1,0 +1,15 @@
+use Rattle.std.proofs.Common.{subst}
+use Rattle.enf_value.specs.Membership.{Removes}
+use Rattle.enf_value.proofs.Distinct.{HasNoRepeats-from_distinct, Removes-remove_key}
+use Rattle.enf_value.proofs.Equality.{derived_event_eq-Decides}
+use Rattle.enf_value.proofs.event_sets.EventSet.remove.Goals as goal
+
+pub invariant_of-self : goal.invariant_of-self
+invariant_of-self c = HasNoRepeats-from_distinct _ derived_event_eq-Decides _ c.shift_remove.ensures.unique
+
+pub returns-clause-removed : goal.returns-clause-removed
+returns-clause-removed c =
+    subst (λ events. Removes c.args.event.now events c.shift_remove.result c.shift_remove.new.self.keys) c.self.view_is (Removes-remove_key _ derived_event_eq-Decides c.self.inside.events.keys c.shift_remove.new.self.keys c.args.event.now c.shift_remove.result c.shift_remove.ensures.found c.shift_remove.ensures.keys)
+
+pub returns-clause-distinct : goal.returns-clause-distinct
+returns-clause-distinct c = HasNoRepeats-from_distinct _ derived_event_eq-Decides _ c.shift_remove.ensures.unique

@@ -1,0 +1,22 @@
+-- What logs and formulas speak of. A value is any whole number or any list of bytes: no limit of the program stands here.
+use Rattle.std.specs.Prelude.{ℕ, ◌<◌, ◌≤◌, List, [], length, slice_index_or}
+use Rattle.enf_value.specs.declared.events.Event.{Event}
+use Rattle.enf_value.specs.Membership.{HasNoRepeats}
+
+-- a time and the events at it
+pub record Step : Type 0 where
+  pub time : ℕ
+  pub events : List Event
+
+-- a step without events at time 0, for places that a list does not have
+abbrev pub no_step : Step
+no_step = record { time = 0; events = [] }
+
+-- the step at a position, counted from 0
+abbrev pub step_at : List Step → ℕ → Step
+step_at trace position = slice_index_or trace position no_step
+
+-- steps without repeats, whose times never fall; neighbours may have equal times
+pub record IsTrace (trace : List Step) : Type 0 where
+  pub distinct : (i : ℕ) → i < length trace → HasNoRepeats (step_at trace i).events
+  pub ordered : (i j : ℕ) → i ≤ j → j < length trace → (step_at trace i).time ≤ (step_at trace j).time

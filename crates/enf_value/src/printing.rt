@@ -1,0 +1,80 @@
+//! The canonical texts of values and of numbers.
+ghost use Rattle.std.specs.Prelude.{◌≡◌, ◌++◌, OnOk, OnErr, decimal};
+ghost use Rattle.std.specs.Fmt.{signed_decimal};
+ghost use Rattle.std.specs.List.{flat_map};
+ghost use Rattle.enf_value.specs.Spelling.{spelled, escaped, quoted, AppendsPart};
+
+use crate::memory::NoMemory;
+use crate::values::Value;
+use itoa::Buffer;
+
+/// Appends bytes; for want of memory nothing is appended.
+pub fn print_bytes(bytes: &[u8], out: &mut Vec<u8>) -> Result<(), NoMemory>
+    ensures ok { OnOk result (out.new.items ≡ out.old.items ++ bytes.now) }
+    ensures err { OnErr result (out.new.items ≡ out.old.items) }
+{
+    out.extend_from_slice(bytes)?;
+    Ok(())
+}
+
+/// Appends a number's decimal text; for want of memory nothing is appended.
+pub fn print_number(number: u64, out: &mut Vec<u8>) -> Result<(), NoMemory>
+    ensures ok { OnOk result (out.new.items ≡ out.old.items ++ decimal number) }
+    ensures err { OnErr result (out.new.items ≡ out.old.items) }
+{
+    let mut buffer = Buffer::new();
+    print_bytes(buffer.format(number).as_bytes(), out)
+}
+
+fn print_signed(number: i64, out: &mut Vec<u8>) -> Result<(), NoMemory>
+    ensures ok { OnOk result (out.new.items ≡ out.old.items ++ signed_decimal number) }
+    ensures err { OnErr result (out.new.items ≡ out.old.items) }
+{
+    let mut buffer = Buffer::new();
+    print_bytes(buffer.format(number).as_bytes(), out)
+}
+
+fn print_text(bytes: &[u8], out: &mut Vec<u8>) -> Result<(), NoMemory>
+    ensures ok { OnOk result (out.new.items ≡ out.old.items ++ quoted bytes.now) }
+    ensures err { OnErr result (AppendsPart (quoted bytes.now) out.old.items out.new.items) }
+{
+    print_bytes(b"\"", out)?;
+    print_escaped(bytes, out)?;
+    print_bytes(b"\"", out)
+}
+
+fn print_escaped(bytes: &[u8], out: &mut Vec<u8>) -> Result<(), NoMemory>
+    ensures ok { OnOk result (out.new.items ≡ out.old.items ++ flat_map escaped bytes.now) }
+    ensures err { OnErr result (AppendsPart (flat_map escaped bytes.now) out.old.items out.new.items) }
+{
+    for byte in bytes {
+        print_escaped_byte(*byte, out)?;
+    }
+    Ok(())
+}
+
+fn print_escaped_byte(byte: u8, out: &mut Vec<u8>) -> Result<(), NoMemory>
+    ensures ok { OnOk result (out.new.items ≡ out.old.items ++ escaped byte) }
+    ensures err { OnErr result (out.new.items ≡ out.old.items) }
+{
+    match byte {
+        b'"' => print_bytes(b"\\\"", out),
+        b'\\' => print_bytes(b"\\\\", out),
+        b'\n' => print_bytes(b"\\n", out),
+        b'\r' => print_bytes(b"\\r", out),
+        b'\t' => print_bytes(b"\\t", out),
+        _ => print_bytes(&[byte], out),
+    }
+}
+
+/// Appends the value's text: a number in decimal, a text in quotes with its escapes. For want of memory a front
+/// of that text is appended.
+pub fn print_value(value: &Value, out: &mut Vec<u8>) -> Result<(), NoMemory>
+    ensures ok { OnOk result (out.new.items ≡ out.old.items ++ spelled value.now) }
+    ensures err { OnErr result (AppendsPart (spelled value.now) out.old.items out.new.items) }
+{
+    match value {
+        Value::Num(number) => print_signed(*number, out),
+        Value::Text(text) => print_text(text.bytes(), out),
+    }
+}

@@ -1,0 +1,145 @@
+//! The tokens of values, read where they begin.
+ghost use Rattle.std.specs.Prelude.{◌≡◌, ◌<◌, ◌≤◌, ◌+◌, ◌==◌, ℕ, ℤ, List, length, drop, slice_index, IfOk, IfSome, IfNone, if◌then◌else◌};
+ghost use Rattle.std.specs.Char.{is_ascii_digit};
+ghost use Rattle.std.specs.List.{prefix_len};
+ghost use Rattle.enf_value.specs.Tokens.{TokenAt, WrittenAt, PrintedIsToken, OneTokenAtPlace, TokenIsLongest, meaning};
+ghost use Rattle.enf_value.specs.declared.values.Value.{Value as AnyValue};
+ghost use Rattle.enf_value.specs.declared.values.Value.TheVariants.{Num, Text};
+
+use crate::memory::NoMemory;
+use crate::texts::{TextRefusal, TextValue};
+use crate::values::Value;
+use std::alloc::Global;
+
+/// The value of the number or text token that begins at a place, and the place behind it; none where no token
+/// begins there or its value is refused. A number takes all digits that follow, so the token ends at another byte
+/// or at the end.
+pub fn read_value(
+    alloc: Global,
+    bytes: &[u8],
+    at: usize,
+) -> Result<Option<(Value, usize)>, NoMemory>
+    requires { at ≤ length bytes.now }
+    ensures some { IfOk result (λ found. IfSome found (λ read. TokenAt bytes.now at read.1 read.0)) }
+    ensures within { IfOk result (λ found. IfSome found (λ read. (at < read.1) × (read.1 ≤ length bytes.now))) }
+    ensures none { IfOk result (λ found. IfNone found ((value : AnyValue) (end : ℕ) → TokenAt bytes.now at end value → ⊥)) }
+{
+    let Some((value, length)) = read_front(alloc, &bytes[at..])? else {
+        return Ok(None);
+    };
+    Ok(Some((value, at + length)))
+}
+
+fn read_front(alloc: Global, bytes: &[u8]) -> Result<Option<(Value, usize)>, NoMemory>
+    ensures some { IfOk result (λ found. IfSome found (λ read. TokenAt bytes.now 0 read.1 read.0)) }
+    ensures none { IfOk result (λ found. IfNone found ((value : AnyValue) (end : ℕ) → TokenAt bytes.now 0 end value → ⊥)) }
+{
+    if begins_text(bytes) {
+        Ok(read_text(alloc, bytes)?.map(|(text, end)| (Value::Text(text), end)))
+    } else {
+        Ok(read_number(bytes).map(|(number, end)| (Value::Num(number), end)))
+    }
+}
+
+fn begins_text(bytes: &[u8]) -> bool
+    ensures { result ≡ (slice_index bytes.now 0 == 34) }
+{
+    bytes.first() == Some(&b'"')
+}
+
+fn read_number(bytes: &[u8]) -> Option<(i64, usize)>
+    ensures some { IfSome result (λ read. TokenAt bytes.now 0 read.1 (Num read.0)) }
+    ensures none { IfNone result ((number : ℤ) (end : ℕ) → TokenAt bytes.now 0 end (Num number) → ⊥) }
+{
+    let end = number_end(bytes);
+    let number = str::from_utf8(&bytes[..end]).ok()?.parse().ok()?;
+    Some((number, end))
+}
+
+/// Where a minus and digits at the front end.
+fn number_end(bytes: &[u8]) -> usize
+    ensures within { result ≤ length bytes.now }
+    ensures end { result ≡ (if slice_index bytes.now 0 == 45 then 1 + prefix_len is_ascii_digit (drop 1 bytes.now) else prefix_len is_ascii_digit bytes.now) }
+{
+    match bytes {
+        [b'-', digits @ ..] => 1 + digits_end(digits),
+        _ => digits_end(bytes),
+    }
+}
+
+fn digits_end(bytes: &[u8]) -> usize
+    ensures within { result ≤ length bytes.now }
+    ensures end { result ≡ prefix_len is_ascii_digit bytes.now }
+{
+    bytes
+        .iter()
+        .take_while(|byte| byte.is_ascii_digit())
+        .count()
+}
+
+fn read_text(alloc: Global, bytes: &[u8]) -> Result<Option<(TextValue, usize)>, NoMemory>
+    requires { slice_index bytes.now 0 ≡ 34 }
+    ensures some { IfOk result (λ found. IfSome found (λ read. TokenAt bytes.now 0 read.1 (Text read.0))) }
+    ensures none { IfOk result (λ found. IfNone found ((text : List ℕ) (end : ℕ) → TokenAt bytes.now 0 end (Text text) → ⊥)) }
+{
+    let Some((text, length)) = read_written(alloc, &bytes[1..])? else {
+        return Ok(None);
+    };
+    match TextValue::from_bytes(alloc, text.as_slice()) {
+        Ok(text) => Ok(Some((text, length + 2))),
+        Err(TextRefusal::TooLong) => Ok(None),
+        Err(TextRefusal::NotUtf8) => Ok(None),
+        Err(TextRefusal::NoMemory) => Err(NoMemory),
+    }
+}
+
+/// The bytes of a text behind its first quote, and where its last quote stands.
+fn read_written(alloc: Global, bytes: &[u8]) -> Result<Option<(Vec<u8>, usize)>, NoMemory>
+    ensures some { IfOk result (λ found. IfSome found (λ read. WrittenAt bytes.now read.1 read.0.items)) }
+    ensures none { IfOk result (λ found. IfNone found ((text : List ℕ) (end : ℕ) → WrittenAt bytes.now end text → ⊥)) }
+{
+    let mut text = Vec::new(alloc);
+    let mut escape = false;
+    for (place, byte) in bytes.iter().enumerate() {
+        match (escape, *byte) {
+            (false, b'"') => return Ok(Some((text, place))),
+            (false, b'\\') => escape = true,
+            (false, byte) => text.push(byte)?,
+            (true, letter) => {
+                let Some(byte) = escaped_by(letter) else {
+                    return Ok(None);
+                };
+                text.push(byte)?;
+                escape = false;
+            }
+        }
+    }
+    Ok(None)
+}
+
+fn escaped_by(letter: u8) -> Option<u8>
+    ensures { result ≡ meaning letter }
+{
+    match letter {
+        b'"' | b'\\' => Some(letter),
+        b'n' => Some(b'\n'),
+        b'r' => Some(b'\r'),
+        b't' => Some(b'\t'),
+        _ => None,
+    }
+}
+
+/// What is printed for a value is read again as that value, whatever follows that does not lengthen a number.
+pub fn printed_is_token()
+    ensures { PrintedIsToken }
+{}
+
+/// No two tokens begin at one place, and a token stands for one value.
+pub fn one_token_at_place()
+    ensures { OneTokenAtPlace }
+{}
+
+/// No longer piece of the bytes is a token.
+pub fn token_is_longest()
+    ensures { TokenIsLongest }
+{}

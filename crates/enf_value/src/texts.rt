@@ -1,0 +1,138 @@
+//! Texts: UTF-8 of at most 1,024 bytes.
+ghost use Rattle.std.specs.Prelude.{◌≡◌, ◌↔◌, ◌<◌, ◌≤◌, ◌==◌, IfOk, IsErrOf, length};
+ghost use Rattle.std.specs.Str.{IsUtf8};
+ghost use Rattle.std.proofs.Common.{rules};
+ghost use Rattle.std.specs.Cmp.{partial_order_from_own_ties};
+ghost use Rattle.std.specs.Cmp.Lexicographic.{pointwise, slice_cmp};
+ghost use Rattle.std.specs.Cmp.Rules.{comparing, hashing};
+ghost use Rattle.std.specs.Hash as fed;
+ghost use Rattle.std.specs.Ordering.{nat_cmp, as_partial_cmp};
+ghost use Rattle.enf_value.specs.Text.{IsText};
+ghost use Rattle.enf_value.specs.declared.texts.TextRefusal.TheVariants.{NoMemory as OutOfMemory};
+
+use crate::items::Duplicate;
+use crate::memory::NoMemory;
+use std::alloc::{AllocError, Global};
+use std::cmp::Ordering;
+use std::hash::{Hash, Hasher};
+use std::marker::Model;
+
+/// The greatest number of bytes of a text.
+pub const MOST_TEXT_BYTES: usize = 1024;
+
+/// Why bytes are no text of the program.
+#[derive(Clone, Copy, Debug, PartialEq, Eq)]
+pub enum TextRefusal {
+    TooLong,
+    NotUtf8,
+    NoMemory,
+}
+
+impl From<AllocError> for TextRefusal {
+    ghost from_gives = { λ _ refusal. refusal ≡ OutOfMemory };
+
+    fn from(_error: AllocError) -> TextRefusal {
+        TextRefusal::NoMemory
+    }
+}
+
+/// A text, seen as its bytes.
+#[derive(Debug, Drop)]
+pub struct TextValue {
+    text: String,
+}
+
+impl Model for TextValue {
+    ghost use Rattle.std.specs.Prelude.{List, ℕ, string_bytes};
+    ghost use Rattle.enf_value.specs.Text.{IsText};
+
+    ghost Value = { List ℕ };
+
+    ghost view = { λ t. string_bytes t.text };
+
+    ghost invariant = { λ t. IsText (string_bytes t.text) };
+}
+
+impl TextValue {
+    /// The text of these bytes. It is refused where they are over 1,024, and else where they are not UTF-8.
+    pub fn from_bytes(alloc: Global, bytes: &[u8]) -> Result<TextValue, TextRefusal>
+        ensures value { IfOk result (λ text. text ≡ bytes.now) }
+        ensures text { IfOk result (λ text. IsText bytes.now) }
+        ensures too_long { IsErrOf result TextRefusal.TooLong ↔ (1024 < length bytes.now) }
+        ensures not_utf8 { IsErrOf result TextRefusal.NotUtf8 ↔ ((length bytes.now ≤ 1024) × (IsUtf8 bytes.now → ⊥)) }
+    {
+        if bytes.len() > MOST_TEXT_BYTES {
+            return Err(TextRefusal::TooLong);
+        }
+        match str::from_utf8(bytes) {
+            Ok(text) => Ok(TextValue {
+                text: String::from_str(alloc, text)?,
+            }),
+            Err(_) => Err(TextRefusal::NotUtf8),
+        }
+    }
+
+    /// The bytes of the text.
+    pub fn bytes(&self) -> &[u8]
+        ensures value { result.now ≡ self.now }
+        ensures text { IsText self.now }
+    {
+        self.text.as_bytes()
+    }
+}
+
+impl Duplicate for TextValue {
+    fn duplicate(&self, alloc: Global) -> Result<TextValue, NoMemory> {
+        Ok(TextValue {
+            text: String::from_str(alloc, self.text.as_str())?,
+        })
+    }
+}
+
+impl PartialEq for TextValue {
+    ghost eq = { pointwise ◌==◌ };
+
+    ghost laws = { Prim.search (comparing, rules) };
+
+    fn eq(&self, other: &TextValue) -> bool {
+        self.text == other.text
+    }
+}
+
+impl Eq for TextValue {
+    ghost laws = { Prim.search (comparing, rules) };
+}
+
+impl PartialOrd for TextValue {
+    ghost partial_cmp = { as_partial_cmp (slice_cmp nat_cmp) };
+
+    ghost laws = { partial_order_from_own_ties (Prim.search (comparing, rules)) (Prim.search (comparing, rules)) };
+
+    fn partial_cmp(&self, other: &TextValue) -> Option<Ordering> {
+        Some(self.cmp(other))
+    }
+}
+
+impl Ord for TextValue {
+    ghost cmp = { slice_cmp nat_cmp };
+
+    ghost total = { Prim.search (comparing, rules) };
+
+    ghost matches_partial_cmp = { Prim.search (comparing, rules) };
+
+    ghost matches_eq = { Prim.search (comparing, rules) };
+
+    fn cmp(&self, other: &TextValue) -> Ordering {
+        self.text.cmp(&other.text)
+    }
+}
+
+impl Hash for TextValue {
+    ghost hash_input = { fed.str };
+
+    ghost respects_eq = { Prim.search (hashing, rules) };
+
+    fn hash<H: Hasher>(&self, state: &mut H) {
+        self.text.hash(state);
+    }
+}
