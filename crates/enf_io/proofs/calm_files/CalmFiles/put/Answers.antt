@@ -1,0 +1,23 @@
+-- The map's insertion, as the contents by name.
+use Rattle.std.proofs.Common.{map, refl, sym, ap, string_bytes}
+use Rattle.enf_io.specs.Calm.{CalmContents}
+use Rattle.enf_io.proofs.Kept.{files_of, held_after_insert, others_after_insert}
+use Rattle.enf_io.proofs.calm_files.CalmFiles.put.Goals as goal
+
+pub returns-clause-held : goal.returns-clause-held
+returns-clause-held c =
+    let after : CalmContents = record {
+      files = files_of c.insert.new.self;
+      missed = map string_bytes c.self.inside.missed.items;
+    } in
+    held_after_insert c.args.name.now c.in_ok-name.name c.args.bytes c.self.inside.files c.insert.new.self c.args.self.now after
+    (ap (λ x. x.files) (sym c.self.view_is)) refl c.in_ok-name.ensures.ok c.in_ok-insert.ensures.updates
+
+pub returns-clause-others : goal.returns-clause-others
+returns-clause-others c =
+    let after : CalmContents = record {
+      files = files_of c.insert.new.self;
+      missed = map string_bytes c.self.inside.missed.items;
+    } in
+    others_after_insert c.args.name.now c.in_ok-name.name c.args.bytes c.self.inside.files c.insert.new.self c.args.self.now after
+    (ap (λ x. x.files) (sym c.self.view_is)) refl c.in_ok-name.ensures.ok c.in_ok-insert.ensures.updates
