@@ -1,0 +1,122 @@
+-- Small traces and formulas, on which the definition of satisfaction can be checked by eye.
+use Rattle.std.specs.Prelude.{ℕ, ℤ, pos, List, [], ◌∷◌, None, Some}
+use Rattle.enf_value.specs.Data.{Step}
+use Rattle.enf_value.specs.declared.events.Event.{Event}
+use Rattle.enf_value.specs.declared.events.NameId.{NameId}
+use Rattle.enf_value.specs.declared.intervals.Interval.{Interval}
+use Rattle.enf_value.specs.declared.terms.Term.{Term}
+use Rattle.enf_value.specs.declared.terms.Term.TheVariants.{Var, Const}
+use Rattle.enf_value.specs.declared.terms.VarId.{VarId}
+use Rattle.enf_value.specs.declared.values.Value.{Value}
+use Rattle.enf_value.specs.declared.values.Value.TheVariants.{Num, Text}
+use Rattle.enf_formula.specs.Formulas.{Formula, Atom}
+use Rattle.enf_formula.specs.Satisfaction.{Sat}
+
+-- [low,high]
+abbrev pub within : ℕ → ℕ → Interval
+within low high = record { low = low; high = Some high }
+
+-- [low,*]
+abbrev pub from_on : ℕ → Interval
+from_on low = record { low = low; high = None }
+
+-- the names p and q
+abbrev pub name_p : NameId
+name_p = record { 0 = 0 }
+
+abbrev pub name_q : NameId
+name_q = record { 0 = 1 }
+
+-- the events p() and q()
+abbrev pub event_p : Event
+event_p = record { name = name_p; args = [] }
+
+abbrev pub event_q : Event
+event_q = record { name = name_q; args = [] }
+
+-- a step at a time with these events
+abbrev pub at_time : ℕ → List Event → Step
+at_time time events = record { time = time; events = events }
+
+-- the formulas p() and q()
+abbrev pub formula_p : Formula
+formula_p = Atom 0 name_p []
+
+abbrev pub formula_q : Formula
+formula_q = Atom 0 name_q []
+
+-- q() at time 0, p() at time 3
+abbrev pub two_steps : List Step
+two_steps = at_time 0 (event_q ∷ []) ∷ at_time 3 (event_p ∷ []) ∷ []
+
+-- q() at time 0, p() at 1, nothing at 2, p() at 3
+abbrev pub broken_after : List Step
+broken_after = at_time 0 (event_q ∷ []) ∷ at_time 1 (event_p ∷ []) ∷ at_time 2 [] ∷ at_time 3 (event_p ∷ []) ∷ []
+
+-- p() at time 0, nothing at 1, p() at 2, q() at 3
+abbrev pub broken_before : List Step
+broken_before = at_time 0 (event_p ∷ []) ∷ at_time 1 [] ∷ at_time 2 (event_p ∷ []) ∷ at_time 3 (event_q ∷ []) ∷ []
+
+-- q() at time 4, then p() at time 4
+abbrev pub at_one_time : List Step
+at_one_time = at_time 4 (event_q ∷ []) ∷ at_time 4 (event_p ∷ []) ∷ []
+
+-- the formula holds at the position of the trace, where nothing is bound
+abbrev pub Holds : List Step → ℕ → Formula → Type 0
+Holds trace i f = Sat trace i [] f
+
+-- it does not
+abbrev pub Fails : List Step → ℕ → Formula → Type 0
+Fails trace i f = Sat trace i [] f → ⊥
+
+-- of intervals about the difference 3: it holds where 3 is the first or the last of the interval, and fails where 3 is one before or one past it
+pub record HoldsFor3 (trace : List Step) (i : ℕ) (f : Interval → Formula) : Type 0 where
+  pub first : Holds trace i (f (within 3 5))
+  pub last : Holds trace i (f (within 1 3))
+  pub before : Fails trace i (f (within 4 6))
+  pub past : Fails trace i (f (within 0 2))
+
+-- the same with holds and fails exchanged
+pub record FailsFor3 (trace : List Step) (i : ℕ) (f : Interval → Formula) : Type 0 where
+  pub first : Fails trace i (f (within 3 5))
+  pub last : Fails trace i (f (within 1 3))
+  pub before : Holds trace i (f (within 4 6))
+  pub past : Holds trace i (f (within 0 2))
+
+-- the variable x
+abbrev pub x : VarId
+x = record { 0 = 0 }
+
+-- a number as a term
+abbrev pub number : ℤ → Term
+number n = Const (Num n)
+
+-- a text as a term, by its bytes
+abbrev pub text : List ℕ → Term
+text bytes = Const (Text bytes)
+
+-- p(x) and q(x)
+abbrev pub formula_p_x : Formula
+formula_p_x = Atom 0 name_p (Var x ∷ [])
+
+abbrev pub formula_q_x : Formula
+formula_q_x = Atom 0 name_q (Var x ∷ [])
+
+-- the events p(value) and q(value)
+abbrev pub event_p_of : Value → Event
+event_p_of value = record { name = name_p; args = value ∷ [] }
+
+abbrev pub event_q_of : Value → Event
+event_q_of value = record { name = name_q; args = value ∷ [] }
+
+-- p(1) q(1) at time 0
+abbrev pub p_with_q : List Step
+p_with_q = at_time 0 (event_p_of (Num (pos 1)) ∷ event_q_of (Num (pos 1)) ∷ []) ∷ []
+
+-- p(1) q(1) p("a") at time 0
+abbrev pub p_without_q : List Step
+p_without_q = at_time 0 (event_p_of (Num (pos 1)) ∷ event_q_of (Num (pos 1)) ∷ event_p_of (Text (97 ∷ [])) ∷ []) ∷ []
+
+-- nothing at time 0
+abbrev pub empty_step : List Step
+empty_step = at_time 0 [] ∷ []

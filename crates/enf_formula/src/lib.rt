@@ -1,0 +1,9 @@
+//! Formulas of metric first-order temporal logic: their trees, and the definition of satisfaction
+//! on finite traces.
+#![tactic(auto)]
+
+pub mod formulas;
+pub mod laws;
+pub mod worked_cases;
+
+pub use formulas::{Formula, Place};
