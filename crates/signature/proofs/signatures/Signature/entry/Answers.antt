@@ -1,0 +1,12 @@
+use Rattle.std.proofs.Common.{ℕ, Vec, sym, ◌∙◌, ap, slice_get}
+use Rattle.std.specs.Option.{option_map}
+use Rattle.std.specs.declared.alloc.Global.{Global}
+use Rattle.std.proofs.lemmas.Option.{slice_get-map}
+use Rattle.signature.specs.declared.entries.NameEntry.{NameEntry}
+use Rattle.signature.proofs.signatures.Signature.entry.Goals as goal
+
+pub returns : goal.returns
+returns c =
+    ap (option_map (λ (pair : Vec ℕ Global × NameEntry). pair.1)) c.in_ok-entry.ensures.entry
+    ∙ sym (slice_get-map (λ (pair : Vec ℕ Global × NameEntry). pair.1) c.self.inside.entries.entries c.args.name.0)
+    ∙ ap (λ entries. slice_get entries c.args.name.0) c.self.view_is

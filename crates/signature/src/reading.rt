@@ -1,0 +1,285 @@
+//! The reader of signatures, token by token.
+ghost use Rattle.std.specs.Prelude.{◌≡◌, ◌≤◌, IfErr, IfOk, IsTrue, List, Result, false, length};
+ghost use Rattle.signature.specs.Grammar.{IsNew, is_reserved};
+ghost use Rattle.signature.specs.Pieces.{token_of};
+ghost use Rattle.signature.specs.Reading.{Adds, IsFit, IsProper, Takes, entry_of, sort_of};
+ghost use Rattle.signature.specs.Tokens.{is_word};
+ghost use Rattle.signature.specs.Refusals.{Gives, GivesAnswer, IsAnswer};
+ghost use Rattle.signature.specs.declared.entries.NameEntry.{NameEntry};
+ghost use Rattle.signature.specs.declared.refusals.SignatureRefusal.{SignatureRefusal};
+
+use crate::entries::{NameEntry, Sort, Sorts};
+use crate::refusals::{Place, SignatureLimit, SignatureRefusal};
+use crate::signatures::{MOST_SIGNATURE_BYTES, Signature};
+use crate::tokens::{Piece, Token};
+use enf_value::{TextRefusal, TextValue};
+use std::alloc::Global;
+
+const MOST_NAMES: u32 = 256;
+
+const MOST_SORTS: usize = 8;
+
+const MOST_NAME_BYTES: usize = 64;
+
+/// What has come of the next entry.
+#[derive(Debug, Drop)]
+pub(crate) enum Part {
+    Nothing,
+    Name(TextValue),
+    Open(TextValue),
+    Sorts(TextValue, Sorts),
+    Comma(TextValue, Sorts),
+    Close(TextValue, Sorts),
+    Mark(NameEntry),
+}
+
+/// Whether a word is one of those that are no names.
+pub fn is_reserved(word: &[u8]) -> bool
+    ensures { result ≡ is_reserved word.now }
+{
+    let reserved: [&[u8]; 18] = [
+        b"true",
+        b"false",
+        b"not",
+        b"and",
+        b"or",
+        b"exists",
+        b"forall",
+        b"prev",
+        b"next",
+        b"once",
+        b"historically",
+        b"since",
+        b"eventually",
+        b"always",
+        b"until",
+        b"rule",
+        b"int",
+        b"text",
+    ];
+    reserved.contains(&word)
+}
+
+fn sort_of(word: &[u8]) -> Option<Sort>
+    ensures { result ≡ sort_of word.now }
+{
+    match word {
+        b"int" => Some(Sort::Int),
+        b"text" => Some(Sort::Text),
+        _ => None,
+    }
+}
+
+fn name_text(alloc: Global, word: &[u8]) -> Result<TextValue, SignatureRefusal>
+    requires word { IsTrue (is_word word.now) }
+    requires short { length word.now ≤ 64 }
+    ensures ok { IfOk result (λ name. name ≡ word.now) }
+    ensures err { IfErr result (λ refusal. refusal ≡ SignatureRefusal.NoMemory) }
+{
+    match TextValue::from_bytes(alloc, word) {
+        Ok(name) => Ok(name),
+        Err(TextRefusal::NoMemory) => Err(SignatureRefusal::NoMemory),
+        Err(TextRefusal::TooLong) => unreachable!(),
+        Err(TextRefusal::NotUtf8) => unreachable!(),
+    }
+}
+
+fn take_name(
+    alloc: Global,
+    signature: &Signature,
+    token: Token<'_>,
+    place: Place,
+) -> Result<Part, SignatureRefusal>
+    requires { IsProper (token_of token) }
+    ensures { Takes signature.now Part.Nothing place (token_of token.entry) signature.now result }
+{
+    let Token::Word(word) = token else {
+        return Err(SignatureRefusal::Syntax { place });
+    };
+    if is_reserved(word) {
+        return Err(SignatureRefusal::Syntax { place });
+    }
+    if signature.len() == MOST_NAMES {
+        let which = SignatureLimit::Names;
+        return Err(SignatureRefusal::Limit { which, place });
+    }
+    if word.len() > MOST_NAME_BYTES {
+        let which = SignatureLimit::Name;
+        return Err(SignatureRefusal::Limit { which, place });
+    }
+    match signature.find(word) {
+        Some(name) => Err(SignatureRefusal::Repeated { name, place }),
+        None => Ok(Part::Name(name_text(alloc, word)?)),
+    }
+}
+
+fn take_open(name: TextValue, token: Token<'_>, place: Place) -> Result<Part, SignatureRefusal>
+    ensures { (entries : List NameEntry) → Takes entries (Part.Name name) place (token_of token.entry) entries result }
+{
+    match token {
+        Token::OpenParen => Ok(Part::Open(name)),
+        _ => Err(SignatureRefusal::Syntax { place }),
+    }
+}
+
+fn push_sort(
+    name: TextValue,
+    mut sorts: Sorts,
+    word: &[u8],
+    place: Place,
+) -> Result<Part, SignatureRefusal>
+    ensures { Adds name sorts place (sort_of word.now) result }
+{
+    let Some(sort) = sort_of(word) else {
+        return Err(SignatureRefusal::Syntax { place });
+    };
+    match sorts.push(sort) {
+        Ok(()) => Ok(Part::Sorts(name, sorts)),
+        Err(_) => Err(SignatureRefusal::NoMemory),
+    }
+}
+
+fn take_first_sort(
+    alloc: Global,
+    name: TextValue,
+    token: Token<'_>,
+    place: Place,
+) -> Result<Part, SignatureRefusal>
+    ensures { (entries : List NameEntry) → Takes entries (Part.Open name) place (token_of token.entry) entries result }
+{
+    match token {
+        Token::Word(word) => push_sort(name, Sorts::new(alloc), word, place),
+        Token::CloseParen => Ok(Part::Close(name, Sorts::new(alloc))),
+        _ => Err(SignatureRefusal::Syntax { place }),
+    }
+}
+
+fn take_comma(
+    name: TextValue,
+    sorts: Sorts,
+    token: Token<'_>,
+    place: Place,
+) -> Result<Part, SignatureRefusal>
+    ensures { (entries : List NameEntry) → Takes entries (Part.Sorts name sorts) place (token_of token.entry) entries result }
+{
+    match token {
+        Token::Comma => Ok(Part::Comma(name, sorts)),
+        Token::CloseParen => Ok(Part::Close(name, sorts)),
+        _ => Err(SignatureRefusal::Syntax { place }),
+    }
+}
+
+fn take_sort(
+    name: TextValue,
+    sorts: Sorts,
+    token: Token<'_>,
+    place: Place,
+) -> Result<Part, SignatureRefusal>
+    ensures { (entries : List NameEntry) → Takes entries (Part.Comma name sorts) place (token_of token.entry) entries result }
+{
+    let Token::Word(word) = token else {
+        return Err(SignatureRefusal::Syntax { place });
+    };
+    if sorts.len() == MOST_SORTS && sort_of(word).is_some() {
+        let which = SignatureLimit::Arity;
+        return Err(SignatureRefusal::Limit { which, place });
+    }
+    push_sort(name, sorts, word, place)
+}
+
+fn take_mark(
+    alloc: Global,
+    signature: &mut Signature,
+    name: TextValue,
+    sorts: Sorts,
+    token: Token<'_>,
+    place: Place,
+) -> Result<Part, SignatureRefusal>
+    requires { IsNew signature.old (entry_of name sorts false false) }
+    ensures { Takes signature.old (Part.Close name sorts) place (token_of token.entry) signature.new result }
+{
+    let (causable, suppressible) = match token {
+        Token::Semicolon => (false, false),
+        Token::Plus => (true, false),
+        Token::Minus => (false, true),
+        Token::PlusMinus => (true, true),
+        _ => return Err(SignatureRefusal::Syntax { place }),
+    };
+    let entry = NameEntry {
+        text: name,
+        sorts,
+        causable,
+        suppressible,
+    };
+    if causable || suppressible {
+        return Ok(Part::Mark(entry));
+    }
+    signature.push(alloc, entry)?;
+    Ok(Part::Nothing)
+}
+
+fn take_end(
+    alloc: Global,
+    signature: &mut Signature,
+    entry: NameEntry,
+    token: Token<'_>,
+    place: Place,
+) -> Result<Part, SignatureRefusal>
+    requires { IsNew signature.old entry }
+    ensures { Takes signature.old (Part.Mark entry) place (token_of token.entry) signature.new result }
+{
+    match token {
+        Token::Semicolon => {
+            signature.push(alloc, entry)?;
+            Ok(Part::Nothing)
+        }
+        _ => Err(SignatureRefusal::Syntax { place }),
+    }
+}
+
+/// Takes the next token: what has come of the next entry, or the refusal at the token.
+pub(crate) fn take(
+    alloc: Global,
+    signature: &mut Signature,
+    part: Part,
+    token: Token<'_>,
+    place: Place,
+) -> Result<Part, SignatureRefusal>
+    requires proper { IsProper (token_of token) }
+    requires fits { IsFit signature.old part }
+    ensures { Takes signature.old part place (token_of token.entry) signature.new result }
+{
+    match part {
+        Part::Nothing => take_name(alloc, signature, token, place),
+        Part::Name(name) => take_open(name, token, place),
+        Part::Open(name) => take_first_sort(alloc, name, token, place),
+        Part::Sorts(name, sorts) => take_comma(name, sorts, token, place),
+        Part::Comma(name, sorts) => take_sort(name, sorts, token, place),
+        Part::Close(name, sorts) => take_mark(alloc, signature, name, sorts, token, place),
+        Part::Mark(entry) => take_end(alloc, signature, entry, token, place),
+    }
+}
+
+/// Reads a signature, up to its end or the first refusal.
+pub(crate) fn read(alloc: Global, bytes: &[u8]) -> Result<Signature, SignatureRefusal>
+    requires { length bytes.now ≤ MOST_SIGNATURE_BYTES }
+    ensures answer { GivesAnswer bytes.now result }
+    ensures only { (answer : Result (List NameEntry) SignatureRefusal) → IsAnswer bytes.now answer → Gives result answer }
+{
+    let mut signature = Signature::new(alloc);
+    let mut part = Part::Nothing;
+    let mut place = 0;
+    while place < bytes.len() {
+        let piece = Piece::at_front(&bytes[place..]);
+        if let Some(token) = piece.token {
+            part = take(alloc, &mut signature, part, token, place as Place)?;
+        }
+        place += piece.length;
+    }
+    match part {
+        Part::Nothing => Ok(signature),
+        _ => Err(SignatureRefusal::Syntax {
+            place: place as Place,
+        }),
+    }
+}

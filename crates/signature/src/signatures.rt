@@ -1,0 +1,108 @@
+//! The names of a log, each found without a look at the others.
+ghost use Rattle.std.specs.Prelude.{◌≡◌, ◌≤◌, ◌++◌, ◌∷◌, [], Contains, IfNone, IfOk, IfSome, List, OnErr, OnOk, Result, Some, length, slice_get};
+ghost use Rattle.std.specs.Option.{option_copied, option_map};
+ghost use Rattle.enf_value.specs.declared.events.NameId.{NameId as NameNumber};
+ghost use Rattle.signature.specs.Grammar.{IsNew, IsSignature, names, number_of};
+ghost use Rattle.signature.specs.Refusals.{Gives, GivesAnswer, IsAnswer};
+ghost use Rattle.signature.specs.declared.entries.NameEntry.{NameEntry};
+ghost use Rattle.signature.specs.declared.refusals.SignatureRefusal.{SignatureRefusal};
+
+use crate::entries::NameEntry;
+use crate::reading;
+use crate::refusals::SignatureRefusal;
+use enf_value::{Duplicate, NameId, NoMemory};
+use indexmap::IndexMap;
+use std::alloc::Global;
+use std::marker::Model;
+
+/// The greatest length of the text of a signature.
+pub const MOST_SIGNATURE_BYTES: usize = 1_048_576;
+
+/// A list of names with their columns and marks, by the order of declaration.
+#[derive(Drop)]
+pub struct Signature {
+    entries: IndexMap<Vec<u8>, NameEntry>,
+}
+
+impl Model for Signature {
+    ghost use Rattle.std.specs.Prelude.{List, map};
+    ghost use Rattle.signature.specs.declared.entries.NameEntry.{NameEntry};
+    ghost use Rattle.signature.specs.Grammar.{IsSignature};
+    ghost use Rattle.signature.specs.Keys.{AreKeyed};
+
+    ghost Value = { List NameEntry };
+
+    ghost view = { λ s. map (λ pair. pair.1) s.entries.entries };
+
+    ghost invariant = { λ s. AreKeyed s.entries.entries × IsSignature (map (λ pair. pair.1) s.entries.entries) };
+}
+
+impl Signature {
+    /// The signature with no name.
+    pub(crate) fn new(alloc: Global) -> Signature
+        ensures { result ≡ [] }
+    {
+        Signature {
+            entries: IndexMap::new(alloc),
+        }
+    }
+
+    /// The signature that a text spells, or the first refusal by place.
+    pub fn read(alloc: Global, bytes: &[u8]) -> Result<Signature, SignatureRefusal>
+        requires { length bytes.now ≤ MOST_SIGNATURE_BYTES }
+        // The text's answer, unless there is no memory.
+        ensures answer { GivesAnswer bytes.now result }
+        // No other answer than the text's.
+        ensures only { (answer : Result (List NameEntry) SignatureRefusal) → IsAnswer bytes.now answer → Gives result answer }
+    {
+        reading::read(alloc, bytes)
+    }
+
+    /// Puts an entry last.
+    pub(crate) fn push(&mut self, alloc: Global, entry: NameEntry) -> Result<(), NoMemory>
+        requires { IsNew self.old entry }
+        ensures ok { OnOk result (self.new ≡ self.old ++ entry ∷ []) }
+        ensures err { OnErr result (self.new ≡ self.old) }
+    {
+        let name = Vec::from_slice(alloc, entry.text.bytes())?;
+        self.entries.insert(name, entry)?;
+        Ok(())
+    }
+
+    /// How many names there are.
+    pub fn len(&self) -> u32
+        ensures length { result ≡ length self.now }
+        ensures signature { IsSignature self.now }
+    {
+        self.entries.len() as u32
+    }
+
+    /// The entry of a name.
+    pub fn entry(&self, name: NameId) -> Option<&NameEntry>
+        ensures { option_copied result ≡ slice_get self.now name.0 }
+    {
+        let (_, entry) = self.entries.get_index(name.0 as usize)?;
+        Some(entry)
+    }
+
+    /// The name with a text.
+    pub fn find(&self, text: &[u8]) -> Option<NameId>
+        ensures number { option_map (λ name. name.0) result ≡ number_of self.now text.now }
+        ensures found { IfSome result (λ name. option_map (λ entry. entry.text) (slice_get self.now name.0) ≡ Some text.now) }
+        ensures only { (name : NameNumber) → option_map (λ entry. entry.text) (slice_get self.now name.0) ≡ Some text.now → result ≡ Some name }
+        ensures none { IfNone result (Contains (names self.now) text.now → ⊥) }
+    {
+        let number = self.entries.get_index_of(text)?;
+        Some(NameId(number as u32))
+    }
+}
+
+impl Duplicate for Signature {
+    fn duplicate(&self, alloc: Global) -> Result<Signature, NoMemory> {
+        let mut copy = Signature::new(alloc);
+        for entry in self.entries.values() {
+            copy.push(alloc, entry.duplicate(alloc)?)?;
+        }
+        Ok(copy)
+    }
+}
