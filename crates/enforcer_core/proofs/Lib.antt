@@ -1,0 +1,5 @@
+pub mod Triggers
+pub mod ReactionLemmas
+pub mod KeptRules
+pub mod LawfulReactions
+pub mod OneStep

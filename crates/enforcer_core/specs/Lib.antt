@@ -1,0 +1,10 @@
+pub use Rattle.enf_value.specs.Data
+pub use Rattle.enf_formula.specs.Formulas
+pub use Rattle.enf_formula.specs.Satisfaction
+pub mod Enforcers
+pub mod LawfulChange
+pub mod Lines
+pub mod Policies
+pub mod Reactions
+pub mod Runs
+pub mod Steps

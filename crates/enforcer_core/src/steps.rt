@@ -1,0 +1,48 @@
+//! The steps that an enforcer gives, and its refusals.
+ghost use Rattle.enforcer_core.specs.declared.steps.StepRefusal.TheVariants.{NoMemory as OutOfMemory};
+ghost use Rattle.std.specs.Prelude.{◌≡◌};
+
+use enf_value::event_sets::EventSet;
+use enf_value::items::Items;
+use enf_value::memory::NoMemory;
+
+/// Whose step it is: the system's, or one that was inserted at a deadline.
+#[derive(Clone, Copy, Debug, PartialEq, Eq)]
+pub enum StepKind {
+    System,
+    Inserted,
+}
+
+/// A step that goes out, with the events that were added to it.
+#[derive(Drop)]
+pub struct OutStep {
+    pub kind: StepKind,
+    pub time: u64,
+    pub events: EventSet,
+    pub added: EventSet,
+}
+
+/// A list of steps that go out.
+pub type OutSteps = Items<OutStep>;
+
+/// What one call lets out.
+#[derive(Drop)]
+pub struct StepOut {
+    pub steps: OutSteps,
+}
+
+/// Why a step was not taken.
+#[derive(Clone, Copy, Debug, PartialEq, Eq)]
+pub enum StepRefusal {
+    /// The given time is below the clock.
+    Falling { clock: u64, given: u64 },
+    NoMemory,
+}
+
+impl From<NoMemory> for StepRefusal {
+    ghost from_gives = { λ _ refusal. refusal ≡ OutOfMemory };
+
+    fn from(_no_memory: NoMemory) -> StepRefusal {
+        StepRefusal::NoMemory
+    }
+}
