@@ -1,0 +1,102 @@
+//! Runs over the devices that never fail.
+ghost use Rattle.std.specs.Prelude.{◌≡◌, IfOk, codes};
+ghost use Rattle.enf_io.specs.Calm.{IsHeld, contents_under};
+ghost use Rattle.enf_cli.specs.Words.{IsEnforce, texts};
+
+use crate::refusals::Status;
+use crate::run::run;
+use enf_io::calm_files::CalmFiles;
+use enf_io::calm_gate::CalmGate;
+use enf_io::calm_sink::CalmSink;
+use enf_io::devices::NoMemory;
+use std::alloc::Global;
+use std::process::Abort;
+
+/// The signature of the worked rows.
+pub const SIGNATURE: &[u8] =
+    b"request(text); consent(text); use(text) -; delete(text) +; unlock(text) +;\nlock(text); note(text) +-; alarm() +; ping() +; pong() +;\n";
+
+/// The policy `raise` of the worked rows.
+pub const RAISE: &[u8] = b"rule raise: forall u. request(u) -> alarm();\n";
+
+/// What a run answered, and what it left on the gate and the report.
+#[derive(Drop)]
+pub struct Outcome {
+    pub status: Status,
+    pub output: Vec<u8>,
+    pub report: Vec<u8>,
+}
+
+impl Outcome {
+    pub fn assert_is(
+        &self,
+        rt: &impl Abort,
+        name: &str,
+        status: Status,
+        output: &[u8],
+        report: &[u8],
+    ) {
+        assert_eq!(rt; self.status, status, "{name}");
+        assert!(rt; self.output.as_slice() == output, "{name}: the output");
+        assert!(rt; self.report.as_slice() == report, "{name}: the report");
+    }
+}
+
+/// The words `enforce sig pol`.
+pub fn enforce_words(alloc: Global) -> Result<[String; 3], NoMemory>
+    ensures { IfOk result (λ words. IsEnforce (texts words) (codes "sig") (codes "pol")) }
+{
+    Ok([
+        String::from_str(alloc, "enforce")?,
+        String::from_str(alloc, "sig")?,
+        String::from_str(alloc, "pol")?,
+    ])
+}
+
+/// The files that those words name.
+pub fn files_of(alloc: Global, signature: &[u8], policy: &[u8]) -> Result<CalmFiles, NoMemory>
+    ensures signature { IfOk result (λ files. IsHeld (contents_under files (codes "sig"))) }
+    ensures policy { IfOk result (λ files. IsHeld (contents_under files (codes "pol"))) }
+{
+    let mut files = CalmFiles::new(alloc);
+    files.put("sig", Vec::from_slice(alloc, signature)?)?;
+    files.put("pol", Vec::from_slice(alloc, policy)?)?;
+    Ok(files)
+}
+
+/// Over the calm forms, where both files are there, a run meets no fault.
+pub fn run_calmly(
+    alloc: Global,
+    words: &[String],
+    gate: &mut CalmGate,
+    files: &mut CalmFiles,
+    report: &mut CalmSink,
+) -> Status
+    requires words { IsEnforce (texts words.now) (codes "sig") (codes "pol") }
+    requires signature { IsHeld (contents_under files.old (codes "sig")) }
+    requires policy { IsHeld (contents_under files.old (codes "pol")) }
+    ensures no_read_fault { result ≡ Status.ReadFault → ⊥ }
+    ensures no_write_fault { result ≡ Status.WriteFault → ⊥ }
+{
+    run(alloc, words, gate, files, report)
+}
+
+/// Enforces the policy on the log, which comes in pieces of these sizes.
+pub fn enforced(
+    alloc: Global,
+    signature: &[u8],
+    policy: &[u8],
+    log: &[u8],
+    pieces: Vec<usize>,
+) -> Result<Outcome, NoMemory> {
+    let words = enforce_words(alloc)?;
+    let mut files = files_of(alloc, signature, policy)?;
+    let mut gate = CalmGate::new(alloc, Vec::from_slice(alloc, log)?, pieces);
+    let mut report = CalmSink::new(alloc);
+    let status = run_calmly(alloc, &words, &mut gate, &mut files, &mut report);
+    Ok(Outcome {
+        status,
+        output: Vec::from_slice(alloc, gate.given())?,
+        report: Vec::from_slice(alloc, report.given())?,
+    })
+}

@@ -1,0 +1,126 @@
+//! Runs over a gate or a report that takes only pieces, or fails.
+use super::calm::{Outcome, RAISE, SIGNATURE, enforce_words, files_of};
+use super::faulty::{FaultyGate, FaultySink};
+use crate::refusals::Status;
+use crate::run::run;
+use enf_io::devices::NoMemory;
+use std::alloc::Global;
+use std::test::Fail;
+
+const ALL: usize = usize::MAX;
+
+// Enforces `raise` on the log over devices with these sizes.
+fn enforced_in_pieces(
+    alloc: Global,
+    log: &[u8],
+    reads: &[usize],
+    writes: &[usize],
+    report_writes: &[usize],
+) -> Result<Outcome, NoMemory> {
+    let words = enforce_words(alloc)?;
+    let mut files = files_of(alloc, SIGNATURE, RAISE)?;
+    let log = Vec::from_slice(alloc, log)?;
+    let reads = Vec::from_slice(alloc, reads)?;
+    let writes = Vec::from_slice(alloc, writes)?;
+    let mut gate = FaultyGate::new(alloc, log, reads, writes);
+    let mut report = FaultySink::new(alloc, Vec::from_slice(alloc, report_writes)?);
+    let status = run(alloc, &words, &mut gate, &mut files, &mut report);
+    Ok(Outcome {
+        status,
+        output: Vec::from_slice(alloc, gate.given())?,
+        report: Vec::from_slice(alloc, report.given())?,
+    })
+}
+
+#[test]
+fn a_read_fault_keeps_the_whole_records(rt: HostRuntime) -> Result<(), Fail> {
+    let alloc = rt.alloc();
+    let log = b"@5 request(\"a\"); @6 request(\"b\"); @2;";
+    for (name, reads, output, status, report) in [
+        (
+            "behind a record",
+            [16].as_slice(),
+            b"@5 request(\"a\") alarm();\n".as_slice(),
+            Status::ReadFault,
+            b"read fault\n".as_slice(),
+        ),
+        (
+            "within the second",
+            &[10, 12],
+            b"@5 request(\"a\") alarm();\n",
+            Status::ReadFault,
+            b"read fault\n",
+        ),
+        (
+            "within the first",
+            &[9],
+            b"",
+            Status::ReadFault,
+            b"read fault\n",
+        ),
+        ("at once", &[], b"", Status::ReadFault, b"read fault\n"),
+        (
+            "behind a refused record",
+            &[ALL],
+            b"@5 request(\"a\") alarm();\n@6 request(\"b\") alarm();\n",
+            Status::Record,
+            b"record 3: time 2 is below 6\n",
+        ),
+    ] {
+        let outcome = enforced_in_pieces(alloc, log, reads, &[ALL, ALL], &[ALL])?;
+        outcome.assert_is(&rt, name, status, output, report);
+    }
+    Ok(())
+}
+
+#[test]
+fn a_write_is_finished_by_further_writes(rt: HostRuntime) -> Result<(), Fail> {
+    let alloc = rt.alloc();
+    let log = b"@5 request(\"a\"); @7; @6;";
+    let threes = vec![in alloc; 3; 20]?;
+    let outcome = enforced_in_pieces(alloc, log, &[ALL, ALL], &threes, &threes)?;
+    outcome.assert_is(
+        &rt,
+        "three bytes a write",
+        Status::Record,
+        b"@5 request(\"a\") alarm();\n@7;\n",
+        b"record 3: time 6 is below 7\n",
+    );
+    Ok(())
+}
+
+#[test]
+fn a_write_fault_ends_the_run(rt: HostRuntime) -> Result<(), Fail> {
+    let alloc = rt.alloc();
+    let log = b"@5 request(\"a\"); @7; foo";
+    for (name, writes, report_writes, status, output, report) in [
+        (
+            "at once",
+            [].as_slice(),
+            [ALL].as_slice(),
+            Status::WriteFault,
+            b"".as_slice(),
+            b"".as_slice(),
+        ),
+        (
+            "within a line",
+            &[ALL, 2],
+            &[ALL],
+            Status::WriteFault,
+            b"@5 request(\"a\") alarm();\n@7",
+            b"",
+        ),
+        (
+            "on the report",
+            &[ALL, ALL],
+            &[4],
+            Status::Record,
+            b"@5 request(\"a\") alarm();\n@7;\n",
+            b"reco",
+        ),
+    ] {
+        let outcome = enforced_in_pieces(alloc, log, &[ALL, ALL], writes, report_writes)?;
+        outcome.assert_is(&rt, name, status, output, report);
+    }
+    Ok(())
+}

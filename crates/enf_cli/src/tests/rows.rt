@@ -1,0 +1,170 @@
+//! Worked runs, with the bytes that they are to give.
+use super::calm::{RAISE, SIGNATURE, enforced};
+use crate::refusals::Status;
+use std::test::Fail;
+
+#[test]
+fn raise_adds_the_alarm_once(rt: HostRuntime) -> Result<(), Fail> {
+    let alloc = rt.alloc();
+    for (name, log, want) in [
+        ("empty", b"".as_slice(), b"".as_slice()),
+        (
+            "raise",
+            b"@1 request(\"a\");",
+            b"@1 request(\"a\") alarm();\n",
+        ),
+        ("equal times", b"@1; @1; @2;", b"@1;\n@1;\n@2;\n"),
+        (
+            "already there",
+            b"@1 request(\"a\") alarm();\n@2 alarm() request(\"b\");\n",
+            b"@1 request(\"a\") alarm();\n@2 alarm() request(\"b\");\n",
+        ),
+        (
+            "two requests",
+            b"@1 request(\"a\") request(\"b\");",
+            b"@1 request(\"a\") request(\"b\") alarm();\n",
+        ),
+        (
+            "a repeat",
+            b"@3 request(\"a\") request(\"a\") delete(\"a\");",
+            b"@3 request(\"a\") delete(\"a\") alarm();\n",
+        ),
+        (
+            "the least and the most",
+            b"@007 request(\"\");@1000000000000000;",
+            b"@7 request(\"\") alarm();\n@1000000000000000;\n",
+        ),
+    ] {
+        let outcome = enforced(alloc, SIGNATURE, RAISE, log, Vec::new(alloc))?;
+        outcome.assert_is(&rt, name, Status::Done, want, b"");
+    }
+    Ok(())
+}
+
+#[test]
+fn rules_act_in_the_order_of_the_policy(rt: HostRuntime) -> Result<(), Fail> {
+    let alloc = rt.alloc();
+    let log = b"@1 lock(\"x\") request(\"a\");";
+    for (name, policy, want) in [
+        (
+            "no rule",
+            b"".as_slice(),
+            b"@1 lock(\"x\") request(\"a\");\n".as_slice(),
+        ),
+        (
+            "the alarm first",
+            b"rule a: forall u. request(u) -> alarm(); rule b: forall u. lock(u) -> ping();",
+            b"@1 lock(\"x\") request(\"a\") alarm() ping();\n",
+        ),
+        (
+            "the ping first",
+            b"rule b: forall u. lock(u) -> ping();\nrule a: forall u. request(u) -> alarm();",
+            b"@1 lock(\"x\") request(\"a\") ping() alarm();\n",
+        ),
+    ] {
+        let outcome = enforced(alloc, SIGNATURE, policy, log, Vec::new(alloc))?;
+        outcome.assert_is(&rt, name, Status::Done, want, b"");
+    }
+    Ok(())
+}
+
+#[test]
+fn a_refused_file_leaves_the_gate_alone(rt: HostRuntime) -> Result<(), Fail> {
+    let alloc = rt.alloc();
+    let consents = b"rule r: forall u. request(u) -> consent(u);".as_slice();
+    for (name, signature, policy, report) in [
+        (
+            "a mark is wanted",
+            b"request(text) alarm();".as_slice(),
+            RAISE,
+            b"signature: syntax at 14\n".as_slice(),
+        ),
+        (
+            "a name twice",
+            b"request(text); request(int);",
+            RAISE,
+            b"signature: repeated request at 15\n",
+        ),
+        (
+            "a ninth sort",
+            b"a(int,int,int,int,int,int,int,int,int);",
+            RAISE,
+            b"signature: limit at 34\n",
+        ),
+        (
+            "a column of numbers",
+            b"request(int); alarm() +;",
+            RAISE,
+            b"policy: not built\n",
+        ),
+        (
+            "no mark",
+            b"request(text); alarm();",
+            RAISE,
+            b"policy: not built\n",
+        ),
+        (
+            "a cause with a column",
+            SIGNATURE,
+            consents,
+            b"policy: not built\n",
+        ),
+    ] {
+        let outcome = enforced(alloc, signature, policy, b"@1;", Vec::new(alloc))?;
+        outcome.assert_is(&rt, name, Status::Files, b"", report);
+    }
+    Ok(())
+}
+
+#[test]
+fn a_refused_record_keeps_those_before_it(rt: HostRuntime) -> Result<(), Fail> {
+    let alloc = rt.alloc();
+    for (name, log, output, report) in [
+        (
+            "a name",
+            b"@1 foo();".as_slice(),
+            b"".as_slice(),
+            b"record 1: not built\n".as_slice(),
+        ),
+        ("a blank", b" @1;", b"", b"record 1: not built\n"),
+        ("no end", b"@1 request(\"a\"", b"", b"record 1: not built\n"),
+        (
+            "a late time",
+            b"@1000000000000001;",
+            b"",
+            b"record 1: not built\n",
+        ),
+        (
+            "falling time",
+            b"@9; @7;",
+            b"@9;\n",
+            b"record 2: time 7 is below 9\n",
+        ),
+        (
+            "in the middle",
+            b"@1 request(\"a\"); @2 foo(); @3 request(\"b\");",
+            b"@1 request(\"a\") alarm();\n",
+            b"record 2: not built\n",
+        ),
+    ] {
+        let outcome = enforced(alloc, SIGNATURE, RAISE, log, Vec::new(alloc))?;
+        outcome.assert_is(&rt, name, Status::Record, output, report);
+    }
+    Ok(())
+}
+
+#[test]
+fn pieces_make_no_difference(rt: HostRuntime) -> Result<(), Fail> {
+    let alloc = rt.alloc();
+    let log = b"@1 request(\"a\");\n";
+    let pieces = vec![in alloc; 1; log.len()]?;
+    let outcome = enforced(alloc, SIGNATURE, RAISE, log, pieces)?;
+    outcome.assert_is(
+        &rt,
+        "pieces",
+        Status::Done,
+        b"@1 request(\"a\") alarm();\n",
+        b"",
+    );
+    Ok(())
+}

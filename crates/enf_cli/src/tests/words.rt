@@ -1,0 +1,37 @@
+//! Words that match no form, and files that are not there.
+use super::calm::{RAISE, SIGNATURE, files_of};
+use crate::refusals::Status;
+use crate::run::run;
+use enf_io::calm_gate::CalmGate;
+use enf_io::calm_sink::CalmSink;
+use std::test::Fail;
+
+const USAGE: &[u8] =
+    b"usage: enf enforce SIG POLICY [--resume FILE] [--save FILE] | check SIG POLICY | audit SIG POLICY | gen START N | drill START N\n";
+
+#[test]
+fn words_and_missing_files_are_told(rt: HostRuntime) -> Result<(), Fail> {
+    let alloc = rt.alloc();
+    for (line, status, report) in [
+        ("enforce", Status::Words, USAGE),
+        ("enforce sig pol --save state", Status::Words, USAGE),
+        ("check sig pol", Status::Words, USAGE),
+        ("--help", Status::Words, USAGE),
+        ("enforce missing pol", Status::ReadFault, b"read fault\n"),
+        ("enforce sig missing", Status::ReadFault, b"read fault\n"),
+    ] {
+        let mut words = Vec::new(alloc);
+        for word in line.split(' ') {
+            words.push(String::from_str(alloc, word)?)?;
+        }
+        let mut files = files_of(alloc, SIGNATURE, RAISE)?;
+        let log = Vec::from_slice(alloc, b"@1;")?;
+        let mut gate = CalmGate::new(alloc, log, Vec::new(alloc));
+        let mut sink = CalmSink::new(alloc);
+        let answered = run(alloc, &words, &mut gate, &mut files, &mut sink);
+        assert_eq!(rt; answered, status, "{line}");
+        assert_eq!(rt; sink.given(), report, "{line}");
+        assert!(rt; gate.given().is_empty(), "{line}");
+    }
+    Ok(())
+}

@@ -1,0 +1,5 @@
+request(text);
+denied(text);
+forced(text);
+alarm() +;
+lock() +;
