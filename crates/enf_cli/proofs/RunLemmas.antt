@@ -15,6 +15,10 @@ use Rattle.enf_cli.specs.declared.refusals.Status.{Status}
 use Rattle.enf_cli.specs.declared.refusals.Status.TheVariants as statuses
 use Rattle.signature.specs.declared.entries.NameEntry.{NameEntry}
 use Rattle.enf_cli.specs.declared.input.InputEnd.{InputEnd}
+use Rattle.enf_cli.specs.declared.input.InputEnd.TheVariants as ends
+use Rattle.enf_cli.specs.declared.log.Behind.{Behind}
+use Rattle.enf_cli.specs.declared.log.Behind.TheVariants as behind
+use Rattle.std.specs.Result.{OnOk}
 use Rattle.enf_cli.specs.declared.log.Extent.{Extent}
 use Rattle.enf_cli.specs.declared.log.Verdict.{Verdict}
 use Rattle.enf_cli.specs.declared.log.Verdict.TheVariants as verdicts
@@ -57,6 +61,17 @@ ran_log ds rules taken end extent a b c fault fault' f t i e =
       judged = record { rest = e.rest; why = extent.behind; accepts = e.accepts; behind = e.behind; is = refl };
       enforced = e.enforced;
     }
+
+-- a run ends well only where the input was taken to its end
+pub on_accepted : (P : Type 0) (why : Behind) (end : InputEnd) (number : ℕ) (result : Result (Unit {0}) Refusal) → IsConclusion (verdict_of why end) number result → (end ≡ ends.Ended → P) → OnOk result P
+on_accepted P behind.Nothing ends.Ended number result h p = subst (λ (r : Result (Unit {0}) Refusal). OnOk r P) (sym h) (p refl)
+on_accepted P behind.Nothing ends.Fault number result h p = subst (λ (r : Result (Unit {0}) Refusal). OnOk r P) (sym h) tt
+on_accepted P behind.Nothing ends.Limit number result h p = subst (λ (r : Result (Unit {0}) Refusal). OnOk r P) (sym h) tt
+on_accepted P behind.Pending ends.Ended number result h p = subst (λ (r : Result (Unit {0}) Refusal). OnOk r P) (sym h) tt
+on_accepted P behind.Pending ends.Fault number result h p = subst (λ (r : Result (Unit {0}) Refusal). OnOk r P) (sym h) tt
+on_accepted P behind.Pending ends.Limit number result h p = subst (λ (r : Result (Unit {0}) Refusal). OnOk r P) (sym h) tt
+on_accepted P behind.Refused end number result h p = subst (λ (r : Result (Unit {0}) Refusal). OnOk r P) (sym h) tt
+on_accepted P (behind.Falling given at) end number result h p = subst (λ (r : Result (Unit {0}) Refusal). OnOk r P) (sym h) tt
 
 -- what the conclusion says of the run
 pub concludes : (ds : List NameEntry) (rules : List CauseRule) (a c : Option Exchange) (fault cut_fault : Type 0) (verdict : Verdict) (number : ℕ) (result : Result (Unit {0}) Refusal)

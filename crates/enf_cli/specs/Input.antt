@@ -22,6 +22,15 @@ IsTurn turns.More more told fault = 0 < length more
 IsTurn turns.Ended more told fault = (more ≡ []) × IsAtEnd told
 IsTurn turns.Fault more told fault = (more ≡ []) × fault
 
+-- no read failed, where the taking did not end in a fault
+abbrev pub KeepsCount : InputEnd → (before after : ℕ) → Type 0
+KeepsCount Fault before after = Unit {0}
+KeepsCount end before after = after ≡ before
+
+abbrev pub KeepsCountInTurn : Turn → (before after : ℕ) → Type 0
+KeepsCountInTurn turns.Fault before after = Unit {0}
+KeepsCountInTurn turn before after = after ≡ before
+
 -- one read put what it took, if anything, behind the bytes
 pub record TookTurn (turn : Turn) (most : ℕ) (bytes bytes' : List ℕ) (before after : Option Exchange) (fault : Type 0) : Type 0 where
   pub more : List ℕ

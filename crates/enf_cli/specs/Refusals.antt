@@ -44,3 +44,13 @@ status_of (refusals.Record number why) = statuses.Record
 status_of refusals.ReadFault = statuses.ReadFault
 status_of refusals.WriteFault = statuses.WriteFault
 status_of refusals.NoMemory = statuses.NoMemory
+
+-- the number that the program ends with
+abbrev pub code_of : Status → ℕ
+code_of statuses.Done = 0
+code_of statuses.Words = 1
+code_of statuses.Files = 2
+code_of statuses.Record = 3
+code_of statuses.ReadFault = 4
+code_of statuses.WriteFault = 5
+code_of statuses.NoMemory = 6

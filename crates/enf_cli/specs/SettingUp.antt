@@ -16,10 +16,6 @@ pub record HasFailed (before after : List ℕ → ℕ) (is_reliable : List ℕ �
   pub rose : Rose (before name) (after name)
   pub unreliable : is_reliable name → ⊥
 
--- a read of the one or of the other failed
-abbrev pub HaveFailed : (List ℕ → ℕ) → (List ℕ → ℕ) → (List ℕ → Type 0) → List ℕ → List ℕ → Type 0
-HaveFailed before after is_reliable signature policy = HasFailed before after is_reliable signature ⊎ HasFailed before after is_reliable policy
-
 -- a file has more bytes than it may have
 pub record IsLong (told : Option (List ℕ → Contents)) (name : List ℕ) : Type 0 where
   pub bytes : List ℕ
@@ -46,6 +42,11 @@ pub record HoldsSignature (told : Option (List ℕ → Contents)) (name : List �
   pub bytes : List ℕ
   pub under : AreUnder told name bytes
   pub is_signature : SpellsSignature bytes ds
+
+-- a read of the signature failed, or one of the policy behind a signature that the file holds
+abbrev pub HaveFailed : Option (List ℕ → Contents) → (List ℕ → ℕ) → (List ℕ → ℕ) → (List ℕ → Type 0) → List ℕ → List ℕ → Type 0
+HaveFailed told before after is_reliable signature policy =
+    HasFailed before after is_reliable signature ⊎ (((ds : List NameEntry) × HoldsSignature told signature ds) × HasFailed before after is_reliable policy)
 
 -- the signature was not read, or is refused
 abbrev pub IsSignatureRefusal : Option (List ℕ → Contents) → List ℕ → Type 0 → Refusal → Type 0

@@ -39,7 +39,7 @@ pub fn set_up<F: Files>(
         (λ setup. All (λ rule. IsTrue (is_causable setup.signature rule.cause)) setup.rules.items) }
     ensures refused { IfErr result
         (IsSetUpRefusal (F.contents files.old) signature_file.now policy_file.now
-        (HaveFailed (F.read_faults files.old) (F.read_faults files.new)
+        (HaveFailed (F.contents files.old) (F.read_faults files.old) (F.read_faults files.new)
         (F.is_reliable files.old) signature_file.now policy_file.now)) }
     ensures contents { F.contents files.new ≡ F.contents files.old }
 {

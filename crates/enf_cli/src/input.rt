@@ -2,7 +2,7 @@
 ghost use Rattle.std.specs.Prelude.{◌≡◌, ◌<◌, ◌≤◌, IfOk, OnErr, length};
 ghost use Rattle.enf_io.specs.Causes.{Rose};
 ghost use Rattle.enf_io.specs.Exchange.{Took, IsAtEnd};
-ghost use Rattle.enf_cli.specs.Input.{IsCutAs, TookSome, TookTurn};
+ghost use Rattle.enf_cli.specs.Input.{IsCutAs, KeepsCount, KeepsCountInTurn, TookSome, TookTurn};
 
 use enf_io::devices::{Gate, IoRefusal};
 use enf_value::memory::NoMemory;
@@ -39,6 +39,8 @@ pub fn read_input<G: Gate>(alloc: Global, gate: &mut G) -> Result<Input, NoMemor
     ensures end { IfOk result
         (λ input. IsCutAs input.end (length input.bytes.items) (G.told gate.new)
         (Rose (G.read_faults gate.old) (G.read_faults gate.new))) }
+    ensures count { IfOk result
+        (λ input. KeepsCount input.end (G.read_faults gate.old) (G.read_faults gate.new)) }
     ensures err { OnErr result (TookSome (G.told gate.old) (G.told gate.new)) }
     ensures reads { G.read_faults gate.old ≤ G.read_faults gate.new }
     ensures writes { G.write_faults gate.new ≡ G.write_faults gate.old }
@@ -82,6 +84,8 @@ fn take_turn<G: Gate>(gate: &mut G, piece: &mut [u8], bytes: &mut Vec<u8>) -> Re
     ensures turn { IfOk result
         (λ turn. TookTurn turn (length piece.old) bytes.old.items bytes.new.items (G.told gate.old)
         (G.told gate.new) (Rose (G.read_faults gate.old) (G.read_faults gate.new))) }
+    ensures count { IfOk result
+        (λ turn. KeepsCountInTurn turn (G.read_faults gate.old) (G.read_faults gate.new)) }
     ensures err { OnErr result (TookSome (G.told gate.old) (G.told gate.new)) }
     ensures reads { G.read_faults gate.old ≤ G.read_faults gate.new }
     ensures writes { G.write_faults gate.new ≡ G.write_faults gate.old }

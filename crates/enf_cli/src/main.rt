@@ -34,7 +34,7 @@ fn main(rt: HostRuntime) -> ExitCode {
         Ok(words) => run(rt.alloc(), &words, &mut gate, &mut files, &mut report),
         Err(refusal) => report_refusal(rt.alloc(), refusal, &mut report),
     };
-    ExitCode::from(status as u8)
+    ExitCode::from(status.code())
 }
 
 // The words behind the program's name. A word that is not UTF-8 matches no form.

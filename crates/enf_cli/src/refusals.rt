@@ -1,6 +1,6 @@
 //! Why a run ends, with its line on the report and its status.
 ghost use Rattle.std.specs.Prelude.{◌≡◌, ◌++◌, OnOk, codes, decimal};
-ghost use Rattle.enf_cli.specs.Refusals.{status_of, text_of_refusal, text_of_policy_fault, text_of_record_refusal, text_of_signature_fault};
+ghost use Rattle.enf_cli.specs.Refusals.{code_of, status_of, text_of_refusal, text_of_policy_fault, text_of_record_refusal, text_of_signature_fault};
 ghost use Rattle.enf_cli.specs.declared.refusals.Refusal.TheVariants.{NoMemory as OutOfMemory};
 
 use enf_value::memory::NoMemory;
@@ -20,6 +20,15 @@ pub enum Status {
     ReadFault = 4,
     WriteFault = 5,
     NoMemory = 6,
+}
+
+impl Status {
+    /// The number that the program ends with.
+    pub fn code(self) -> u8
+        ensures { result ≡ code_of self }
+    {
+        self as u8
+    }
 }
 
 /// Why the signature is refused. A place is a byte offset, counted from 0.

@@ -1,5 +1,5 @@
 //! The top call: all that the program does.
-ghost use Rattle.std.specs.Prelude.{◌≡◌, ◌+◌, ◌<◌, ◌^◌, ◌⊎◌, ℕ, List, [], Some, IsTrue, All, length};
+ghost use Rattle.std.specs.Prelude.{◌≡◌, ◌+◌, ◌<◌, ◌^◌, ◌⊎◌, ℕ, List, OnOk, [], Some, IsTrue, All, length};
 ghost use Rattle.enf_io.specs.Causes.{Rose};
 ghost use Rattle.enf_io.specs.Exchange.{Exchange, left};
 ghost use Rattle.enf_value.specs.Data.{Step};
@@ -8,7 +8,9 @@ ghost use Rattle.enf_cli.specs.Enforcement.{is_causable};
 ghost use Rattle.enf_cli.specs.Judgement.{Accepts, verdict_of};
 ghost use Rattle.enf_cli.specs.Outcomes.{AsksRefusedPolicy, AsksRefusedSignature, AsksTold, Finishes, IsCutShort, MeetsRefusal, RefusesFiles, StopsAtFault, StopsAtRecord};
 ghost use Rattle.enf_cli.specs.Program.{IsConclusion, IsUntouched, MatchNoForm, Performs, RefusesBefore, RunsLog};
-ghost use Rattle.enf_cli.specs.Reports.{IsReported};
+ghost use Rattle.enf_cli.specs.Reports.{AddedFront, IsReported};
+ghost use Rattle.enf_cli.specs.Refusals.{text_of_refusal};
+ghost use Rattle.enf_cli.specs.declared.refusals.Refusal.{Refusal as AnyRefusal};
 ghost use Rattle.enf_cli.specs.SettingUp.{HaveFailed};
 ghost use Rattle.enf_cli.specs.Words.{IsEnforce, texts};
 ghost use Rattle.signature.specs.declared.entries.NameEntry.{NameEntry as Entry};
@@ -49,6 +51,7 @@ pub fn run<G: Gate, F: Files, R: Sink>(
     ensures done { result ≡ Status.Done →
         Finishes (texts words.now) (F.contents files.old) (G.told gate.old) (G.told gate.new) }
     ensures done_line { result ≡ Status.Done → R.told report.new ≡ R.told report.old }
+    ensures done_reads { result ≡ Status.Done → G.read_faults gate.new ≡ G.read_faults gate.old }
     ensures words_line { result ≡ Status.Words →
         IsReported Refusal.Words (R.told report.old) (R.told report.new)
         (Rose (R.write_faults report.old) (R.write_faults report.new)) }
@@ -63,7 +66,7 @@ pub fn run<G: Gate, F: Files, R: Sink>(
         (Rose (R.write_faults report.old) (R.write_faults report.new)) }
     ensures read_fault { result ≡ Status.ReadFault →
         RefusesBefore (G.told gate.old) (G.told gate.new)
-        (HaveFailed (F.read_faults files.old) (F.read_faults files.new)
+        (HaveFailed (F.contents files.old) (F.read_faults files.old) (F.read_faults files.new)
         (F.is_reliable files.old))
         (texts words.now)
         ⊎ StopsAtFault (texts words.now) (F.contents files.old) (G.told gate.old) (G.told gate.new)
@@ -76,6 +79,8 @@ pub fn run<G: Gate, F: Files, R: Sink>(
     ensures write_fault_line { result ≡ Status.WriteFault → R.told report.new ≡ R.told report.old }
     ensures cut_short { (result ≡ Status.WriteFault) ⊎ (result ≡ Status.NoMemory) →
         IsCutShort (texts words.now) (F.contents files.old) (G.told gate.old) (G.told gate.new) }
+    ensures no_memory_line { result ≡ Status.NoMemory → (why : AnyRefusal) ×
+        AddedFront (text_of_refusal why) (R.told report.old) (R.told report.new) }
     ensures contents { F.contents files.new ≡ F.contents files.old }
     ensures untouched { (result ≡ Status.Words) ⊎ (result ≡ Status.Files) →
         IsUntouched (G.told gate.old) (G.told gate.new) }
@@ -93,11 +98,12 @@ pub fn run<G: Gate, F: Files, R: Sink>(
         G.told gate.old ≡ Some x → G.told gate.new ≡ Some y →
         MeetsRefusal ds x y (Rose (G.read_faults gate.old) (G.read_faults gate.new)) →
         (result ≡ Status.Record) ⊎ ((result ≡ Status.WriteFault) ⊎ (result ≡ Status.NoMemory)) }
-    ensures complete { (ds : List Entry) (causes : List CauseRule) (x : Exchange) (steps : List Step) →
+    ensures complete { (ds : List Entry) (causes : List CauseRule) (x : Exchange)
+        (steps : List Step) →
         AsksTold (texts words.now) (F.contents files.old) ds causes →
         G.told gate.old ≡ Some x → Accepts ds (left x) steps [] → length (left x) < 1048576 →
         ((signature policy : List ℕ) → IsEnforce (texts words.now) signature policy →
-        HaveFailed (F.read_faults files.old) (F.read_faults files.new) (F.is_reliable files.old)
+        HaveFailed (F.contents files.old) (F.read_faults files.old) (F.read_faults files.new) (F.is_reliable files.old)
         signature policy → ⊥) →
         (Rose (G.read_faults gate.old) (G.read_faults gate.new) → ⊥) →
         (Rose (G.write_faults gate.old) (G.write_faults gate.new) → ⊥) →
@@ -118,10 +124,12 @@ fn perform<G: Gate, F: Files>(
 ) -> Result<(), Refusal>
     ensures performed { Performs (texts words.now) (F.contents files.old) (G.told gate.old)
         (G.told gate.new)
-        (HaveFailed (F.read_faults files.old) (F.read_faults files.new) (F.is_reliable files.old))
+        (HaveFailed (F.contents files.old) (F.read_faults files.old) (F.read_faults files.new)
+        (F.is_reliable files.old))
         (Rose (G.read_faults gate.old) (G.read_faults gate.new))
         (Rose (G.write_faults gate.old) (G.write_faults gate.new)) result }
     ensures contents { F.contents files.new ≡ F.contents files.old }
+    ensures count { OnOk result (G.read_faults gate.new ≡ G.read_faults gate.old) }
 {
     let Some((signature, policy)) = enforce_words(words) else {
         return Err(Refusal::Words);
@@ -133,9 +141,10 @@ fn perform<G: Gate, F: Files>(
 // Takes the log, enforces its records and gives their lines.
 fn run_log<G: Gate>(alloc: Global, setup: Setup, gate: &mut G) -> Result<(), Refusal>
     requires { All (λ rule. IsTrue (is_causable setup.signature rule.cause)) setup.rules.items }
-    ensures { RunsLog setup.signature setup.rules.items (G.told gate.old) (G.told gate.new)
+    ensures ran { RunsLog setup.signature setup.rules.items (G.told gate.old) (G.told gate.new)
         (Rose (G.read_faults gate.old) (G.read_faults gate.new))
         (Rose (G.write_faults gate.old) (G.write_faults gate.new)) result }
+    ensures count { OnOk result (G.read_faults gate.new ≡ G.read_faults gate.old) }
 {
     let Setup { signature, rules } = setup;
     let input = read_input(alloc, gate)?;

@@ -67,6 +67,7 @@ pub trait Gate {
         ensures end { IfOk result (λ count. count ≡ 0 → IsAtEnd (told self.old)) }
         ensures refused { OnErr result (told self.new ≡ told self.old) }
         ensures cause { HasCause (read_faults self.old) (read_faults self.new) result }
+        ensures no_fault { OnOk result (read_faults self.new ≡ read_faults self.old) }
         ensures writes { write_faults self.new ≡ write_faults self.old };
 
     /// Gives the front of `bytes`, and answers how many of them were taken.

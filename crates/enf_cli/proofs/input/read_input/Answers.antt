@@ -11,7 +11,7 @@ loop-bytes-init g c =
       taken = subst (λ bs. Took bs (told c.args.gate.now) (told c.args.gate.now)) (sym c.new-bytes.ensures.items) (took_none (told c.args.gate.now));
       most = omega (arith, ap length c.new-bytes.ensures.items);
       piece = c.in_ok-piece.ensures.len;
-      reads = omega arith;
+      reads = refl;
       writes = refl;
     }
 
@@ -28,7 +28,7 @@ loop-bytes-preserved g c =
       taken = took_turn _ _ _ _ _ _ _ _ c.loop-bytes.invariant.taken t;
       most = let n = c.len-in-loop-bytes.ensures in let m = c.min-most.ensures in let few : length t.more ≤ min c.min-most.result (length c.deref_mut.result.now) = simp length-take at t.few in omega (arith, length_turn _ _ _ _ _ _ _ t, few, n, m);
       piece = c.loop-bytes.invariant.piece;
-      reads = omega arith;
+      reads = (rw c.in-More.is at c.in_ok-take_turn.ensures.count) ∙ c.loop-bytes.invariant.reads;
       writes = c.in_ok-take_turn.ensures.writes ∙ c.loop-bytes.invariant.writes;
     }
 

@@ -9,7 +9,7 @@ invariant-loop-bytes g l =
       taken : Took l.bytes.items (told l.fn.gate) (told l.gate);
       most : length l.bytes.items ≤ 1048576;
       piece : vec_len l.piece ≡ 65536;
-      reads : g.G.Gate.read_faults l.fn.gate ≤ g.G.Gate.read_faults l.gate;
+      reads : g.G.Gate.read_faults l.gate ≡ g.G.Gate.read_faults l.fn.gate;
       writes : g.G.Gate.write_faults l.gate ≡ g.G.Gate.write_faults l.fn.gate;
     }
 

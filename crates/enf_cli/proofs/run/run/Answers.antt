@@ -32,3 +32,6 @@ returns-in-Ok-clause-signature_always g c t = absurd (signature_not_done _ _ _ _
 
 pub returns-in-Err-clause-signature_always : goal.returns-in-Err-clause-signature_always
 returns-in-Err-clause-signature_always g c t = signature_always _ _ _ _ _ _ _ c.in-Err.refusal _ c.report_refusal.ensures.status c.in-Err.ensures.performed t
+
+pub returns-in-Err-clause-no_memory_line : goal.returns-in-Err-clause-no_memory_line
+returns-in-Err-clause-no_memory_line g c = λ e. (c.in-Err.refusal, c.report_refusal.ensures.front)
