@@ -78,7 +78,8 @@ enum Turn {
     Fault,
 }
 
-// Takes the next bytes of the input by way of the piece, and puts them behind those that were taken.
+// Takes the next bytes of the input by way of the piece, and puts them behind those that were
+// taken.
 fn take_turn<G: Gate>(gate: &mut G, piece: &mut [u8], bytes: &mut Vec<u8>) -> Result<Turn, NoMemory>
     requires { 0 < length piece.old }
     ensures turn { IfOk result

@@ -1,4 +1,5 @@
-//! The enforcement of a log: its whole records are enforced and written in order, up to the first refused one.
+//! The enforcement of a log: its whole records are enforced and written in order, up to the first
+//! refused one.
 ghost use Rattle.std.specs.Prelude.{◌≡◌, ◌≤◌, ◌<◌, IfOk, OnErr, Err, IsTrue, All, length};
 ghost use Rattle.enf_io.specs.Causes.{Rose};
 ghost use Rattle.enf_cli.specs.Enforcement.{is_causable};

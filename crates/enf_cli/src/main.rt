@@ -1,6 +1,6 @@
-//! `enf` stands before a system's effects: it reads a signature, a policy and a log, and gives the log with the
-//! events that the policy wants, so that no rule is violated. The top call is `run`; `main` makes the standard
-//! streams and the files and ends with the status that it answers.
+//! `enf` stands before a system's effects: it reads a signature, a policy and a log, and gives the
+//! log with the events that the policy wants, so that no rule is violated. The top call is `run`;
+//! `main` makes the standard streams and the files and ends with the status that it answers.
 #![tactic(auto)]
 
 mod files;

@@ -9,8 +9,8 @@ use enf_value::printing::{print_bytes, print_number};
 const USAGE: &[u8] =
     b"usage: enf enforce SIG POLICY [--resume FILE] [--save FILE] | check SIG POLICY | audit SIG POLICY | gen START N | drill START N\n";
 
-/// How a run ended: 0 done, 1 the words match no form, 2 the signature or the policy is refused, 3 a record is
-/// refused, 4 a read fault, 5 a write fault, 6 no memory.
+/// How a run ended: 0 done, 1 the words match no form, 2 the signature or the policy is refused,
+/// 3 a record is refused, 4 a read fault, 5 a write fault, 6 no memory.
 #[derive(Clone, Copy, Debug, PartialEq, Eq)]
 pub enum Status {
     Done = 0,

@@ -11,8 +11,8 @@ use enf_io::devices::Sink;
 use enf_io::writing::write_all_sink;
 use std::alloc::Global;
 
-/// Puts the refusal's line on the report, and answers the status of the run. A fault in this write leaves the
-/// status as it is, want of memory makes it its own.
+/// Puts the refusal's line on the report, and answers the status of the run. A fault in this write
+/// leaves the status as it is, want of memory makes it its own.
 pub fn report_refusal<R: Sink>(alloc: Global, refusal: Refusal, report: &mut R) -> Status
     ensures status { (result ≡ status_of refusal) ⊎ (result ≡ Status.NoMemory) }
     ensures line { result ≡ status_of refusal → IsReported refusal (R.told report.old)

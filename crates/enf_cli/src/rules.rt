@@ -82,7 +82,8 @@ fn split_rules(alloc: Global, bytes: &[u8]) -> Result<Option<Vec<RuleNames>>, No
     Ok(Some(rules))
 }
 
-/// The rule by the numbers of its names: the guard is declared with one column, of texts, the cause as causable and without one.
+/// The rule by the numbers of its names: the guard is declared with one column, of texts, the cause
+/// as causable and without one.
 fn resolve(signature: &Signature, rule: &RuleNames) -> Option<CauseRule>
     ensures found { IfSome result (Resolves signature.now (written rule.now)) }
     ensures only { (resolved : Rule) → Resolves signature.now (written rule.now) resolved →

@@ -38,8 +38,8 @@ impl From<Cut> for Refusal {
     }
 }
 
-/// Does what the words ask for: `enforce SIG POLICY` takes the log from the gate, gives the enforced log to it,
-/// and says on the report why a run ends early.
+/// Does what the words ask for: `enforce SIG POLICY` takes the log from the gate, gives the
+/// enforced log to it, and says on the report why a run ends early.
 pub fn run<G: Gate, F: Files, R: Sink>(
     alloc: Global,
     words: &[String],
@@ -66,8 +66,8 @@ pub fn run<G: Gate, F: Files, R: Sink>(
         (Rose (R.write_faults report.old) (R.write_faults report.new)) }
     ensures read_fault { result ≡ Status.ReadFault →
         RefusesBefore (G.told gate.old) (G.told gate.new)
-        (HaveFailed (F.contents files.old) (F.read_faults files.old) (F.read_faults files.new)
-        (F.is_reliable files.old))
+        (HaveFailed (F.contents files.old) (F.read_faults files.old)
+        (F.read_faults files.new) (F.is_reliable files.old))
         (texts words.now)
         ⊎ StopsAtFault (texts words.now) (F.contents files.old) (G.told gate.old) (G.told gate.new)
         (Rose (G.read_faults gate.old) (G.read_faults gate.new)) }
@@ -98,13 +98,12 @@ pub fn run<G: Gate, F: Files, R: Sink>(
         G.told gate.old ≡ Some x → G.told gate.new ≡ Some y →
         MeetsRefusal ds x y (Rose (G.read_faults gate.old) (G.read_faults gate.new)) →
         (result ≡ Status.Record) ⊎ ((result ≡ Status.WriteFault) ⊎ (result ≡ Status.NoMemory)) }
-    ensures complete { (ds : List Entry) (causes : List CauseRule) (x : Exchange)
-        (steps : List Step) →
+    ensures complete { (ds : List Entry) (causes : List CauseRule) (x : Exchange) (steps : List Step) →
         AsksTold (texts words.now) (F.contents files.old) ds causes →
         G.told gate.old ≡ Some x → Accepts ds (left x) steps [] → length (left x) < 1048576 →
         ((signature policy : List ℕ) → IsEnforce (texts words.now) signature policy →
-        HaveFailed (F.contents files.old) (F.read_faults files.old) (F.read_faults files.new) (F.is_reliable files.old)
-        signature policy → ⊥) →
+        HaveFailed (F.contents files.old) (F.read_faults files.old) (F.read_faults files.new)
+        (F.is_reliable files.old) signature policy → ⊥) →
         (Rose (G.read_faults gate.old) (G.read_faults gate.new) → ⊥) →
         (Rose (G.write_faults gate.old) (G.write_faults gate.new) → ⊥) →
         (result ≡ Status.Done) ⊎ (result ≡ Status.NoMemory) }
@@ -122,10 +121,9 @@ fn perform<G: Gate, F: Files>(
     gate: &mut G,
     files: &mut F,
 ) -> Result<(), Refusal>
-    ensures performed { Performs (texts words.now) (F.contents files.old) (G.told gate.old)
-        (G.told gate.new)
-        (HaveFailed (F.contents files.old) (F.read_faults files.old) (F.read_faults files.new)
-        (F.is_reliable files.old))
+    ensures performed { Performs (texts words.now) (F.contents files.old) (G.told gate.old) (G.told gate.new)
+        (HaveFailed (F.contents files.old) (F.read_faults files.old)
+        (F.read_faults files.new) (F.is_reliable files.old))
         (Rose (G.read_faults gate.old) (G.read_faults gate.new))
         (Rose (G.write_faults gate.old) (G.write_faults gate.new)) result }
     ensures contents { F.contents files.new ≡ F.contents files.old }
