@@ -1,61 +1,86 @@
--- What is taken and given in turns, taken together.
-use Rattle.std.proofs.Common.{◌≡◌, ℕ, ◌+◌, List, [], ◌++◌, length, take, drop, refl, sym, ap, subst, ◌∙◌, add_assoc, add-zero, append_assoc, length-append, Option, None, Some}
+-- What is taken and given, one call after another.
+use Rattle.std.proofs.Common.{◌≡◌, ℕ, ◌<◌, List, [], ◌∷◌, ◌++◌, length, take, refl, sym, ap, subst, ◌∙◌, append_assoc, length-append, Option, None, Some, arith}
 use Rattle.std.specs.Option.{option_map}
-use Rattle.std.proofs.lemmas.List.{append-nil, drop-drop}
-use Rattle.std.proofs.Math.Seq.{take-add}
-use Rattle.enf_io.specs.Exchange.{Exchange, Gave, Took, left, with_taken, with_given, IsAtEnd}
-use Rattle.enf_cli.specs.Input.{IsCutAs, TookSome, TookTurn}
-use Rattle.enf_cli.specs.Program.{Exchanged}
-use Rattle.enf_cli.specs.declared.input.InputEnd.{InputEnd}
-use Rattle.enf_cli.specs.declared.input.InputEnd.TheVariants.{Ended, Fault, Limit}
-use Rattle.enf_cli.specs.declared.input.Turn.{Turn}
-
-pub took_none : (a : Option Exchange) → Took [] a a
-took_none None = record { next = tt; counted = refl }
-took_none (Some x) = record { next = refl; counted = ap (λ k. Some (record { input = x.input; taken = k; given = x.given })) (sym (add-zero x.taken)) }
-
-pub took_more : (xs ys : List ℕ) (a b c : Option Exchange) → Took xs a b → Took ys b c → Took (xs ++ ys) a c
-took_more xs ys None b c s t = record { next = tt; counted = t.counted ∙ ap (option_map (with_taken (length ys))) s.counted }
-took_more xs ys (Some x) b c s t =
-    let n = length xs in
-    let m = length ys in
-    let t' = subst (λ o. Took ys o c) s.counted t in
-    let take-add_lengths : take (length (xs ++ ys)) (left x) ≡ xs ++ ys =
-    ap (λ k. take k (left x)) (length-append xs ys) ∙ take-add n m (left x) ∙ ap (λ zs. zs ++ take m (drop n (left x))) s.next
-    ∙ ap (λ zs. xs ++ take m zs) (drop-drop n x.taken x.input) ∙ ap (λ zs. xs ++ zs) t'.next in
-    record {
-      next = take-add_lengths;
-      counted = t'.counted ∙ ap (λ k. Some (record { input = x.input; taken = k; given = x.given })) (add_assoc x.taken n m ∙ ap (λ k. x.taken + k) (sym (length-append xs ys)));
-    }
+use Rattle.std.proofs.lemmas.List.{append-nil}
+use Rattle.std.proofs.lemmas.List.Elements.{All-nil}
+use Rattle.enf_io.specs.Exchange.{Exchange, Gave, Marked, Took, left, with_given, with_mark, with_taken}
+use Rattle.enf_io.specs.Since.{MarksWithin, taken_bytes}
+use Rattle.enf_io.specs.SinceLaws.{AtEachMark-given, AtEachMark-mark, GrewWhereTold-gave, GrewWhereTold-marked, GrewWhereTold-refl, GrewWhereTold-took, GrewWhereTold-trans, OfCalls-MarksWithin, OfCalls-gave, OfCalls-marked, OfCalls-none, OfCalls-took, OfCalls-weaker, taken_bytes-taken}
+use Rattle.enf_cli.specs.Exchanges.{Exchanged, IsBegun, IsExchange}
 
 pub gave_none : (a : Option Exchange) → Gave [] a a
 gave_none None = refl
-gave_none (Some x) = ap (λ ys. Some (record { input = x.input; taken = x.taken; given = ys })) (sym (append-nil x.given))
+gave_none (Some x) = ap Some (λ i. record { input = x.input; taken = x.taken; given = sym (append-nil x.given) i; marks = x.marks })
 
 pub gave_more : (xs ys : List ℕ) (a b c : Option Exchange) → Gave xs a b → Gave ys b c → Gave (xs ++ ys) a c
 gave_more xs ys None b c s t = t ∙ ap (option_map (with_given ys)) s
 gave_more xs ys (Some x) b c s t =
-    t ∙ ap (option_map (with_given ys)) s ∙ ap (λ zs. Some (record { input = x.input; taken = x.taken; given = zs })) (append_assoc x.given xs ys)
+    t ∙ ap (option_map (with_given ys)) s ∙ ap Some (λ i. record { input = x.input; taken = x.taken; given = append_assoc x.given xs ys i; marks = x.marks })
 
--- the bytes with those of one more read are taken from the start
-pub took_turn : (turn : Turn) (most : ℕ) (bytes bytes' : List ℕ) (a b c : Option Exchange) (fault : Type 0) → Took bytes a b → TookTurn turn most bytes bytes' b c fault → Took bytes' a c
-took_turn turn most bytes bytes' a b c fault s t = subst (λ xs. Took xs a c) (sym t.behind) (took_more bytes t.more a b c s t.took)
+module _ (P : List ℕ → List ℕ → Type 0) where
+  -- before any call
+  pub exchanged_none : (told : Option Exchange) → Exchanged P [] [] told told
+  exchanged_none told =
+      record {
+        grew = GrewWhereTold-refl told;
+        calls = OfCalls-none (IsExchange P [] []) told (λ input. record { took = refl; gave = refl; marks = All-nil (λ (mark : ℕ × ℕ). P (take mark.0 input) (take mark.1 [])) });
+      }
 
-pub took_some : (bytes : List ℕ) (a b c : Option Exchange) → Took bytes a b → TookSome b c → TookSome a c
-took_some bytes a b c s t = (bytes ++ t.0, took_more bytes t.0 a b c s t.1)
+  module _ (taken given : List ℕ) (a b c : Option Exchange) (e : Exchanged P taken given a b) where
+    -- what holds now holds of each exchange that is as it is now
+    holds_now : P taken given → (x : Exchange) → IsExchange P taken given x → P (taken_bytes x) x.given
+    holds_now now x i = subst (λ (t : List ℕ). P t x.given) (sym i.took) (subst (P taken) (sym i.gave) now)
 
--- how long the bytes are with those of one more read
-pub length_turn : (turn : Turn) (most : ℕ) (bytes bytes' : List ℕ) (b c : Option Exchange) (fault : Type 0) (t : TookTurn turn most bytes bytes' b c fault) → length bytes' ≡ length bytes + length t.more
-length_turn turn most bytes bytes' b c fault t = ap length t.behind ∙ length-append bytes t.more
+    -- a read
+    pub exchanged_took : P taken given → (bytes : List ℕ) → Took bytes b c → Exchanged P (taken ++ bytes) given a c
+    exchanged_took now bytes took =
+        record {
+          grew = GrewWhereTold-trans a b c e.grew (GrewWhereTold-took bytes b c took);
+          calls = OfCalls-took (IsExchange P (taken ++ bytes) given) bytes a b c e.grew took
+              (OfCalls-weaker (IsExchange P taken given) (λ x. take (length bytes) (left x) ≡ bytes → IsExchange P (taken ++ bytes) given (with_taken (length bytes) (with_mark x))) a b
+              (λ x i next. record {
+                took = taken_bytes-taken (with_mark x) bytes next ∙ ap (λ l. l ++ bytes) i.took;
+                gave = i.gave;
+                marks = AtEachMark-mark P x (holds_now now x i) i.marks;
+              }) e.calls);
+        }
 
--- what is taken, and then what is given
-pub exchanged : (taken given : List ℕ) (a b c : Option Exchange) → Took taken a b → Gave given b c → Exchanged taken given a c
-exchanged taken given None b c s t = record { next = tt; told = t ∙ ap (option_map (with_given given)) s.counted }
-exchanged taken given (Some x) b c s t = record { next = s.next; told = t ∙ ap (option_map (with_given given)) s.counted }
+    -- a read of nothing
+    pub exchanged_ended : P taken given → Took [] b c → Exchanged P taken given a c
+    exchanged_ended now took = subst (λ (t : List ℕ). Exchanged P t given a c) (append-nil taken) (exchanged_took now [] took)
 
--- the end of the input stays the end where something is given
-pub cut_as_given : (end : InputEnd) (count : ℕ) (given : List ℕ) (b c : Option Exchange) (fault fault' : Type 0) → (fault → fault') → Gave given b c → IsCutAs end count b fault → IsCutAs end count c fault'
-cut_as_given Ended count given None c fault fault' f t h = (h.0, subst IsAtEnd (sym t) tt)
-cut_as_given Ended count given (Some x) c fault fault' f t h = (h.0, subst IsAtEnd (sym t) h.1)
-cut_as_given Fault count given b c fault fault' f t h = (h.0, f h.1)
-cut_as_given Limit count given b c fault fault' f t h = h
+    -- a read that failed
+    pub exchanged_marked : P taken given → Marked b c → Exchanged P taken given a c
+    exchanged_marked now marked =
+        record {
+          grew = GrewWhereTold-trans a b c e.grew (GrewWhereTold-marked b c marked);
+          calls = OfCalls-marked (IsExchange P taken given) a b c e.grew marked
+              (OfCalls-weaker (IsExchange P taken given) (λ x. IsExchange P taken given (with_mark x)) a b
+              (λ x i. record { took = i.took; gave = i.gave; marks = AtEachMark-mark P x (holds_now now x i) i.marks }) e.calls);
+        }
+
+    -- a write
+    pub exchanged_gave : (bytes : List ℕ) → Gave bytes b c → Exchanged P taken (given ++ bytes) a c
+    exchanged_gave bytes gave =
+        record {
+          grew = GrewWhereTold-trans a b c e.grew (GrewWhereTold-gave bytes b c gave);
+          calls = OfCalls-gave (IsExchange P taken (given ++ bytes)) bytes a b c e.grew gave
+              (OfCalls-MarksWithin (λ x. IsExchange P taken (given ++ bytes) (with_given bytes x)) a b e.grew
+              (OfCalls-weaker (IsExchange P taken given) (λ x. MarksWithin x → IsExchange P taken (given ++ bytes) (with_given bytes x)) a b
+              (λ x i within. record {
+                took = i.took;
+                gave = ap (λ l. l ++ bytes) i.gave;
+                marks = AtEachMark-given P x bytes within i.marks;
+              }) e.calls));
+        }
+
+    -- a read begins the log
+    pub begun_took : (bytes : List ℕ) → Took bytes b c → IsBegun a c
+    begun_took bytes took =
+        OfCalls-took (λ x. 0 < length x.marks) bytes a b c e.grew took
+        (OfCalls-weaker (IsExchange P taken given) (λ x. take (length bytes) (left x) ≡ bytes → 0 < length (with_taken (length bytes) (with_mark x)).marks) a b
+        (λ x i next. omega (arith, length-append x.marks ((x.taken, length x.given) ∷ []))) e.calls)
+
+    -- and it stays begun
+    pub begun_gave : (bytes : List ℕ) → Gave bytes b c → IsBegun a b → IsBegun a c
+    begun_gave bytes gave h = OfCalls-gave (λ x. 0 < length x.marks) bytes a b c e.grew gave h

@@ -1,201 +1,239 @@
--- How far the enforcement of a log has come, and one record more.
-use Rattle.std.proofs.Common.{◌≡◌, ℕ, ◌+◌, ◌≤◌, List, [], ◌∷◌, ◌++◌, length, map, refl, sym, ap, subst, ◌∙◌, inl, inr, IsTrue, Option, drop, arith}
-use Rattle.std.specs.List.{All, AllZip}
-use Rattle.std.proofs.lemmas.List.{map-append, length-drop, length_push}
+-- How far the run of a log has come, and one turn more.
+use Rattle.std.proofs.Common.{◌≡◌, ℕ, ◌+◌, ◌<◌, ◌≤◌, List, [], ◌∷◌, ◌++◌, length, refl, sym, ap, subst, ◌∙◌, inl, inr, IsTrue, Option, arith, false, length-append, append_assoc}
+use Rattle.std.specs.Prelude.{◌⊎◌}
+use Rattle.std.specs.List.{All}
+use Rattle.std.proofs.lemmas.List.{append-nil, map-append, length_push}
 use Rattle.std.proofs.lemmas.List.Concat.{flat_map-append}
-use Rattle.enf_io.specs.Exchange.{Exchange, Gave}
-use Rattle.enf_value.specs.Data.{Step}
+use Rattle.enf_io.specs.Counts.{one_more}
+use Rattle.enf_io.specs.Exchange.{Exchange, Took}
+use Rattle.enf_io.specs.Streams.{Stream}
+use Rattle.enforcer_core.specs.Course.{Course}
 use Rattle.enforcer_core.specs.Enforcers.{Enforcing, out_steps}
-use Rattle.enforcer_core.specs.LawfulChange.{Lawful}
-use Rattle.enforcer_core.specs.Lines.{line_of, text_of}
-use Rattle.enforcer_core.specs.Policies.{Satisfies, formula_of_rule}
-use Rattle.enforcer_core.specs.Reactions.{Decides}
-use Rattle.enforcer_core.specs.Runs.{OutStep, StepRecord, trace_of}
-use Rattle.enforcer_core.specs.Steps.{DecidesOne, IsLawfulFor, KeepsSatisfied}
+use Rattle.enforcer_core.specs.Laws.{CourseBegins, CourseEnforces, CourseGoesOn, StandsForGood}
+use Rattle.enforcer_core.specs.Rules.{policy_of}
+use Rattle.enforcer_core.specs.Stands.{Stands}
 use Rattle.enforcer_core.specs.declared.enforcer.CauseRule.{CauseRule}
 use Rattle.enforcer_core.specs.declared.steps.StepOut.{StepOut}
+use Rattle.log_stream.specs.LogLaws.{Spells-append, Spells-blanks, Spells-none, Spells-push}
+use Rattle.log_stream.specs.Lines.{line_of, text_of}
+use Rattle.log_stream.specs.Logs.{BeginsWith, IsPending, Spells, behind_blanks}
+use Rattle.log_stream.specs.declared.items.LogItem.{LogItem}
+use Rattle.log_stream.specs.declared.items.LogMode.TheVariants.{Input}
 use Rattle.signature.specs.Grammar.{names as names_of}
-use Rattle.enf_cli.specs.Enforcement.{is_causable, is_suppressible}
-use Rattle.enf_cli.specs.Judgement.{NeverFall, clock_after, IsBehind}
-use Rattle.enf_cli.specs.Cuts.{GaveFront}
-use Rattle.enf_cli.specs.Progress.{AcceptsFront, CutsFront, CutsLog, DecidesFront, EnforcesLog, front_lines}
-use Rattle.enf_cli.specs.Records.{BeginsWithRecord, SpellsRecords}
 use Rattle.signature.specs.declared.entries.NameEntry.{NameEntry}
-use Rattle.enf_cli.specs.declared.log.Behind.{Behind}
-use Rattle.enf_cli.proofs.CutLemmas.{front_all, front_more, front_none}
-use Rattle.enf_cli.proofs.ExchangeLemmas.{gave_none, gave_more}
-use Rattle.enf_cli.proofs.PolicyLemmas.{zipped_push}
-use Rattle.enf_cli.proofs.RecordLemmas.{SpellsRecords-push, some_read}
-use Rattle.enf_cli.proofs.LawfulLemmas.{AllSystem, AllSystem-push, last_time, last_time-push, Lawful-push}
+use Rattle.trace_meaning.specs.Good.{Good}
+use Rattle.trace_meaning.specs.OutSteps.{IsWithin, OutStep, trace_of}
+use Rattle.trace_meaning.specs.Records.{Record, clock_after}
+use Rattle.enf_cli.specs.Accepted.{Answers, UpToDate, record_of, records_of}
+use Rattle.enf_cli.specs.Enforcement.{IsEnforced, is_causable, is_suppressible}
+use Rattle.enf_cli.specs.Exchanges.{Exchanged, IsBegun}
+use Rattle.enf_cli.specs.Logs.{CutsRun, RunsShort}
+use Rattle.enf_cli.specs.Progress.{CutsTaken, CutsTurn, TakesItem, TakesRecord, lines_of}
+use Rattle.enf_cli.specs.declared.endings.Cut.TheVariants as cuts
+use Rattle.enf_cli.proofs.ExchangeLemmas.{begun_gave, begun_took, exchanged_gave, exchanged_none, exchanged_took}
+use Rattle.enf_cli.proofs.LogLemmas.{begins_shorter, behind_le}
 
--- the records at the front of a log, up to a rest, are accepted and enforced
-pub record HasEnforced (ds : List NameEntry) (rules : List CauseRule) (log rest : List ℕ) : Type 0 where
-  pub steps : List Step
-  pub spelled : SpellsRecords ds log steps rest
-  pub rising : NeverFall 0 steps
-  pub out : List OutStep
-  pub decided : AllZip (Decides rules) steps out
-  pub lawful : Lawful (is_causable ds) (is_suppressible ds) (map StepRecord steps) out
-  pub satisfied : Satisfies (trace_of out) (map formula_of_rule rules)
-  pub system : AllSystem out
-  pub last : last_time out ≤ clock_after 0 steps
+-- a new enforcer of these rules
+abbrev pub begin : List CauseRule → Enforcing
+begin rules = record { rules = rules; clock = 0; stopped = false }
 
--- so many records are accepted and enforced, and what the enforcer let out was given
-pub record HasCome (ds : List NameEntry) (rules : List CauseRule) (log rest : List ℕ) (accepted : ℕ) (enforcer : Enforcing) (told told' : Option Exchange) : Type 0 where
-  pub so_far : HasEnforced ds rules log rest
-  pub count : accepted ≡ length so_far.steps
-  pub room : accepted + length rest ≤ length log
-  pub state : enforcer ≡ record { rules = rules; clock = clock_after 0 so_far.steps }
-  pub given : Gave (text_of (names_of ds) so_far.out) told told'
-
-rising_push : (clock : ℕ) (steps : List Step) (step : Step) → NeverFall clock steps → clock_after clock steps ≤ step.time → NeverFall clock (steps ++ step ∷ [])
-rising_push clock [] step n l = (l, tt)
-rising_push clock (t ∷ steps) step n l = (n.0, rising_push t.time steps step n.1 l)
-
-clock_push : (clock : ℕ) (steps : List Step) (step : Step) → clock_after clock (steps ++ step ∷ []) ≡ step.time
-clock_push clock [] step = refl
-clock_push clock (t ∷ steps) step = clock_push t.time steps step
-
--- the record at the front that was read and decided
-abbrev pub decides_front : (ds : List NameEntry) (log : List ℕ) (size : ℕ) (before : Enforcing) (step : Step) (out : StepOut) → (size ≤ length log) × BeginsWithRecord ds log step (drop size log) → before.clock ≤ step.time
-    → DecidesOne before.rules step out → KeepsSatisfied before.rules out → IsLawfulFor before.rules step out → DecidesFront ds log size before
-decides_front ds log size before step out read in_time decided satisfied lawful =
+-- it stands for the trace without a step
+stands_none : (rules : List CauseRule) → Stands (begin rules) []
+stands_none rules =
     record {
-      step = step;
-      begins = read.1;
-      within = read.0;
-      some = some_read ds log step size read.1;
-      in_time = in_time;
-      out = out;
-      decided = decided;
-      satisfied = satisfied;
-      lawful = lawful;
-    }
-
--- nothing is enforced yet
-abbrev enforced_none : (ds : List NameEntry) (rules : List CauseRule) (log : List ℕ) → HasEnforced ds rules log log
-enforced_none ds rules log =
-    record {
-      steps = [];
-      spelled = refl;
-      rising = tt;
-      out = [];
-      decided = tt;
-      lawful = record { answered = tt; inserted = λ k d l. absurd (omega (arith, l)); once = λ k d l. absurd (omega (arith, l)); in_order = tt };
+      is_trace = record { distinct = λ i l. absurd (omega (arith, l)); ordered = λ i j m l. absurd (omega (arith, l)) };
+      not_later = omega arith;
       satisfied = λ k d l i m. absurd (omega (arith, m));
-      system = tt;
-      last = omega arith;
     }
 
--- at the start
-pub has_come_none : (ds : List NameEntry) (rules : List CauseRule) (log : List ℕ) (told : Option Exchange) → HasCome ds rules log log 0 (record { rules = rules; clock = 0 }) told told
-has_come_none ds rules log told =
-    record {
-      so_far = enforced_none ds rules log;
-      count = refl;
-      room = omega arith;
-      state = refl;
-      given = gave_none told;
-    }
+-- the laws of what an enforcer does for records
+pub record Laws : Type 0 where
+  pub begins : CourseBegins
+  pub goes_on : CourseGoesOn
+  pub enforces : CourseEnforces
+  pub good : StandsForGood
 
-module _ (ds : List NameEntry) (rules : List CauseRule) (log rest : List ℕ) (size : ℕ) (e : Enforcing) (may : All (λ rule. IsTrue (is_causable ds rule.cause)) rules)
-    (h : HasEnforced ds rules log rest) (state : e ≡ record { rules = rules; clock = clock_after 0 h.steps }) (f : DecidesFront ds rest size e) where
-  same_rules : e.rules ≡ rules
-  same_rules = ap (λ x. x.rules) state
+module _ (entries : List NameEntry) (rules : List CauseRule) where
+  -- the records at the front of the bytes, up to a rest, were taken, and steps went out for them
+  pub record HasRead (taken rest : List ℕ) (now : Enforcing) : Type 0 where
+    pub read : List LogItem
+    pub spelled : Spells entries Input taken read rest
+    pub out : List OutStep
+    pub course : Course (begin rules) [] (records_of read) out now
 
-  same_clock : e.clock ≡ clock_after 0 h.steps
-  same_clock = ap (λ x. x.clock) state
+  -- so many were taken, what went out for them was given, and it was so at each read
+  pub record Progress (before : Stream) (taken rest : List ℕ) (accepted : ℕ) (now : Enforcing) (after : Stream) : Type 0 where
+    pub so_far : HasRead taken rest now
+    pub count : accepted ≡ length so_far.read
+    pub room : accepted + length rest ≤ length taken
+    pub exchanged : Exchanged (UpToDate entries rules) taken (text_of (names_of entries) so_far.out) before.told after.told
+    pub begun : 0 < length taken → IsBegun before.told after.told
+    pub reads : after.read_faults ≡ before.read_faults
+    pub writes : after.write_faults ≡ before.write_faults
 
-  one : out_steps f.out.steps ≡ f.decided.0 ∷ []
-  one = f.decided.1
+  module _ (laws : Laws) (may : All (λ rule. IsTrue (is_causable entries rule.cause)) rules) where
+    -- before any call
+    pub progress_none : (before : Stream) → Progress before [] [] 0 (begin rules) before
+    progress_none before =
+        record {
+          so_far = record { read = []; spelled = Spells-none entries Input []; out = []; course = laws.begins (begin rules) [] (stands_none rules) };
+          count = refl;
+          room = omega arith;
+          exchanged = exchanged_none (UpToDate entries rules) before.told;
+          begun = λ some. absurd (omega (arith, some));
+          reads = refl;
+          writes = refl;
+        }
 
-  in_time : clock_after 0 h.steps ≤ f.step.time
-  in_time = omega (arith, f.in_time, same_clock)
+    -- what went out is what is owed to the records
+    abbrev is_enforced : (taken rest : List ℕ) (now : Enforcing) (h : HasRead taken rest now) → IsEnforced entries (policy_of rules) (records_of h.read) (text_of (names_of entries) h.out)
+    is_enforced taken rest now h =
+        record {
+          out = h.out;
+          text_is = refl;
+          enforced = laws.enforces (is_causable entries) (is_suppressible entries) (begin rules) [] (records_of h.read) h.out now may h.course;
+        }
 
-  -- one record more is enforced
-  abbrev enforced_more : HasEnforced ds rules log (drop size rest)
-  enforced_more =
-      let o = f.decided.0 in
-      let time : o.step.time ≡ f.step.time = ap (λ (s : Step). s.time) f.decided.2.step in
-      let lawful_one : Lawful (is_causable ds) (is_suppressible ds) (StepRecord f.step ∷ []) (o ∷ []) =
-      subst (Lawful (is_causable ds) (is_suppressible ds) (StepRecord f.step ∷ [])) one (f.lawful (is_causable ds) (is_suppressible ds) (subst (λ (rs : List CauseRule). All (λ rule. IsTrue (is_causable ds rule.cause)) rs) (sym same_rules) may)) in
-      let satisfied_rules : Satisfies (trace_of h.out ++ trace_of (out_steps f.out.steps)) (map formula_of_rule rules) =
-      subst (λ (rs : List CauseRule). Satisfies (trace_of h.out ++ trace_of (out_steps f.out.steps)) (map formula_of_rule rs)) same_rules (f.satisfied (trace_of h.out) (subst (λ (rs : List CauseRule). Satisfies (trace_of h.out) (map formula_of_rule rs)) (sym same_rules) h.satisfied)) in
-      record {
-        steps = h.steps ++ f.step ∷ [];
-        spelled = SpellsRecords-push ds log h.steps rest f.step (drop size rest) h.spelled f.begins;
-        rising = rising_push 0 h.steps f.step h.rising in_time;
-        out = h.out ++ o ∷ [];
-        decided = zipped_push (Decides rules) h.steps h.out f.step o h.decided (subst (λ (rs : List CauseRule). Decides rs f.step o) same_rules f.decided.2);
-        lawful = subst (λ rs. Lawful (is_causable ds) (is_suppressible ds) rs (h.out ++ o ∷ [])) (sym (map-append StepRecord h.steps (f.step ∷ [])))
-            (Lawful-push (is_causable ds) (is_suppressible ds) (map StepRecord h.steps) h.out (StepRecord f.step) o h.system (omega (arith, h.last, in_time, time)) h.lawful lawful_one);
-        satisfied = subst (λ t. Satisfies t (map formula_of_rule rules)) (sym (map-append (λ (x : OutStep). x.step) h.out (o ∷ [])))
-            (subst (λ os. Satisfies (trace_of h.out ++ trace_of os) (map formula_of_rule rules)) one satisfied_rules);
-        system = AllSystem-push h.out o h.system f.decided.2.kind;
-        last = omega (arith, last_time-push h.out o, clock_push 0 h.steps f.step, time);
-      }
+    pub good_now : (taken rest : List ℕ) (now : Enforcing) (h : HasRead taken rest now) → Good (policy_of rules) (trace_of h.out) (clock_after 0 (records_of h.read))
+    good_now taken rest now h =
+        let good : Good (policy_of now.rules) (trace_of h.out) now.clock = laws.good now (trace_of h.out) h.course.stands in
+        subst (λ (clock : ℕ). Good (policy_of rules) (trace_of h.out) clock) h.course.clock (subst (λ (rs : List CauseRule). Good (policy_of rs) (trace_of h.out) now.clock) h.course.rules good)
 
-  -- its lines are those before, and then those for the record
-  lines_more : text_of (names_of ds) enforced_more.out ≡ text_of (names_of ds) h.out ++ front_lines ds rest size e f
-  lines_more =
-      flat_map-append (line_of (names_of ds)) h.out (f.decided.0 ∷ []) ∙ ap (λ os. text_of (names_of ds) h.out ++ text_of (names_of ds) os) (sym one)
+    abbrev pub answers : (taken rest : List ℕ) (now : Enforcing) (h : HasRead taken rest now) → Answers entries rules taken (text_of (names_of entries) h.out) rest
+    answers taken rest now h =
+        record {
+          read = h.read;
+          accepts = record { spelled = h.spelled; rising = h.course.in_time };
+          enforced = is_enforced taken rest now h;
+          decided = h.course.decided;
+          within = subst (λ (clock : ℕ). IsWithin 0 clock h.out) h.course.clock h.course.changed.within;
+          good = good_now taken rest now h;
+        }
 
--- one record more
-pub has_come_more : (ds : List NameEntry) (rules : List CauseRule) (log rest : List ℕ) (accepted size : ℕ) (e e' : Enforcing) (a b c : Option Exchange)
-    → All (λ rule. IsTrue (is_causable ds rule.cause)) rules → HasCome ds rules log rest accepted e a b → AcceptsFront ds rest size e e' b c
-    → HasCome ds rules log (drop size rest) (accepted + 1) e' a c
-has_come_more ds rules log rest accepted size e e' a b c may h f =
-    let so_far = h.so_far in
-    let front = f.front in
-    let same : e.rules ≡ rules = ap (λ x. x.rules) h.state in
-    record {
-      so_far = enforced_more ds rules log rest size e may so_far h.state front;
-      count = omega (arith, h.count, length_push so_far.steps front.step);
-      room = omega (arith, h.room, length-drop size rest, front.within, front.some);
-      state = f.enforcer ∙ (λ i. record { rules = same i; clock = sym (clock_push 0 so_far.steps front.step) i });
-      given = subst (λ t. Gave t a c) (sym (lines_more ds rules log rest size e may so_far h.state front))
-          (gave_more (text_of (names_of ds) so_far.out) (front_lines ds rest size e front) a b c h.given f.given);
-    }
+    pub up_to_date : (taken rest : List ℕ) (now : Enforcing) (h : HasRead taken rest now) → IsPending rest → UpToDate entries rules taken (text_of (names_of entries) h.out)
+    up_to_date taken rest now h pending = record { rest = rest; answers = answers taken rest now h; pending = pending }
 
--- the records that are enforced, with their text given up to somewhere in it
-cuts_log : (ds : List NameEntry) (rules : List CauseRule) (log rest : List ℕ) (a c : Option Exchange) (h : HasEnforced ds rules log rest) → GaveFront (text_of (names_of ds) h.out) a c → CutsLog ds rules log a c
-cuts_log ds rules log rest a c h given =
-    record {
-      steps = h.steps;
-      rest = rest;
-      accepts = record { spelled = h.spelled; rising = h.rising };
-      text = text_of (names_of ds) h.out;
-      enforced = record { out = h.out; decided = h.decided; lawful = h.lawful; satisfied = h.satisfied; text_is = refl };
-      given = given;
-    }
+    -- one record more was taken
+    abbrev one_more_read : (taken rest more : List ℕ) (item : LogItem) (made : StepOut) (now after : Enforcing) → HasRead taken rest now → BeginsWith entries Input rest item more → TakesRecord now (record_of item) made after
+        → HasRead taken more after
+    one_more_read taken rest more item made now after h begins takes =
+        record {
+          read = h.read ++ item ∷ [];
+          spelled = Spells-push entries Input taken h.read rest item more h.spelled begins;
+          out = h.out ++ out_steps made.steps;
+          course = subst (λ (rs : List Record). Course (begin rules) [] rs (h.out ++ out_steps made.steps) after) (sym (map-append record_of h.read (item ∷ [])))
+              (laws.goes_on (begin rules) [] (records_of h.read) h.out now (record_of item) made after h.course takes.answered takes.stands takes.changed takes.decided);
+        }
 
--- the enforcement is cut short at the record at the front
-pub has_cut : (ds : List NameEntry) (rules : List CauseRule) (log rest : List ℕ) (accepted : ℕ) (e : Enforcing) (a b c : Option Exchange)
-    → All (λ rule. IsTrue (is_causable ds rule.cause)) rules → HasCome ds rules log rest accepted e a b → CutsFront ds rest e b c → CutsLog ds rules log a c
-has_cut ds rules log rest accepted e a b c may h (inl same) =
-    cuts_log ds rules log rest a c h.so_far (front_all (text_of (names_of ds) h.so_far.out) a c (subst (Gave (text_of (names_of ds) h.so_far.out) a) (sym same) h.given))
-has_cut ds rules log rest accepted e a b c may h (inr (size, front, given)) =
-    cuts_log ds rules log (drop size rest) a c (enforced_more ds rules log rest size e may h.so_far h.state front)
-    (subst (λ t. GaveFront t a c) (sym (lines_more ds rules log rest size e may h.so_far h.state front))
-    (front_more (text_of (names_of ds) h.so_far.out) (front_lines ds rest size e front) a b c h.given given))
+    lines_more : (out : List OutStep) (made : StepOut) → text_of (names_of entries) (out ++ out_steps made.steps) ≡ text_of (names_of entries) out ++ lines_of entries made
+    lines_more out made = flat_map-append (line_of (names_of entries)) out (out_steps made.steps)
 
--- nothing is enforced, since there is no enforcer
-pub has_cut_none : (ds : List NameEntry) (rules : List CauseRule) (log : List ℕ) (a : Option Exchange) → CutsLog ds rules log a a
-has_cut_none ds rules log a = cuts_log ds rules log log a a (enforced_none ds rules log) (front_none (text_of (names_of ds) []) a)
+    module _ (before : Stream) (taken rest : List ℕ) (accepted : ℕ) (now : Enforcing) (b c : Stream) (h : Progress before taken rest accepted now b) where
+      -- one record more was taken, and its lines given
+      pub progress_one : (more : List ℕ) (item : LogItem) (after : Enforcing) → BeginsWith entries Input rest item more → TakesItem entries (record_of item) now after b.told c.told
+          → c.read_faults ≡ b.read_faults → c.write_faults ≡ b.write_faults → Progress before taken more (accepted + 1) after c
+      progress_one more item after begins t reads writes =
+          let given = text_of (names_of entries) h.so_far.out in
+          record {
+            so_far = one_more_read taken rest more item t.made now after h.so_far begins t.takes;
+            count = omega (arith, h.count, length_push h.so_far.read item);
+            room = omega (arith, h.room, begins_shorter entries Input rest item more begins);
+            exchanged = subst (λ (g : List ℕ). Exchanged (UpToDate entries rules) taken g before.told c.told) (sym (lines_more h.so_far.out t.made))
+                (exchanged_gave (UpToDate entries rules) taken given before.told b.told c.told h.exchanged (lines_of entries t.made) t.given);
+            begun = λ some. begun_gave (UpToDate entries rules) taken given before.told b.told c.told h.exchanged (lines_of entries t.made) t.given (h.begun some);
+            reads = reads ∙ h.reads;
+            writes = writes ∙ h.writes;
+          }
 
--- what stands behind the accepted records ends the enforcement
-pub has_ended : (ds : List NameEntry) (rules : List CauseRule) (log rest : List ℕ) (accepted : ℕ) (behind : Behind) (e : Enforcing) (told told' : Option Exchange)
-    → HasCome ds rules log rest accepted e told told' → IsBehind ds e.clock rest behind → EnforcesLog ds rules log (record { accepted = accepted; behind = behind }) told told'
-has_ended ds rules log rest accepted behind e told told' h why =
-    let so_far = h.so_far in
-    record {
-      steps = so_far.steps;
-      rest = rest;
-      accepts = record { spelled = so_far.spelled; rising = so_far.rising };
-      count = h.count;
-      few = omega (arith, h.count, h.room);
-      behind = subst (λ clock. IsBehind ds clock rest behind) (ap (λ x. x.clock) h.state) why;
-      text = text_of (names_of ds) so_far.out;
-      enforced = record { out = so_far.out; decided = so_far.decided; lawful = so_far.lawful; satisfied = so_far.satisfied; text_is = refl };
-      given = h.given;
-    }
+      -- a piece more was taken
+      pub progress_more : IsPending rest → (bytes : List ℕ) → Took bytes b.told c.told → c.read_faults ≡ b.read_faults → c.write_faults ≡ b.write_faults
+          → Progress before (taken ++ bytes) (behind_blanks rest ++ bytes) accepted now c
+      progress_more pending bytes took reads writes =
+          let so_far = h.so_far in
+          let given = text_of (names_of entries) so_far.out in
+          record {
+            so_far = record {
+              read = so_far.read;
+              spelled = Spells-append entries Input taken so_far.read (behind_blanks rest) bytes (Spells-blanks entries Input taken so_far.read rest so_far.spelled);
+              out = so_far.out;
+              course = so_far.course;
+            };
+            count = h.count;
+            room = omega (arith, h.room, behind_le rest, length-append (behind_blanks rest) bytes, length-append taken bytes);
+            exchanged = exchanged_took (UpToDate entries rules) taken given before.told b.told c.told h.exchanged (up_to_date taken rest now so_far pending) bytes took;
+            begun = λ some. begun_took (UpToDate entries rules) taken given before.told b.told c.told h.exchanged bytes took;
+            reads = reads ∙ h.reads;
+            writes = writes ∙ h.writes;
+          }
+
+      -- what was given is all that is owed so far
+      pub short_whole : (taken' rest' : List ℕ) (s : HasRead taken' rest' now) → Exchanged (UpToDate entries rules) taken' (text_of (names_of entries) s.out) before.told c.told → c.read_faults ≡ b.read_faults → RunsShort entries rules before c
+      short_whole taken' rest' s exchanged reads =
+          let given = text_of (names_of entries) s.out in
+          record {
+            taken = taken';
+            given = given;
+            exchanged = exchanged;
+            read = s.read;
+            rest = rest';
+            accepts = record { spelled = s.spelled; rising = s.course.in_time };
+            text = given;
+            enforced = is_enforced taken' rest' now s;
+            decided = s.course.decided;
+            missing = [];
+            front = sym (append-nil given);
+            reads = reads ∙ h.reads;
+          }
+
+      -- the lines of one record more are given up to somewhere in them
+      pub short_lines : CutsTaken entries rest now b.told c.told → c.read_faults ≡ b.read_faults → RunsShort entries rules before c
+      short_lines t reads =
+          let cut = t.cut in
+          let more = one_more_read taken rest t.more t.item cut.made now cut.after h.so_far t.begins cut.takes in
+          let given = text_of (names_of entries) h.so_far.out in
+          record {
+            taken = taken;
+            given = given ++ cut.given.front;
+            exchanged = exchanged_gave (UpToDate entries rules) taken given before.told b.told c.told h.exchanged cut.given.front cut.given.gave;
+            read = more.read;
+            rest = t.more;
+            accepts = record { spelled = more.spelled; rising = more.course.in_time };
+            text = text_of (names_of entries) more.out;
+            enforced = is_enforced taken t.more cut.after more;
+            decided = more.course.decided;
+            missing = cut.given.rest;
+            front = lines_more h.so_far.out cut.made ∙ ap (λ (l : List ℕ). given ++ l) cut.given.split ∙ sym (append_assoc given cut.given.front cut.given.rest);
+            reads = reads ∙ h.reads;
+          }
+
+      -- a turn was cut by a write that failed: the record at the front came by a read
+      pub cut_write : CutsTurn entries rest now b c cuts.WriteFault → c.write_faults ≡ one_more b.write_faults → CutsRun entries rules before c cuts.WriteFault
+      cut_write t writes =
+          let cut = t.0 in
+          let given = text_of (names_of entries) h.so_far.out in
+          let some : 0 < length taken = omega (arith, h.room, begins_shorter entries Input rest cut.item cut.more cut.begins) in (
+            short_lines cut t.1,
+            begun_gave (UpToDate entries rules) taken given before.told b.told c.told h.exchanged cut.cut.given.front cut.cut.given.gave (h.begun some),
+            writes ∙ ap one_more h.writes,
+          )
+
+      -- or by want of memory
+      pub cut_memory : CutsTurn entries rest now b c cuts.NoMemory → c.write_faults ≡ b.write_faults → CutsRun entries rules before c cuts.NoMemory
+      cut_memory t writes = (by t.0, writes ∙ h.writes)
+        where
+          given : List ℕ
+          given = text_of (names_of entries) h.so_far.out
+
+          by : (c.told ≡ b.told) ⊎ (((bytes : List ℕ) × Took bytes b.told c.told × IsPending rest) ⊎ CutsTaken entries rest now b.told c.told) → RunsShort entries rules before c
+          by (inl same) =
+              short_whole taken rest h.so_far (subst (λ (o : Option Exchange). Exchanged (UpToDate entries rules) taken given before.told o) (sym same) h.exchanged) t.1
+          by (inr (inl (bytes, took, pending))) =
+              let more = progress_more pending bytes took t.1 writes in
+              short_whole (taken ++ bytes) (behind_blanks rest ++ bytes) more.so_far more.exchanged t.1
+          by (inr (inr cut)) = short_lines cut t.1
+
+    -- nothing was taken yet
+    pub cut_none : (before : Stream) → CutsRun entries rules before before cuts.NoMemory
+    cut_none before =
+        let h = progress_none before in
+        (short_whole before [] [] 0 (begin rules) before before h [] [] h.so_far h.exchanged refl, refl)

@@ -9,7 +9,7 @@ use Rattle.std.proofs.lemmas.List.{drop_at, take-append-drop}
 use Rattle.std.proofs.lemmas.List.Elements.{Decides-contains}
 use Rattle.std.proofs.lemmas.List.Folds.{length-prefix_len}
 use Rattle.std.proofs.lemmas.Slice.Eq.{bytes_eq-Decides}
-use Rattle.signature.specs.Grammar.{reserved}
+use Rattle.enf_value.specs.Names.{reserved}
 use Rattle.enf_cli.specs.Names.{IsLetter, IsName, IsGap}
 use Rattle.enf_cli.specs.Reading.{◌>>=◌, is_name, name_at}
 use Rattle.enf_cli.specs.Scanning.{behind_gap}

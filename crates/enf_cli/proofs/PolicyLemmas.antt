@@ -15,8 +15,7 @@ use Rattle.enf_cli.specs.Written.{AreRules, written}
 use Rattle.enf_cli.proofs.ItemLists as items
 use Rattle.enf_cli.proofs.NameLemmas.{Decides-among}
 use Rattle.enf_cli.proofs.RuleLemmas.{reads_rules, items_from_rules, rules_from_items}
-use Rattle.signature.proofs.Numbers.{distinct_push}
-use Rattle.enf_cli.proofs.TableLemmas.{HasNoRepeats-middle}
+use Rattle.enf_value.specs.MembershipLaws.{HasNoRepeats-push, HasNoRepeats-middle}
 
 -- the names of rules
 abbrev pub rule_names : List WrittenRule → List (List ℕ)
@@ -32,7 +31,7 @@ has_name-Decides rules name = subst (λ b. Decides b (Contains (rule_names (map 
 
 -- a rule of a new name may come last
 pub rule_names-push : (rules : List WrittenRule) (r : WrittenRule) → HasNoRepeats (rule_names rules) → (Contains (rule_names rules) r.name → ⊥) → HasNoRepeats (rule_names (rules ++ r ∷ []))
-rule_names-push rules r distinct absent = rw (map_push (λ (e : WrittenRule). e.name) rules r) (distinct_push (rule_names rules) r.name distinct absent)
+rule_names-push rules r distinct absent = rw (map_push (λ (e : WrittenRule). e.name) rules r) (HasNoRepeats-push (rule_names rules) r.name distinct absent)
 
 module _ (bytes : List ℕ) (found : List WrittenRule) (rest : List ℕ) (so_far : items.SpellsSoFar HasNames spelled_rule bytes found rest) where
   -- at the end the rules found are those of the bytes
@@ -92,36 +91,36 @@ zipped_at R (x ∷ xs) (y ∷ ys) (suc i) d h lt =
     let at = zipped_at R xs ys i d h.1 (omega arith) in
     (at.0, ap (λ zs. y ∷ zs) at.1, at.2)
 
-module _ (ds : List NameEntry) (names : List RuleNames) (i : ℕ) (d : RuleNames) (found : List CauseRule) where
+module _ (entries : List NameEntry) (names : List RuleNames) (i : ℕ) (d : RuleNames) (found : List CauseRule) where
   abbrev Fit : List WrittenRule → List CauseRule → Type 0
-  Fit = AllZip (Resolves ds)
+  Fit = AllZip (Resolves entries)
 
-  resolved_at : (resolved : List CauseRule) → Fit (map written names) resolved → i < length names → (rule : CauseRule) × (take (i + 1) resolved ≡ take i resolved ++ rule ∷ []) × Resolves ds (written (get_or names i d)) rule
+  resolved_at : (resolved : List CauseRule) → Fit (map written names) resolved → i < length names → (rule : CauseRule) × (take (i + 1) resolved ≡ take i resolved ++ rule ∷ []) × Resolves entries (written (get_or names i d)) rule
   resolved_at resolved fits within =
-      let at = zipped_at (Resolves ds) (map written names) resolved i (written d) fits (rw (length-map names written) within) in
-      (at.0, rw add-one at.1, subst (λ w. Resolves ds w at.0) (get_or-map written names i d (written d) within) at.2)
+      let at = zipped_at (Resolves entries) (map written names) resolved i (written d) fits (rw (length-map names written) within) in
+      (at.0, rw add-one at.1, subst (λ w. Resolves entries w at.0) (get_or-map written names i d (written d) within) at.2)
 
   -- a rule that does not resolve leaves nothing that fits
   pub none_resolved : (resolved : List CauseRule) → Fit (map written names) resolved → i < length names →
-      ((rule : CauseRule) → Resolves ds (written (get_or names i d)) rule → ◌≡◌ {A = Option CauseRule} None (Some rule)) → ⊥
+      ((rule : CauseRule) → Resolves entries (written (get_or names i d)) rule → ◌≡◌ {A = Option CauseRule} None (Some rule)) → ⊥
   none_resolved resolved fits within only =
       let at = resolved_at resolved fits within in
       none-some at.0 (only at.0 at.2)
 
   -- a rule that resolves is the next of what fits
   pub one_resolved : (rule : CauseRule) (resolved : List CauseRule) → Fit (map written names) resolved → i < length names →
-      ((other : CauseRule) → Resolves ds (written (get_or names i d)) other → ◌≡◌ {A = Option CauseRule} (Some rule) (Some other)) → take i resolved ≡ found → take (i + 1) resolved ≡ found ++ rule ∷ []
+      ((other : CauseRule) → Resolves entries (written (get_or names i d)) other → ◌≡◌ {A = Option CauseRule} (Some rule) (Some other)) → take i resolved ≡ found → take (i + 1) resolved ≡ found ++ rule ∷ []
   one_resolved rule resolved fits within only before =
       let at = resolved_at resolved fits within in
       let same = same_Some rule at.0 (only at.0 at.2) in
       rw (at.1, before, same) refl
 
-  pub resolved_push : (rule : CauseRule) → Fit (map written (take i names)) found → i < length names → Resolves ds (written (get_or names i d)) rule → Fit (map written (take (i + 1) names)) (found ++ rule ∷ [])
+  pub resolved_push : (rule : CauseRule) → Fit (map written (take i names)) found → i < length names → Resolves entries (written (get_or names i d)) rule → Fit (map written (take (i + 1) names)) (found ++ rule ∷ [])
   resolved_push rule fits within resolves =
-      rw (take_more names i d within, map_push written (take i names) (get_or names i d)) (zipped_push (Resolves ds) (map written (take i names)) found (written (get_or names i d)) rule fits resolves)
+      rw (take_more names i d within, map_push written (take i names) (get_or names i d)) (zipped_push (Resolves entries) (map written (take i names)) found (written (get_or names i d)) rule fits resolves)
 
 -- past the end all that fits was found
-pub all_resolved : (ds : List NameEntry) (names : List RuleNames) (i : ℕ) (found resolved : List CauseRule) → AllZip (Resolves ds) (map written names) resolved → length names ≤ i → take i resolved ≡ found → found ≡ resolved
-all_resolved ds names i found resolved fits past before =
-    let all : length resolved ≤ i = omega (arith, zipped_length (Resolves ds) (map written names) resolved fits, length-map names written) in
+pub all_resolved : (entries : List NameEntry) (names : List RuleNames) (i : ℕ) (found resolved : List CauseRule) → AllZip (Resolves entries) (map written names) resolved → length names ≤ i → take i resolved ≡ found → found ≡ resolved
+all_resolved entries names i found resolved fits past before =
+    let all : length resolved ≤ i = omega (arith, zipped_length (Resolves entries) (map written names) resolved fits, length-map names written) in
     sym before ∙ take_all i resolved all

@@ -1,154 +1,246 @@
--- How a run of the log ends, from how its parts end.
-use Rattle.std.proofs.Common.{◌≡◌, ℕ, ◌+◌, List, [], ◌∷◌, ◌++◌, ◌⊎◌, ⊎_elim, inl, inr, length, refl, sym, ap, subst, ◌∙◌, Option, Some, None, Result, Err}
-use Rattle.std.proofs.lemmas.List.{append-nil}
-use Rattle.enf_io.specs.Contents.{Contents}
-use Rattle.enf_io.specs.Exchange.{Added, Exchange, Took}
+-- How a run ends, from how its parts end.
+use Rattle.std.proofs.Common.{◌≡◌, ℕ, ◌+◌, ◌*◌, ◌-◌, ◌<◌, ◌≤◌, List, ◌++◌, length, length-append, None, inl, inr, sym, ap, subst, ◌∙◌, Option, Ok, Err, IsTrue, arith}
+use Rattle.std.specs.List.{All}
+use Rattle.enf_io.specs.Counts.{one_more}
+use Rattle.enf_io.specs.Exchange.{Exchange}
+use Rattle.enf_io.specs.Streams.{Stream}
+use Rattle.enforcer_core.specs.Enforcers.{Enforcing}
 use Rattle.enforcer_core.specs.declared.enforcer.CauseRule.{CauseRule}
-use Rattle.enf_cli.specs.Input.{IsCutAs, TookSome}
-use Rattle.enf_cli.specs.Judgement.{verdict_of}
-use Rattle.enf_cli.specs.Outcomes.{IsCutShort, StopsAtRecord}
-use Rattle.enf_cli.specs.Program.{Asks, IsConclusion, Performs, RanLog, RanShort, RunsLog}
-use Rattle.enf_cli.specs.Progress.{CutsLog, EnforcesLog}
-use Rattle.enf_cli.specs.Refusals.{status_of, text_of_refusal}
-use Rattle.enf_cli.specs.Reports.{AddedFront, IsReported}
-use Rattle.enf_cli.specs.declared.refusals.Status.{Status}
-use Rattle.enf_cli.specs.declared.refusals.Status.TheVariants as statuses
+use Rattle.log_stream.specs.Lines.{text_of}
+use Rattle.log_stream.specs.Logs.{IsPending, behind_blanks}
+use Rattle.log_stream.specs.Readers.{Reader}
+use Rattle.log_stream.specs.declared.items.LogMode.TheVariants.{Input}
+use Rattle.signature.specs.Grammar.{names as names_of}
 use Rattle.signature.specs.declared.entries.NameEntry.{NameEntry}
-use Rattle.enf_cli.specs.declared.input.InputEnd.{InputEnd}
-use Rattle.enf_cli.specs.declared.input.InputEnd.TheVariants as ends
-use Rattle.enf_cli.specs.declared.log.Behind.{Behind}
-use Rattle.enf_cli.specs.declared.log.Behind.TheVariants as behind
-use Rattle.std.specs.Result.{OnOk}
-use Rattle.enf_cli.specs.declared.log.Extent.{Extent}
+use Rattle.trace_meaning.specs.Records.{clock_after, time_of}
+use Rattle.enf_cli.specs.Accepted.{UpToDate, record_of, records_of}
+use Rattle.enf_cli.specs.Calls.{Call, LeavesFiles}
+use Rattle.enf_cli.specs.Endings.{ending_after_file, write_faults_behind}
+use Rattle.enf_cli.specs.Enforcement.{is_causable}
+use Rattle.enf_cli.specs.Exchanges.{Exchanged}
+use Rattle.enf_cli.specs.Files.{EndsFile, HoldsPolicy, HoldsRefusedPolicy, HoldsRefusedSignature, HoldsSignature}
+use Rattle.enf_cli.specs.Logs.{CutsRun, EndsAs, IsRefusedAs, MetEnd, RanAsJudged, RunsLog, conclusion_of}
+use Rattle.enf_cli.specs.Outcomes.{Asks, IsDone, Meets, Outcome, Performs, Refuses}
+use Rattle.enf_cli.specs.Progress.{AnswersTurn, CutsTurn, EndsByRefusal, EndsTurn, IsLeft, MeetsEnd, reads_on}
+use Rattle.enf_cli.specs.Refusals.{status_of}
+use Rattle.enf_cli.specs.Reports.{EndsWith}
+use Rattle.enf_cli.specs.Words.{IsEnforce}
+use Rattle.enf_cli.specs.declared.endings.Cut.{Cut}
+use Rattle.enf_cli.specs.declared.endings.Cut.TheVariants as cuts
+use Rattle.enf_cli.specs.declared.endings.Ending.{Ending}
+use Rattle.enf_cli.specs.declared.endings.Ending.TheVariants as endings
+use Rattle.enf_cli.specs.declared.endings.FileEnding.{FileEnding}
+use Rattle.enf_cli.specs.declared.endings.FileEnding.TheVariants as files
+use Rattle.enf_cli.specs.declared.log.Enforcement.{Enforcement}
+use Rattle.enf_cli.specs.declared.log.TheConstants.{MOST_LOG_BYTES}
 use Rattle.enf_cli.specs.declared.log.Verdict.{Verdict}
 use Rattle.enf_cli.specs.declared.log.Verdict.TheVariants as verdicts
+use Rattle.enf_cli.specs.declared.refusals.PolicyRefusal.{PolicyRefusal}
+use Rattle.enf_cli.specs.declared.refusals.RecordRefusal.{RecordRefusal}
+use Rattle.enf_cli.specs.declared.refusals.RecordRefusal.TheVariants as records
 use Rattle.enf_cli.specs.declared.refusals.Refusal.{Refusal}
 use Rattle.enf_cli.specs.declared.refusals.Refusal.TheVariants as refusals
-use Rattle.enf_cli.proofs.LogProgress.{has_cut_none}
-use Rattle.enf_cli.proofs.ExchangeLemmas.{cut_as_given, exchanged}
+use Rattle.enf_cli.specs.declared.refusals.SignatureRefusal.{SignatureRefusal}
+use Rattle.enf_cli.specs.declared.refusals.Status.{Status}
+use Rattle.enf_cli.proofs.ExchangeLemmas.{exchanged_ended, exchanged_marked}
+use Rattle.enf_cli.proofs.LogLemmas.{begins_shorter, behind_le}
+use Rattle.enf_cli.proofs.LogProgress.{Laws, Progress, answers, cut_memory, cut_write, progress_more, progress_one, up_to_date}
 
--- all was taken, and what was given is cut short
-pub ran_short_cut : (ds : List NameEntry) (rules : List CauseRule) (taken : List ℕ) (a b c : Option Exchange) → Took taken a b → CutsLog ds rules taken b c → RanShort ds rules a c
-ran_short_cut ds rules taken a b c t cut =
-    record {
-      taken = taken;
-      given = cut.given.0;
-      exchanged = exchanged taken cut.given.0 a b c t cut.given.3;
-      steps = cut.steps;
-      rest = cut.rest;
-      accepts = cut.accepts;
-      text = cut.text;
-      enforced = cut.enforced;
-      missing = cut.given.1;
-      front = cut.given.2;
-    }
+-- ---- the run of the log
 
--- some was taken, and nothing was given
-pub ran_short_took : (ds : List NameEntry) (rules : List CauseRule) (a b : Option Exchange) → TookSome a b → RanShort ds rules a b
-ran_short_took ds rules a b t = ran_short_cut ds rules t.0 a b b t.1 (has_cut_none ds rules t.0 b)
+module _ (entries : List NameEntry) (rules : List CauseRule) (laws : Laws) (may : All (λ rule. IsTrue (is_causable entries rule.cause)) rules) (before : Stream) (old : Enforcement) (taken : List ℕ) (b c : Stream)
+    (h : Progress entries rules before taken old.reader.rest old.accepted old.enforcer b) (count : old.taken ≡ length taken) (writes : c.write_faults ≡ b.write_faults) where
+  -- what the exchange was before the last turn it still is, where that left the gate
+  left_as_it_was : c.told ≡ b.told → Exchanged (UpToDate entries rules) taken (text_of (names_of entries) h.so_far.out) before.told c.told
+  left_as_it_was same = subst (λ (o : Option Exchange). Exchanged (UpToDate entries rules) taken (text_of (names_of entries) h.so_far.out) before.told o) (sym same) h.exchanged
 
--- all was taken, and its accepted records are enforced
-abbrev pub ran_log : (ds : List NameEntry) (rules : List CauseRule) (taken : List ℕ) (end : InputEnd) (extent : Extent) (a b c : Option Exchange) (fault fault' : Type 0)
-    → (fault → fault') → Took taken a b → IsCutAs end (length taken) b fault → (e : EnforcesLog ds rules taken extent b c) → RanLog ds rules (verdict_of extent.behind end) a c fault'
-ran_log ds rules taken end extent a b c fault fault' f t i e =
-    record {
-      taken = taken;
-      given = e.text;
-      exchanged = exchanged taken e.text a b c t e.given;
-      end = end;
-      ended = cut_as_given end (length taken) e.text b c fault fault' f e.given i;
-      steps = e.steps;
-      judged = record { rest = e.rest; why = extent.behind; accepts = e.accepts; behind = e.behind; is = refl };
-      enforced = e.enforced;
-    }
+  now_up_to_date : IsPending old.reader.rest → UpToDate entries rules taken (text_of (names_of entries) h.so_far.out)
+  now_up_to_date pending = up_to_date entries rules laws may taken old.reader.rest old.enforcer h.so_far pending
 
--- a run ends well only where the input was taken to its end
-pub on_accepted : (P : Type 0) (why : Behind) (end : InputEnd) (number : ℕ) (result : Result (Unit {0}) Refusal) → IsConclusion (verdict_of why end) number result → (end ≡ ends.Ended → P) → OnOk result P
-on_accepted P behind.Nothing ends.Ended number result h p = subst (λ (r : Result (Unit {0}) Refusal). OnOk r P) (sym h) (p refl)
-on_accepted P behind.Nothing ends.Fault number result h p = subst (λ (r : Result (Unit {0}) Refusal). OnOk r P) (sym h) tt
-on_accepted P behind.Nothing ends.Limit number result h p = subst (λ (r : Result (Unit {0}) Refusal). OnOk r P) (sym h) tt
-on_accepted P behind.Pending ends.Ended number result h p = subst (λ (r : Result (Unit {0}) Refusal). OnOk r P) (sym h) tt
-on_accepted P behind.Pending ends.Fault number result h p = subst (λ (r : Result (Unit {0}) Refusal). OnOk r P) (sym h) tt
-on_accepted P behind.Pending ends.Limit number result h p = subst (λ (r : Result (Unit {0}) Refusal). OnOk r P) (sym h) tt
-on_accepted P behind.Refused end number result h p = subst (λ (r : Result (Unit {0}) Refusal). OnOk r P) (sym h) tt
-on_accepted P (behind.Falling given at) end number result h p = subst (λ (r : Result (Unit {0}) Refusal). OnOk r P) (sym h) tt
+  ends_with : (verdict : Verdict) → Exchanged (UpToDate entries rules) taken (text_of (names_of entries) h.so_far.out) before.told c.told
+      → EndsAs entries (clock_after 0 (records_of h.so_far.read)) (length taken) old.reader.rest before c verdict → RanAsJudged entries rules (record { accepted = old.accepted; verdict = verdict }) before c
+  ends_with verdict exchanged ends =
+      record {
+        ran = record {
+          taken = taken;
+          given = text_of (names_of entries) h.so_far.out;
+          exchanged = exchanged;
+          rest = old.reader.rest;
+          answers = answers entries rules laws may taken old.reader.rest old.enforcer h.so_far;
+          ends = ends;
+          writes = writes ∙ h.writes;
+        };
+        count = h.count;
+      }
 
--- what the conclusion says of the run
-pub concludes : (ds : List NameEntry) (rules : List CauseRule) (a c : Option Exchange) (fault cut_fault : Type 0) (verdict : Verdict) (number : ℕ) (result : Result (Unit {0}) Refusal)
-    → (ran : RanLog ds rules verdict a c fault) → number ≡ length ran.steps + 1 → IsConclusion verdict number result → RunsLog ds rules a c fault cut_fault result
-concludes ds rules a c fault cut_fault verdicts.Accepted number result ran n h = subst (RunsLog ds rules a c fault cut_fault) (sym h) ran
-concludes ds rules a c fault cut_fault verdicts.Fault number result ran n h = subst (RunsLog ds rules a c fault cut_fault) (sym h) ran
-concludes ds rules a c fault cut_fault (verdicts.Refused why) number result ran n h = subst (RunsLog ds rules a c fault cut_fault) (sym h) (ran, n)
+  met_end : MeetsEnd old b c → MetEnd (length taken) c
+  met_end m = (omega (arith, m.below, count), m.at_end)
 
--- a run of the log to its verdict gave all of the text
-ran_short_log : (ds : List NameEntry) (rules : List CauseRule) (verdict : Verdict) (a c : Option Exchange) (fault : Type 0) → RanLog ds rules verdict a c fault → RanShort ds rules a c
-ran_short_log ds rules verdict a c fault r =
-    record {
-      taken = r.taken;
-      given = r.given;
-      exchanged = r.exchanged;
-      steps = r.steps;
-      rest = r.judged.rest;
-      accepts = r.judged.accepts;
-      text = r.given;
-      enforced = r.enforced;
-      missing = [];
-      front = sym (append-nil r.given);
-    }
+  refused : (why : RecordRefusal) → IsRefusedAs entries (clock_after 0 (records_of h.so_far.read)) (length taken) old.reader.rest c why → IsLeft b c
+      → RanAsJudged entries rules (record { accepted = old.accepted; verdict = verdicts.Refused why }) before c
+  refused why is left = ends_with (verdicts.Refused why) (left_as_it_was left.0) (is, left.1 ∙ h.reads)
 
--- what the words ask for was begun, to this verdict
-short_log : (words : List (List ℕ)) (files : Option (List ℕ → Contents)) (ds : List NameEntry) (rules : List CauseRule) (verdict : Verdict) (a c : Option Exchange) (fault : Type 0) → Asks words files ds rules → RanLog ds rules verdict a c fault → IsCutShort words files a c
-short_log words files ds rules verdict a c fault asks r = inr (record { ds = ds; rules = rules; asks = asks; ran = ran_short_log ds rules verdict a c fault r })
+  ends_refused : (why : RecordRefusal) → EndsByRefusal entries old b c why → RanAsJudged entries rules (record { accepted = old.accepted; verdict = verdicts.Refused why }) before c
+  ends_refused (records.Bad place) e = refused (records.Bad place) e.0 e.1
+  ends_refused (records.UnknownName place) e = refused (records.UnknownName place) e.0 e.1
+  ends_refused (records.Arity place) e = refused (records.Arity place) e.0 e.1
+  ends_refused (records.Sort place) e = refused (records.Sort place) e.0 e.1
+  ends_refused records.TooLong e = refused records.TooLong e.0 e.1
+  ends_refused records.TimeTooLarge e = refused records.TimeTooLarge e.0 e.1
+  ends_refused records.Truncated e =
+      ends_with (verdicts.Refused records.Truncated)
+      (exchanged_ended (UpToDate entries rules) taken (text_of (names_of entries) h.so_far.out) before.told b.told c.told h.exchanged (now_up_to_date e.1.pending) e.1.took)
+      ((e.0, met_end e.1), e.1.reads ∙ h.reads)
+  ends_refused (records.Falling given' at) e =
+      let f = e.0 in
+      let at_is : at ≡ old.enforcer.clock = clock_is given' at f.is in
+      let given_is : given' ≡ time_of (record_of f.item) = time_is given' at f.is in
+      let clock = h.so_far.course.clock in
+      refused (records.Falling given' at) (at_is ∙ clock, record { item = f.item; more = f.more; begins = f.begins; time = given_is; below = omega (arith, f.below, clock) }) e.1
+    where
+      clock_is : (x y : ℕ) {t k : ℕ} → ◌≡◌ {A = RecordRefusal} (records.Falling x y) (records.Falling t k) → y ≡ k
+      clock_is x y e = cc
 
--- however a run ends early, it gave whole lines and at most one cut line
-pub short_performed : (words : List (List ℕ)) (files : Option (List ℕ → Contents)) (a c : Option Exchange) (fails : List ℕ → List ℕ → Type 0) (fault cut_fault : Type 0) (refusal : Refusal)
-    → Performs words files a c fails fault cut_fault (Err refusal) → IsCutShort words files a c
-short_performed words files a c fails fault cut_fault refusals.Words p = inl p.1
-short_performed words files a c fails fault cut_fault (refusals.Signature why) p = inl p.untouched
-short_performed words files a c fails fault cut_fault (refusals.Policy why) p = inl p.untouched
-short_performed words files a c fails fault cut_fault (refusals.Record number why) p = short_log words files p.ds p.rules (verdicts.Refused why) a c fault p.asks p.ran.0
-short_performed words files a c fails fault cut_fault refusals.ReadFault p = ⊎_elim (λ q. inl q.untouched) (λ q. short_log words files q.ds q.rules verdicts.Fault a c fault q.asks q.ran) p
-short_performed words files a c fails fault cut_fault refusals.WriteFault p = inr (record { ds = p.ds; rules = p.rules; asks = p.asks; ran = p.ran.1 })
-short_performed words files a c fails fault cut_fault refusals.NoMemory p = ⊎_elim (λ q. inl q) (λ q. inr (record { ds = q.ds; rules = q.rules; asks = q.asks; ran = q.ran })) p
+      time_is : (x y : ℕ) {t k : ℕ} → ◌≡◌ {A = RecordRefusal} (records.Falling x y) (records.Falling t k) → x ≡ t
+      time_is x y e = cc
+  ends_refused records.InputLimit e = refused records.InputLimit (e.0, sym count ∙ e.1) e.2
 
--- a run with the status for a record was stopped at one
-pub stopped_at_record : (words : List (List ℕ)) (files : Option (List ℕ → Contents)) (a c : Option Exchange) (fails : List ℕ → List ℕ → Type 0) (fault cut_fault : Type 0) (report report' : Option (List ℕ)) (report_fault : Type 0) (refusal : Refusal) (status : Status)
-    → Performs words files a c fails fault cut_fault (Err refusal) → (status ≡ status_of refusal) ⊎ (status ≡ statuses.NoMemory) → (status ≡ status_of refusal → IsReported refusal report report' report_fault)
-    → status ≡ statuses.Record → StopsAtRecord words files a c fault report report' report_fault
-stopped_at_record words files a c fails fault cut_fault report report' report_fault (refusals.Record number why) status p s line e =
-    record {
-      ds = p.ds;
-      rules = p.rules;
-      asks = p.asks;
-      why = why;
-      ran = p.ran.0;
-      reported = subst (λ n. IsReported (refusals.Record n why) report report' report_fault) p.ran.1 (line e);
-    }
-stopped_at_record words files a c fails fault cut_fault report report' report_fault refusals.Words status p s line e = ⊎_elim (λ x. cc) (λ x. cc) s
-stopped_at_record words files a c fails fault cut_fault report report' report_fault (refusals.Signature why) status p s line e = ⊎_elim (λ x. cc) (λ x. cc) s
-stopped_at_record words files a c fails fault cut_fault report report' report_fault (refusals.Policy why) status p s line e = ⊎_elim (λ x. cc) (λ x. cc) s
-stopped_at_record words files a c fails fault cut_fault report report' report_fault refusals.ReadFault status p s line e = ⊎_elim (λ x. cc) (λ x. cc) s
-stopped_at_record words files a c fails fault cut_fault report report' report_fault refusals.WriteFault status p s line e = ⊎_elim (λ x. cc) (λ x. cc) s
-stopped_at_record words files a c fails fault cut_fault report report' report_fault refusals.NoMemory status p s line e = ⊎_elim (λ x. cc) (λ x. cc) s
+  -- a turn ended the log
+  pub runs_log : (verdict : Verdict) → EndsTurn entries old b c verdict → RanAsJudged entries rules (record { accepted = old.accepted; verdict = verdict }) before c
+  runs_log verdicts.Accepted e =
+      ends_with verdicts.Accepted
+      (exchanged_ended (UpToDate entries rules) taken (text_of (names_of entries) h.so_far.out) before.told b.told c.told h.exchanged (now_up_to_date e.1.pending) e.1.took)
+      (e.0, met_end e.1, e.1.reads ∙ h.reads)
+  runs_log verdicts.Fault e =
+      ends_with verdicts.Fault
+      (exchanged_marked (UpToDate entries rules) taken (text_of (names_of entries) h.so_far.out) before.told b.told c.told h.exchanged (now_up_to_date e.0) e.1)
+      (e.0, e.2 ∙ ap one_more h.reads)
+  runs_log (verdicts.Refused why) e = ends_refused why e
 
--- no line leaves the report as it was
-pub report_same : (before after : Option (List ℕ)) → AddedFront [] before after → after ≡ before
-report_same before after (front, rest, text, added) = by front text added
-  where
-    by : (xs : List ℕ) → [] ≡ xs ++ rest → Added xs before after → after ≡ before
-    by [] t (a) = same before a
-      where
-        same : (b : Option (List ℕ)) → Added [] b after → after ≡ b
-        same None a = a
-        same (Some held) a = a ∙ ap Some (append-nil held)
-    by (x ∷ xs) t a = cc
+-- a turn that does not end the log
+module _ (entries : List NameEntry) (rules : List CauseRule) (laws : Laws) (may : All (λ rule. IsTrue (is_causable entries rule.cause)) rules) (before : Stream) (old new : Enforcement) (taken : List ℕ) (b c : Stream)
+    (h : Progress entries rules before taken old.reader.rest old.accepted old.enforcer b) (count : old.taken ≡ length taken) (most : old.taken ≤ MOST_LOG_BYTES) (writes : c.write_faults ≡ b.write_faults) where
+  -- what is known behind it, and that less is left to do
+  pub record GoesOn : Type 0 where
+    pub bytes : List ℕ
+    pub count_is : new.taken ≡ length bytes
+    pub within : new.taken ≤ MOST_LOG_BYTES
+    pub reader_is : new.reader ≡ reads_on entries new.reader.rest
+    pub progress : Progress entries rules before bytes new.reader.rest new.accepted new.enforcer c
+    pub less : 2 * (MOST_LOG_BYTES - new.taken) + length new.reader.rest < 2 * (MOST_LOG_BYTES - old.taken) + length old.reader.rest
 
--- a write fault has no line
-pub no_line : (refusal : Refusal) (status : Status) (report report' : Option (List ℕ)) → (status ≡ status_of refusal) ⊎ (status ≡ statuses.NoMemory) → AddedFront (text_of_refusal refusal) report report' → status ≡ statuses.WriteFault → report' ≡ report
-no_line refusals.WriteFault status report report' s f e = report_same report report' f
-no_line refusals.Words status report report' s f e = ⊎_elim (λ x. cc) (λ x. cc) s
-no_line (refusals.Signature why) status report report' s f e = ⊎_elim (λ x. cc) (λ x. cc) s
-no_line (refusals.Policy why) status report report' s f e = ⊎_elim (λ x. cc) (λ x. cc) s
-no_line (refusals.Record number why) status report report' s f e = ⊎_elim (λ x. cc) (λ x. cc) s
-no_line refusals.ReadFault status report report' s f e = ⊎_elim (λ x. cc) (λ x. cc) s
-no_line refusals.NoMemory status report report' s f e = ⊎_elim (λ x. cc) (λ x. cc) s
+  pub goes_on : AnswersTurn entries None old new b c → GoesOn
+  goes_on (inl one) =
+      let t = one.takes in
+      let more = progress_one entries rules laws may before taken old.reader.rest old.accepted old.enforcer b c h new.reader.rest t.item new.enforcer t.begins t.taken one.reads writes in
+      record {
+        bytes = taken;
+        count_is = one.taken ∙ count;
+        within = omega (arith, one.taken, most);
+        reader_is = t.reader_is;
+        progress = subst (λ (n : ℕ). Progress entries rules before taken new.reader.rest n new.enforcer c) (sym one.accepted) more;
+        less = omega (arith, one.taken, begins_shorter entries Input old.reader.rest t.item new.reader.rest t.begins);
+      }
+  goes_on (inr piece) =
+      let rest_is : new.reader.rest ≡ behind_blanks old.reader.rest ++ piece.bytes = ap (λ (r : Reader). r.rest) piece.reader in
+      let more = progress_more entries rules laws may before taken old.reader.rest old.accepted old.enforcer b c h piece.pending piece.bytes piece.took piece.reads writes in
+      let at_rest = subst (λ (r : List ℕ). Progress entries rules before (taken ++ piece.bytes) r old.accepted old.enforcer c) (sym rest_is) more in
+      let at_count = subst (λ (n : ℕ). Progress entries rules before (taken ++ piece.bytes) new.reader.rest n old.enforcer c) (sym piece.accepted) at_rest in
+      record {
+        bytes = taken ++ piece.bytes;
+        count_is = omega (arith, piece.taken, count, length-append taken piece.bytes);
+        within = piece.within;
+        reader_is = piece.reader ∙ (λ i. reads_on entries (sym rest_is i));
+        progress = subst (λ (e : Enforcing). Progress entries rules before (taken ++ piece.bytes) new.reader.rest new.accepted e c) (sym piece.enforcer) at_count;
+        less = omega (arith, piece.taken, piece.within, piece.some, ap length rest_is, length-append (behind_blanks old.reader.rest) piece.bytes, behind_le old.reader.rest);
+      }
+
+-- a turn was cut
+pub cut_run : (T : Type 0) (entries : List NameEntry) (rules : List CauseRule) (laws : Laws) (may : All (λ rule. IsTrue (is_causable entries rule.cause)) rules) (before : Stream) (taken rest : List ℕ) (accepted : ℕ) (now : Enforcing) (b c : Stream)
+    → Progress entries rules before taken rest accepted now b → (cut : Cut) → CutsTurn entries rest now b c cut → c.write_faults ≡ write_faults_behind {T = T} (Err cut) b.write_faults → CutsRun entries rules before c cut
+cut_run T entries rules laws may before taken rest accepted now b c h cuts.WriteFault t writes = cut_write entries rules laws may before taken rest accepted now b c h t writes
+cut_run T entries rules laws may before taken rest accepted now b c h cuts.NoMemory t writes = cut_memory entries rules laws may before taken rest accepted now b c h t writes
+
+-- ---- the work of a run
+
+module _ {Gate : Type 0} (call : Call Gate) (signature policy : List ℕ) (form : IsEnforce call.words signature policy) where
+  -- the signature gives nothing
+  pub signature_ends : (end : FileEnding SignatureRefusal) → call.after.gate_itself ≡ call.before.gate_itself → call.after.gate ≡ call.before.gate
+      → EndsFile (HoldsRefusedSignature call.before.files.contents signature) signature call.before.files call.after.files end → Performs call (Err (ending_after_file refusals.Signature end))
+  signature_ends (files.Refused why) itself seen h =
+      record { signature = signature; policy = policy; form = form; refused = h.0; gate = (itself, seen); files = h.1 }
+  signature_ends files.Fault itself seen h =
+      inl (record { signature = signature; policy = policy; form = form; failed = inl h; gate = (itself, seen) })
+  signature_ends files.NoMemory itself seen h =
+      inl (record { signature = signature; policy = policy; form = form; gate = (itself, seen); files = h })
+
+  -- the policy gives nothing, behind a signature
+  pub policy_ends : (entries : List NameEntry) (end : FileEnding PolicyRefusal) → call.after.gate_itself ≡ call.before.gate_itself → call.after.gate ≡ call.before.gate
+      → HoldsSignature call.before.files.contents signature entries
+      → EndsFile (HoldsRefusedPolicy call.before.files.contents policy entries) policy call.before.files call.after.files end → Performs call (Err (ending_after_file refusals.Policy end))
+  policy_ends entries (files.Refused why) itself seen holds h =
+      record { signature = signature; policy = policy; form = form; entries = entries; holds_signature = holds; refused = h.0; gate = (itself, seen); files = h.1 }
+  policy_ends entries files.Fault itself seen holds h =
+      inl (record { signature = signature; policy = policy; form = form; failed = inr ((entries, holds), h); gate = (itself, seen) })
+  policy_ends entries files.NoMemory itself seen holds h =
+      inl (record { signature = signature; policy = policy; form = form; gate = (itself, seen); files = h })
+
+  module _ (entries : List NameEntry) (rules : List CauseRule) (holds_signature : HoldsSignature call.before.files.contents signature entries)
+      (holds_policy : HoldsPolicy call.before.files.contents policy entries rules) (same : LeavesFiles call) where
+    abbrev asks : Asks call entries rules
+    asks = record { signature = signature; policy = policy; form = form; holds_signature = holds_signature; holds_policy = holds_policy }
+
+    -- the run of the log was cut
+    pub log_ends : (cut : Cut) → CutsRun entries rules call.before.gate call.after.gate cut → Performs call (Err (endings.Cut cut))
+    log_ends cuts.WriteFault h = record { entries = entries; rules = rules; asks = asks; cut = h; files = same }
+    log_ends cuts.NoMemory h = inr (record { entries = entries; rules = rules; asks = asks; cut = h; files = same })
+
+    -- the judgement of the log is a refusal
+    pub log_refused : (accepted : ℕ) (verdict : Verdict) (ran : RunsLog entries rules verdict call.before.gate call.after.gate) (why : Refusal)
+        → accepted ≡ length ran.answers.read → Err why ≡ conclusion_of accepted verdict → Meets call why
+    log_refused accepted verdicts.Accepted ran why count h = cc
+    log_refused accepted verdicts.Fault ran why count h =
+        let is : why ≡ refusals.ReadFault = cc in
+        subst (Meets call) (sym is) (inr (record { entries = entries; rules = rules; asks = asks; ran = ran; failed = ran.ends.1; files = same }))
+    log_refused accepted (verdicts.Refused refusal) ran why count h =
+        let is : why ≡ refusals.Record (accepted + 1) refusal = cc in
+        subst (Meets call) (sym is) (record { entries = entries; rules = rules; asks = asks; ran = ran; number_is = ap (λ n. n + 1) count; files = same })
+
+    -- the judgement of the log is that all is accepted
+    pub log_done : (accepted : ℕ) (verdict : Verdict) (ran : RunsLog entries rules verdict call.before.gate call.after.gate) → Ok tt ≡ conclusion_of accepted verdict → IsDone call
+    log_done accepted verdicts.Fault ran h = cc
+    log_done accepted (verdicts.Refused refusal) ran h = cc
+    log_done accepted verdicts.Accepted ran h =
+        record {
+          entries = entries;
+          rules = rules;
+          asks = asks;
+          taken = ran.taken;
+          given = ran.given;
+          exchanged = ran.exchanged;
+          whole = ran.ends.1;
+          read = ran.answers.read;
+          log = (ran.rest, ran.answers.accepts.spelled, ran.ends.0);
+          rising = ran.answers.accepts.rising;
+          enforced = ran.answers.enforced;
+          decided = ran.answers.decided;
+          reads = ran.ends.2;
+          writes = ran.writes;
+          files = same;
+        }
+
+-- ---- the outcome
+
+of_refusal : {Gate : Type 0} (call : Call Gate) (why : Refusal) → Refuses call why → Outcome call (status_of why)
+of_refusal call refusals.Words r = r
+of_refusal call (refusals.Signature why) r = inl (why, r)
+of_refusal call (refusals.Policy why) r = inr (why, r)
+of_refusal call (refusals.Record number why) r = (number, why, r)
+of_refusal call refusals.ReadFault r = r
+
+-- what holds at the status of a run that ended early
+pub outcome_of : {Gate : Type 0} (call : Call Gate) (ending : Ending) (status : Status) → Performs call (Err ending) → EndsWith ending call.before.report call.after.report status → Outcome call status
+outcome_of call (endings.Refused why) status p (inl (is, line)) = subst (Outcome call) (sym is) (of_refusal call why (record { meets = p; line = line }))
+outcome_of call (endings.Refused why) status p (inr (is, line)) = subst (Outcome call) (sym is) (inr (record { why = why; meets = p; line = line }))
+outcome_of call (endings.Cut cuts.WriteFault) status p (is, same) = subst (Outcome call) (sym is) (p, same)
+outcome_of call (endings.Cut cuts.NoMemory) status p (is, line) = subst (Outcome call) (sym is) (inl (record { cut = p; line = line }))

@@ -1,16 +1,13 @@
 -- What is given for the accepted records.
-use Rattle.std.specs.Prelude.{◌≡◌, ℕ, Bool, false, Option, Some, None, List, map, slice_get}
-use Rattle.std.specs.List.{AllZip}
-use Rattle.enf_value.specs.Data.{Step}
+use Rattle.std.specs.Prelude.{◌≡◌, ℕ, Bool, false, Option, Some, None, List, [], slice_get}
+use Rattle.enf_formula.specs.Formulas.{Formula}
 use Rattle.enf_value.specs.declared.events.NameId.{NameId}
-use Rattle.enforcer_core.specs.LawfulChange.{Lawful}
-use Rattle.enforcer_core.specs.Lines.{text_of}
-use Rattle.enforcer_core.specs.Policies.{Satisfies, formula_of_rule}
-use Rattle.enforcer_core.specs.Reactions.{Decides}
-use Rattle.enforcer_core.specs.Runs.{OutStep, StepRecord, trace_of}
-use Rattle.enforcer_core.specs.declared.enforcer.CauseRule.{CauseRule}
+use Rattle.log_stream.specs.Lines.{text_of}
 use Rattle.signature.specs.Grammar.{names as names_of}
 use Rattle.signature.specs.declared.entries.NameEntry.{NameEntry}
+use Rattle.trace_meaning.specs.Enforced.{Enforced}
+use Rattle.trace_meaning.specs.OutSteps.{OutStep}
+use Rattle.trace_meaning.specs.Records.{Record}
 
 abbrev pub is_causable_declared : Option NameEntry → Bool
 is_causable_declared None = false
@@ -22,16 +19,15 @@ is_suppressible_declared (Some d) = d.suppressible
 
 -- whether the signature lets events of the name be added
 abbrev pub is_causable : List NameEntry → NameId → Bool
-is_causable ds name = is_causable_declared (slice_get ds name.0)
+is_causable entries name = is_causable_declared (slice_get entries name.0)
 
 -- whether the signature lets events of the name be taken out
 abbrev pub is_suppressible : List NameEntry → NameId → Bool
-is_suppressible ds name = is_suppressible_declared (slice_get ds name.0)
+is_suppressible entries name = is_suppressible_declared (slice_get entries name.0)
 
--- the text is that of steps which the rules decide, one for each record; they are a lawful change of the records and satisfy every rule at every position
-pub record IsEnforced (ds : List NameEntry) (rules : List CauseRule) (steps : List Step) (text : List ℕ) : Type 0 where
+-- the text is that of steps that are a lawful change of the records, and a trace that satisfies the policy
+pub record IsEnforced (entries : List NameEntry) (policy : List Formula) (records : List Record)
+    (text : List ℕ) : Type 0 where
   pub out : List OutStep
-  pub decided : AllZip (Decides rules) steps out
-  pub lawful : Lawful (is_causable ds) (is_suppressible ds) (map StepRecord steps) out
-  pub satisfied : Satisfies (trace_of out) (map formula_of_rule rules)
-  pub text_is : text ≡ text_of (names_of ds) out
+  pub text_is : text ≡ text_of (names_of entries) out
+  pub enforced : Enforced (is_causable entries) (is_suppressible entries) policy [] records out

@@ -1,23 +1,28 @@
--- The files that the words name: what they hold, and what is refused of it.
-use Rattle.std.specs.Prelude.{◌≡◌, ℕ, ◌<◌, ◌≤◌, List, length, drop, take_while, Option, IfSome, Err}
-use Rattle.enf_io.specs.Contents.{Contents, Untold, Missing, Holds}
+-- The files that the words name: what they hold, what is refused of it, and reads of them that give nothing.
+use Rattle.std.specs.Prelude.{◌≡◌, ℕ, ◌+◌, ◌<◌, ◌≤◌, List, length, drop, take_while, Option, IfSome, Err}
+use Rattle.enf_io.specs.Contents.{Contents, Missing, Holds}
+use Rattle.enf_io.specs.FileCalls.{FileView, ReadsFile}
+use Rattle.enf_io.specs.declared.devices.IoRefusal.{IoRefusal}
+use Rattle.enf_io.specs.declared.devices.IoRefusal.TheVariants.{Failed, NoMemory}
+use Rattle.enf_value.specs.declared.events.NameId.{NameId}
 use Rattle.enforcer_core.specs.declared.enforcer.CauseRule.{CauseRule}
-use Rattle.enf_cli.specs.Signatures.{SpellsSignature}
-use Rattle.enf_cli.specs.Rules.{IsPolicy}
-use Rattle.signature.specs.declared.entries.NameEntry.{NameEntry}
 use Rattle.signature.specs.Refusals.{IsAnswer}
-use Rattle.signature.specs.Tokens.{is_word_byte}
+use Rattle.enf_value.specs.Names.{is_word_byte}
+use Rattle.signature.specs.declared.entries.NameEntry.{NameEntry}
 use Rattle.signature.specs.declared.refusals.SignatureLimit.{SignatureLimit}
 use Rattle.signature.specs.declared.refusals.SignatureRefusal.TheVariants as answers
-use Rattle.enf_value.specs.declared.events.NameId.{NameId}
-use Rattle.enf_cli.specs.declared.refusals.PolicyFault.{PolicyFault}
-use Rattle.enf_cli.specs.declared.refusals.PolicyFault.TheVariants as policies
-use Rattle.enf_cli.specs.declared.refusals.SignatureFault.{SignatureFault}
-use Rattle.enf_cli.specs.declared.refusals.SignatureFault.TheVariants as signatures
+use Rattle.enf_value.specs.declared.limits.TheConstants.{MOST_FILE_BYTES}
+use Rattle.enf_cli.specs.Rules.{IsPolicy}
+use Rattle.enf_cli.specs.Signatures.{SpellsSignature}
+use Rattle.enf_cli.specs.declared.endings.FileEnding.{FileEnding}
+use Rattle.enf_cli.specs.declared.endings.FileEnding.TheVariants as endings
+use Rattle.enf_cli.specs.declared.refusals.PolicyRefusal.{PolicyRefusal}
+use Rattle.enf_cli.specs.declared.refusals.PolicyRefusal.TheVariants as policies
+use Rattle.enf_cli.specs.declared.refusals.SignatureRefusal.{SignatureRefusal}
+use Rattle.enf_cli.specs.declared.refusals.SignatureRefusal.TheVariants as signatures
 
--- the bytes are a file's, where it tells
+-- the bytes are a file's
 abbrev pub AreHeld : List ℕ → Contents → Type 0
-AreHeld bytes Untold = Unit {0}
 AreHeld bytes Missing = ⊥
 AreHeld bytes (Holds all) = bytes ≡ all
 
@@ -25,44 +30,76 @@ AreHeld bytes (Holds all) = bytes ≡ all
 abbrev pub AreUnder : Option (List ℕ → Contents) → List ℕ → List ℕ → Type 0
 AreUnder told name bytes = IfSome told (λ files. AreHeld bytes (files name))
 
--- the files of these names hold a signature, and a policy of the built form
-pub record AreGiven (told : Option (List ℕ → Contents)) (signature policy : List ℕ) (ds : List NameEntry) (rules : List CauseRule) : Type 0 where
-  pub signature_bytes : List ℕ
-  pub signature_under : AreUnder told signature signature_bytes
-  pub is_signature : SpellsSignature signature_bytes ds
-  pub policy_bytes : List ℕ
-  pub policy_under : AreUnder told policy policy_bytes
-  pub is_policy : IsPolicy ds policy_bytes rules
+-- the file holds this signature
+pub record HoldsSignature (told : Option (List ℕ → Contents)) (name : List ℕ) (entries : List NameEntry) : Type 0 where
+  pub bytes : List ℕ
+  pub under : AreUnder told name bytes
+  pub is_signature : SpellsSignature bytes entries
+
+-- the file holds a policy of these rules under this signature
+pub record HoldsPolicy (told : Option (List ℕ → Contents)) (name : List ℕ) (entries : List NameEntry)
+    (rules : List CauseRule) : Type 0 where
+  pub bytes : List ℕ
+  pub under : AreUnder told name bytes
+  pub is_policy : IsPolicy entries bytes rules
 
 -- the word that begins at a place: the letters, digits and `_` from there on
 abbrev pub word_from : ℕ → List ℕ → List ℕ
 word_from place bytes = take_while is_word_byte (drop place bytes)
 
--- more bytes than a file may have, or the first refusal of the grammar, with the name that it is about
-abbrev pub IsRefusedSignature : SignatureFault → List ℕ → Type 0
-IsRefusedSignature signatures.TooLong bytes = 1048576 < length bytes
-IsRefusedSignature (signatures.Syntax place) bytes = (length bytes ≤ 1048576) × IsAnswer bytes (Err (answers.Syntax place))
+-- the bytes are no more than a file may have, and their first refusal is one at a place, with the name that it is about
+abbrev pub IsRefusedSignature : SignatureRefusal → List ℕ → Type 0
+IsRefusedSignature signatures.TooLong bytes = MOST_FILE_BYTES < length bytes
+IsRefusedSignature (signatures.Syntax place) bytes =
+    (length bytes ≤ MOST_FILE_BYTES) × IsAnswer bytes (Err (answers.Syntax place))
 IsRefusedSignature (signatures.Repeated name place) bytes =
-    (length bytes ≤ 1048576) × (name.items ≡ word_from place bytes) × (number : NameId) × IsAnswer bytes (Err (answers.Repeated number place))
-IsRefusedSignature (signatures.Limit place) bytes = (length bytes ≤ 1048576) × (which : SignatureLimit) × IsAnswer bytes (Err (answers.Limit which place))
+    (length bytes ≤ MOST_FILE_BYTES) × (name.items ≡ word_from place bytes)
+    × (number : NameId) × IsAnswer bytes (Err (answers.Repeated number place))
+IsRefusedSignature (signatures.Limit place) bytes =
+    (length bytes ≤ MOST_FILE_BYTES) × (which : SignatureLimit) × IsAnswer bytes (Err (answers.Limit which place))
 
--- more bytes than a file may have, or none of the built form
-abbrev pub IsRefusedPolicy : List NameEntry → PolicyFault → List ℕ → Type 0
-IsRefusedPolicy ds policies.TooLong bytes = 1048576 < length bytes
-IsRefusedPolicy ds policies.NotBuilt bytes = (length bytes ≤ 1048576) × ((rules : List CauseRule) → IsPolicy ds bytes rules → ⊥)
+-- the bytes are more than a file may have, or no policy of the built form
+abbrev pub IsRefusedPolicy : List NameEntry → PolicyRefusal → List ℕ → Type 0
+IsRefusedPolicy entries policies.TooLong bytes = MOST_FILE_BYTES < length bytes
+IsRefusedPolicy entries policies.NotBuilt bytes =
+    (length bytes ≤ MOST_FILE_BYTES) × ((rules : List CauseRule) → IsPolicy entries bytes rules → ⊥)
 
--- the file of this name holds a signature that is refused so
-pub record HasRefusedSignature (told : Option (List ℕ → Contents)) (signature : List ℕ) (why : SignatureFault) : Type 0 where
+-- the file holds what is refused so as a signature
+pub record HoldsRefusedSignature (told : Option (List ℕ → Contents)) (name : List ℕ)
+    (why : SignatureRefusal) : Type 0 where
   pub bytes : List ℕ
-  pub under : AreUnder told signature bytes
+  pub under : AreUnder told name bytes
   pub refused : IsRefusedSignature why bytes
 
--- the files of these names hold a signature, and a policy that is refused so
-pub record HasRefusedPolicy (told : Option (List ℕ → Contents)) (signature policy : List ℕ) (why : PolicyFault) : Type 0 where
-  pub signature_bytes : List ℕ
-  pub signature_under : AreUnder told signature signature_bytes
-  pub ds : List NameEntry
-  pub is_signature : SpellsSignature signature_bytes ds
+-- the file holds what is refused so as a policy under this signature
+pub record HoldsRefusedPolicy (told : Option (List ℕ → Contents)) (name : List ℕ) (entries : List NameEntry)
+    (why : PolicyRefusal) : Type 0 where
   pub bytes : List ℕ
-  pub under : AreUnder told policy bytes
-  pub refused : IsRefusedPolicy ds why bytes
+  pub under : AreUnder told name bytes
+  pub refused : IsRefusedPolicy entries why bytes
+
+-- a file has more bytes than it may have
+pub record IsLong (told : Option (List ℕ → Contents)) (name : List ℕ) : Type 0 where
+  pub bytes : List ℕ
+  pub under : AreUnder told name bytes
+  pub long : MOST_FILE_BYTES < length bytes
+
+-- the bytes are a file's, and no more than it may have
+pub record IsShort (told : Option (List ℕ → Contents)) (name : List ℕ) (bytes : List ℕ) : Type 0 where
+  pub under : AreUnder told name bytes
+  pub short : length bytes ≤ MOST_FILE_BYTES
+
+-- a read of the file failed: its count is one more, and what the files hold is as it was
+abbrev pub FailsToRead : List ℕ → FileView → FileView → Type 0
+FailsToRead name before after = ReadsFile name (MOST_FILE_BYTES + 1) (Err Failed) before after
+
+-- why a file was not read
+abbrev pub IsNotRead : List ℕ → FileView → FileView → IoRefusal → Type 0
+IsNotRead name before after Failed = FailsToRead name before after
+IsNotRead name before after NoMemory = after ≡ before
+
+-- why a file gives nothing: what it holds is refused so, or it was not read
+abbrev pub EndsFile : {W : Type 0} → (W → Type 0) → List ℕ → FileView → FileView → FileEnding W → Type 0
+EndsFile Refuses name before after (endings.Refused why) = Refuses why × (after ≡ before)
+EndsFile Refuses name before after endings.Fault = FailsToRead name before after
+EndsFile Refuses name before after endings.NoMemory = after ≡ before

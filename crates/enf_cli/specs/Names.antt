@@ -1,6 +1,6 @@
 -- Names of the built form, and what may stand between two items of a text.
 use Rattle.std.specs.Prelude.{◌≡◌, ℕ, ◌≤◌, List, [], ◌∷◌, ◌⊎◌, length, All, Contains}
-use Rattle.signature.specs.Grammar.{reserved}
+use Rattle.enf_value.specs.Names.{reserved}
 
 -- A to Z, a to z
 abbrev pub IsLetter : ℕ → Type 0

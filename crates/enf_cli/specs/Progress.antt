@@ -1,77 +1,239 @@
--- How far the enforcement of a log went.
-use Rattle.std.specs.Prelude.{◌≡◌, ℕ, ◌<◌, ◌≤◌, List, length, drop, Option, ◌⊎◌}
-use Rattle.enf_io.specs.Exchange.{Exchange, Gave}
-use Rattle.enf_value.specs.Data.{Step}
+-- What one turn of the run of a log does.
+use Rattle.std.specs.Prelude.{◌≡◌, ℕ, ◌+◌, ◌<◌, ◌≤◌, List, [], ◌∷◌, ◌++◌, length, Option, None, Some, ◌⊎◌, Ok}
+use Rattle.enf_io.specs.Counts.{one_more}
+use Rattle.enf_io.specs.Exchange.{Exchange, Gave, IsAtEnd, Marked, Took}
+use Rattle.enf_io.specs.Streams.{Stream}
+use Rattle.enforcer_core.specs.Answered.{Answered, ChangesLawfully}
 use Rattle.enforcer_core.specs.Enforcers.{Enforcing, out_steps}
-use Rattle.enforcer_core.specs.Lines.{text_of}
-use Rattle.enforcer_core.specs.Steps.{DecidesOne, KeepsSatisfied, IsLawfulFor}
-use Rattle.enforcer_core.specs.declared.enforcer.CauseRule.{CauseRule}
+use Rattle.enforcer_core.specs.Follows.{Follows}
+use Rattle.enforcer_core.specs.Stands.{KeepsStanding}
 use Rattle.enforcer_core.specs.declared.steps.StepOut.{StepOut}
+use Rattle.log_stream.specs.Lines.{text_of}
+use Rattle.log_stream.specs.Logs.{BeginsWith, IsPending, IsTruncated, Refuses, behind_blanks}
+use Rattle.log_stream.specs.Readers.{Reader, fed}
+use Rattle.log_stream.specs.declared.items.LogItem.{LogItem}
+use Rattle.log_stream.specs.declared.items.LogMode.TheVariants.{Input}
+use Rattle.log_stream.specs.declared.items.LogRefusal.{LogRefusal}
+use Rattle.log_stream.specs.declared.items.LogRefusal.TheVariants as log
 use Rattle.signature.specs.Grammar.{names as names_of}
-use Rattle.enf_cli.specs.Cuts.{GaveFront}
-use Rattle.enf_cli.specs.Enforcement.{IsEnforced}
-use Rattle.enf_cli.specs.Judgement.{Accepts, IsBehind, clock_after}
-use Rattle.enf_cli.specs.Records.{BeginsWithRecord}
 use Rattle.signature.specs.declared.entries.NameEntry.{NameEntry}
-use Rattle.enf_cli.specs.declared.log.Behind.{Behind}
-use Rattle.enf_cli.specs.declared.log.Extent.{Extent}
-use Rattle.enf_cli.specs.declared.log.Front.{Front}
-use Rattle.enf_cli.specs.declared.log.Front.TheVariants as fronts
+use Rattle.trace_meaning.specs.Records.{Record, time_of}
+use Rattle.enf_cli.specs.Accepted.{record_of}
+use Rattle.enf_cli.specs.Endings.{GaveFront}
+use Rattle.enf_cli.specs.declared.endings.Cut.{Cut}
+use Rattle.enf_cli.specs.declared.endings.Cut.TheVariants as cuts
+use Rattle.enf_cli.specs.declared.log.Enforcement.{Enforcement}
+use Rattle.enf_cli.specs.declared.log.Next.{Next}
+use Rattle.enf_cli.specs.declared.log.Next.TheVariants as nexts
+use Rattle.enf_cli.specs.declared.log.Turn.{Turn}
+use Rattle.enf_cli.specs.declared.log.Turn.TheVariants as turns
+use Rattle.enf_cli.specs.declared.log.TheConstants.{MOST_LOG_BYTES}
+use Rattle.enf_cli.specs.declared.log.Verdict.{Verdict}
+use Rattle.enf_cli.specs.declared.log.Verdict.TheVariants as verdicts
+use Rattle.enf_cli.specs.declared.refusals.RecordRefusal.{RecordRefusal}
+use Rattle.enf_cli.specs.declared.refusals.RecordRefusal.TheVariants as records
 
--- the record at the front is in time, and this is what the enforcer lets out for it
-pub record DecidesFront (ds : List NameEntry) (log : List ℕ) (size : ℕ) (before : Enforcing) : Type 0 where
-  pub step : Step
-  pub begins : BeginsWithRecord ds log step (drop size log)
-  pub within : size ≤ length log
-  pub some : 0 < size
-  pub in_time : before.clock ≤ step.time
-  pub out : StepOut
-  pub decided : DecidesOne before.rules step out
-  pub satisfied : KeepsSatisfied before.rules out
-  pub lawful : IsLawfulFor before.rules step out
+-- the reader of a log under these entries, which has refused nothing, with a rest
+abbrev pub reads_on : List NameEntry → List ℕ → Reader
+reads_on entries rest = record { entries = entries; mode = Input; rest = rest; refused = None }
 
--- the lines of what is let out for the record at the front
-abbrev pub front_lines : (ds : List NameEntry) (log : List ℕ) (size : ℕ) (before : Enforcing) → DecidesFront ds log size before → List ℕ
-front_lines ds log size before front = text_of (names_of ds) (out_steps front.out.steps)
+-- the enforcer took the record, and this is what it lets out for it
+pub record TakesRecord (before : Enforcing) (next : Record) (made : StepOut) (after : Enforcing) : Type 0 where
+  pub answered : Answered before (time_of next) (Ok made) after
+  pub stands : KeepsStanding before after (out_steps made.steps)
+  pub changed : ChangesLawfully before.rules before.clock (time_of next) (next ∷ []) (out_steps made.steps)
+  pub decided : Follows before.rules (next ∷ []) (out_steps made.steps)
 
--- the record at the front is enforced, and what the enforcer lets out is given
-pub record AcceptsFront (ds : List NameEntry) (log : List ℕ) (size : ℕ) (before after : Enforcing) (told told' : Option Exchange) : Type 0 where
-  pub front : DecidesFront ds log size before
-  pub enforcer : after ≡ record { rules = before.rules; clock = front.step.time }
-  pub given : Gave (front_lines ds log size before front) told told'
+-- the lines of what is let out
+abbrev pub lines_of : List NameEntry → StepOut → List ℕ
+lines_of entries made = text_of (names_of entries) (out_steps made.steps)
 
--- nothing is given, or what the enforcer lets out for the record at the front is given up to somewhere in it
-abbrev pub CutsFront : List NameEntry → List ℕ → Enforcing → Option Exchange → Option Exchange → Type 0
-CutsFront ds log before told told' =
-    (told' ≡ told) ⊎ ((size : ℕ) × (front : DecidesFront ds log size before) × GaveFront (front_lines ds log size before front) told told')
+-- the record was taken, and what is let out for it is given; or its time is below the clock
+pub record TakesItem (entries : List NameEntry) (next : Record) (before after : Enforcing)
+    (told told' : Option Exchange) : Type 0 where
+  pub made : StepOut
+  pub takes : TakesRecord before next made after
+  pub given : Gave (lines_of entries made) told told'
 
--- the front is left, with the enforcer and the gate as they were
-pub record LeavesFront (ds : List NameEntry) (log : List ℕ) (behind : Behind) (before after : Enforcing) (told told' : Option Exchange) : Type 0 where
-  pub why : IsBehind ds before.clock log behind
+pub record LeavesItem (next : Record) (why : RecordRefusal) (before : Enforcing)
+    (told told' : Option Exchange) : Type 0 where
+  pub falls : why ≡ records.Falling (time_of next) before.clock
+  pub below : time_of next < before.clock
+  pub given : told' ≡ told
+
+abbrev pub AnswersItem : List NameEntry → Record → Option RecordRefusal → Enforcing → Enforcing
+    → Option Exchange → Option Exchange → Type 0
+AnswersItem entries next None before after told told' = TakesItem entries next before after told told'
+AnswersItem entries next (Some why) before after told told' = LeavesItem next why before told told'
+
+-- the record was taken, and its lines given up to somewhere in them
+pub record CutsLines (entries : List NameEntry) (next : Record) (before : Enforcing)
+    (told told' : Option Exchange) : Type 0 where
+  pub made : StepOut
+  pub after : Enforcing
+  pub takes : TakesRecord before next made after
+  pub given : GaveFront (lines_of entries made) told told'
+
+abbrev pub CutsItem : List NameEntry → Record → Enforcing → Option Exchange → Option Exchange → Cut → Type 0
+CutsItem entries next before told told' cuts.WriteFault = CutsLines entries next before told told'
+CutsItem entries next before told told' cuts.NoMemory =
+    (told' ≡ told) ⊎ CutsLines entries next before told told'
+
+-- a whole record was taken from the front of the rest and answered
+pub record TakesNext (entries : List NameEntry) (reader reader' : Reader) (before after : Enforcing)
+    (told told' : Option Exchange) : Type 0 where
+  pub item : LogItem
+  pub begins : BeginsWith entries Input reader.rest item reader'.rest
+  pub reader_is : reader' ≡ reads_on entries reader'.rest
+  pub taken : TakesItem entries (record_of item) before after told told'
+
+-- no record is whole yet, and blanks are let go
+pub record WaitsForMore (entries : List NameEntry) (reader reader' : Reader) (before after : Enforcing)
+    (told told' : Option Exchange) : Type 0 where
+  pub pending : IsPending reader.rest
+  pub reader_is : reader' ≡ reads_on entries (behind_blanks reader.rest)
   pub enforcer : after ≡ before
   pub given : told' ≡ told
 
-abbrev pub EnforcesFront : List NameEntry → List ℕ → Front → Enforcing → Enforcing → Option Exchange → Option Exchange → Type 0
-EnforcesFront ds log (fronts.Accepted size) before after told told' = AcceptsFront ds log size before after told told'
-EnforcesFront ds log (fronts.Left behind) before after told told' = LeavesFront ds log behind before after told told'
+-- why the record at the front is refused: by the grammar, or since its time is below the clock
+pub record Falls (entries : List NameEntry) (rest : List ℕ) (clock : ℕ) (why : RecordRefusal) : Type 0 where
+  pub item : LogItem
+  pub more : List ℕ
+  pub begins : BeginsWith entries Input rest item more
+  pub is : why ≡ records.Falling (time_of (record_of item)) clock
+  pub below : time_of (record_of item) < clock
 
--- the records at the front of a log are accepted and enforced, and their lines are given
-pub record EnforcesLog (ds : List NameEntry) (rules : List CauseRule) (log : List ℕ) (extent : Extent) (told told' : Option Exchange) : Type 0 where
-  pub steps : List Step
-  pub rest : List ℕ
-  pub accepts : Accepts ds log steps rest
-  pub count : extent.accepted ≡ length steps
-  pub few : length steps ≤ length log
-  pub behind : IsBehind ds (clock_after 0 steps) rest extent.behind
-  pub text : List ℕ
-  pub enforced : IsEnforced ds rules steps text
-  pub given : Gave text told told'
+abbrev pub RefusesNext : List NameEntry → List ℕ → ℕ → RecordRefusal → Type 0
+RefusesNext entries rest clock (records.Bad place) = Refuses entries Input rest (log.BadRecord place)
+RefusesNext entries rest clock (records.UnknownName place) = Refuses entries Input rest (log.UnknownName place)
+RefusesNext entries rest clock (records.Arity place) = Refuses entries Input rest (log.Arity place)
+RefusesNext entries rest clock (records.Sort place) = Refuses entries Input rest (log.SortClash place)
+RefusesNext entries rest clock records.TooLong = Refuses entries Input rest log.TooLong
+RefusesNext entries rest clock records.TimeTooLarge = Refuses entries Input rest log.TimeTooLarge
+RefusesNext entries rest clock why = Falls entries rest clock why
 
--- records at the front of a log are accepted and enforced, and their lines are given up to somewhere in them
-pub record CutsLog (ds : List NameEntry) (rules : List CauseRule) (log : List ℕ) (told told' : Option Exchange) : Type 0 where
-  pub steps : List Step
-  pub rest : List ℕ
-  pub accepts : Accepts ds log steps rest
-  pub text : List ℕ
-  pub enforced : IsEnforced ds rules steps text
-  pub given : GaveFront text told told'
+abbrev pub AnswersNext : List NameEntry → Next → Reader → Reader → Enforcing → Enforcing
+    → Option Exchange → Option Exchange → Type 0
+AnswersNext entries nexts.Taken reader reader' before after told told' =
+    TakesNext entries reader reader' before after told told'
+AnswersNext entries nexts.Pending reader reader' before after told told' =
+    WaitsForMore entries reader reader' before after told told'
+AnswersNext entries (nexts.Refused why) reader reader' before after told told' =
+    RefusesNext entries reader.rest before.clock why × (told' ≡ told)
+
+-- the answer of the record at the front was cut
+pub record CutsTaken (entries : List NameEntry) (rest : List ℕ) (before : Enforcing)
+    (told told' : Option Exchange) : Type 0 where
+  pub item : LogItem
+  pub more : List ℕ
+  pub begins : BeginsWith entries Input rest item more
+  pub cut : CutsLines entries (record_of item) before told told'
+
+abbrev pub CutsNext : List NameEntry → List ℕ → Enforcing → Option Exchange → Option Exchange → Cut → Type 0
+CutsNext entries rest before told told' cuts.WriteFault = CutsTaken entries rest before told told'
+CutsNext entries rest before told told' cuts.NoMemory =
+    (told' ≡ told) ⊎ CutsTaken entries rest before told told'
+
+-- a piece was taken and fed
+pub record TakesPiece (count left : ℕ) (reader reader' : Reader) (before after : Stream) : Type 0 where
+  pub bytes : List ℕ
+  pub took : Took bytes before.told after.told
+  pub count_is : length bytes ≡ count
+  pub some : 0 < count
+  pub within : count ≤ left
+  pub fed_is : reader' ≡ fed reader bytes
+  pub reads : after.read_faults ≡ before.read_faults
+
+-- what a read did, where so many bytes may still be taken; with none left there is no read
+abbrev pub TakesTurn : Turn → ℕ → Reader → Reader → Stream → Stream → Type 0
+TakesTurn (turns.More count) left reader reader' before after = TakesPiece count left reader reader' before after
+TakesTurn turns.Ended left reader reader' before after =
+    (0 < left) × (reader' ≡ reader) × Took [] before.told after.told × IsAtEnd after.told
+    × (after.read_faults ≡ before.read_faults)
+TakesTurn turns.Fault left reader reader' before after =
+    (reader' ≡ reader) × Marked before.told after.told × (after.read_faults ≡ one_more before.read_faults)
+TakesTurn turns.Limit left reader reader' before after = (left ≡ 0) × (reader' ≡ reader) × (after ≡ before)
+
+-- memory ran out at a read, or behind one
+abbrev pub LosesPiece : Stream → Stream → Type 0
+LosesPiece before after =
+    ((after.told ≡ before.told) ⊎ ((bytes : List ℕ) × Took bytes before.told after.told))
+    × (after.read_faults ≡ before.read_faults)
+
+-- what a refusal of the log's reader says; for want of memory nothing
+abbrev pub refusal_for : LogRefusal → Option RecordRefusal
+refusal_for (log.BadRecord place) = Some (records.Bad place)
+refusal_for (log.UnknownName place) = Some (records.UnknownName place)
+refusal_for (log.Arity place) = Some (records.Arity place)
+refusal_for (log.SortClash place) = Some (records.Sort place)
+refusal_for log.TooLong = Some records.TooLong
+refusal_for log.TimeTooLarge = Some records.TimeTooLarge
+refusal_for log.Truncated = Some records.Truncated
+refusal_for log.NoMemory = None
+
+-- what the end of the log makes of a rest that has no whole record
+abbrev pub JudgesEnd : List ℕ → Verdict → Type 0
+JudgesEnd rest verdict =
+    ((verdict ≡ verdicts.Accepted) × (behind_blanks rest ≡ []))
+    ⊎ ((verdict ≡ verdicts.Refused records.Truncated) × IsTruncated rest)
+
+-- a record was enforced
+pub record EnforcesOne (entries : List NameEntry) (log log' : Enforcement) (before after : Stream) : Type 0 where
+  pub takes : TakesNext entries log.reader log'.reader log.enforcer log'.enforcer before.told after.told
+  pub accepted : log'.accepted ≡ log.accepted + 1
+  pub taken : log'.taken ≡ log.taken
+  pub reads : after.read_faults ≡ before.read_faults
+
+-- a piece was taken
+pub record TakesMore (entries : List NameEntry) (log log' : Enforcement) (before after : Stream) : Type 0 where
+  pub pending : IsPending log.reader.rest
+  pub bytes : List ℕ
+  pub took : Took bytes before.told after.told
+  pub some : 0 < length bytes
+  pub reader : log'.reader ≡ reads_on entries (behind_blanks log.reader.rest ++ bytes)
+  pub enforcer : log'.enforcer ≡ log.enforcer
+  pub accepted : log'.accepted ≡ log.accepted
+  pub taken : log'.taken ≡ log.taken + length bytes
+  pub within : log'.taken ≤ MOST_LOG_BYTES
+  pub reads : after.read_faults ≡ before.read_faults
+
+-- a read met the end of the input
+pub record MeetsEnd (log : Enforcement) (before after : Stream) : Type 0 where
+  pub pending : IsPending log.reader.rest
+  pub took : Took [] before.told after.told
+  pub at_end : IsAtEnd after.told
+  pub below : log.taken < MOST_LOG_BYTES
+  pub reads : after.read_faults ≡ before.read_faults
+
+-- the device is as it was
+abbrev pub IsLeft : Stream → Stream → Type 0
+IsLeft before after = (after.told ≡ before.told) × (after.read_faults ≡ before.read_faults)
+
+abbrev pub EndsByRefusal : List NameEntry → Enforcement → Stream → Stream → RecordRefusal → Type 0
+EndsByRefusal entries log before after records.Truncated = IsTruncated log.reader.rest × MeetsEnd log before after
+EndsByRefusal entries log before after records.InputLimit =
+    IsPending log.reader.rest × (log.taken ≡ MOST_LOG_BYTES) × IsLeft before after
+EndsByRefusal entries log before after why =
+    RefusesNext entries log.reader.rest log.enforcer.clock why × IsLeft before after
+
+abbrev pub EndsTurn : List NameEntry → Enforcement → Stream → Stream → Verdict → Type 0
+EndsTurn entries log before after verdicts.Accepted =
+    (behind_blanks log.reader.rest ≡ []) × MeetsEnd log before after
+EndsTurn entries log before after verdicts.Fault =
+    IsPending log.reader.rest × Marked before.told after.told × (after.read_faults ≡ one_more before.read_faults)
+EndsTurn entries log before after (verdicts.Refused why) = EndsByRefusal entries log before after why
+
+abbrev pub AnswersTurn : List NameEntry → Option Verdict → Enforcement → Enforcement → Stream → Stream → Type 0
+AnswersTurn entries None log log' before after =
+    EnforcesOne entries log log' before after ⊎ TakesMore entries log log' before after
+AnswersTurn entries (Some verdict) log log' before after =
+    (log'.accepted ≡ log.accepted) × EndsTurn entries log before after verdict
+
+-- the turn was cut: nothing was given, or a front of the lines for the record at the front
+abbrev pub CutsTurn : List NameEntry → List ℕ → Enforcing → Stream → Stream → Cut → Type 0
+CutsTurn entries rest now before after cuts.WriteFault =
+    CutsTaken entries rest now before.told after.told × (after.read_faults ≡ before.read_faults)
+CutsTurn entries rest now before after cuts.NoMemory =
+    ((after.told ≡ before.told)
+    ⊎ (((bytes : List ℕ) × Took bytes before.told after.told × IsPending rest)
+    ⊎ CutsTaken entries rest now before.told after.told)) × (after.read_faults ≡ before.read_faults)

@@ -1,8 +1,9 @@
 -- What the readers of names and rules give, as functions on bytes: the item at the front, and what follows it.
 -- The grammar stands apart from them, in Names and Rules.
-use Rattle.std.specs.Prelude.{ℕ, ◌&&◌, not, nat_le, if◌then◌else◌, Bool, Option, Some, None, option_and_then, List, length, drop, take_while, codes}
+use Rattle.std.specs.Prelude.{ℕ, ◌&&◌, not, nat_le, if◌then◌else◌, Bool, Option, Some, None, option_and_then}
+use Rattle.std.specs.Prelude.{List, length, drop, take_while, codes}
 use Rattle.std.specs.Char.{is_ascii_alphabetic}
-use Rattle.signature.specs.Grammar.{is_reserved}
+use Rattle.enf_value.specs.Names.{is_reserved}
 use Rattle.enf_cli.specs.Rules.{WrittenRule}
 use Rattle.enf_cli.specs.Scanning.{behind_gap, behind_word}
 

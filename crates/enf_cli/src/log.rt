@@ -1,30 +1,31 @@
-//! The enforcement of a log: its whole records are enforced and written in order, up to the first
-//! refused one.
-ghost use Rattle.std.specs.Prelude.{◌≡◌, ◌≤◌, ◌<◌, IfOk, OnErr, Err, IsTrue, All, length};
-ghost use Rattle.enf_io.specs.Causes.{Rose};
+//! The log: it is taken from the gate piece by piece, and all records that a piece completes are
+//! enforced, and their lines given, before the next read.
+ghost use Rattle.std.specs.Prelude.{◌≡◌, ◌<◌, ◌≤◌, ◌^◌, IfOk, IfErr, IsTrue, All, OnErr, None, Some, length};
+ghost use Rattle.enf_cli.specs.Accepted.{record_of};
+ghost use Rattle.enf_cli.specs.Endings.{write_faults_behind};
 ghost use Rattle.enf_cli.specs.Enforcement.{is_causable};
-ghost use Rattle.enf_cli.specs.Progress.{CutsFront, CutsLog, EnforcesFront, EnforcesLog};
+ghost use Rattle.enf_cli.specs.Logs.{CutsRun, RanAsJudged};
+ghost use Rattle.enf_cli.specs.Progress.{AnswersItem, AnswersNext, AnswersTurn, CutsItem, CutsNext, CutsTurn, JudgesEnd, LosesPiece, TakesTurn, reads_on, refusal_for};
+ghost use Rattle.log_stream.specs.Logs.{IsPending};
+ghost use Rattle.trace_meaning.specs.Records.{time_of};
 
-use crate::lines::{Cut, write_steps};
-use crate::records::{Next, read_record};
+use crate::endings::Cut;
+use crate::lines::write_steps;
 use crate::refusals::RecordRefusal;
-use enf_io::devices::Gate;
+use enf_io::devices::{Gate, IoRefusal, Sink};
+use enf_value::{Duplicate, NoMemory};
 use enforcer_core::enforcer::{CauseRule, Enforcer};
+use enforcer_core::laws;
 use enforcer_core::steps::StepRefusal;
+use log_stream::{Found, LogItem, LogMode, LogReader, LogRefusal};
 use signature::Signature;
 use std::alloc::Global;
 
-/// What stands behind the accepted records.
-#[derive(Clone, Copy, Debug, PartialEq, Eq)]
-pub enum Behind {
-    Nothing,
-    /// A record that is not whole.
-    Pending,
-    /// What is no record, and no bytes behind it make it one.
-    Refused,
-    /// A record whose time is below the clock.
-    Falling { given: u64, clock: u64 },
-}
+/// The greatest number of bytes that are taken of a log.
+pub const MOST_LOG_BYTES: usize = 1_099_511_627_776;
+
+// The greatest number of bytes that one read asks for.
+const MOST_READ_BYTES: usize = 65_536;
 
 /// What becomes of a log.
 #[derive(Clone, Copy, Debug, PartialEq, Eq)]
@@ -35,93 +36,226 @@ pub enum Verdict {
     Refused(RecordRefusal),
 }
 
-/// How far a log was enforced: how many records were accepted, and what stands behind them.
+/// What becomes of a log behind so many accepted records.
 #[derive(Clone, Copy, Debug, PartialEq, Eq)]
-pub struct Extent {
+pub struct Judged {
     pub accepted: u64,
-    pub behind: Behind,
+    pub verdict: Verdict,
 }
 
-// What becomes of the front of a log.
-enum Front {
-    Accepted { length: usize },
-    Left(Behind),
+// What becomes of the record at the front.
+enum Next {
+    Taken,
+    Pending,
+    Refused(RecordRefusal),
 }
 
-/// Enforces the whole records at the front of the log, in order, and gives their lines.
+// What a read gave.
+enum Turn {
+    More { count: usize },
+    Ended,
+    Fault,
+    // As many bytes were taken as may be.
+    Limit,
+}
+
+// A log that is being enforced: how many of its records were accepted, and how many bytes taken.
+#[derive(Drop)]
+struct Enforcement {
+    reader: LogReader,
+    enforcer: Enforcer,
+    accepted: u64,
+    taken: usize,
+}
+
+/// Takes the log from the gate, enforces its whole records and gives their lines.
 pub fn enforce_log<G: Gate>(
     alloc: Global,
     signature: &Signature,
     rules: Vec<CauseRule>,
-    log: &[u8],
     gate: &mut G,
-) -> Result<Extent, Cut>
-    requires short { length log.now ≤ 1048576 }
-    requires causable { All (λ rule. IsTrue (is_causable signature.now rule.cause)) rules.items }
-    ensures enforced { IfOk result
-        (λ extent. EnforcesLog signature.now rules.items log.now extent (G.told gate.old)
-        (G.told gate.new)) }
-    ensures cut { OnErr result
-        (CutsLog signature.now rules.items log.now (G.told gate.old) (G.told gate.new)) }
-    ensures cause { result ≡ Err Cut.WriteFault → Rose (G.write_faults gate.old)
-        (G.write_faults gate.new) }
-    ensures writes { G.write_faults gate.old ≤ G.write_faults gate.new }
-    ensures reads { G.read_faults gate.new ≡ G.read_faults gate.old }
+) -> Result<Judged, Cut>
+    requires { All (λ rule. IsTrue (is_causable signature.now rule.cause)) rules.items }
+    ensures ran { IfOk result
+        (λ judged. RanAsJudged signature.now rules.items judged (G.seen gate.old) (G.seen gate.new)) }
+    ensures few { IfOk result (λ judged. judged.accepted < 2 ^ 63) }
+    ensures cut { IfErr result
+        (CutsRun signature.now rules.items (G.seen gate.old) (G.seen gate.new)) }
 {
-    let mut enforcer = Enforcer::new(rules)?;
-    let mut rest = log;
-    let mut accepted = 0;
-    while !rest.is_empty() {
-        match enforce_front(alloc, signature, &mut enforcer, rest, gate)? {
-            Front::Accepted { length } => {
-                rest = &rest[length..];
-                accepted += 1;
-            }
-            Front::Left(behind) => return Ok(Extent { accepted, behind }),
+    laws::course();
+    laws::stands_for_good();
+    let mut log = Enforcement {
+        reader: LogReader::new(alloc, signature.duplicate(alloc)?, LogMode::Input),
+        enforcer: Enforcer::new(rules)?,
+        accepted: 0,
+        taken: 0,
+    };
+    let mut piece = vec![in alloc; 0; MOST_READ_BYTES]?;
+    loop {
+        if let Some(verdict) = go_on(alloc, signature, &mut log, &mut piece, gate)? {
+            return Ok(Judged {
+                accepted: log.accepted,
+                verdict,
+            });
         }
     }
-    Ok(Extent {
-        accepted,
-        behind: Behind::Nothing,
-    })
 }
 
-// Enforces the record at the front, where one stands there whose time is not below the clock.
-fn enforce_front<G: Gate>(
+// Enforces the record at the front, or takes the next piece where no record is whole; a verdict
+// ends the log.
+fn go_on<G: Gate>(
+    alloc: Global,
+    signature: &Signature,
+    log: &mut Enforcement,
+    piece: &mut [u8],
+    gate: &mut G,
+) -> Result<Option<Verdict>, Cut>
+    requires going { log.old.reader ≡ reads_on signature.now log.old.reader.rest }
+    requires room { log.old.taken ≤ MOST_LOG_BYTES }
+    requires count { log.old.accepted < 2 ^ 63 }
+    requires piece { 0 < length piece.old }
+    ensures turn { IfOk result (λ verdict. AnswersTurn signature.now verdict log.old log.new
+        (G.seen gate.old) (G.seen gate.new)) }
+    ensures cut { IfErr result (λ cut. CutsTurn signature.now log.old.reader.rest log.old.enforcer
+        (G.seen gate.old) (G.seen gate.new) cut) }
+    ensures writes { (G.seen gate.new).write_faults ≡
+        write_faults_behind result (G.seen gate.old).write_faults }
+{
+    match enforce_next(alloc, signature, &mut log.reader, &mut log.enforcer, gate)? {
+        Next::Taken => {
+            log.accepted += 1;
+            Ok(None)
+        }
+        Next::Refused(why) => Ok(Some(Verdict::Refused(why))),
+        Next::Pending => {
+            match take_piece(gate, piece, MOST_LOG_BYTES - log.taken, &mut log.reader)? {
+                Turn::More { count } => {
+                    log.taken += count;
+                    Ok(None)
+                }
+                Turn::Ended => Ok(Some(judge_end(&mut log.reader))),
+                Turn::Fault => Ok(Some(Verdict::Fault)),
+                Turn::Limit => Ok(Some(Verdict::Refused(RecordRefusal::InputLimit))),
+            }
+        }
+    }
+}
+
+// Takes the next piece of the log and feeds it, unless none may be taken any more.
+fn take_piece<G: Gate>(
+    gate: &mut G,
+    piece: &mut [u8],
+    left: usize,
+    reader: &mut LogReader,
+) -> Result<Turn, NoMemory>
+    requires { 0 < length piece.old }
+    ensures turn { IfOk result
+        (λ turn. TakesTurn turn left reader.old reader.new (G.seen gate.old) (G.seen gate.new)) }
+    ensures lost { OnErr result (LosesPiece (G.seen gate.old) (G.seen gate.new)) }
+    ensures writes { (G.seen gate.new).write_faults ≡ (G.seen gate.old).write_faults }
+{
+    if left == 0 {
+        return Ok(Turn::Limit);
+    }
+    let most = piece.len().min(left);
+    match gate.read(&mut piece[..most]) {
+        Ok(0) => Ok(Turn::Ended),
+        Ok(count) => {
+            reader.feed(&piece[..count])?;
+            Ok(Turn::More { count })
+        }
+        Err(IoRefusal::Failed) => Ok(Turn::Fault),
+        Err(IoRefusal::NoMemory) => Err(NoMemory),
+    }
+}
+
+// What the end of the log makes of what was fed, where no whole record is left.
+fn judge_end(reader: &mut LogReader) -> Verdict
+    requires pending { IsPending reader.old.rest }
+    requires going { reader.old.refused ≡ None }
+    ensures { JudgesEnd reader.old.rest result }
+{
+    match reader.end() {
+        Ok(()) => Verdict::Accepted,
+        Err(_refusal) => Verdict::Refused(RecordRefusal::Truncated),
+    }
+}
+
+// Enforces the record at the front and gives its lines, where one is whole.
+fn enforce_next<S: Sink>(
+    alloc: Global,
+    signature: &Signature,
+    reader: &mut LogReader,
+    enforcer: &mut Enforcer,
+    sink: &mut S,
+) -> Result<Next, Cut>
+    requires { reader.old ≡ reads_on signature.now reader.old.rest }
+    ensures next { IfOk result
+        (λ next. AnswersNext signature.now next reader.old reader.new enforcer.old enforcer.new
+        (S.seen sink.old).told (S.seen sink.new).told) }
+    ensures cut { IfErr result (CutsNext signature.now reader.old.rest enforcer.old
+        (S.seen sink.old).told (S.seen sink.new).told) }
+    ensures writes { (S.seen sink.new).write_faults ≡
+        write_faults_behind result (S.seen sink.old).write_faults }
+    ensures reads { (S.seen sink.new).read_faults ≡ (S.seen sink.old).read_faults }
+{
+    match reader.next_record(alloc) {
+        Ok(Found::Pending) => Ok(Next::Pending),
+        Err(refusal) => Ok(Next::Refused(refusal_of(refusal)?)),
+        Ok(Found::Item(item)) => match enforce_item(alloc, signature, enforcer, item, sink)? {
+            None => Ok(Next::Taken),
+            Some(why) => Ok(Next::Refused(why)),
+        },
+    }
+}
+
+// Enforces a record and gives its lines; one whose time is below the clock is refused.
+fn enforce_item<S: Sink>(
     alloc: Global,
     signature: &Signature,
     enforcer: &mut Enforcer,
-    log: &[u8],
-    gate: &mut G,
-) -> Result<Front, Cut>
-    requires { 0 < length log.now }
-    ensures front { IfOk result
-        (λ front. EnforcesFront signature.now log.now front enforcer.old enforcer.new
-        (G.told gate.old) (G.told gate.new)) }
-    ensures cut { OnErr result
-        (CutsFront signature.now log.now enforcer.old (G.told gate.old) (G.told gate.new)) }
-    ensures cause { result ≡ Err Cut.WriteFault → Rose (G.write_faults gate.old)
-        (G.write_faults gate.new) }
-    ensures writes { G.write_faults gate.old ≤ G.write_faults gate.new }
-    ensures reads { G.read_faults gate.new ≡ G.read_faults gate.old }
+    item: LogItem,
+    sink: &mut S,
+) -> Result<Option<RecordRefusal>, Cut>
+    requires { time_of (record_of item) ≤ 1000000000000000 }
+    ensures answer { IfOk result
+        (λ refused. AnswersItem signature.now (record_of item) refused enforcer.old enforcer.new
+        (S.seen sink.old).told (S.seen sink.new).told) }
+    ensures cut { IfErr result (CutsItem signature.now (record_of item) enforcer.old
+        (S.seen sink.old).told (S.seen sink.new).told) }
+    ensures writes { (S.seen sink.new).write_faults ≡
+        write_faults_behind result (S.seen sink.old).write_faults }
+    ensures reads { (S.seen sink.new).read_faults ≡ (S.seen sink.old).read_faults }
 {
-    match read_record(alloc, signature, log)? {
-        Next::Record {
-            time,
-            events,
-            length,
-        } => match enforcer.step(alloc, time, events) {
-            Ok(out) => {
-                write_steps(alloc, signature, out.steps.as_slice(), gate)?;
-                Ok(Front::Accepted { length })
-            }
-            Err(StepRefusal::Falling { clock, given }) => Ok(Front::Left(Behind::Falling {
-                given,
-                clock,
-            })),
-            Err(StepRefusal::NoMemory) => Err(Cut::NoMemory),
-        },
-        Next::Pending => Ok(Front::Left(Behind::Pending)),
-        Next::Refused => Ok(Front::Left(Behind::Refused)),
+    let made = match item {
+        LogItem::Step { time, events, .. } => enforcer.step(alloc, time, events),
+        LogItem::Tick { time } => enforcer.tick(alloc, time),
+    };
+    match made {
+        Ok(out) => {
+            write_steps(alloc, signature, out.steps.as_slice(), sink)?;
+            Ok(None)
+        }
+        Err(StepRefusal::Falling { clock, given }) => Ok(Some(RecordRefusal::Falling {
+            given,
+            clock,
+        })),
+        Err(StepRefusal::Stopped | StepRefusal::NoMemory) => Err(Cut::NoMemory),
+    }
+}
+
+// What a refusal of the log's reader says. It answers Truncated at the end alone.
+fn refusal_of(refusal: LogRefusal) -> Result<RecordRefusal, NoMemory>
+    ensures { IfOk result (λ why. refusal_for refusal ≡ Some why) }
+{
+    match refusal {
+        LogRefusal::BadRecord { place } => Ok(RecordRefusal::Bad { place }),
+        LogRefusal::UnknownName { place } => Ok(RecordRefusal::UnknownName { place }),
+        LogRefusal::Arity { place } => Ok(RecordRefusal::Arity { place }),
+        LogRefusal::SortClash { place } => Ok(RecordRefusal::Sort { place }),
+        LogRefusal::TooLong => Ok(RecordRefusal::TooLong),
+        LogRefusal::TimeTooLarge => Ok(RecordRefusal::TimeTooLarge),
+        LogRefusal::Truncated => Ok(RecordRefusal::Truncated),
+        LogRefusal::NoMemory => Err(NoMemory),
     }
 }

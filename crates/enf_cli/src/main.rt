@@ -3,12 +3,11 @@
 //! `main` makes the standard streams and the files and ends with the status that it answers.
 #![tactic(auto)]
 
+mod endings;
 mod files;
-mod input;
 mod lines;
 mod log;
 mod names;
-mod records;
 mod refusals;
 mod reporting;
 mod rules;
@@ -19,12 +18,10 @@ mod tests;
 mod words;
 
 use enf_io::adapters::{StdFiles, StdGate, StdSink};
-use refusals::Refusal;
-use reporting::report_refusal;
+use reporting::report_ending;
 use run::run;
-use std::env;
-use std::io::ErrorKind;
 use std::process::ExitCode;
+use words::command_words;
 
 fn main(rt: HostRuntime) -> ExitCode {
     let mut gate = StdGate::new(rt.stdin(), rt.stdout());
@@ -32,22 +29,7 @@ fn main(rt: HostRuntime) -> ExitCode {
     let mut report = StdSink::new(rt.stderr());
     let status = match command_words(&rt) {
         Ok(words) => run(rt.alloc(), &words, &mut gate, &mut files, &mut report),
-        Err(refusal) => report_refusal(rt.alloc(), refusal, &mut report),
+        Err(ending) => report_ending(&ending, &mut report),
     };
     ExitCode::from(status.code())
-}
-
-// The words behind the program's name. A word that is not UTF-8 matches no form.
-fn command_words(rt: &HostRuntime) -> Result<Vec<String>, Refusal> {
-    let all = env::args(rt).map_err(|error| match error.kind() {
-        ErrorKind::OutOfMemory => Refusal::NoMemory,
-        _ => Refusal::Words,
-    })?;
-    let mut words = Vec::new(rt.alloc());
-    for word in all.skip(1) {
-        let Ok(()) = words.push(word) else {
-            return Err(Refusal::NoMemory);
-        };
-    }
-    Ok(words)
 }

@@ -6,13 +6,10 @@ ghost use Rattle.std.specs.Option.{option_map};
 ghost use Rattle.enf_cli.specs.Reading as reading;
 
 use crate::scanning::split_letters;
-use enf_value::NameId;
-use signature::{NameEntry, Signature, is_reserved};
+use enf_value::{MOST_NAME_BYTES, NameId, is_reserved};
+use signature::{NameEntry, Signature};
 
-/// The greatest number of bytes of a name.
-pub const MOST_NAME_BYTES: usize = 64;
-
-/// Whether letters are a name.
+// Whether letters are a name.
 #[tactic(auto, unfolding(crate::specs::Reading::is_name))]
 fn is_name(word: &[u8]) -> bool
     ensures { result ≡ reading.is_name word.now }

@@ -1,7 +1,6 @@
 //! Runs over devices in memory, and what they leave.
 mod calm;
 mod faults;
-mod faulty;
 mod limits;
 mod rows;
 mod words;

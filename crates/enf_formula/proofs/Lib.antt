@@ -1,1 +1,3 @@
 pub mod Stability
+pub mod Dependence
+pub mod Gathering

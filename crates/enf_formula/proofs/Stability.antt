@@ -6,7 +6,8 @@ use Rattle.std.proofs.lemmas.Int.{by_lt_z}
 use Rattle.std.proofs.lemmas.List.Elements.{Decides-contains}
 use Rattle.std.proofs.lemmas.Bool.Decides.{Decides-by_or, not_from_Decides}
 use Rattle.std.specs.List.{list_any}
-use Rattle.enf_value.specs.Data.{Step, step_at}
+use Rattle.enf_value.specs.Data.{step_at}
+use Rattle.enf_value.specs.declared.steps.Step.{Step}
 use Rattle.enf_value.specs.Decided.{value_eq, value_eq-Decides, event_eq, event_eq-Decides}
 use Rattle.enf_value.specs.Membership.{IsIn, IsUpTo}
 use Rattle.enf_value.specs.declared.events.Event.{Event}
@@ -17,7 +18,7 @@ use Rattle.enf_value.specs.declared.values.Value.TheVariants.{Num, Text}
 use Rattle.enf_formula.specs.Formulas.{Formula, True, False, Atom, Equal, Less, AtMost, Not, And, Or, Implies, Exists, Forall, Prev, Next, Once, Historically, Since, Eventually, Always, Until}
 use Rattle.enf_formula.specs.Laws.{IsStable}
 use Rattle.enf_formula.specs.Satisfaction.{Sat, IsAmong, AreSame, AreOrdered}
-use Rattle.enf_formula.specs.Valuations.{Valuation, with_values, value_of, values_of}
+use Rattle.enf_value.specs.Valuations.{Valuation, with_values, value_of, values_of}
 
 denial_stable : (P : Type 0) → IsStable (P → ⊥)
 denial_stable P h p = h (λ n. n p)

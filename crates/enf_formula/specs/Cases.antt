@@ -1,6 +1,6 @@
 -- Small traces and formulas, on which the definition of satisfaction can be checked by eye.
 use Rattle.std.specs.Prelude.{ℕ, ℤ, pos, List, [], ◌∷◌, None, Some}
-use Rattle.enf_value.specs.Data.{Step}
+use Rattle.enf_value.specs.declared.steps.Step.{Step}
 use Rattle.enf_value.specs.declared.events.Event.{Event}
 use Rattle.enf_value.specs.declared.events.NameId.{NameId}
 use Rattle.enf_value.specs.declared.intervals.Interval.{Interval}
@@ -11,6 +11,7 @@ use Rattle.enf_value.specs.declared.values.Value.{Value}
 use Rattle.enf_value.specs.declared.values.Value.TheVariants.{Num, Text}
 use Rattle.enf_formula.specs.Formulas.{Formula, Atom}
 use Rattle.enf_formula.specs.Satisfaction.{Sat}
+use Rattle.enf_value.specs.Valuations.{no_values}
 
 -- [low,high]
 abbrev pub within : ℕ → ℕ → Interval
@@ -63,13 +64,14 @@ at_one_time = at_time 4 (event_q ∷ []) ∷ at_time 4 (event_p ∷ []) ∷ []
 
 -- the formula holds at the position of the trace, where nothing is bound
 abbrev pub Holds : List Step → ℕ → Formula → Type 0
-Holds trace i f = Sat trace i [] f
+Holds trace i f = Sat trace i no_values f
 
 -- it does not
 abbrev pub Fails : List Step → ℕ → Formula → Type 0
-Fails trace i f = Sat trace i [] f → ⊥
+Fails trace i f = Sat trace i no_values f → ⊥
 
--- of intervals about the difference 3: it holds where 3 is the first or the last of the interval, and fails where 3 is one before or one past it
+-- of intervals about the difference 3: it holds where 3 is the first or the last of the interval, and fails where 3 is
+-- one before or one past it
 pub record HoldsFor3 (trace : List Step) (i : ℕ) (f : Interval → Formula) : Type 0 where
   pub first : Holds trace i (f (within 3 5))
   pub last : Holds trace i (f (within 1 3))
@@ -116,6 +118,10 @@ p_with_q = at_time 0 (event_p_of (Num (pos 1)) ∷ event_q_of (Num (pos 1)) ∷ 
 -- p(1) q(1) p("a") at time 0
 abbrev pub p_without_q : List Step
 p_without_q = at_time 0 (event_p_of (Num (pos 1)) ∷ event_q_of (Num (pos 1)) ∷ event_p_of (Text (97 ∷ [])) ∷ []) ∷ []
+
+-- p(1) q(2) at time 0
+abbrev pub p_then_q : List Step
+p_then_q = at_time 0 (event_p_of (Num (pos 1)) ∷ event_q_of (Num (pos 2)) ∷ []) ∷ []
 
 -- nothing at time 0
 abbrev pub empty_step : List Step

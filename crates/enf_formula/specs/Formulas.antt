@@ -30,24 +30,24 @@ pub data Formula : Type 0 where
   Until : (place : ℕ) → Interval → Formula → Formula → Formula
 
 -- the pure tree of a tree of the program
-abbrev pub formula_of : stored.Formula → Formula
-formula_of (stored.True place) = True place
-formula_of (stored.False place) = False place
-formula_of (stored.Atom place name terms) = Atom place name terms
-formula_of (stored.Equal place s t) = Equal place s t
-formula_of (stored.Less place s t) = Less place s t
-formula_of (stored.AtMost place s t) = AtMost place s t
-formula_of (stored.Not' place p f) = Not place (formula_of f)
-formula_of (stored.And' place p f q g) = And place (formula_of f) (formula_of g)
-formula_of (stored.Or' place p f q g) = Or place (formula_of f) (formula_of g)
-formula_of (stored.Implies' place p f q g) = Implies place (formula_of f) (formula_of g)
-formula_of (stored.Exists' place xs p f) = Exists place xs (formula_of f)
-formula_of (stored.Forall' place xs p f) = Forall place xs (formula_of f)
-formula_of (stored.Prev' place interval p f) = Prev place interval (formula_of f)
-formula_of (stored.Next' place interval p f) = Next place interval (formula_of f)
-formula_of (stored.Once' place interval p f) = Once place interval (formula_of f)
-formula_of (stored.Historically' place interval p f) = Historically place interval (formula_of f)
-formula_of (stored.Since' place interval p f q g) = Since place interval (formula_of f) (formula_of g)
-formula_of (stored.Eventually' place interval p f) = Eventually place interval (formula_of f)
-formula_of (stored.Always' place interval p f) = Always place interval (formula_of f)
-formula_of (stored.Until' place interval p f q g) = Until place interval (formula_of f) (formula_of g)
+abbrev pub tree_of : stored.Formula → Formula
+tree_of (stored.True place) = True place
+tree_of (stored.False place) = False place
+tree_of (stored.Atom place name terms) = Atom place name terms
+tree_of (stored.Equal place s t) = Equal place s t
+tree_of (stored.Less place s t) = Less place s t
+tree_of (stored.AtMost place s t) = AtMost place s t
+tree_of (stored.Not' place p f) = Not place (tree_of f)
+tree_of (stored.And' place p f q g) = And place (tree_of f) (tree_of g)
+tree_of (stored.Or' place p f q g) = Or place (tree_of f) (tree_of g)
+tree_of (stored.Implies' place p f q g) = Implies place (tree_of f) (tree_of g)
+tree_of (stored.Exists' place xs p f) = Exists place xs (tree_of f)
+tree_of (stored.Forall' place xs p f) = Forall place xs (tree_of f)
+tree_of (stored.Prev' place interval p f) = Prev place interval (tree_of f)
+tree_of (stored.Next' place interval p f) = Next place interval (tree_of f)
+tree_of (stored.Once' place interval p f) = Once place interval (tree_of f)
+tree_of (stored.Historically' place interval p f) = Historically place interval (tree_of f)
+tree_of (stored.Since' place interval p f q g) = Since place interval (tree_of f) (tree_of g)
+tree_of (stored.Eventually' place interval p f) = Eventually place interval (tree_of f)
+tree_of (stored.Always' place interval p f) = Always place interval (tree_of f)
+tree_of (stored.Until' place interval p f q g) = Until place interval (tree_of f) (tree_of g)

@@ -1,9 +1,12 @@
--- What satisfaction says of any formulas: the statements of the laws of the connectives and of the operators that are abbreviations.
-use Rattle.std.specs.Prelude.{ℕ, ◌↔◌, List}
-use Rattle.enf_value.specs.Data.{Step}
+-- What satisfaction says of any formulas: the statements of the laws of the connectives, of the operators that are
+-- abbreviations, and of what satisfaction depends on.
+use Rattle.std.specs.Prelude.{ℕ, ◌↔◌, IsTrue, List}
+use Rattle.enf_value.specs.declared.steps.Step.{Step}
 use Rattle.enf_formula.specs.Formulas.{Formula}
+use Rattle.enf_formula.specs.FreeVariables.{AgreeOn}
+use Rattle.enf_formula.specs.Past.{AgreeUpTo, is_past}
 use Rattle.enf_formula.specs.Satisfaction.{Sat, Classically}
-use Rattle.enf_formula.specs.Valuations.{Valuation}
+use Rattle.enf_value.specs.Valuations.{Valuation}
 
 -- it holds where its denial is false
 abbrev pub IsStable : Type 0 → Type 0
@@ -12,3 +15,13 @@ IsStable P = Classically P → P
 -- two formulas hold at the same positions of each trace under the same valuations
 abbrev pub IsSameAs : Formula → Formula → Type 0
 IsSameAs f g = (trace : List Step) (i : ℕ) (v : Valuation) → Sat trace i v f ↔ Sat trace i v g
+
+-- a formula speaks of the values of its free variables alone
+abbrev pub FreeVariablesDecide : Type 0
+FreeVariablesDecide = (trace : List Step) (i : ℕ) (v w : Valuation) (f : Formula)
+    → AgreeOn f v w → Sat trace i v f ↔ Sat trace i w f
+
+-- a formula that does not look ahead speaks of the steps up to its position alone
+abbrev pub PastDecides : Type 0
+PastDecides = (trace other : List Step) (i : ℕ) (v : Valuation) (f : Formula)
+    → IsTrue (is_past f) → AgreeUpTo i trace other → Sat trace i v f ↔ Sat other i v f

@@ -1,6 +1,9 @@
 pub use Rattle.enf_value.specs.Data
 pub mod Formulas
-pub mod Valuations
+pub use Rattle.enf_value.specs.Valuations
 pub mod Satisfaction
 pub mod Cases
+pub mod FreeVariables
 pub mod Laws
+pub mod Past
+pub mod Shape

@@ -1,15 +1,18 @@
--- Satisfaction of a formula on a finite trace at a position under a valuation (Basin, Klaedtke, Müller and Zălinescu, JACM 62(2), 2015; reading it over
--- finite traces is this project's choice). Each "some" and each `exists` is classical: it says that its denial is false.
+-- Satisfaction of a formula on a finite trace at a position under a valuation (Basin, Klaedtke, Müller and Zălinescu,
+-- JACM 62(2), 2015; reading it over finite traces is this project's choice). Each "some" and each `exists` is
+-- classical: it says that its denial is false.
 use Rattle.std.specs.Prelude.{◌≡◌, ℕ, ◌+◌, ◌-◌, ◌<◌, ◌≤◌, ◌<ℤ◌, ◌≤ℤ◌, ℤ, List, length, Option, None, Some, Contains}
-use Rattle.enf_value.specs.Data.{Step, step_at}
+use Rattle.enf_value.specs.Data.{step_at}
+use Rattle.enf_value.specs.declared.steps.Step.{Step}
 use Rattle.enf_value.specs.Membership.{IsIn}
 use Rattle.enf_value.specs.declared.events.Event.{Event}
 use Rattle.enf_value.specs.declared.events.NameId.{NameId}
 use Rattle.enf_value.specs.declared.intervals.Interval.{Interval}
 use Rattle.enf_value.specs.declared.values.Value.{Value}
 use Rattle.enf_value.specs.declared.values.Value.TheVariants.{Num}
-use Rattle.enf_formula.specs.Formulas.{Formula, True, False, Atom, Equal, Less, AtMost, Not, And, Or, Implies, Exists, Forall, Prev, Next, Once, Historically, Since, Eventually, Always, Until}
-use Rattle.enf_formula.specs.Valuations.{Valuation, with_values, value_of, values_of}
+use Rattle.enf_formula.specs.Formulas.{Formula, True, False, Atom, Equal, Less, AtMost, Not, And, Or, Implies}
+use Rattle.enf_formula.specs.Formulas.{Exists, Forall, Prev, Next, Once, Historically, Since, Eventually, Always, Until}
+use Rattle.enf_value.specs.Valuations.{Valuation, with_values, value_of, values_of}
 
 -- it is false that it is false
 abbrev pub Classically : Type 0 → Type 0
@@ -37,11 +40,14 @@ elapsed trace from to = (step_at trace to).time - (step_at trace from).time
 
 -- some j at or before i, at a distance in the interval, has G, and each position after j up to i has F
 abbrev pub HeldSince : List Step → ℕ → Interval → (ℕ → Type 0) → (ℕ → Type 0) → Type 0
-HeldSince trace i interval F G = Classically ((j : ℕ) × (j ≤ i) × IsIn interval (elapsed trace j i) × G j × ((k : ℕ) → j < k → k ≤ i → F k))
+HeldSince trace i interval F G =
+    Classically ((j : ℕ) × (j ≤ i) × IsIn interval (elapsed trace j i) × G j × ((k : ℕ) → j < k → k ≤ i → F k))
 
 -- some j at or after i, at a distance in the interval, has G, and each position from i before j has F
 abbrev pub HoldsUntil : List Step → ℕ → Interval → (ℕ → Type 0) → (ℕ → Type 0) → Type 0
-HoldsUntil trace i interval F G = Classically ((j : ℕ) × (i ≤ j) × (j < length trace) × IsIn interval (elapsed trace i j) × G j × ((k : ℕ) → i ≤ k → k < j → F k))
+HoldsUntil trace i interval F G =
+    Classically ((j : ℕ) × (i ≤ j) × (j < length trace) × IsIn interval (elapsed trace i j) × G j
+    × ((k : ℕ) → i ≤ k → k < j → F k))
 
 -- at any position
 abbrev pub Anywhere : ℕ → Type 0
@@ -59,10 +65,13 @@ Sat trace i v (Not place f) = Sat trace i v f → ⊥
 Sat trace i v (And place f g) = Sat trace i v f × Sat trace i v g
 Sat trace i v (Or place f g) = (Sat trace i v f → ⊥) → (Sat trace i v g → ⊥) → ⊥
 Sat trace i v (Implies place f g) = Sat trace i v f → Sat trace i v g
-Sat trace i v (Exists place xs f) = Classically ((values : List Value) × (length values ≡ length xs) × Sat trace i (with_values xs values v) f)
-Sat trace i v (Forall place xs f) = (values : List Value) → length values ≡ length xs → Sat trace i (with_values xs values v) f
+Sat trace i v (Exists place xs f) =
+    Classically ((values : List Value) × (length values ≡ length xs) × Sat trace i (with_values xs values v) f)
+Sat trace i v (Forall place xs f) =
+    (values : List Value) → length values ≡ length xs → Sat trace i (with_values xs values v) f
 Sat trace i v (Prev place interval f) = (0 < i) × IsIn interval (elapsed trace (i - 1) i) × Sat trace (i - 1) v f
-Sat trace i v (Next place interval f) = (i + 1 < length trace) × IsIn interval (elapsed trace i (i + 1)) × Sat trace (i + 1) v f
+Sat trace i v (Next place interval f) =
+    (i + 1 < length trace) × IsIn interval (elapsed trace i (i + 1)) × Sat trace (i + 1) v f
 Sat trace i v (Once place interval f) = HeldSince trace i interval Anywhere (λ j. Sat trace j v f)
 Sat trace i v (Historically place interval f) = HeldSince trace i interval Anywhere (λ j. Sat trace j v f → ⊥) → ⊥
 Sat trace i v (Since place interval f g) = HeldSince trace i interval (λ k. Sat trace k v f) (λ j. Sat trace j v g)

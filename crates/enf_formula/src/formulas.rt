@@ -1,10 +1,8 @@
 //! Trees of formulas.
 use enf_value::events::NameId;
 use enf_value::intervals::Interval;
+use enf_value::places::Place;
 use enf_value::terms::{Term, Terms, Vars};
-
-/// A byte offset in a policy, counted from 0.
-pub type Place = u32;
 
 /// A formula of metric first-order temporal logic. Each node has the place of its principal token.
 #[derive(Debug, Drop)]

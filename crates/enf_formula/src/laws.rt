@@ -1,13 +1,13 @@
 //! Laws of satisfaction, each the contract of a function with an empty body.
 ghost use Rattle.std.specs.Prelude.{ℕ, List};
-ghost use Rattle.enf_value.specs.Data.{Step};
+ghost use Rattle.enf_value.specs.declared.steps.Step.{Step};
 ghost use Rattle.enf_value.specs.declared.intervals.Interval.{Interval};
 ghost use Rattle.enf_value.specs.declared.terms.VarId.{VarId};
 ghost use Rattle.enf_formula.specs.Formulas as tree;
 ghost use Rattle.enf_formula.specs.Formulas.{Formula};
-ghost use Rattle.enf_formula.specs.Laws.{IsStable, IsSameAs};
+ghost use Rattle.enf_formula.specs.Laws.{IsStable, IsSameAs, FreeVariablesDecide, PastDecides};
 ghost use Rattle.enf_formula.specs.Satisfaction.{Sat};
-ghost use Rattle.enf_formula.specs.Valuations.{Valuation};
+ghost use Rattle.enf_value.specs.Valuations.{Valuation};
 
 /// A formula holds where its denial is false.
 pub fn is_classical()
@@ -39,4 +39,11 @@ pub fn abbreviations()
     ensures always { (p : ℕ) (interval : Interval) (f : Formula)
         → IsSameAs (tree.Always p interval f)
         (tree.Not p (tree.Eventually p interval (tree.Not p f))) }
+{}
+
+/// Satisfaction depends on the values of the free variables alone, and that of a formula that does
+/// not look ahead on the steps up to its position alone.
+pub fn dependence()
+    ensures values { FreeVariablesDecide }
+    ensures steps { PastDecides }
 {}

@@ -2,8 +2,11 @@
 //! on finite traces.
 #![tactic(auto)]
 
+pub mod copies;
 pub mod formulas;
 pub mod laws;
+pub mod shape;
+pub mod variables;
 pub mod worked_cases;
 
-pub use formulas::{Formula, Place};
+pub use formulas::Formula;

@@ -3,7 +3,7 @@ ghost use Rattle.std.specs.Prelude.{pos, negsuc, [], ◌∷◌};
 ghost use Rattle.enf_formula.specs.Formulas as tree;
 ghost use Rattle.enf_formula.specs.Cases.{Holds, Fails, HoldsFor3, FailsFor3, within, from_on};
 ghost use Rattle.enf_formula.specs.Cases.{two_steps, broken_after, broken_before, at_one_time};
-ghost use Rattle.enf_formula.specs.Cases.{p_with_q, p_without_q, empty_step, x, number, text};
+ghost use Rattle.enf_formula.specs.Cases.{p_with_q, p_without_q, p_then_q, empty_step, x, number, text};
 ghost use Rattle.enf_formula.specs.Cases.{formula_p, formula_q, formula_p_x, formula_q_x};
 
 /// The operators on the past.
@@ -67,6 +67,10 @@ pub fn first_order()
     ensures some_value_lacks_p { Holds p_with_q 0
         (tree.Exists 0 (x ∷ []) (tree.Not 0 formula_p_x)) }
     ensures not_each_value { Fails p_with_q 0 (tree.Forall 0 (x ∷ []) formula_p_x) }
+    ensures inner_binding_counts { Holds p_then_q 0
+        (tree.Exists 0 (x ∷ []) (tree.And 0 formula_p_x (tree.Exists 0 (x ∷ []) formula_q_x))) }
+    ensures one_binding_for_both { Fails p_then_q 0
+        (tree.Exists 0 (x ∷ []) (tree.And 0 formula_p_x formula_q_x)) }
     ensures same { Holds empty_step 0 (tree.Equal 0 (number (pos 3)) (number (pos 3))) }
     ensures not_same { Fails empty_step 0 (tree.Equal 0 (number (pos 3)) (text (51 ∷ []))) }
     ensures less { Holds empty_step 0 (tree.Less 0 (number (negsuc 0)) (number (pos 0))) }

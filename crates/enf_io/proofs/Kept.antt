@@ -1,6 +1,6 @@
 -- The files that a map keeps, read by name, and what a miss does to the counts.
-use Rattle.std.proofs.Common.{◌≡◌, ◌≢◌, ℕ, ◌+◌, ◌≤◌, ◌==◌, List, [], ◌∷◌, ◌++◌, Bool, true, false, cond, map, take, min, length, refl, sym, ap, ◌∙◌, subst, arith, Vec, Global, String}
-use Rattle.std.specs.Prelude.{Option, Some, Err, string_bytes}
+use Rattle.std.proofs.Common.{◌≡◌, ◌≢◌, ℕ, ◌+◌, ◌≤◌, ◌==◌, lit≤, length-take, count_by, List, [], ◌∷◌, ◌++◌, Bool, true, false, cond, map, take, min, length, refl, sym, ap, ◌∙◌, arith, Vec, Global, String}
+use Rattle.std.specs.Prelude.{Option, Some, None, Ok, Err, string_bytes}
 use Rattle.std.specs.Option.{option_map}
 use Rattle.std.specs.String.{string_cmp}
 use Rattle.std.specs.Ordering.{nat_cmp, is_eq}
@@ -12,11 +12,12 @@ use Rattle.std.proofs.lemmas.List.{take_min}
 use Rattle.std.proofs.lemmas.List.Sums.{sum_by_push}
 use Rattle.std.proofs.lemmas.Map.Text.{is_eq-slice_cmp, btree_map_updates_text}
 use Rattle.enf_io.specs.declared.devices.IoRefusal.TheVariants.{Failed}
-use Rattle.enf_io.specs.Causes.{HasCause}
-use Rattle.enf_io.specs.Contents.{Contents, Holds, Gives, with_contents}
-use Rattle.enf_io.specs.Calm.{CalmContents, IsHeld, found, contents_under, times_missed}
+use Rattle.enf_io.specs.Contents.{Contents, Missing, Holds, Gives, with_contents}
+use Rattle.enf_io.specs.Calm.{CalmContents, contents_under, times_missed, calm_files}
+use Rattle.enf_io.specs.KeptFiles.{found, contents_in, front_of}
+use Rattle.enf_io.specs.FileCalls.{CountsFor, ReadsFile}
 
--- the map of a `CalmFiles`
+-- the map that keeps files
 abbrev pub Kept : Type 0
 Kept = tree.BTreeMap (String Global) (Vec ℕ Global)
 
@@ -46,22 +47,24 @@ lookup-files name (e ∷ es) =
     ∙ items_of-cond _ e.1 _
 
 -- the contents under a name are what the map has there
-pub found_in_map : (name : List ℕ) (m : Kept) (x : CalmContents)
-    → x.files ≡ files_of m → contents_under x name ≡ found (items_of (tree.get_by_text m name))
-found_in_map name m x e = ap (λ files. found (lookup (pointwise ◌==◌ name) files)) e ∙ ap found (lookup-files name m.entries)
+found_in_map : (name : List ℕ) (m : Kept) (files : List (List ℕ × List ℕ)) → files ≡ files_of m → contents_in files name ≡ found (items_of (tree.get_by_text m name))
+found_in_map name m files kept = ap (λ f. contents_in f name) kept ∙ ap found (lookup-files name m.entries)
 
--- a read of a name that the map has gives the bytes there, or the first of them
-pub Gives-in_map : (name : List ℕ) (m : Kept) (x : CalmContents) (v : Vec ℕ Global) (most count : ℕ)
-    → x.files ≡ files_of m → Some v ≡ tree.get_by_text m name → count ≡ min most (length v.items)
-    → Gives (contents_under x name) most (take count v.items)
-Gives-in_map name m x v most count kept got counted =
-    let Told : Contents → Type 0 = λ k. Gives k most (take count v.items) in
-    subst Told (sym (found_in_map name m x kept ∙ ap (λ o. found (items_of o)) (sym got))) (rw counted (take_min most v.items))
+-- the front of what the map has under a name
+pub front_in_map : (name : List ℕ) (m : Kept) (files : List (List ℕ × List ℕ)) (v : Vec ℕ Global) (most count : ℕ)
+    → files ≡ files_of m → Some v ≡ tree.get_by_text m name → count ≡ min most (length v.items) → front_of most (contents_in files name) ≡ Some (take count v.items)
+front_in_map name m files v most count kept got counted =
+    ap (front_of most) (found_in_map name m files kept ∙ ap (λ o. found (items_of o)) (sym got)) ∙ ap Some (sym (ap (λ n. take n v.items) counted ∙ take_min most v.items))
+
+-- there is none of what the map does not have
+pub no_front_in_map : (name : List ℕ) (m : Kept) (files : List (List ℕ × List ℕ)) (most : ℕ)
+    → files ≡ files_of m → None ≡ tree.get_by_text m name → front_of most (contents_in files name) ≡ None
+no_front_in_map name m files most kept got = ap (front_of most) (found_in_map name m files kept ∙ ap (λ o. found (items_of o)) (sym got))
 
 -- an insertion changes the contents under its name alone
-contents_after_insert : (name : List ℕ) (key : String Global) (v : Vec ℕ Global) (m n : Kept) (x y : CalmContents)
-    → x.files ≡ files_of m → y.files ≡ files_of n
-    → string_bytes key ≡ name → tree.Updates string_cmp m n key (Some v) → (q : List ℕ) → contents_under y q ≡ with_contents name (Holds v.items) (contents_under x) q
+contents_after_insert : (name : List ℕ) (key : String Global) (v : Vec ℕ Global) (m n : Kept) (x y : List (List ℕ × List ℕ))
+    → x ≡ files_of m → y ≡ files_of n
+    → string_bytes key ≡ name → tree.Updates string_cmp m n key (Some v) → (q : List ℕ) → contents_in y q ≡ with_contents name (Holds v.items) (contents_in x) q
 contents_after_insert name key v m n x y old new spelled updated q =
     found_in_map q n y new ∙ ap (λ o. found (items_of o)) (btree_map_updates_text (string_bytes key) m n (Some v) updated q)
     ∙ found-cond (pointwise ◌==◌ (string_bytes key) q) v (tree.get_by_text m q)
@@ -69,20 +72,20 @@ contents_after_insert name key v m n x y old new spelled updated q =
     ∙ ap (cond (pointwise ◌==◌ name q) (Holds v.items)) (sym (found_in_map q m x old))
 
 -- an insertion makes its bytes the contents under its name
-pub held_after_insert : (name : List ℕ) (key : String Global) (v : Vec ℕ Global) (m n : Kept) (x y : CalmContents)
-    → x.files ≡ files_of m → y.files ≡ files_of n
-    → string_bytes key ≡ name → tree.Updates string_cmp m n key (Some v) → contents_under y name ≡ Holds v.items
+pub held_after_insert : (name : List ℕ) (key : String Global) (v : Vec ℕ Global) (m n : Kept) (x y : List (List ℕ × List ℕ))
+    → x ≡ files_of m → y ≡ files_of n
+    → string_bytes key ≡ name → tree.Updates string_cmp m n key (Some v) → contents_in y name ≡ Holds v.items
 held_after_insert name key v m n x y old new spelled updated =
     contents_after_insert name key v m n x y old new spelled updated name
-    ∙ ap (λ b. cond b (Holds v.items) (contents_under x name)) (nat_list_eq_equiv.refl name)
+    ∙ ap (λ b. cond b (Holds v.items) (contents_in x name)) (nat_list_eq_equiv.refl name)
 
 -- an insertion leaves the contents under every other name
-pub others_after_insert : (name : List ℕ) (key : String Global) (v : Vec ℕ Global) (m n : Kept) (x y : CalmContents)
-    → x.files ≡ files_of m → y.files ≡ files_of n
-    → string_bytes key ≡ name → tree.Updates string_cmp m n key (Some v) → (q : List ℕ) → q ≢ name → contents_under y q ≡ contents_under x q
+pub others_after_insert : (name : List ℕ) (key : String Global) (v : Vec ℕ Global) (m n : Kept) (x y : List (List ℕ × List ℕ))
+    → x ≡ files_of m → y ≡ files_of n
+    → string_bytes key ≡ name → tree.Updates string_cmp m n key (Some v) → (q : List ℕ) → q ≢ name → contents_in y q ≡ contents_in x q
 others_after_insert name key v m n x y old new spelled updated q differ =
     contents_after_insert name key v m n x y old new spelled updated q
-    ∙ ap (λ b. cond b (Holds v.items) (contents_under x q)) (false_from_ne_true _ (λ same. differ (sym ((bytes_decides name q).0 same))))
+    ∙ ap (λ b. cond b (Holds v.items) (contents_in x q)) (false_from_ne_true _ (λ same. differ (sym ((bytes_decides name q).0 same))))
 
 -- a change under one name alone, at each name
 contents_at : (name bytes : List ℕ) (x y : List ℕ → Contents) → y name ≡ Holds bytes → ((q : List ℕ) → q ≢ name → y q ≡ x q)
@@ -94,22 +97,71 @@ contents_at name bytes x y held others q false differ = others q (λ same. true�
 pub contents_from : (name bytes : List ℕ) (x y : List ℕ → Contents) → y name ≡ Holds bytes → ((q : List ℕ) → q ≢ name → y q ≡ x q) → y ≡ with_contents name (Holds bytes) x
 contents_from name bytes x y held others = λ i q. contents_at name bytes x y held others q (pointwise ◌==◌ name q) refl i
 
--- a name that has a file keeps one
-pub IsHeld-stays : (name bytes other : List ℕ) (before after : List ℕ → Contents) → after ≡ with_contents name (Holds bytes) before → IsHeld (before other) → IsHeld (after other)
-IsHeld-stays name bytes other before after e held =
-    subst IsHeld (sym (ap (λ f. f other) e))
-    (elim (pointwise ◌==◌ name other) as (λ b. IsHeld (cond b (Holds bytes) (before other))) [ true ↦ tt | false ↦ held ])
+-- how often a name stands in a list, after one more name
+times_more : (other name : List ℕ) (names : List (List ℕ))
+    → count_by (pointwise ◌==◌ other) (names ++ name ∷ []) ≡ count_by (pointwise ◌==◌ other) names + cond (pointwise ◌==◌ other name) 1 0
+times_more other name names = sum_by_push (λ n. cond (pointwise ◌==◌ other n) 1 0) names name
 
-times_missed-more : (other name : List ℕ) (x y : CalmContents) → y.missed ≡ x.missed ++ name ∷ []
-    → times_missed y other ≡ times_missed x other + cond (pointwise ◌==◌ other name) 1 0
-times_missed-more other name x y e = rw e (sum_by_push (λ n. cond (pointwise ◌==◌ other n) 1 0) x.missed name)
+-- so one miss more is counted for its name, and for no other
+more_missed : (x y : CalmContents) (name other : List ℕ) → y.missed ≡ x.missed ++ name ∷ []
+    → count_by (pointwise ◌==◌ other) y.missed ≡ count_by (pointwise ◌==◌ other) x.missed + cond (pointwise ◌==◌ other name) 1 0
+more_missed x y name other noted = ap (count_by (pointwise ◌==◌ other)) noted ∙ times_more other name x.missed
 
--- a miss that is noted is a cause
-pub HasCause-missed : {T : Type 0} (name : List ℕ) (x y : CalmContents) → y.missed ≡ x.missed ++ name ∷ []
-    → HasCause {T = T} (times_missed x name) (times_missed y name) (Err Failed)
-HasCause-missed name x y e =
-    let more : times_missed y name ≡ times_missed x name + 1 = times_missed-more name name x y e ∙ ap (λ b. times_missed x name + cond b 1 0) (nat_list_eq_equiv.refl name) in
-    record { later = omega arith; failed = λ _. omega arith }
+one_or_none : (b : Bool) → cond b 1 0 ≤ 1
+one_or_none true = lit≤ tt
+one_or_none false = lit≤ tt
 
-pub times_missed-later : (other name : List ℕ) (x y : CalmContents) → y.missed ≡ x.missed ++ name ∷ [] → times_missed x other ≤ times_missed y other
-times_missed-later other name x y e = let more = times_missed-more other name x y e in omega arith
+-- a miss that is noted is a fault for its name
+CountsFor-missed : {T : Type 0} (name : List ℕ) (x y : CalmContents) → y.missed ≡ x.missed ++ name ∷ []
+    → CountsFor {T = T} name (Err Failed) (times_missed x) (times_missed y)
+CountsFor-missed name x y noted =
+    let named = more_missed x y name name noted ∙ ap (λ b. count_by (pointwise ◌==◌ name) x.missed + cond b 1 0) (nat_list_eq_equiv.refl name) in
+    record {
+      named = omega (arith, named);
+      at_least = λ other. omega (arith, more_missed x y name other noted);
+      at_most = λ other. omega (arith, more_missed x y name other noted, one_or_none (pointwise ◌==◌ other name));
+    }
+
+-- a read that changes nothing counts nothing
+CountsFor-none : {T : Type 0} (name : List ℕ) (value : T) (counts : List ℕ → ℕ) → CountsFor name (Ok value) counts counts
+CountsFor-none name value counts = record { named = refl; at_least = λ other. omega arith; at_most = λ other. omega arith }
+
+-- the front of a file is what a read gives
+gives_front : (contents : Contents) (most : ℕ) (bytes : List ℕ) → front_of most contents ≡ Some bytes → Gives contents most bytes
+gives_front Missing most bytes front = absurd (cc)
+gives_front (Holds all) most bytes front = cc
+
+front_within : (contents : Contents) (most : ℕ) (bytes : List ℕ) → front_of most contents ≡ Some bytes → length bytes ≤ most
+front_within Missing most bytes front = absurd (cc)
+front_within (Holds all) most bytes front =
+    let same : bytes ≡ take most all = cc in rw (same, length-take) (omega arith)
+
+no_front : (contents : Contents) (most : ℕ) → front_of most contents ≡ None → contents ≡ Missing
+no_front Missing most none = refl
+no_front (Holds all) most none = absurd (cc)
+
+-- a read that gives the front of the contents under a name
+pub ReadsFile-found : (name : List ℕ) (x : CalmContents) (bytes : Vec ℕ Global) (most : ℕ)
+    → Some bytes.items ≡ front_of most (contents_under x name) → ReadsFile name most (Ok bytes) (calm_files x) (calm_files x)
+ReadsFile-found name x bytes most front = record {
+  within = front_within (contents_under x name) most bytes.items (sym front);
+  gives = gives_front (contents_under x name) most bytes.items (sym front);
+  missing = λ calm failed. absurd (cc);
+  contents = refl;
+  calm = refl;
+  reads = CountsFor-none name bytes (times_missed x);
+  writes = λ other. refl;
+}
+
+-- a read of a name that has no file
+pub ReadsFile-missed : (name : List ℕ) (x y : CalmContents) (most : ℕ) → None ≡ front_of most (contents_under x name) → y.files ≡ x.files → y.missed ≡ x.missed ++ name ∷ []
+    → ReadsFile name most (Err Failed) (calm_files x) (calm_files y)
+ReadsFile-missed name x y most none same noted = record {
+  within = tt;
+  gives = tt;
+  missing = λ calm failed. no_front (contents_under x name) most (sym none);
+  contents = ap (λ files. Some (contents_in files)) same;
+  calm = refl;
+  reads = CountsFor-missed name x y noted;
+  writes = λ other. refl;
+}

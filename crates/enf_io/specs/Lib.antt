@@ -1,6 +1,13 @@
+pub mod Counts
 pub mod Exchange
-pub mod Causes
+pub mod Streams
 pub mod Contents
+pub mod FileCalls
 pub mod Writing
+pub mod KeptFiles
 pub mod Calm
-pub mod Faults
+pub mod Turns
+pub mod Mem
+pub mod Adapted
+pub mod Since
+pub mod SinceLaws

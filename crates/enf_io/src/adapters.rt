@@ -1,89 +1,34 @@
-//! Gates, sinks and files over the readers, writers and files of std. They tell no bytes, only their counts.
-ghost use Rattle.std.specs.Prelude.{◌≡◌, ◌<◌, ◌≤◌, ℕ, List, Option, None, Err, Ok, IfOk, IfErr, length};
+//! Gates, sinks and files over the readers, writers and files of std. They tell no bytes, only their counts,
+//! and hand on what std says of the reader and the writer inside.
+ghost use Rattle.std.specs.Prelude.{◌≡◌, ◌<◌, ◌≤◌, ℕ, List, Option, Err, Ok, IfOk, IfErr, length};
+ghost use Rattle.std.specs.Io.KnownBytes.{ReadConsumes, WriteAppends};
 ghost use Rattle.std.specs.IoError.{error_kind};
-ghost use Rattle.enf_io.specs.Causes.{HasCause};
-ghost use Rattle.enf_io.specs.Contents.{Contents};
-ghost use Rattle.enf_io.specs.Faults.{FaultCounts, faults_after, refusal_for};
+ghost use Rattle.enf_io.specs.Counts.{faults_after};
+ghost use Rattle.enf_io.specs.Streams.{Stream, Reads, Writes};
+ghost use Rattle.enf_io.specs.FileCalls.{FileView, ReadsFile, WritesFile};
+ghost use Rattle.enf_io.specs.Adapted.{AdaptedOutput, AdaptedPair, FaultCounts, untold_stream, untold_files, refusal_for};
 
 use crate::devices::{Files, Gate, IoRefusal, Sink};
 use std::io::{ErrorKind, Read, Write};
 use std::marker::Model;
 use std::{fs, io};
 
-/// A gate over a reader and a writer. Each write goes to the writer as it comes, so take one that keeps nothing back.
-#[derive(Drop)]
-pub struct StdGate<I, O> {
-    input: I,
-    output: O,
-    read_faults: u64,
-    write_faults: u64,
-}
-
-impl<I, O> Model for StdGate<I, O> {
-    ghost Value = { FaultCounts };
-
-    ghost view = { λ g. record { reads = g.read_faults; writes = g.write_faults } };
-}
-
-impl<I: Read, O: Write> StdGate<I, O> {
-    pub fn new(input: I, output: O) -> StdGate<I, O>
-        ensures { result ≡ record { reads = 0; writes = 0 } }
-    {
-        StdGate {
-            input,
-            output,
-            read_faults: 0,
-            write_faults: 0,
-        }
-    }
-}
-
-impl<I: Read, O: Write> Gate for StdGate<I, O> {
-    ghost told = { λ _. None };
-
-    ghost read_faults = { λ g. g.reads };
-
-    ghost write_faults = { λ g. g.writes };
-
-    fn read(&mut self, buf: &mut [u8]) -> Result<usize, IoRefusal>
-        requires { 0 < length buf.old }
-        ensures within { IfOk result (λ count. count ≤ length buf.old) }
-        ensures cause { HasCause self.old.reads self.new.reads result }
-        ensures reads { self.new.reads ≡ faults_after result self.old.reads }
-        ensures writes { self.new.writes ≡ self.old.writes }
-    {
-        let read = self.input.read(buf);
-        counted(read, &mut self.read_faults)
-    }
-
-    fn write(&mut self, bytes: &[u8]) -> Result<usize, IoRefusal>
-        ensures within { IfOk result (λ count. count ≤ length bytes.now) }
-        ensures some { IfOk result (λ count. 0 < length bytes.now → 0 < count) }
-        ensures cause { HasCause self.old.writes self.new.writes result }
-        ensures writes { self.new.writes ≡ faults_after result self.old.writes }
-        ensures reads { self.new.reads ≡ self.old.reads }
-    {
-        let written = write_some(&mut self.output, bytes);
-        counted(written, &mut self.write_faults)
-    }
-}
-
 /// A sink over a writer. Each write goes to the writer as it comes, so take one that keeps nothing back.
 #[derive(Drop)]
-pub struct StdSink<O> {
+pub struct StdSink<O: Write> {
     output: O,
     write_faults: u64,
 }
 
-impl<O> Model for StdSink<O> {
-    ghost Value = { ℕ };
+impl<O: Write> Model for StdSink<O> {
+    ghost Value = { AdaptedOutput };
 
-    ghost view = { λ s. s.write_faults };
+    ghost view = { λ s. record { held = O.contents s.output; write_faults = s.write_faults } };
 }
 
 impl<O: Write> StdSink<O> {
     pub fn new(output: O) -> StdSink<O>
-        ensures { result ≡ 0 }
+        ensures { result ≡ record { held = O.contents output; write_faults = 0 } }
     {
         StdSink {
             output,
@@ -93,18 +38,75 @@ impl<O: Write> StdSink<O> {
 }
 
 impl<O: Write> Sink for StdSink<O> {
-    ghost told = { λ _. None };
-
-    ghost write_faults = { λ s. s };
+    ghost seen = { λ s. untold_stream 0 s.write_faults };
 
     fn write(&mut self, bytes: &[u8]) -> Result<usize, IoRefusal>
-        ensures within { IfOk result (λ count. count ≤ length bytes.now) }
-        ensures some { IfOk result (λ count. 0 < length bytes.now → 0 < count) }
-        ensures cause { HasCause self.old self.new result }
-        ensures writes { self.new ≡ faults_after result self.old }
+        ensures bytes { WriteAppends self.old.held self.new.held result bytes.now }
+        ensures seen { Writes bytes.now result
+            (untold_stream 0 self.old.write_faults) (untold_stream 0 self.new.write_faults) }
     {
         let written = write_some(&mut self.output, bytes);
         counted(written, &mut self.write_faults)
+    }
+}
+
+/// A gate over a reader and a writer. Each write goes to the writer as it comes, so take one that keeps nothing back.
+#[derive(Drop)]
+pub struct StdGate<I: Read, O: Write> {
+    input: I,
+    read_faults: u64,
+    output: StdSink<O>,
+}
+
+impl<I: Read, O: Write> Model for StdGate<I, O> {
+    ghost Value = { AdaptedPair };
+
+    ghost view = { λ g. record {
+      left = I.remaining g.input;
+      read_faults = g.read_faults;
+      output = g.output;
+    } };
+}
+
+impl<I: Read, O: Write> StdGate<I, O> {
+    pub fn new(input: I, output: O) -> StdGate<I, O>
+        ensures input { result.left ≡ I.remaining input }
+        ensures read_faults { result.read_faults ≡ 0 }
+        ensures output { result.output ≡ record { held = O.contents output; write_faults = 0 } }
+    {
+        StdGate {
+            input,
+            read_faults: 0,
+            output: StdSink::new(output),
+        }
+    }
+}
+
+impl<I: Read, O: Write> Gate for StdGate<I, O> {
+    fn read(&mut self, buf: &mut [u8]) -> Result<usize, IoRefusal>
+        requires { 0 < length buf.old }
+        ensures bytes { ReadConsumes self.old.left self.new.left result buf.new }
+        ensures output { self.new.output ≡ self.old.output }
+        ensures seen { Reads buf.new result
+            (untold_stream self.old.read_faults self.old.output.write_faults)
+            (untold_stream self.new.read_faults self.new.output.write_faults) }
+    {
+        let read = self.input.read(buf);
+        counted(read, &mut self.read_faults)
+    }
+}
+
+impl<I: Read, O: Write> Sink for StdGate<I, O> {
+    ghost seen = { λ g. untold_stream g.read_faults g.output.write_faults };
+
+    fn write(&mut self, bytes: &[u8]) -> Result<usize, IoRefusal>
+        ensures bytes { WriteAppends self.old.output.held self.new.output.held result bytes.now }
+        ensures left { self.new.left ≡ self.old.left }
+        ensures seen { Writes bytes.now result
+            (untold_stream self.old.read_faults self.old.output.write_faults)
+            (untold_stream self.new.read_faults self.new.output.write_faults) }
+    {
+        self.output.write(bytes)
     }
 }
 
@@ -135,19 +137,21 @@ impl<'a, R: std::rt::Files + AllocGlobal> StdFiles<'a, R> {
 }
 
 impl<'a, R: std::rt::Files + AllocGlobal> Files for StdFiles<'a, R> {
-    ghost contents = { λ _. None };
+    ghost seen = { untold_files };
 
-    ghost read_faults = { λ f _. f.reads };
-
-    ghost write_faults = { λ f _. f.writes };
-
-    ghost is_reliable = { λ _ _. ⊥ };
-
-    fn read(&mut self, name: &str, most: usize) -> Result<Vec<u8>, IoRefusal> {
+    fn read(&mut self, name: &str, most: usize) -> Result<Vec<u8>, IoRefusal>
+        ensures counts { self.new
+            ≡ record { reads = faults_after result self.old.reads; writes = self.old.writes } }
+        ensures seen { ReadsFile name.now most result (untold_files self.old) (untold_files self.new) }
+    {
         counted(read_front(self.rt, name, most), &mut self.read_faults)
     }
 
-    fn write(&mut self, name: &str, bytes: &[u8]) -> Result<(), IoRefusal> {
+    fn write(&mut self, name: &str, bytes: &[u8]) -> Result<(), IoRefusal>
+        ensures counts { self.new
+            ≡ record { reads = self.old.reads; writes = faults_after result self.old.writes } }
+        ensures seen { WritesFile name.now bytes.now result (untold_files self.old) (untold_files self.new) }
+    {
         counted(fs::write(self.rt, name, bytes), &mut self.write_faults)
     }
 }
@@ -168,10 +172,11 @@ fn read_front<R: std::rt::Files + AllocGlobal>(
     Ok(bytes)
 }
 
-/// A writer that takes nothing of a piece has failed.
+// A writer that takes nothing of a piece has failed.
 fn write_some<W: Write>(output: &mut W, bytes: &[u8]) -> io::Result<usize>
     ensures within { IfOk result (λ count. count ≤ length bytes.now) }
     ensures some { IfOk result (λ count. 0 < length bytes.now → 0 < count) }
+    ensures bytes { WriteAppends (W.contents output.old) (W.contents output.new) result bytes.now }
 {
     let count = output.write(bytes)?;
     if count == 0 && !bytes.is_empty() {
@@ -180,11 +185,10 @@ fn write_some<W: Write>(output: &mut W, bytes: &[u8]) -> io::Result<usize>
     Ok(count)
 }
 
-/// Counts an error of the outside, which want of memory is not.
+// Counts an error of the outside, which want of memory is not.
 fn counted<T>(answer: io::Result<T>, faults: &mut u64) -> Result<T, IoRefusal>
     ensures ok { IfOk answer (λ value. result ≡ Ok value) }
     ensures refused { IfErr answer (λ error. result ≡ Err (refusal_for (error_kind error))) }
-    ensures cause { HasCause faults.old faults.new result }
     ensures counted { faults.new ≡ faults_after result faults.old }
 {
     match answer {

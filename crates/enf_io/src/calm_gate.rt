@@ -1,10 +1,12 @@
 //! A gate over memory.
-ghost use Rattle.std.specs.Prelude.{◌≡◌, ◌++◌, IsOk, OnOk, OnErr, IfErr, IfOk, List, [], Option, ℕ, ◌<◌, ◌≤◌, Some, length, take, drop, min};
+ghost use Rattle.std.specs.Prelude.{◌≡◌, ◌++◌, OnOk, OnErr, IfErr, IfOk, List, [], ℕ, ◌<◌, ◌≤◌, length, take, drop, min};
 ghost use Rattle.std.specs.Vec.Iter.{into_iter_items};
-ghost use Rattle.enf_io.specs.Exchange.{Exchange, left, with_taken, with_given};
-ghost use Rattle.enf_io.specs.Calm.{CalmExchange, within_piece};
+ghost use Rattle.enf_io.specs.Exchange.{Exchange, left, with_taken, with_given, with_mark};
+ghost use Rattle.enf_io.specs.Calm.{CalmExchange, calm_stream, within_piece};
+ghost use Rattle.enf_io.specs.Streams.{Stream, Reads, Writes};
 
-use crate::devices::{Gate, IoRefusal};
+use crate::calm_sink::CalmSink;
+use crate::devices::{Gate, IoRefusal, Sink};
 use std::alloc::Global;
 use std::marker::Model;
 use std::vec::IntoIter;
@@ -15,14 +17,15 @@ pub struct CalmGate {
     input: Vec<u8>,
     taken: usize,
     pieces: IntoIter<usize>,
-    given: Vec<u8>,
+    marks: Vec<(u64, u64)>,
+    output: CalmSink,
 }
 
 impl Model for CalmGate {
     ghost Value = { CalmExchange };
 
     ghost view = { λ g. record {
-      exchange = record { input = g.input.items; taken = g.taken; given = g.given.items };
+      exchange = record { input = g.input.items; taken = g.taken; given = g.output; marks = g.marks.items };
       pieces = into_iter_items g.pieces;
     } };
 
@@ -33,14 +36,15 @@ impl CalmGate {
     /// `pieces` has the most bytes that each read gives, 0 counting as 1; later reads give all that fits.
     pub fn new(alloc: Global, input: Vec<u8>, pieces: Vec<usize>) -> CalmGate
         ensures exchange { result.exchange
-            ≡ record { input = input.items; taken = 0; given = [] } }
+            ≡ record { input = input.items; taken = 0; given = []; marks = [] } }
         ensures pieces { result.pieces ≡ pieces.items }
     {
         CalmGate {
             input,
             taken: 0,
             pieces: pieces.into_iter(),
-            given: Vec::new(alloc),
+            marks: Vec::new(alloc),
+            output: CalmSink::new(alloc),
         }
     }
 
@@ -48,27 +52,32 @@ impl CalmGate {
     pub fn given(&self) -> &[u8]
         ensures { result.now ≡ self.now.exchange.given }
     {
-        self.given.as_slice()
+        self.output.given()
+    }
+
+    /// How many bytes had been taken and given when each read began.
+    pub fn marks(&self) -> &[(u64, u64)]
+        ensures { result.now ≡ self.now.exchange.marks }
+    {
+        self.marks.as_slice()
     }
 }
 
 impl Gate for CalmGate {
-    ghost told = { λ g. Some g.exchange };
-
-    ghost read_faults = { λ _. 0 };
-
-    ghost write_faults = { λ _. 0 };
-
     fn read(&mut self, buf: &mut [u8]) -> Result<usize, IoRefusal>
         requires { 0 < length buf.old }
-        ensures count { result ≡ Ok (within_piece self.old.pieces
+        ensures count { IfOk result (λ count. count ≡ within_piece self.old.pieces
             (min (length (left self.old.exchange)) (length buf.old))) }
         ensures front { IfOk result
             (λ count. take count buf.new ≡ take count (left self.old.exchange)) }
         ensures exchange { IfOk result
-            (λ count. self.new.exchange ≡ with_taken count self.old.exchange) }
-        ensures pieces { self.new.pieces ≡ drop 1 self.old.pieces }
+            (λ count. self.new.exchange ≡ with_taken count (with_mark self.old.exchange)) }
+        ensures pieces { OnOk result (self.new.pieces ≡ drop 1 self.old.pieces) }
+        ensures no_memory { IfErr result (λ refusal. refusal ≡ IoRefusal.NoMemory) }
+        ensures refused { OnErr result (self.new ≡ self.old) }
     {
+        self.marks
+            .push((self.taken as u64, self.output.given().len() as u64))?;
         let most = self.pieces.next().map_or(usize::MAX, |size| size.max(1));
         let rest = &self.input[self.taken..];
         let count = most.min(rest.len()).min(buf.len());
@@ -76,15 +85,18 @@ impl Gate for CalmGate {
         self.taken += count;
         Ok(count)
     }
+}
+
+impl Sink for CalmGate {
+    ghost seen = { λ g. calm_stream g.exchange };
 
     fn write(&mut self, bytes: &[u8]) -> Result<usize, IoRefusal>
         ensures whole { IfOk result (λ count. count ≡ length bytes.now) }
         ensures given { OnOk result (self.new.exchange ≡ with_given bytes.now self.old.exchange) }
         ensures no_memory { IfErr result (λ refusal. refusal ≡ IoRefusal.NoMemory) }
-        ensures refused { OnErr result (self.new.exchange ≡ self.old.exchange) }
+        ensures refused { OnErr result (self.new ≡ self.old) }
         ensures pieces { self.new.pieces ≡ self.old.pieces }
     {
-        self.given.extend_from_slice(bytes)?;
-        Ok(bytes.len())
+        self.output.write(bytes)
     }
 }

@@ -1,5 +1,7 @@
 //! A sink over memory.
-ghost use Rattle.std.specs.Prelude.{◌≡◌, ◌++◌, OnOk, OnErr, IfErr, IfOk, List, [], Option, ℕ, Some, length};
+ghost use Rattle.std.specs.Prelude.{◌≡◌, ◌++◌, OnOk, OnErr, IfErr, IfOk, List, [], ℕ, length};
+ghost use Rattle.enf_io.specs.Calm.{calm_stream, given_alone};
+ghost use Rattle.enf_io.specs.Streams.{Stream, Writes};
 
 use crate::devices::{IoRefusal, Sink};
 use std::alloc::Global;
@@ -35,9 +37,7 @@ impl CalmSink {
 }
 
 impl Sink for CalmSink {
-    ghost told = { λ s. Some s };
-
-    ghost write_faults = { λ _. 0 };
+    ghost seen = { λ s. calm_stream (given_alone s) };
 
     fn write(&mut self, bytes: &[u8]) -> Result<usize, IoRefusal>
         ensures whole { IfOk result (λ count. count ≡ length bytes.now) }

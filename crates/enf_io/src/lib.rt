@@ -1,6 +1,7 @@
 //! The devices of the program: a gate for the log and its answer, files by name, and a sink for the report.
-//! Each is a trait with what it tells of its bytes and with counts of its faults; the forms over memory that
-//! never fail tell all, and the adapters over std's readers, writers and files tell only their counts.
+//! Each is a trait over what is seen of it: what it tells of its bytes, and its counts of faults. The calm forms
+//! over memory never fail, and the others over memory fail in set turns; both tell all. The adapters over std's
+//! readers, writers and files tell only their counts. It stands on std alone.
 #![tactic(auto)]
 
 pub mod adapters;
@@ -8,6 +9,9 @@ pub mod calm_files;
 pub mod calm_gate;
 pub mod calm_sink;
 pub mod devices;
-#[cfg(test)]
-mod tests;
+mod kept_files;
+pub mod mem_files;
+pub mod mem_gate;
+pub mod mem_sink;
+pub mod turns;
 pub mod writing;

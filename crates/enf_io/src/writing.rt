@@ -1,10 +1,8 @@
-//! Bytes given in full to a gate or a sink, however few of them each turn takes.
-ghost use Rattle.std.specs.Prelude.{◌≡◌, ◌≤◌, ◌<◌, IfErr, OnOk, length, take};
-ghost use Rattle.enf_io.specs.Exchange.{Gave, Added};
-ghost use Rattle.enf_io.specs.Causes.{Rose};
-ghost use Rattle.enf_io.specs.Writing.{written_before, OnWriteFault, refused_after};
+//! Bytes given in full to a sink, however few of them each turn takes.
+ghost use Rattle.std.specs.Prelude.{◌≡◌};
+ghost use Rattle.enf_io.specs.Writing.{WritesAll, refused_after};
 
-use crate::devices::{Gate, IoRefusal, Sink};
+use crate::devices::{IoRefusal, Sink};
 
 /// Why some bytes did not go out; `written` is how many of the first ones did.
 #[derive(Clone, Copy, Debug, PartialEq, Eq)]
@@ -13,36 +11,9 @@ pub enum WriteRefusal {
     NoMemory { written: usize },
 }
 
-/// Gives all the bytes, in as many turns as the gate needs.
-pub fn write_all_gate<G: Gate>(gate: &mut G, bytes: &[u8]) -> Result<(), WriteRefusal>
-    ensures whole { OnOk result (Gave bytes.now (G.told gate.old) (G.told gate.new)) }
-    ensures part { IfErr result (λ refusal. Gave (take (written_before refusal) bytes.now)
-        (G.told gate.old) (G.told gate.new)) }
-    ensures not_whole { IfErr result (λ refusal. written_before refusal < length bytes.now) }
-    ensures cause { IfErr result (λ refusal. OnWriteFault refusal
-        (Rose (G.write_faults gate.old) (G.write_faults gate.new))) }
-    ensures writes { G.write_faults gate.old ≤ G.write_faults gate.new }
-    ensures reads { G.read_faults gate.new ≡ G.read_faults gate.old }
-{
-    let mut written = 0;
-    while written < bytes.len() {
-        match gate.write(&bytes[written..]) {
-            Ok(count) => written += count,
-            Err(refusal) => return Err(refused_after(written, refusal)),
-        }
-    }
-    Ok(())
-}
-
-/// Adds all the bytes, in as many turns as the sink needs.
-pub fn write_all_sink<S: Sink>(sink: &mut S, bytes: &[u8]) -> Result<(), WriteRefusal>
-    ensures whole { OnOk result (Added bytes.now (S.told sink.old) (S.told sink.new)) }
-    ensures part { IfErr result (λ refusal. Added (take (written_before refusal) bytes.now)
-        (S.told sink.old) (S.told sink.new)) }
-    ensures not_whole { IfErr result (λ refusal. written_before refusal < length bytes.now) }
-    ensures cause { IfErr result (λ refusal. OnWriteFault refusal
-        (Rose (S.write_faults sink.old) (S.write_faults sink.new))) }
-    ensures writes { S.write_faults sink.old ≤ S.write_faults sink.new }
+/// Gives all the bytes, in as many turns as the sink or gate needs.
+pub fn write_all<S: Sink>(sink: &mut S, bytes: &[u8]) -> Result<(), WriteRefusal>
+    ensures { WritesAll bytes.now result (S.seen sink.old) (S.seen sink.new) }
 {
     let mut written = 0;
     while written < bytes.len() {

@@ -4,26 +4,8 @@ use Rattle.std.proofs.lemmas.Bool.{eqb-true, eqb-false}
 use Rattle.std.proofs.lemmas.Bool.Decides.{nat_tests}
 use Rattle.std.proofs.Math.ListN.{drop_of_length-le}
 use Rattle.std.proofs.Math.Seq.{drop-cons}
-use Rattle.enf_value.specs.Tokens.{meaning, IsWritten, WrittenAt}
-
--- one byte of the text more, written as one byte more
-abbrev pub with_byte : ℕ → Option (List ℕ × ℕ) → Option (List ℕ × ℕ)
-with_byte byte None = None
-with_byte byte (Some found) = Some (byte ∷ found.0, suc found.1)
-
-abbrev pub with_escape : Option ℕ → Option (List ℕ × ℕ) → Option (List ℕ × ℕ)
-with_escape None found = None
-with_escape (Some byte) found = with_byte byte found
-
-abbrev pub with_backslash : Option (List ℕ × ℕ) → Option (List ℕ × ℕ)
-with_backslash None = None
-with_backslash (Some found) = Some (found.0, suc found.1)
-
--- the text up to the first quote that is no piece, and the place of that quote; first whether a backslash stands before the bytes
-abbrev pub scan : Bool → List ℕ → Option (List ℕ × ℕ)
-scan escape [] = None
-scan true (byte ∷ bytes) = with_escape (meaning byte) (scan false bytes)
-scan false (byte ∷ bytes) = if byte == 34 then Some ([], 0) else (if byte == 92 then with_backslash (scan true bytes) else with_byte byte (scan false bytes))
+use Rattle.enf_value.specs.Tokens.{text_front, with_backslash, with_byte, with_escape}
+use Rattle.enf_value.specs.ValueTokens.{meaning, IsWritten, WrittenAt}
 
 -- behind a text and the bytes that are written for it
 abbrev pub behind : List ℕ → ℕ → Option (List ℕ × ℕ) → Option (List ℕ × ℕ)
@@ -75,52 +57,52 @@ written_escape letter byte bytes text end is w = record {
 -- what is found stands there, behind no backslash and behind one
 abbrev IsSound : List ℕ → Type 0
 IsSound bytes =
-    ((p : List ℕ × ℕ) → scan false bytes ≡ Some p → WrittenAt bytes p.1 p.0)
-    × ((p : List ℕ × ℕ) → scan true bytes ≡ Some p → WrittenAt (92 ∷ bytes) (suc p.1) p.0)
+    ((p : List ℕ × ℕ) → text_front false bytes ≡ Some p → WrittenAt bytes p.1 p.0)
+    × ((p : List ℕ × ℕ) → text_front true bytes ≡ Some p → WrittenAt (92 ∷ bytes) (suc p.1) p.0)
 
-sound_plain : (byte : ℕ) (bytes : List ℕ) (a b : Bool) → (byte == 34) ≡ a → (byte == 92) ≡ b → IsSound bytes → (p : List ℕ × ℕ) → (if a then Some ([], 0) else (if b then with_backslash (scan true bytes) else with_byte byte (scan false bytes))) ≡ Some p → WrittenAt (byte ∷ bytes) p.1 p.0
+sound_plain : (byte : ℕ) (bytes : List ℕ) (a b : Bool) → (byte == 34) ≡ a → (byte == 92) ≡ b → IsSound bytes → (p : List ℕ × ℕ) → (if a then Some ([], 0) else (if b then with_backslash (text_front true bytes) else with_byte byte (text_front false bytes))) ≡ Some p → WrittenAt (byte ∷ bytes) p.1 p.0
 sound_plain byte bytes true b quote backslash rest p e =
     let is : ([], 0) ≡ p = cc in
     subst (λ q. WrittenAt (byte ∷ bytes) q.1 q.0) is
     (record { written = []; rest = bytes; splits = ap (λ x. x ∷ bytes) (eqb-true byte 34 quote); ends = refl; pieces = refl })
 sound_plain byte bytes false true quote backslash rest p e =
-    let q = from_backslash (scan true bytes) p e in
+    let q = from_backslash (text_front true bytes) p e in
     subst (λ r. WrittenAt (byte ∷ bytes) r.1 r.0) q.2 (subst (λ x. WrittenAt (x ∷ bytes) (suc q.0.1) q.0.0) (sym (eqb-true byte 92 backslash)) (rest.1 q.0 q.1))
 sound_plain byte bytes false false quote backslash rest p e =
-    let q = from_byte byte (scan false bytes) p e in
+    let q = from_byte byte (text_front false bytes) p e in
     subst (λ r. WrittenAt (byte ∷ bytes) r.1 r.0) q.2 (written_plain byte bytes q.0.0 q.0.1 (eqb-false byte 34 quote) (eqb-false byte 92 backslash) (rest.0 q.0 q.1))
 
-sound_escape : (letter : ℕ) (bytes : List ℕ) → IsSound bytes → (p : List ℕ × ℕ) → scan true (letter ∷ bytes) ≡ Some p → WrittenAt (92 ∷ letter ∷ bytes) (suc p.1) p.0
+sound_escape : (letter : ℕ) (bytes : List ℕ) → IsSound bytes → (p : List ℕ × ℕ) → text_front true (letter ∷ bytes) ≡ Some p → WrittenAt (92 ∷ letter ∷ bytes) (suc p.1) p.0
 sound_escape letter bytes rest p e =
-    let m = from_escape (meaning letter) (scan false bytes) p e in
-    let q = from_byte m.0 (scan false bytes) p m.2 in
+    let m = from_escape (meaning letter) (text_front false bytes) p e in
+    let q = from_byte m.0 (text_front false bytes) p m.2 in
     subst (λ r. WrittenAt (92 ∷ letter ∷ bytes) (suc r.1) r.0) q.2 (written_escape letter m.0 bytes q.0.0 q.0.1 m.1 (rest.0 q.0 q.1))
 
 sound : (bytes : List ℕ) → IsSound bytes
 sound [] = (λ p e. cc, λ p e. cc)
 sound (byte ∷ bytes) = (sound_plain byte bytes _ _ refl refl (sound bytes), sound_escape byte bytes (sound bytes))
 
-pub written_from_scan : (bytes text : List ℕ) (end : ℕ) → scan false bytes ≡ Some (text, end) → WrittenAt bytes end text
+pub written_from_scan : (bytes text : List ℕ) (end : ℕ) → text_front false bytes ≡ Some (text, end) → WrittenAt bytes end text
 written_from_scan bytes text end e = (sound bytes).0 (text, end) e
 
 -- and what stands there is found
-finds : (text written rest : List ℕ) → IsWritten written text → scan false (written ++ 34 ∷ rest) ≡ Some (text, length written)
+finds : (text written rest : List ℕ) → IsWritten written text → text_front false (written ++ 34 ∷ rest) ≡ Some (text, length written)
 finds [] written rest w = rw w refl
 finds (byte ∷ text) written rest (piece, more, inl (plain, quote, backslash), pieces, split) =
     let tail = more ++ 34 ∷ rest in
     let no_quote : (byte == 34) ≡ false = grind (arith, nat_tests) in
     let no_backslash : (byte == 92) ≡ false = grind (arith, nat_tests) in
-    subst (λ w. scan false (w ++ 34 ∷ rest) ≡ Some (byte ∷ text, length w)) (sym (split ∙ ap (λ l. l ++ more) plain))
-    (ap (λ b. if b then Some ([], 0) else (if byte == 92 then with_backslash (scan true tail) else with_byte byte (scan false tail))) no_quote
-    ∙ ap (λ b. if b then with_backslash (scan true tail) else with_byte byte (scan false tail)) no_backslash
+    subst (λ w. text_front false (w ++ 34 ∷ rest) ≡ Some (byte ∷ text, length w)) (sym (split ∙ ap (λ l. l ++ more) plain))
+    (ap (λ b. if b then Some ([], 0) else (if byte == 92 then with_backslash (text_front true tail) else with_byte byte (text_front false tail))) no_quote
+    ∙ ap (λ b. if b then with_backslash (text_front true tail) else with_byte byte (text_front false tail)) no_backslash
     ∙ ap (with_byte byte) (finds text more rest pieces))
 finds (byte ∷ text) written rest (piece, more, inr (letter, plain, is), pieces, split) =
-    subst (λ w. scan false (w ++ 34 ∷ rest) ≡ Some (byte ∷ text, length w)) (sym (split ∙ ap (λ l. l ++ more) plain))
-    (ap (λ m. with_backslash (with_escape m (scan false (more ++ 34 ∷ rest)))) is
+    subst (λ w. text_front false (w ++ 34 ∷ rest) ≡ Some (byte ∷ text, length w)) (sym (split ∙ ap (λ l. l ++ more) plain))
+    (ap (λ m. with_backslash (with_escape m (text_front false (more ++ 34 ∷ rest)))) is
     ∙ ap (λ r. with_backslash (with_byte byte r)) (finds text more rest pieces))
 
-pub scan_from_written : (bytes text : List ℕ) (end : ℕ) → WrittenAt bytes end text → scan false bytes ≡ Some (text, end)
-scan_from_written bytes text end w = ap (scan false) w.splits ∙ finds text w.written w.rest w.pieces ∙ ap (λ n. Some (text, n)) (sym w.ends)
+pub scan_from_written : (bytes text : List ℕ) (end : ℕ) → WrittenAt bytes end text → text_front false bytes ≡ Some (text, end)
+scan_from_written bytes text end w = ap (text_front false) w.splits ∙ finds text w.written w.rest w.pieces ∙ ap (λ n. Some (text, n)) (sym w.ends)
 
 -- so there is one text at most
 pub one_written : (bytes a b : List ℕ) (m n : ℕ) → WrittenAt bytes m a → WrittenAt bytes n b → (a ≡ b) × (m ≡ n)
@@ -130,22 +112,22 @@ one_written bytes a b m n v w =
     (ap (λ q. q.0) p, ap (λ q. q.1) p)
 
 -- what a loop over the bytes knows where it stops: at a quote, at a letter of no meaning, at the end
-pub scan_at_quote : (bytes : List ℕ) (place : ℕ) → place < length bytes → get_or bytes place 0 ≡ 34 → scan false (drop place bytes) ≡ Some ([], 0)
+pub scan_at_quote : (bytes : List ℕ) (place : ℕ) → place < length bytes → get_or bytes place 0 ≡ 34 → text_front false (drop place bytes) ≡ Some ([], 0)
 scan_at_quote bytes place within is =
-    ap (scan false) (drop-cons bytes place 0 within ∙ ap (λ b. b ∷ drop (suc place) bytes) is)
+    ap (text_front false) (drop-cons bytes place 0 within ∙ ap (λ b. b ∷ drop (suc place) bytes) is)
 
-pub scan_at_letter : (bytes : List ℕ) (place : ℕ) → place < length bytes → meaning (get_or bytes place 0) ≡ None → scan true (drop place bytes) ≡ None
+pub scan_at_letter : (bytes : List ℕ) (place : ℕ) → place < length bytes → meaning (get_or bytes place 0) ≡ None → text_front true (drop place bytes) ≡ None
 scan_at_letter bytes place within none =
-    ap (scan true) (drop-cons bytes place 0 within) ∙ ap (λ m. with_escape m (scan false (drop (suc place) bytes))) none
+    ap (text_front true) (drop-cons bytes place 0 within) ∙ ap (λ m. with_escape m (text_front false (drop (suc place) bytes))) none
 
-pub scan_at_end : (escape : Bool) (bytes : List ℕ) (place : ℕ) → length bytes ≤ place → scan escape (drop place bytes) ≡ None
-scan_at_end true bytes place past = ap (scan true) (drop_of_length-le bytes past)
-scan_at_end false bytes place past = ap (scan false) (drop_of_length-le bytes past)
+pub scan_at_end : (escape : Bool) (bytes : List ℕ) (place : ℕ) → length bytes ≤ place → text_front escape (drop place bytes) ≡ None
+scan_at_end true bytes place past = ap (text_front true) (drop_of_length-le bytes past)
+scan_at_end false bytes place past = ap (text_front false) (drop_of_length-le bytes past)
 
-pub written_at_quote : (bytes text : List ℕ) (place : ℕ) (r : Option (List ℕ × ℕ)) → scan false bytes ≡ behind text place r → r ≡ Some ([], 0) → WrittenAt bytes place text
+pub written_at_quote : (bytes text : List ℕ) (place : ℕ) (r : Option (List ℕ × ℕ)) → text_front false bytes ≡ behind text place r → r ≡ Some ([], 0) → WrittenAt bytes place text
 written_at_quote bytes text place r known found =
     written_from_scan bytes text place (known ∙ ap (behind text place) found ∙ (λ j. Some (append-nil text j, add-zero place j)))
 
-pub not_written : (bytes text : List ℕ) (place : ℕ) (r : Option (List ℕ × ℕ)) → scan false bytes ≡ behind text place r → r ≡ None → (t : List ℕ) (end : ℕ) → WrittenAt bytes end t → ⊥
+pub not_written : (bytes text : List ℕ) (place : ℕ) (r : Option (List ℕ × ℕ)) → text_front false bytes ≡ behind text place r → r ≡ None → (t : List ℕ) (end : ℕ) → WrittenAt bytes end t → ⊥
 not_written bytes text place r known none t end w =
     let e = sym (scan_from_written bytes t end w) ∙ known ∙ ap (behind text place) none in cc

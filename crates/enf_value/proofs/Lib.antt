@@ -1,7 +1,15 @@
+pub mod Cut
+pub mod CutOnce
 pub mod Distinct
 pub mod Equality
 pub mod Escapes
+pub mod Fronts
+pub mod Gaps
 pub mod Numerals
 pub mod Parts
+pub mod Shapes
+pub mod Spelled
 pub mod TextTokens
 pub mod TokenLaws
+pub mod TokenReads
+pub mod Words

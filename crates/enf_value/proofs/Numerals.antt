@@ -12,16 +12,16 @@ use Rattle.std.proofs.lemmas.List.{take-append-drop, length-take-le}
 use Rattle.std.proofs.lemmas.Result.{Ok-from_Ok_iff, OkIff-at_ok}
 use Rattle.std.proofs.lemmas.Str.{IsUtf8-from_ascii}
 use Rattle.std.proofs.Math.Seq.{take-append_seam}
-use Rattle.enf_value.specs.Tokens.{IsNumberToken, IsNoDigit, IsNumber, TokenAt}
+use Rattle.enf_value.specs.ValueTokens.{IsNumberToken, IsNoDigit, IsNumber, TokenAt}
 use Rattle.enf_value.specs.declared.values.Value.TheVariants.{Num}
 
-digit_from_test : (c : ℕ) → is_ascii_digit c ≡ true → digit_value c < 10
+pub digit_from_test : (c : ℕ) → is_ascii_digit c ≡ true → digit_value c < 10
 digit_from_test c h = grind (arith, nat_tests)
 
 pub range_from_digit : (c : ℕ) → digit_value c < 10 → (48 ≤ c) × (c ≤ 57)
 range_from_digit c h = (grind (arith, nat_tests), grind (arith, nat_tests))
 
-test_from_range : (c : ℕ) → 48 ≤ c → c ≤ 57 → is_ascii_digit c ≡ true
+pub test_from_range : (c : ℕ) → 48 ≤ c → c ≤ 57 → is_ascii_digit c ≡ true
 test_from_range c low high = grind (arith, nat_tests)
 
 no_digit : (c : ℕ) → is_ascii_digit c ≡ false → 48 ≤ c → c ≤ 57 → ⊥
@@ -31,7 +31,7 @@ one_more : (n : ℕ) → 1 + n ≡ suc n
 one_more n = omega arith
 
 -- the digits at the front, and what follows them
-front_digits : (xs : List ℕ) → AllDigits 10 (take (prefix_len is_ascii_digit xs) xs)
+pub front_digits : (xs : List ℕ) → AllDigits 10 (take (prefix_len is_ascii_digit xs) xs)
 front_digits [] = tt
 front_digits (x ∷ xs) = by (is_ascii_digit x) refl (front_digits xs)
   where
@@ -39,7 +39,7 @@ front_digits (x ∷ xs) = by (is_ascii_digit x) refl (front_digits xs)
     by true e rest = rw one_more (digit_from_test x e, rest)
     by false e rest = tt
 
-behind_digits : (xs : List ℕ) → IsNoDigit (drop (prefix_len is_ascii_digit xs) xs)
+pub behind_digits : (xs : List ℕ) → IsNoDigit (drop (prefix_len is_ascii_digit xs) xs)
 behind_digits [] = tt
 behind_digits (x ∷ xs) = by (is_ascii_digit x) refl (behind_digits xs)
   where
@@ -48,7 +48,7 @@ behind_digits (x ∷ xs) = by (is_ascii_digit x) refl (behind_digits xs)
     by false e rest = no_digit x e
 
 -- digits before no digit are all the digits at the front
-all_digits : (digits rest : List ℕ) → AllDigits 10 digits → IsNoDigit rest → prefix_len is_ascii_digit (digits ++ rest) ≡ length digits
+pub all_digits : (digits rest : List ℕ) → AllDigits 10 digits → IsNoDigit rest → prefix_len is_ascii_digit (digits ++ rest) ≡ length digits
 all_digits [] [] each end = refl
 all_digits [] (x ∷ xs) each end = by (is_ascii_digit x) refl
   where

@@ -5,7 +5,7 @@ use Rattle.std.proofs.lemmas.Bool.Decides.{nat_tests}
 use Rattle.std.proofs.lemmas.List.{take_all}
 use Rattle.enf_value.proofs.Escapes.{one_written}
 use Rattle.enf_value.specs.Text.{IsText}
-use Rattle.enf_value.specs.Tokens.{IsNumberToken, IsTextToken, TokenAt, WrittenAt}
+use Rattle.enf_value.specs.ValueTokens.{IsNumberToken, IsTextToken, TokenAt, WrittenAt}
 use Rattle.enf_value.specs.declared.values.Value.{Value}
 use Rattle.enf_value.specs.declared.values.Value.TheVariants.{Num, Text}
 

@@ -10,7 +10,7 @@ use Rattle.enf_value.proofs.Escapes.{one_written}
 use Rattle.enf_value.proofs.Numerals.{front_is, value_of_token, range_from_digit}
 use Rattle.enf_value.proofs.TextTokens.{token_at_front, written_from_text, written_from_token, number_begins, number_first, text_begins}
 use Rattle.enf_value.specs.Spelling.{escaped, spelled}
-use Rattle.enf_value.specs.Tokens.{IsNumber, IsValue, IsNumberToken, IsToken, IsPiece, IsWritten, IsNoDigit, TokenAt, PrintedIsToken, OneTokenAtPlace, TokenIsLongest}
+use Rattle.enf_value.specs.ValueTokens.{IsNumber, IsValue, IsNumberToken, IsToken, IsPiece, IsWritten, IsNoDigit, TokenAt, PrintedIsToken, OneTokenAtPlace, TokenIsLongest}
 use Rattle.enf_value.specs.declared.values.Value.{Value}
 use Rattle.enf_value.specs.declared.values.Value.TheVariants.{Num, Text}
 

@@ -1,12 +1,8 @@
--- What logs and formulas speak of. A value is any whole number or any list of bytes: no limit of the program stands here.
+-- What logs and formulas speak of. A value is any whole number or any list of bytes: no limit of the program stands
+-- here.
 use Rattle.std.specs.Prelude.{ℕ, ◌<◌, ◌≤◌, List, [], length, slice_index_or}
-use Rattle.enf_value.specs.declared.events.Event.{Event}
 use Rattle.enf_value.specs.Membership.{HasNoRepeats}
-
--- a time and the events at it
-pub record Step : Type 0 where
-  pub time : ℕ
-  pub events : List Event
+use Rattle.enf_value.specs.declared.steps.Step.{Step}
 
 -- a step without events at time 0, for places that a list does not have
 abbrev pub no_step : Step

@@ -13,9 +13,11 @@ use Rattle.enf_value.specs.declared.values.Value.TheVariants.{Num, Text}
 use Rattle.enf_value.specs.declared.events.Event.{Event}
 
 -- a look-up by a test that tells equality tells whether the key is in the list
-pub list_any-Decides : {K : Type 0} (eq : K → K → Bool) → ((x y : K) → Decides (eq x y) (x ≡ y)) → (ks : List K) (k : K) → Decides (list_any (eq k) ks) (Contains ks k)
+pub list_any-Decides : {K : Type 0} (eq : K → K → Bool) → ((x y : K) → Decides (eq x y) (x ≡ y))
+    → (ks : List K) (k : K) → Decides (list_any (eq k) ks) (Contains ks k)
 list_any-Decides eq decides ks k =
-    Decides-contains ks k _ (Decides-by_or (eq k) (λ y. y ≡ k) (list_any (eq k)) (λ y. Decides-like (eq k y) sym sym (decides k y)) refl (λ _ _. refl) ks)
+    Decides-contains ks k _ (Decides-by_or (eq k) (λ y. y ≡ k) (list_any (eq k))
+    (λ y. Decides-like (eq k y) sym sym (decides k y)) refl (λ _ _. refl) ks)
 
 -- whether two values are equal
 abbrev pub value_eq : Value → Value → Bool
@@ -43,7 +45,9 @@ row_eq-Decides a b = slice_eq-Decides value_eq-Decides a b (row_eq a b) refl
 
 pub event_eq-Decides : (a b : Event) → Decides (event_eq a b) (a ≡ b)
 event_eq-Decides a b =
-    Decides-like (event_eq a b) (λ h i. record { name = record { 0 = h.0 i }; args = h.1 i }) (λ e. (ap (λ x. x.name.0) e, ap (λ x. x.args) e)) (Decides-and _ _ (Decides-eqb a.name.0 b.name.0) (row_eq-Decides a.args b.args))
+    Decides-like (event_eq a b)
+    (λ h i. record { name = record { 0 = h.0 i }; args = h.1 i }) (λ e. (ap (λ x. x.name.0) e, ap (λ x. x.args) e))
+    (Decides-and _ _ (Decides-eqb a.name.0 b.name.0) (row_eq-Decides a.args b.args))
 
 -- whether an event is in a list
 abbrev pub has_event : List Event → Event → Bool

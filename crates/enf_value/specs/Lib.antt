@@ -1,7 +1,16 @@
 pub mod Data
 pub mod Decided
+pub mod FirstRefusal
+pub mod FirstRefusalLaws
+pub mod Kinds
 pub mod Membership
+pub mod MembershipLaws
+pub mod Names
 pub mod Order
 pub mod Spelling
 pub mod Text
+pub mod TokenLaws
+pub mod TokenViews
 pub mod Tokens
+pub mod Valuations
+pub mod ValueTokens

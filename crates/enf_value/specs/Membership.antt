@@ -7,7 +7,8 @@ abbrev pub IsUpTo : Option ℕ → ℕ → Type 0
 IsUpTo None difference = Unit {0}
 IsUpTo (Some high) difference = difference ≤ high
 
--- both ends are in: [a,b] has the differences from a to b, [a,*] all from a on (the intervals of metric temporal logic, Basin et al., JACM 62(2), 2015)
+-- both ends are in: [a,b] has the differences from a to b, [a,*] all from a on (the intervals of metric temporal logic,
+-- Basin et al., JACM 62(2), 2015)
 abbrev pub IsIn : Interval → ℕ → Type 0
 IsIn interval difference = (interval.low ≤ difference) × IsUpTo interval.high difference
 

@@ -1,28 +1,13 @@
-//! Names, rows of values, and events.
-ghost use Rattle.std.specs.Prelude.{◌≡◌};
-ghost use Rattle.enf_value.specs.Order.{row_cmp};
+//! Names and events.
 
-use crate::items::{Duplicate, Items};
+use crate::items::Duplicate;
 use crate::memory::NoMemory;
-use crate::values::Value;
+use crate::rows::Row;
 use std::alloc::Global;
-use std::cmp::Ordering;
 
 /// A name of a signature, by its order of declaration from 0.
 #[derive(Clone, Copy, Debug, PartialEq, Eq, PartialOrd, Ord, Hash)]
 pub struct NameId(pub u32);
-
-/// A list of values.
-pub type Row = Items<Value>;
-
-impl Items<Value> {
-    /// The lexicographic order.
-    pub fn compare(&self, other: &Row) -> Ordering
-        ensures { result ≡ row_cmp self.now other.now }
-    {
-        self.as_slice().cmp(other.as_slice())
-    }
-}
 
 /// A name with its arguments.
 #[derive(Debug, PartialEq, Eq, Hash, Drop)]

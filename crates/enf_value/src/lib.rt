@@ -1,5 +1,5 @@
-//! Values, events and sets of events: what logs and policies speak of, with their orders, and how values are
-//! printed and read.
+//! What logs, signatures and policies speak of: values with their order, events, sets of events, terms and intervals;
+//! how values are printed and read; and how the texts of signatures and policies are cut into tokens.
 //! An event set is a list without repeats, in the order in which its events came. It stands on the kit's
 //! `indexmap`, and numbers are printed by the kit's `itoa`.
 #![tactic(auto)]
@@ -8,23 +8,33 @@ pub mod event_sets;
 pub mod events;
 pub mod intervals;
 pub mod items;
+pub mod laws;
+pub mod limits;
 pub mod memory;
+pub mod names;
+pub mod places;
 pub mod printing;
 pub mod reading;
+pub mod rows;
+pub mod steps;
 pub mod terms;
 pub mod texts;
+pub mod tokens;
 pub mod values;
 
 pub use event_sets::EventSet;
-pub use events::{Event, NameId, Row};
+pub use events::{Event, NameId};
 pub use intervals::Interval;
 pub use items::{Duplicate, Items};
+pub use limits::{MOST_COLUMNS, MOST_FILE_BYTES, MOST_NAME_BYTES, MOST_NAMES, MOST_TEXT_BYTES};
 pub use memory::NoMemory;
+pub use names::{ByteKind, is_reserved, name_text};
+pub use places::Place;
 pub use printing::{print_bytes, print_number, print_value};
 pub use reading::read_value;
+pub use rows::Row;
+pub use steps::Step;
 pub use terms::{Term, Terms, VarId, Vars};
-pub use texts::{MOST_TEXT_BYTES, TextRefusal, TextValue};
+pub use texts::{TextRefusal, TextValue};
+pub use tokens::{Mark, PlacedToken, Token, next_token};
 pub use values::Value;
-
-#[cfg(test)]
-mod tests;

@@ -2,11 +2,12 @@
 ghost use Rattle.std.specs.Prelude.{◌≡◌, ◌<◌, ◌≤◌, ◌+◌, ◌==◌, ℕ, ℤ, List, length, drop, slice_index, IfOk, IfSome, IfNone, if◌then◌else◌};
 ghost use Rattle.std.specs.Char.{is_ascii_digit};
 ghost use Rattle.std.specs.List.{prefix_len};
-ghost use Rattle.enf_value.specs.Tokens.{TokenAt, WrittenAt, PrintedIsToken, OneTokenAtPlace, TokenIsLongest, meaning};
+ghost use Rattle.enf_value.specs.ValueTokens.{TokenAt, WrittenAt, meaning};
 ghost use Rattle.enf_value.specs.declared.values.Value.{Value as AnyValue};
 ghost use Rattle.enf_value.specs.declared.values.Value.TheVariants.{Num, Text};
 
 use crate::memory::NoMemory;
+use crate::names::ByteKind;
 use crate::texts::{TextRefusal, TextValue};
 use crate::values::Value;
 use std::alloc::Global;
@@ -56,25 +57,15 @@ fn read_number(bytes: &[u8]) -> Option<(i64, usize)>
     Some((number, end))
 }
 
-/// Where a minus and digits at the front end.
+// Where a minus and digits at the front end.
 fn number_end(bytes: &[u8]) -> usize
     ensures within { result ≤ length bytes.now }
     ensures end { result ≡ (if slice_index bytes.now 0 == 45 then 1 + prefix_len is_ascii_digit (drop 1 bytes.now) else prefix_len is_ascii_digit bytes.now) }
 {
     match bytes {
-        [b'-', digits @ ..] => 1 + digits_end(digits),
-        _ => digits_end(bytes),
+        [b'-', digits @ ..] => 1 + ByteKind::Digit.front_length(digits),
+        _ => ByteKind::Digit.front_length(bytes),
     }
-}
-
-fn digits_end(bytes: &[u8]) -> usize
-    ensures within { result ≤ length bytes.now }
-    ensures end { result ≡ prefix_len is_ascii_digit bytes.now }
-{
-    bytes
-        .iter()
-        .take_while(|byte| byte.is_ascii_digit())
-        .count()
 }
 
 fn read_text(alloc: Global, bytes: &[u8]) -> Result<Option<(TextValue, usize)>, NoMemory>
@@ -93,7 +84,7 @@ fn read_text(alloc: Global, bytes: &[u8]) -> Result<Option<(TextValue, usize)>, 
     }
 }
 
-/// The bytes of a text behind its first quote, and where its last quote stands.
+// The bytes of a text behind its first quote, and where its last quote stands.
 fn read_written(alloc: Global, bytes: &[u8]) -> Result<Option<(Vec<u8>, usize)>, NoMemory>
     ensures some { IfOk result (λ found. IfSome found (λ read. WrittenAt bytes.now read.1 read.0.items)) }
     ensures none { IfOk result (λ found. IfNone found ((text : List ℕ) (end : ℕ) → WrittenAt bytes.now end text → ⊥)) }
@@ -128,18 +119,3 @@ fn escaped_by(letter: u8) -> Option<u8>
         _ => None,
     }
 }
-
-/// What is printed for a value is read again as that value, whatever follows that does not lengthen a number.
-pub fn printed_is_token()
-    ensures { PrintedIsToken }
-{}
-
-/// No two tokens begin at one place, and a token stands for one value.
-pub fn one_token_at_place()
-    ensures { OneTokenAtPlace }
-{}
-
-/// No longer piece of the bytes is a token.
-pub fn token_is_longest()
-    ensures { TokenIsLongest }
-{}

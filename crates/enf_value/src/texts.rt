@@ -11,14 +11,12 @@ ghost use Rattle.enf_value.specs.Text.{IsText};
 ghost use Rattle.enf_value.specs.declared.texts.TextRefusal.TheVariants.{NoMemory as OutOfMemory};
 
 use crate::items::Duplicate;
+use crate::limits::MOST_TEXT_BYTES;
 use crate::memory::NoMemory;
 use std::alloc::{AllocError, Global};
 use std::cmp::Ordering;
 use std::hash::{Hash, Hasher};
 use std::marker::Model;
-
-/// The greatest number of bytes of a text.
-pub const MOST_TEXT_BYTES: usize = 1024;
 
 /// Why bytes are no text of the program.
 #[derive(Clone, Copy, Debug, PartialEq, Eq)]
@@ -58,8 +56,8 @@ impl TextValue {
     pub fn from_bytes(alloc: Global, bytes: &[u8]) -> Result<TextValue, TextRefusal>
         ensures value { IfOk result (λ text. text ≡ bytes.now) }
         ensures text { IfOk result (λ text. IsText bytes.now) }
-        ensures too_long { IsErrOf result TextRefusal.TooLong ↔ (1024 < length bytes.now) }
-        ensures not_utf8 { IsErrOf result TextRefusal.NotUtf8 ↔ ((length bytes.now ≤ 1024) × (IsUtf8 bytes.now → ⊥)) }
+        ensures too_long { IsErrOf result TextRefusal.TooLong ↔ (MOST_TEXT_BYTES < length bytes.now) }
+        ensures not_utf8 { IsErrOf result TextRefusal.NotUtf8 ↔ ((length bytes.now ≤ MOST_TEXT_BYTES) × (IsUtf8 bytes.now → ⊥)) }
     {
         if bytes.len() > MOST_TEXT_BYTES {
             return Err(TextRefusal::TooLong);

@@ -1,16 +1,18 @@
 -- After the reactions each rule holds, so a trace that satisfies the rules does so with the step at its end.
-use Rattle.std.proofs.Common.{◌≡◌, ℕ, zero, suc, ◌<◌, List, [], ◌∷◌, ◌++◌, map, length, get_or, sym, ap, subst, ◌∙◌, arith, append_assoc, length-append, ⊎_elim, ◌≤◌, Contains}
+use Rattle.std.proofs.Common.{◌≡◌, ℕ, zero, suc, ◌<◌, List, [], ◌∷◌, ◌++◌, map, length, get_or, sym, ap, subst, ◌∙◌, arith, append_assoc, length-append, ⊎_elim, ◌≤◌, Contains, Some}
 use Rattle.std.specs.List.{AllByRecursion}
 use Rattle.std.proofs.lemmas.Bool.{cases_lt}
 use Rattle.std.proofs.lemmas.List.{get_or_append_left, get_or_at, get_or-map, length-map}
 use Rattle.std.proofs.lemmas.List.Elements.{Contains-append_left, Contains-append_right, Contains-append_cases, Contains-push, All-map, All-from_recursion}
-use Rattle.enf_value.specs.Data.{Step, no_step}
+use Rattle.enf_value.specs.Data.{no_step}
+use Rattle.enf_value.specs.declared.steps.Step.{Step}
 use Rattle.enf_value.specs.declared.events.Event.{Event}
 use Rattle.enf_value.specs.declared.values.Value.{Value}
 use Rattle.enf_value.specs.declared.terms.Term.TheVariants.{Var}
 use Rattle.enf_formula.specs.Satisfaction.{Sat, IsAmong}
-use Rattle.enf_formula.specs.Valuations.{with_values, values_of}
-use Rattle.enforcer_core.specs.Policies.{Satisfies, formula_of_rule}
+use Rattle.enf_value.specs.Valuations.{no_values, with_values, values_of, onto_values, value_at-insert}
+use Rattle.trace_meaning.specs.Satisfies.{Satisfies}
+use Rattle.enforcer_core.specs.Rules.{formula_of_rule}
 use Rattle.enforcer_core.specs.Reactions.{IsTriggered, ReactAll, caused}
 use Rattle.enforcer_core.specs.declared.enforcer.CauseRule.{CauseRule}
 
@@ -55,14 +57,15 @@ all_hold (rule ∷ rules) events added r =
 -- what satisfaction of the rule says of the events at a position
 abbrev KeptAt : CauseRule → List Event → Type 0
 KeptAt rule events =
-    (values : List Value) → length values ≡ 1 → IsAmong events rule.guard (values_of (with_values (record { 0 = 0 } ∷ []) values []) (Var (record { 0 = 0 }) ∷ [])) → Contains events (caused rule)
+    (values : List Value) → length values ≡ 1 → IsAmong events rule.guard (values_of (with_values (record { 0 = 0 } ∷ []) values no_values) (Var (record { 0 = 0 }) ∷ [])) → Contains events (caused rule)
 
 kept : (rule : CauseRule) (events : List Event) → Holds events rule → KeptAt rule events
 kept rule events h [] l a = absurd (omega (arith, l))
-kept rule events h (w ∷ []) l a = h (w, a)
+kept rule events h (w ∷ []) l a =
+    h (w, subst (λ given. IsAmong events rule.guard (onto_values given (Some []))) (value_at-insert no_values (record { 0 = 0 }) w (record { 0 = 0 })) a)
 kept rule events h (w ∷ x ∷ values) l a = absurd (omega (arith, l))
 
-kept_behind : (rule : CauseRule) (trace : List Step) (s : Step) → ((i : ℕ) → i < length trace → Sat trace i [] (formula_of_rule rule)) → Holds s.events rule → (i : ℕ) → i < length (trace ++ s ∷ []) → Sat (trace ++ s ∷ []) i [] (formula_of_rule rule)
+kept_behind : (rule : CauseRule) (trace : List Step) (s : Step) → ((i : ℕ) → i < length trace → Sat trace i no_values (formula_of_rule rule)) → Holds s.events rule → (i : ℕ) → i < length (trace ++ s ∷ []) → Sat (trace ++ s ∷ []) i no_values (formula_of_rule rule)
 kept_behind rule trace s before h i l =
     ⊎_elim
     (λ (b : i < length trace). subst (λ (x : Step). KeptAt rule x.events) (sym (get_or_append_left trace (s ∷ []) no_step i b)) (before i b))
@@ -72,5 +75,5 @@ kept_behind rule trace s before h i l =
 -- one more step in which each rule holds
 pub Satisfies-more : (rules : List CauseRule) (trace : List Step) (s : Step) → AllByRecursion (Holds s.events) rules → Satisfies trace (map formula_of_rule rules) → Satisfies (trace ++ s ∷ []) (map formula_of_rule rules)
 Satisfies-more rules trace s hold before =
-    All-map (λ f. (i : ℕ) → i < length (trace ++ s ∷ []) → Sat (trace ++ s ∷ []) i [] f) formula_of_rule rules (λ k d l.
-    kept_behind (get_or rules k d) trace s (subst (λ f. (i : ℕ) → i < length trace → Sat trace i [] f) (get_or-map formula_of_rule rules k d (formula_of_rule d) l) (before k (formula_of_rule d) (omega (arith, length-map rules formula_of_rule, l)))) (All-from_recursion (Holds s.events) rules hold k d l))
+    All-map (λ f. (i : ℕ) → i < length (trace ++ s ∷ []) → Sat (trace ++ s ∷ []) i no_values f) formula_of_rule rules (λ k d l.
+    kept_behind (get_or rules k d) trace s (subst (λ f. (i : ℕ) → i < length trace → Sat trace i no_values f) (get_or-map formula_of_rule rules k d (formula_of_rule d) l) (before k (formula_of_rule d) (omega (arith, length-map rules formula_of_rule, l)))) (All-from_recursion (Holds s.events) rules hold k d l))

@@ -3,13 +3,14 @@ use Rattle.std.proofs.Common.{◌≡◌, List, [], ◌∷◌, ◌++◌, map, ref
 use Rattle.std.specs.List.{AllByRecursion, All}
 use Rattle.std.proofs.lemmas.List.{append-nil}
 use Rattle.std.proofs.lemmas.List.Elements.{Contains-append_left, Contains-append_cases, Contains-push, recursion_from_All, All-cons, All-nil}
-use Rattle.enf_value.specs.Data.{Step}
+use Rattle.enf_value.specs.declared.steps.Step.{Step}
 use Rattle.enf_value.specs.Membership.{HasNoRepeats}
 use Rattle.enf_value.specs.declared.events.Event.{Event}
 use Rattle.enf_value.specs.declared.events.NameId.{NameId}
-use Rattle.enforcer_core.specs.LawfulChange.{Leads, Lawful, Answers, AnswersAll, IsInsertedLawfully}
+use Rattle.trace_meaning.specs.Lawful.{Leads, Lawful, Answers, AnswersAll, IsInsertedLawfully, IsLaterThan}
 use Rattle.enforcer_core.specs.Reactions.{ReactAll, Decides, caused}
-use Rattle.enforcer_core.specs.Runs.{OutStep, Cause, StepRecord, event_of, onto_system, system_steps}
+use Rattle.trace_meaning.specs.OutSteps.{OutStep, Cause, event_of, onto_system, system_steps}
+use Rattle.trace_meaning.specs.Records.{StepRecord}
 use Rattle.enforcer_core.specs.declared.enforcer.CauseRule.{CauseRule}
 use Rattle.enforcer_core.proofs.KeptRules.{only_one, none_in_nil}
 
@@ -63,5 +64,5 @@ Decides-Lawful causable suppressible rules before out may d =
       answered = subst (AnswersAll causable suppressible (before ∷ [])) (sym system) (answers, tt);
       inserted = All-cons (λ o. IsInsertedLawfully causable suppressible o o.kind) out [] (subst (IsInsertedLawfully causable suppressible out) (sym d.kind) tt) (All-nil (λ (o : OutStep). IsInsertedLawfully causable suppressible o o.kind));
       once = All-cons (λ (o : OutStep). HasNoRepeats (map event_of o.changes)) out [] (subst (λ cs. HasNoRepeats (map event_of cs)) (sym d.changes) (subst HasNoRepeats (sym (events_of_causes d.added)) (added_once rules before.events d.added d.reacted))) (All-nil (λ (o : OutStep). HasNoRepeats (map event_of o.changes)));
-      in_order = tt;
+      in_order = (All-nil (λ p. IsLaterThan out.kind p.kind out.step.time p.step.time), tt);
     }

@@ -3,3 +3,4 @@ pub mod ReactionLemmas
 pub mod KeptRules
 pub mod LawfulReactions
 pub mod OneStep
+pub mod Courses

@@ -1,9 +1,10 @@
 -- What cause rules do to the events of a step.
 use Rattle.std.specs.Prelude.{◌≡◌, ◌==◌, ◌&&◌, Bool, length, List, [], ◌∷◌, ◌++◌, ◌⊎◌, Contains, map}
-use Rattle.enf_value.specs.Data.{Step}
+use Rattle.enf_value.specs.declared.steps.Step.{Step}
 use Rattle.enf_value.specs.declared.events.Event.{Event}
 use Rattle.enf_value.specs.declared.values.Value.{Value}
-use Rattle.enforcer_core.specs.Runs.{OutStep, System, Cause}
+use Rattle.trace_meaning.specs.OutSteps.{OutStep, Cause}
+use Rattle.trace_meaning.specs.declared.kinds.StepKind.TheVariants.{System}
 use Rattle.enforcer_core.specs.declared.enforcer.CauseRule.{CauseRule}
 
 -- the event that a rule causes
@@ -18,7 +19,8 @@ IsTriggered rule events = (value : Value) × Contains events (record { name = ru
 abbrev pub is_guard : CauseRule → Event → Bool
 is_guard rule event = (event.name.0 == rule.guard.0) && (length event.args == 1)
 
--- a rule reacts to events: where it is triggered and what it causes is absent, that is added at the end; else nothing is
+-- a rule reacts to events: where it is triggered and what it causes is absent, that is added at the end;
+-- else nothing is
 abbrev pub Reacts : CauseRule → List Event → List Event → Type 0
 Reacts rule events added =
     ((added ≡ caused rule ∷ []) × IsTriggered rule events × (Contains events (caused rule) → ⊥))
@@ -28,7 +30,8 @@ Reacts rule events added =
 abbrev pub ReactAll : List CauseRule → List Event → List Event → Type 0
 ReactAll [] events added = added ≡ []
 ReactAll (rule ∷ rules) events added =
-    (first rest : List Event) × Reacts rule events first × ReactAll rules (events ++ first) rest × (added ≡ first ++ rest)
+    (first rest : List Event) × Reacts rule events first × ReactAll rules (events ++ first) rest
+    × (added ≡ first ++ rest)
 
 -- what a rule adds to the events goes to what was added too
 pub record AddsReaction (rule : CauseRule) (events events' added added' : List Event) : Type 0 where

@@ -1,17 +1,23 @@
 //! Cause rules, and the enforcer that keeps them.
-ghost use Rattle.std.specs.Prelude.{◌≡◌, ◌<◌, ◌≤◌, ◌++◌, ◌↔◌, IsTrue, Contains};
-ghost use Rattle.std.specs.Prelude.{IfOk, IfErr, OnOk, OnErr, Err};
+ghost use Rattle.std.specs.Prelude.{◌≡◌, ◌≢◌, ℕ, ◌≤◌, [], ◌∷◌, ◌++◌, ◌↔◌, false, IsTrue, Contains};
+ghost use Rattle.std.specs.Prelude.{IfOk, OnOk, Err};
 ghost use Rattle.enf_value.specs.declared.events.Event.{Event};
-ghost use Rattle.enforcer_core.specs.Enforcers.{out_step};
+ghost use Rattle.trace_meaning.specs.Records.{StepRecord, Tick};
+ghost use Rattle.enforcer_core.specs.Answered.{Admits, Answered, ChangesLawfully};
+ghost use Rattle.enforcer_core.specs.Enforcers.{out_step, out_steps};
+ghost use Rattle.enforcer_core.specs.Follows.{Follows};
 ghost use Rattle.enforcer_core.specs.Reactions.{AddsReaction, Decides, IsTriggered, ReactAll};
-ghost use Rattle.enforcer_core.specs.Steps.{DecidesOne, KeepsSatisfied, IsLawfulFor};
+ghost use Rattle.enforcer_core.specs.Stands.{KeepsRules, KeepsStanding, Stands};
 
-use crate::steps::{OutStep, OutSteps, StepKind, StepOut, StepRefusal};
+use crate::steps::{OutStep, OutSteps, StepOut, StepRefusal};
 use enf_value::event_sets::EventSet;
-use enf_value::events::{Event, NameId, Row};
+use enf_value::events::{Event, NameId};
 use enf_value::memory::NoMemory;
+use enf_value::rows::Row;
 use std::alloc::Global;
 use std::marker::Model;
+use trace_meaning::kinds::StepKind;
+use trace_meaning::laws;
 
 /// A rule `forall u. guard(u) -> cause()`.
 #[derive(Clone, Copy, Debug, PartialEq, Eq)]
@@ -48,11 +54,12 @@ impl CauseRule {
     }
 }
 
-/// An enforcer of cause rules, seen as its rules and its clock.
+/// An enforcer of cause rules, seen as its rules, its clock and whether it is stopped.
 #[derive(Drop)]
 pub struct Enforcer {
     rules: Vec<CauseRule>,
     clock: u64,
+    stopped: bool,
 }
 
 impl Model for Enforcer {
@@ -60,15 +67,22 @@ impl Model for Enforcer {
 
     ghost Value = { Enforcing };
 
-    ghost view = { λ e. record { rules = e.rules.items; clock = e.clock } };
+    ghost view = { λ e. record { rules = e.rules.items; clock = e.clock; stopped = e.stopped } };
 }
 
 impl Enforcer {
-    /// An enforcer of these rules, with clock 0.
+    /// An enforcer of these rules, with clock 0, which stands for the trace without a step.
     pub fn new(rules: Vec<CauseRule>) -> Result<Enforcer, NoMemory>
-        ensures { IfOk result (λ enforcer. enforcer ≡ record { rules = rules.items; clock = 0 }) }
+        ensures made { IfOk result
+            (λ enforcer. enforcer ≡ record { rules = rules.items; clock = 0; stopped = false }) }
+        ensures stands { IfOk result (λ enforcer. Stands enforcer []) }
     {
-        Ok(Enforcer { rules, clock: 0 })
+        laws::trace_grows();
+        Ok(Enforcer {
+            rules,
+            clock: 0,
+            stopped: false,
+        })
     }
 
     /// The time below which all is over.
@@ -78,8 +92,14 @@ impl Enforcer {
         self.clock
     }
 
-    /// Takes a step of the system at a time up to 10^15, and gives it with what the rules add. A
-    /// time below the clock is refused. A refusal changes nothing.
+    /// Whether an earlier call wanted memory; each later call is then refused.
+    pub fn is_stopped(&self) -> bool
+        ensures { result ≡ self.now.stopped }
+    {
+        self.stopped
+    }
+
+    /// Takes a step of the system at a time up to 10^15, and gives it with what the rules add.
     pub fn step(
         &mut self,
         alloc: Global,
@@ -87,27 +107,65 @@ impl Enforcer {
         events: EventSet,
     ) -> Result<StepOut, StepRefusal>
         requires { time ≤ 1000000000000000 }
+        ensures answered { Answered self.old time result self.new }
+        ensures stands { IfOk result
+            (λ out. KeepsStanding self.old self.new (out_steps out.steps)) }
+        ensures changed { IfOk result
+            (λ out. ChangesLawfully self.old.rules self.old.clock time
+            (StepRecord (record { time = time; events = events }) ∷ []) (out_steps out.steps)) }
         ensures decided { IfOk result
-            (DecidesOne self.old.rules (record { time = time; events = events })) }
-        ensures satisfied { IfOk result (KeepsSatisfied self.old.rules) }
-        ensures lawful { IfOk result
-            (IsLawfulFor self.old.rules (record { time = time; events = events })) }
-        ensures clock { OnOk result (self.new ≡ record { rules = self.old.rules; clock = time }) }
-        ensures falling { time < self.old.clock
-            → result ≡ Err (StepRefusal.Falling self.old.clock time) }
-        ensures otherwise { self.old.clock ≤ time
-            → IfErr result (λ refusal. refusal ≡ StepRefusal.NoMemory) }
-        ensures err { OnErr result (self.new ≡ self.old) }
+            (λ out. Follows self.old.rules
+            (StepRecord (record { time = time; events = events }) ∷ []) (out_steps out.steps)) }
     {
+        self.admit(time)?;
+        match let_out(alloc, &self.rules, time, events) {
+            Ok(out) => {
+                self.clock = time;
+                Ok(out)
+            }
+            Err(NoMemory) => {
+                self.stopped = true;
+                Err(StepRefusal::NoMemory)
+            }
+        }
+    }
+
+    /// Takes a tick at a time up to 10^15, which says that all below it is over. It takes no
+    /// memory.
+    pub fn tick(&mut self, alloc: Global, time: u64) -> Result<StepOut, StepRefusal>
+        requires { time ≤ 1000000000000000 }
+        ensures answered { Answered self.old time result self.new }
+        ensures no_step { IfOk result (λ out. out_steps out.steps ≡ []) }
+        ensures no_memory { result ≢ Err StepRefusal.NoMemory }
+        ensures stands { IfOk result
+            (λ out. KeepsStanding self.old self.new (out_steps out.steps)) }
+        ensures changed { IfOk result
+            (λ out. ChangesLawfully self.old.rules self.old.clock time (Tick time ∷ [])
+            (out_steps out.steps)) }
+        ensures decided { IfOk result
+            (λ out. Follows self.old.rules (Tick time ∷ []) (out_steps out.steps)) }
+    {
+        self.admit(time)?;
+        self.clock = time;
+        Ok(StepOut {
+            steps: OutSteps::new(alloc),
+        })
+    }
+
+    // Whether a call at this time is taken.
+    fn admit(&self, time: u64) -> Result<(), StepRefusal>
+        ensures { Admits self.now time result }
+    {
+        if self.stopped {
+            return Err(StepRefusal::Stopped);
+        }
         if time < self.clock {
             return Err(StepRefusal::Falling {
                 clock: self.clock,
                 given: time,
             });
         }
-        let out = let_out(alloc, &self.rules, time, events)?;
-        self.clock = time;
-        Ok(out)
+        Ok(())
     }
 }
 
@@ -118,10 +176,17 @@ fn let_out(
     time: u64,
     events: EventSet,
 ) -> Result<StepOut, NoMemory>
-    ensures decided { IfOk result (DecidesOne rules.now (record { time = time; events = events })) }
-    ensures satisfied { IfOk result (KeepsSatisfied rules.now) }
-    ensures lawful { IfOk result (IsLawfulFor rules.now (record { time = time; events = events })) }
+    ensures kept { IfOk result (λ out. KeepsRules rules.now time (out_steps out.steps)) }
+    ensures changed { IfOk result
+        (λ out. (from : ℕ) → from ≤ time → ChangesLawfully rules.now from time
+        (StepRecord (record { time = time; events = events }) ∷ []) (out_steps out.steps)) }
+    ensures decided { IfOk result
+        (λ out. Follows rules.now (StepRecord (record { time = time; events = events }) ∷ [])
+        (out_steps out.steps)) }
 {
+    laws::trace_grows();
+    // Its clause says that no event stands twice.
+    let _given = events.as_slice();
     let mut steps = OutSteps::new(alloc);
     let step = decide(alloc, rules, time, events)?;
     let Ok(()) = steps.push(step) else {

@@ -5,13 +5,7 @@ ghost use Rattle.std.specs.Prelude.{◌≡◌};
 use enf_value::event_sets::EventSet;
 use enf_value::items::Items;
 use enf_value::memory::NoMemory;
-
-/// Whose step it is: the system's, or one that was inserted at a deadline.
-#[derive(Clone, Copy, Debug, PartialEq, Eq)]
-pub enum StepKind {
-    System,
-    Inserted,
-}
+use trace_meaning::kinds::StepKind;
 
 /// A step that goes out, with the events that were added to it.
 #[derive(Drop)]
@@ -36,6 +30,8 @@ pub struct StepOut {
 pub enum StepRefusal {
     /// The given time is below the clock.
     Falling { clock: u64, given: u64 },
+    /// An earlier call wanted memory.
+    Stopped,
     NoMemory,
 }
 

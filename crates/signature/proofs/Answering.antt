@@ -1,6 +1,5 @@
 -- The reader's answer is the one answer to a text.
 use Rattle.std.proofs.Common.{◌≡◌, ℕ, true, false, List, [], ◌∷◌, ◌++◌, length, inl, inr, ⊎_elim, None, Some, Result, Ok, Err, refl, sym, ap, subst, ◌∙◌, arith, append_assoc}
-use Rattle.std.specs.List.{AllByRecursion}
 use Rattle.std.specs.Option.{option_and_then}
 use Rattle.std.proofs.lemmas.List.{append-nil}
 use Rattle.signature.specs.declared.entries.NameEntry.{NameEntry}
@@ -9,9 +8,11 @@ use Rattle.signature.specs.declared.reading.Part.TheVariants as parts
 use Rattle.signature.specs.declared.refusals.SignatureRefusal.{SignatureRefusal}
 use Rattle.signature.specs.declared.refusals.SignatureRefusal.TheVariants.{Syntax}
 use Rattle.signature.specs.Grammar.{AreNamed, CanBegin, IsSentence, IsSignature, tokens_of}
-use Rattle.signature.specs.Reading.{State, entry_of, limit_refusal, next, sort_of, taken, IsFit, IsProper}
+use Rattle.signature.specs.Reading.{State, entry_of, limit_refusal, next, sort_of, taken, IsFit}
 use Rattle.signature.specs.Refusals.{IsAnswer, IsFirst, Stands}
-use Rattle.signature.specs.Tokens.{Token, Word, OpenParen, CloseParen, Comma, Semicolon, Plus, Minus, PlusMinus, Placed, kinds, tokens}
+use Rattle.signature.specs.SignatureTokens.{signature_tokens}
+use Rattle.enf_value.specs.Tokens.{Token, Word, Placed, kinds, Mark}
+use Rattle.enf_value.specs.declared.tokens.Mark.TheVariants.{OpenParen, CloseParen, Comma, Semicolon, PlusMinus, Plus, Minus}
 use Rattle.signature.proofs.Fits.{chosen_some, sort_taken, some_is, taken_parts, fit_next}
 use Rattle.signature.proofs.Growth.{grows, within_limits}
 use Rattle.signature.proofs.Numbers.{signature_push}
@@ -34,56 +35,57 @@ answer_from end entries part [] = ended end entries part
 answer_from end entries part (token ∷ rest) = then_answer (λ (s : State). answer_from end s.0 s.1 rest) (taken entries part token.0 token.1)
 
 -- an answer to what is left
-abbrev pub IsAnswerFrom : ℕ → List Token → List Placed → Result (List NameEntry) SignatureRefusal → Type 0
-IsAnswerFrom end front tokens (Ok entries) = IsSignature entries × (front ++ kinds tokens ≡ tokens_of entries)
+abbrev pub IsAnswerFrom : ℕ → List Placed → List Placed → Result (List NameEntry) SignatureRefusal → Type 0
+IsAnswerFrom end front tokens (Ok entries) = IsSignature entries × (kinds front ++ kinds tokens ≡ tokens_of entries)
 IsAnswerFrom end front tokens (Err refusal) = IsFirst refusal end front tokens
-
--- words are words
-abbrev pub AreProper : List Placed → Type 0
-AreProper tokens = AllByRecursion (λ (token : Placed). IsProper token.1) tokens
 
 -- a signature stays one
 signature_next : (entries : List NameEntry) (part : Part) (token : Token) (after : State) → IsSignature entries → IsFit entries part → next entries part token ≡ Some after → IsSignature after.0
 signature_next entries parts.Nothing (Word word) after signature fit e = subst (λ (s : State). IsSignature s.0) (some_is _ after (chosen_some _ _ after e).1) signature
-signature_next entries (parts.Name name) OpenParen after signature fit e = subst (λ (s : State). IsSignature s.0) (some_is (entries, parts.Open name) after e) signature
+signature_next entries (parts.Name name) (Mark OpenParen) after signature fit e = subst (λ (s : State). IsSignature s.0) (some_is (entries, parts.Open name) after e) signature
 signature_next entries (parts.Open name) (Word word) after signature fit e = subst (λ (s : State). IsSignature s.0) (sort_taken entries name [] (sort_of word) after e).2 signature
-signature_next entries (parts.Open name) CloseParen after signature fit e = subst (λ (s : State). IsSignature s.0) (some_is (entries, parts.Close name []) after e) signature
-signature_next entries (parts.Sorts name sorts) Comma after signature fit e = subst (λ (s : State). IsSignature s.0) (some_is (entries, parts.Comma name sorts) after e) signature
-signature_next entries (parts.Sorts name sorts) CloseParen after signature fit e = subst (λ (s : State). IsSignature s.0) (some_is (entries, parts.Close name sorts) after e) signature
+signature_next entries (parts.Open name) (Mark CloseParen) after signature fit e = subst (λ (s : State). IsSignature s.0) (some_is (entries, parts.Close name []) after e) signature
+signature_next entries (parts.Sorts name sorts) (Mark Comma) after signature fit e = subst (λ (s : State). IsSignature s.0) (some_is (entries, parts.Comma name sorts) after e) signature
+signature_next entries (parts.Sorts name sorts) (Mark CloseParen) after signature fit e = subst (λ (s : State). IsSignature s.0) (some_is (entries, parts.Close name sorts) after e) signature
 signature_next entries (parts.Comma name sorts) (Word word) after signature fit e = subst (λ (s : State). IsSignature s.0) (sort_taken entries name sorts (sort_of word) after e).2 signature
-signature_next entries (parts.Close name sorts) Plus after signature fit e = subst (λ (s : State). IsSignature s.0) (some_is (entries, parts.Mark (entry_of name sorts true false)) after e) signature
-signature_next entries (parts.Close name sorts) Minus after signature fit e = subst (λ (s : State). IsSignature s.0) (some_is (entries, parts.Mark (entry_of name sorts false true)) after e) signature
-signature_next entries (parts.Close name sorts) PlusMinus after signature fit e = subst (λ (s : State). IsSignature s.0) (some_is (entries, parts.Mark (entry_of name sorts true true)) after e) signature
-signature_next entries (parts.Close name sorts) Semicolon after signature fit e =
+signature_next entries (parts.Close name sorts) (Mark Plus) after signature fit e = subst (λ (s : State). IsSignature s.0) (some_is (entries, parts.Mark (entry_of name sorts true false)) after e) signature
+signature_next entries (parts.Close name sorts) (Mark Minus) after signature fit e = subst (λ (s : State). IsSignature s.0) (some_is (entries, parts.Mark (entry_of name sorts false true)) after e) signature
+signature_next entries (parts.Close name sorts) (Mark PlusMinus) after signature fit e = subst (λ (s : State). IsSignature s.0) (some_is (entries, parts.Mark (entry_of name sorts true true)) after e) signature
+signature_next entries (parts.Close name sorts) (Mark Semicolon) after signature fit e =
     subst (λ (s : State). IsSignature s.0) (some_is (entries ++ entry_of name sorts false false ∷ [], parts.Nothing) after e)
     (signature_push entries (entry_of name sorts false false) signature (record { room = fit.0.room; fits = record { named = fit.0.named; short = fit.0.short; narrow = fit.1 }; absent = fit.0.absent }))
-signature_next entries (parts.Mark entry) Semicolon after signature fit e =
+signature_next entries (parts.Mark entry) (Mark Semicolon) after signature fit e =
     subst (λ (s : State). IsSignature s.0) (some_is (entries ++ entry ∷ [], parts.Nothing) after e)
     (signature_push entries entry signature (record { room = fit.0.room; fits = record { named = fit.0.named; short = fit.0.short; narrow = fit.1 }; absent = fit.0.absent }))
 signature_next entries part token after signature fit e = absurd cc
 
+-- one token more
+kinds_push : (front : List Placed) (token : Placed) → kinds (front ++ token ∷ []) ≡ kinds front ++ token.1 ∷ []
+kinds_push [] token = refl
+kinds_push (first ∷ front) token = ap (λ rest. first.1 ∷ rest) (kinds_push front token)
+
 -- what holds of a state on the way
-pub record IsOn (front : List Token) (entries : List NameEntry) (part : Part) : Type 0 where
-  pub reached : Reached front entries part
+pub record IsOn (front : List Placed) (entries : List NameEntry) (part : Part) : Type 0 where
+  pub reached : Reached (kinds front) entries part
   pub signature : IsSignature entries
   pub fit : IsFit entries part
 
-on_next : (front : List Token) (entries : List NameEntry) (part : Part) (token : Placed) (after : State) → IsOn front entries part → IsProper token.1 → taken entries part token.0 token.1 ≡ Ok after → IsOn (front ++ token.1 ∷ []) after.0 after.1
-on_next front entries part token after on proper e =
+on_next : (front : List Placed) (entries : List NameEntry) (part : Part) (token : Placed) (after : State) → IsOn front entries part → taken entries part token.0 token.1 ≡ Ok after → IsOn (front ++ token ∷ []) after.0 after.1
+on_next front entries part token after on e =
     let h = taken_parts token.0 (next entries part token.1) (limit_refusal entries part token.0 token.1) after e in
     record {
-      reached = reached_next front entries part on.reached token.1 after proper h.0;
+      reached = subst (λ tokens. Reached tokens after.0 after.1) (sym (kinds_push front token)) (reached_next (kinds front) entries part on.reached token.1 after h.0);
       signature = signature_next entries part token.1 after on.signature on.fit h.0;
-      fit = fit_next entries part token.0 token.1 after proper on.fit h.0 h.1;
+      fit = fit_next entries part token.0 token.1 after on.fit h.0 h.1;
     }
 
 -- no sentence ends within an entry
-not_ended : (front : List Token) (entries : List NameEntry) (part : Part) → (◌≡◌ {A = Part} parts.Nothing part → ⊥) → Reached front entries part → IsSentence front → ⊥
-not_ended front entries part other reached (others, named, is) = other (ap (λ (s : State). s.1) (same_entries entries others part front named reached.run (sym is)))
+not_ended : (front : List Placed) (entries : List NameEntry) (part : Part) → (◌≡◌ {A = Part} parts.Nothing part → ⊥) → Reached (kinds front) entries part → IsSentence (kinds front) → ⊥
+not_ended front entries part other reached (others, named, is) = other (ap (λ (s : State). s.1) (same_entries entries others part (kinds front) named reached.run (sym is)))
 
 -- the reader's answer at the end is one
-ended_is : (end : ℕ) (front : List Token) (entries : List NameEntry) (part : Part) → IsOn front entries part → IsAnswerFrom end front [] (ended end entries part)
-ended_is end front entries parts.Nothing on = (on.signature, append-nil front ∙ on.reached.is ∙ append-nil (tokens_of entries))
+ended_is : (end : ℕ) (front : List Placed) (entries : List NameEntry) (part : Part) → IsOn front entries part → IsAnswerFrom end front [] (ended end entries part)
+ended_is end front entries parts.Nothing on = (on.signature, append-nil (kinds front) ∙ on.reached.is ∙ append-nil (tokens_of entries))
 ended_is end front entries (parts.Name name) on = (refl, not_ended front entries (parts.Name name) (λ e. cc) on.reached)
 ended_is end front entries (parts.Open name) on = (refl, not_ended front entries (parts.Open name) (λ e. cc) on.reached)
 ended_is end front entries (parts.Sorts name sorts) on = (refl, not_ended front entries (parts.Sorts name sorts) (λ e. cc) on.reached)
@@ -92,30 +94,30 @@ ended_is end front entries (parts.Close name sorts) on = (refl, not_ended front 
 ended_is end front entries (parts.Mark entry) on = (refl, not_ended front entries (parts.Mark entry) (λ e. cc) on.reached)
 
 -- an answer to the rest is one to the token and the rest, where no refusal stands at the token
-answer_back : (end : ℕ) (front : List Token) (token : Placed) (rest : List Placed) (answer : Result (List NameEntry) SignatureRefusal) → ((refusal : SignatureRefusal) → Stands refusal front token → ⊥) → IsAnswerFrom end (front ++ token.1 ∷ []) rest answer → IsAnswerFrom end front (token ∷ rest) answer
-answer_back end front token rest (Ok entries) clear (signature, is) = (signature, sym (append_assoc front (token.1 ∷ []) (kinds rest)) ∙ is)
+answer_back : (end : ℕ) (front : List Placed) (token : Placed) (rest : List Placed) (answer : Result (List NameEntry) SignatureRefusal) → ((refusal : SignatureRefusal) → Stands refusal (kinds front) token → ⊥) → IsAnswerFrom end (front ++ token ∷ []) rest answer → IsAnswerFrom end front (token ∷ rest) answer
+answer_back end front token rest (Ok entries) clear (signature, is) = (signature, sym (append_assoc (kinds front) (token.1 ∷ []) (kinds rest)) ∙ ap (λ tokens. tokens ++ kinds rest) (sym (kinds_push front token)) ∙ is)
 answer_back end front token rest (Err refusal) clear first = inr (clear, first)
 
 taken_not_refused : (o : Result State SignatureRefusal) (after : State) (refusal : SignatureRefusal) → o ≡ Ok after → o ≡ Err refusal → ⊥
 taken_not_refused o after refusal e f = cc
 
 -- the reader's answer is one
-pub reader_answers : (end : ℕ) (front : List Token) (entries : List NameEntry) (part : Part) (tokens : List Placed) → IsOn front entries part → AreProper tokens → IsAnswerFrom end front tokens (answer_from end entries part tokens)
-reader_answers end front entries part [] on proper = ended_is end front entries part on
-reader_answers end front entries part (token ∷ rest) on proper =
+pub reader_answers : (end : ℕ) (front : List Placed) (entries : List NameEntry) (part : Part) (tokens : List Placed) → IsOn front entries part → IsAnswerFrom end front tokens (answer_from end entries part tokens)
+reader_answers end front entries part [] on = ended_is end front entries part on
+reader_answers end front entries part (token ∷ rest) on =
     by (taken entries part token.0 token.1) refl
-    (λ (s : State) e. reader_answers end (front ++ token.1 ∷ []) s.0 s.1 rest (on_next front entries part token s on proper.0 e) proper.1)
+    (λ (s : State) e. reader_answers end (front ++ token ∷ []) s.0 s.1 rest (on_next front entries part token s on e))
   where
-    by : (o : Result State SignatureRefusal) → taken entries part token.0 token.1 ≡ o → ((s : State) → taken entries part token.0 token.1 ≡ Ok s → IsAnswerFrom end (front ++ token.1 ∷ []) rest (answer_from end s.0 s.1 rest)) → IsAnswerFrom end front (token ∷ rest) (then_answer (λ (s : State). answer_from end s.0 s.1 rest) o)
+    by : (o : Result State SignatureRefusal) → taken entries part token.0 token.1 ≡ o → ((s : State) → taken entries part token.0 token.1 ≡ Ok s → IsAnswerFrom end (front ++ token ∷ []) rest (answer_from end s.0 s.1 rest)) → IsAnswerFrom end front (token ∷ rest) (then_answer (λ (s : State). answer_from end s.0 s.1 rest) o)
     by (Ok s) e later =
-        answer_back end front token rest (answer_from end s.0 s.1 rest) (λ refusal stands. taken_not_refused _ s refusal e (stands_refused front entries part token on.reached on.signature.few proper.0 refusal stands)) (later s e)
-    by (Err refusal) e later = inl (refused_stands front entries part token on.reached on.signature.few proper.0 refusal e)
+        answer_back end front token rest (answer_from end s.0 s.1 rest) (λ refusal stands. taken_not_refused _ s refusal e (stands_refused (kinds front) entries part token on.reached on.signature.few refusal stands)) (later s e)
+    by (Err refusal) e later = inl (refused_stands (kinds front) entries part token on.reached on.signature.few refusal e)
 
 all_named : (entries : List NameEntry) → IsSignature entries → AreNamed entries
 all_named entries signature = λ k d within. (signature.each k d within).named
 
 -- a refusal that is first at the end
-ended_refused : (end : ℕ) (front : List Token) (entries : List NameEntry) (part : Part) (refusal : SignatureRefusal) → Reached front entries part → IsFirst refusal end front [] → ◌≡◌ {A = Result (List NameEntry) SignatureRefusal} (Err refusal) (ended end entries part)
+ended_refused : (end : ℕ) (front : List Placed) (entries : List NameEntry) (part : Part) (refusal : SignatureRefusal) → Reached (kinds front) entries part → IsFirst refusal end front [] → ◌≡◌ {A = Result (List NameEntry) SignatureRefusal} (Err refusal) (ended end entries part)
 ended_refused end front entries parts.Nothing refusal reached (is, never) = absurd (never (entries, reached.named, sym (reached.is ∙ append-nil (tokens_of entries))))
 ended_refused end front entries (parts.Name name) refusal reached (is, never) = ap Err is
 ended_refused end front entries (parts.Open name) refusal reached (is, never) = ap Err is
@@ -152,35 +154,35 @@ refused_is : (x y : SignatureRefusal) → ◌≡◌ {A = Result State SignatureR
 refused_is x y e = cc
 
 -- no other answer is one
-pub only_answer : (end : ℕ) (front : List Token) (entries : List NameEntry) (part : Part) (tokens : List Placed) (answer : Result (List NameEntry) SignatureRefusal) → IsOn front entries part → AreProper tokens → IsAnswerFrom end front tokens answer → answer ≡ answer_from end entries part tokens
-only_answer end front entries part [] (Err refusal) on proper first = ended_refused end front entries part refusal on.reached first
-only_answer end front entries part [] (Ok all) on proper (signature, is) =
-    ap (λ (s : State). ended end s.0 s.1) (same_entries entries all part front (all_named all signature) on.reached.run (sym (append-nil front) ∙ is))
-only_answer end front entries part (token ∷ rest) (Err refusal) on proper first =
+pub only_answer : (end : ℕ) (front : List Placed) (entries : List NameEntry) (part : Part) (tokens : List Placed) (answer : Result (List NameEntry) SignatureRefusal) → IsOn front entries part → IsAnswerFrom end front tokens answer → answer ≡ answer_from end entries part tokens
+only_answer end front entries part [] (Err refusal) on first = ended_refused end front entries part refusal on.reached first
+only_answer end front entries part [] (Ok all) on (signature, is) =
+    ap (λ (s : State). ended end s.0 s.1) (same_entries entries all part (kinds front) (all_named all signature) on.reached.run (sym (append-nil (kinds front)) ∙ is))
+only_answer end front entries part (token ∷ rest) (Err refusal) on first =
     by (taken entries part token.0 token.1) refl first
-    (λ (s : State) e later. only_answer end (front ++ token.1 ∷ []) s.0 s.1 rest (Err refusal) (on_next front entries part token s on proper.0 e) proper.1 later)
+    (λ (s : State) e later. only_answer end (front ++ token ∷ []) s.0 s.1 rest (Err refusal) (on_next front entries part token s on e) later)
   where
-    by : (o : Result State SignatureRefusal) → taken entries part token.0 token.1 ≡ o → IsFirst refusal end front (token ∷ rest) → ((s : State) → taken entries part token.0 token.1 ≡ Ok s → IsFirst refusal end (front ++ token.1 ∷ []) rest → Err refusal ≡ answer_from end s.0 s.1 rest) → ◌≡◌ {A = Result (List NameEntry) SignatureRefusal} (Err refusal) (then_answer (λ (s : State). answer_from end s.0 s.1 rest) o)
-    by (Ok s) e (inl stands) later = absurd (taken_not_refused _ s refusal e (stands_refused front entries part token on.reached on.signature.few proper.0 refusal stands))
+    by : (o : Result State SignatureRefusal) → taken entries part token.0 token.1 ≡ o → IsFirst refusal end front (token ∷ rest) → ((s : State) → taken entries part token.0 token.1 ≡ Ok s → IsFirst refusal end (front ++ token ∷ []) rest → Err refusal ≡ answer_from end s.0 s.1 rest) → ◌≡◌ {A = Result (List NameEntry) SignatureRefusal} (Err refusal) (then_answer (λ (s : State). answer_from end s.0 s.1 rest) o)
+    by (Ok s) e (inl stands) later = absurd (taken_not_refused _ s refusal e (stands_refused (kinds front) entries part token on.reached on.signature.few refusal stands))
     by (Ok s) e (inr clear) later = later s e clear.1
-    by (Err other) e (inl stands) later = ap Err (refused_is refusal other (sym (stands_refused front entries part token on.reached on.signature.few proper.0 refusal stands) ∙ e))
-    by (Err other) e (inr clear) later = absurd (clear.0 other (refused_stands front entries part token on.reached on.signature.few proper.0 other e))
-only_answer end front entries part (token ∷ rest) (Ok all) on proper (signature, is) =
+    by (Err other) e (inl stands) later = ap Err (refused_is refusal other (sym (stands_refused (kinds front) entries part token on.reached on.signature.few refusal stands) ∙ e))
+    by (Err other) e (inr clear) later = absurd (clear.0 other (refused_stands (kinds front) entries part token on.reached on.signature.few other e))
+only_answer end front entries part (token ∷ rest) (Ok all) on (signature, is) =
     by (taken entries part token.0 token.1) refl
-    (λ (s : State) e. only_answer end (front ++ token.1 ∷ []) s.0 s.1 rest (Ok all) (on_next front entries part token s on proper.0 e) proper.1 (signature, append_assoc front (token.1 ∷ []) (kinds rest) ∙ is))
+    (λ (s : State) e. only_answer end (front ++ token ∷ []) s.0 s.1 rest (Ok all) (on_next front entries part token s on e) (signature, ap (λ tokens. tokens ++ kinds rest) (kinds_push front token) ∙ append_assoc (kinds front) (token.1 ∷ []) (kinds rest) ∙ is))
   where
     by : (o : Result State SignatureRefusal) → taken entries part token.0 token.1 ≡ o → ((s : State) → taken entries part token.0 token.1 ≡ Ok s → Ok all ≡ answer_from end s.0 s.1 rest) → ◌≡◌ {A = Result (List NameEntry) SignatureRefusal} (Ok all) (then_answer (λ (s : State). answer_from end s.0 s.1 rest) o)
     by (Ok s) e later = later s e
-    by (Err refusal) e later = absurd (never_stands front entries part token (kinds rest) all refusal on.reached signature is (refused_stands front entries part token on.reached on.signature.few proper.0 refusal e))
+    by (Err refusal) e later = absurd (never_stands (kinds front) entries part token (kinds rest) all refusal on.reached signature is (refused_stands (kinds front) entries part token on.reached on.signature.few refusal e))
 
 -- before the first token
 pub start_on : IsOn [] [] parts.Nothing
 start_on = record { reached = nothing_reached; signature = record { few = omega arith; each = λ k d within. absurd (omega arith); distinct = tt }; fit = omega arith }
 
-pub answer_to : (bytes : List ℕ) (answer : Result (List NameEntry) SignatureRefusal) → IsAnswerFrom (length bytes) [] (tokens bytes) answer → IsAnswer bytes answer
+pub answer_to : (bytes : List ℕ) (answer : Result (List NameEntry) SignatureRefusal) → IsAnswerFrom (length bytes) [] (signature_tokens bytes) answer → IsAnswer bytes answer
 answer_to bytes (Ok entries) is = is
 answer_to bytes (Err refusal) is = is
 
-pub answer_of : (bytes : List ℕ) (answer : Result (List NameEntry) SignatureRefusal) → IsAnswer bytes answer → IsAnswerFrom (length bytes) [] (tokens bytes) answer
+pub answer_of : (bytes : List ℕ) (answer : Result (List NameEntry) SignatureRefusal) → IsAnswer bytes answer → IsAnswerFrom (length bytes) [] (signature_tokens bytes) answer
 answer_of bytes (Ok entries) is = is
 answer_of bytes (Err refusal) is = is

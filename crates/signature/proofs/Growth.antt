@@ -4,14 +4,16 @@ use Rattle.std.specs.Option.{option_and_then}
 use Rattle.std.proofs.lemmas.Bool.{le-ltb}
 use Rattle.std.proofs.lemmas.Bool.Decides.{nat_tests}
 use Rattle.std.proofs.lemmas.List.{append-nil}
+use Rattle.enf_value.specs.Names.{is_name}
 use Rattle.signature.specs.declared.entries.NameEntry.{NameEntry}
 use Rattle.signature.specs.declared.reading.Part.{Part}
 use Rattle.signature.specs.declared.reading.Part.TheVariants as parts
 use Rattle.signature.specs.declared.refusals.SignatureLimit.TheVariants.{Names, Arity, Name}
 use Rattle.signature.specs.declared.refusals.SignatureRefusal.TheVariants.{Limit}
-use Rattle.signature.specs.Grammar.{IsSignature, IsNew, is_reserved}
+use Rattle.signature.specs.Grammar.{IsSignature, IsNew}
 use Rattle.signature.specs.Reading.{State, entry_of, limit_refusal, name_refusal, next, repeated, sort_of}
-use Rattle.signature.specs.Tokens.{Token, Word, OpenParen, CloseParen, Comma, Semicolon, Plus, Minus, PlusMinus}
+use Rattle.enf_value.specs.Tokens.{Token, Word, Mark}
+use Rattle.enf_value.specs.declared.tokens.Mark.TheVariants.{OpenParen, CloseParen, Comma, Semicolon, PlusMinus, Plus, Minus}
 use Rattle.signature.proofs.Fits.{chosen_some, sort_taken, some_is}
 use Rattle.signature.proofs.Numbers.{new_next}
 use Rattle.signature.proofs.Runs.{run}
@@ -44,24 +46,24 @@ module _ (entries all : List NameEntry) where
   -- a token takes nothing back
   grows_back : (part : Part) (token : Token) (after : State) → next entries part token ≡ Some after → Grows after.0 after.1 all → Grows entries part all
   grows_back parts.Nothing (Word word) after e grows =
-      let g : GoesOn entries word 0 all = subst (λ (s : State). Grows s.0 s.1 all) (sym (some_is _ after (chosen_some (is_reserved word) _ after e).1)) grows in
+      let g : GoesOn entries word 0 all = subst (λ (s : State). Grows s.0 s.1 all) (sym (some_is _ after (chosen_some (is_name word) _ after e).1)) grows in
       (g.entry ∷ g.more, g.is)
-  grows_back (parts.Name name) OpenParen after e grows = subst (λ (s : State). Grows s.0 s.1 all) (sym (some_is (entries, parts.Open name) after e)) grows
+  grows_back (parts.Name name) (Mark OpenParen) after e grows = subst (λ (s : State). Grows s.0 s.1 all) (sym (some_is (entries, parts.Open name) after e)) grows
   grows_back (parts.Open name) (Word word) after e grows =
       let h = sort_taken entries name [] (sort_of word) after e in
       fewer entries name 0 1 all (omega arith) (subst (λ (s : State). Grows s.0 s.1 all) (sym h.2) grows)
-  grows_back (parts.Open name) CloseParen after e grows = subst (λ (s : State). Grows s.0 s.1 all) (sym (some_is (entries, parts.Close name []) after e)) grows
-  grows_back (parts.Sorts name sorts) Comma after e grows = subst (λ (s : State). Grows s.0 s.1 all) (sym (some_is (entries, parts.Comma name sorts) after e)) grows
-  grows_back (parts.Sorts name sorts) CloseParen after e grows = subst (λ (s : State). Grows s.0 s.1 all) (sym (some_is (entries, parts.Close name sorts) after e)) grows
+  grows_back (parts.Open name) (Mark CloseParen) after e grows = subst (λ (s : State). Grows s.0 s.1 all) (sym (some_is (entries, parts.Close name []) after e)) grows
+  grows_back (parts.Sorts name sorts) (Mark Comma) after e grows = subst (λ (s : State). Grows s.0 s.1 all) (sym (some_is (entries, parts.Comma name sorts) after e)) grows
+  grows_back (parts.Sorts name sorts) (Mark CloseParen) after e grows = subst (λ (s : State). Grows s.0 s.1 all) (sym (some_is (entries, parts.Close name sorts) after e)) grows
   grows_back (parts.Comma name sorts) (Word word) after e grows =
       let h = sort_taken entries name sorts (sort_of word) after e in
       fewer entries name (length sorts) (length (sorts ++ h.0 ∷ [])) all (omega (arith, length-append sorts (h.0 ∷ []))) (subst (λ (s : State). Grows s.0 s.1 all) (sym h.2) grows)
-  grows_back (parts.Close name sorts) Plus after e grows = subst (λ (s : State). Grows s.0 s.1 all) (sym (some_is (entries, parts.Mark (entry_of name sorts true false)) after e)) grows
-  grows_back (parts.Close name sorts) Minus after e grows = subst (λ (s : State). Grows s.0 s.1 all) (sym (some_is (entries, parts.Mark (entry_of name sorts false true)) after e)) grows
-  grows_back (parts.Close name sorts) PlusMinus after e grows = subst (λ (s : State). Grows s.0 s.1 all) (sym (some_is (entries, parts.Mark (entry_of name sorts true true)) after e)) grows
-  grows_back (parts.Close name sorts) Semicolon after e grows =
+  grows_back (parts.Close name sorts) (Mark Plus) after e grows = subst (λ (s : State). Grows s.0 s.1 all) (sym (some_is (entries, parts.Mark (entry_of name sorts true false)) after e)) grows
+  grows_back (parts.Close name sorts) (Mark Minus) after e grows = subst (λ (s : State). Grows s.0 s.1 all) (sym (some_is (entries, parts.Mark (entry_of name sorts false true)) after e)) grows
+  grows_back (parts.Close name sorts) (Mark PlusMinus) after e grows = subst (λ (s : State). Grows s.0 s.1 all) (sym (some_is (entries, parts.Mark (entry_of name sorts true true)) after e)) grows
+  grows_back (parts.Close name sorts) (Mark Semicolon) after e grows =
       put entries (entry_of name sorts false false) all (subst (λ (s : State). Grows s.0 s.1 all) (sym (some_is (entries ++ entry_of name sorts false false ∷ [], parts.Nothing) after e)) grows)
-  grows_back (parts.Mark entry) Semicolon after e grows =
+  grows_back (parts.Mark entry) (Mark Semicolon) after e grows =
       put entries entry all (subst (λ (s : State). Grows s.0 s.1 all) (sym (some_is (entries ++ entry ∷ [], parts.Nothing) after e)) grows)
   grows_back part token after e grows = absurd cc
 
@@ -84,7 +86,7 @@ name_within entries entry place new =
 -- and no token on the way to it
 pub within_limits : (entries : List NameEntry) (part : Part) (place : ℕ) (token : Token) (after : State) (all : List NameEntry) → IsSignature all → next entries part token ≡ Some after → Grows after.0 after.1 all → limit_refusal entries part place token ≡ None
 within_limits entries parts.Nothing place (Word word) after all signature e grows =
-    let g : GoesOn entries word 0 all = subst (λ (s : State). Grows s.0 s.1 all) (sym (some_is _ after (chosen_some (is_reserved word) _ after e).1)) grows in
+    let g : GoesOn entries word 0 all = subst (λ (s : State). Grows s.0 s.1 all) (sym (some_is _ after (chosen_some (is_name word) _ after e).1)) grows in
     ap (name_refusal entries place) (sym g.named) ∙ name_within entries g.entry place (new_next all entries g.more g.entry signature g.is)
 within_limits entries (parts.Comma name sorts) place (Word word) after all signature e grows =
     let h = sort_taken entries name sorts (sort_of word) after e in

@@ -1,10 +1,8 @@
 pub mod Numbers
-pub mod Words
 pub mod Fits
 pub mod Runs
 pub mod Written
 pub mod Standing
 pub mod Growth
 pub mod Answering
-pub mod Cutting
 pub mod Loop

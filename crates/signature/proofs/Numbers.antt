@@ -1,28 +1,18 @@
 -- The number of a name among entries that are kept under their names.
-use Rattle.std.proofs.Common.{◌≡◌, ℕ, suc, ◌<◌, ◌≤◌, Bool, true, false, cond, ltb, List, [], ◌∷◌, ◌++◌, length, map, Option, None, Some, Contains, Vec, position, refl, sym, ap, subst, ◌∙◌, arith, zero, ⊎_elim, true≢false, get_or, slice_get, length-append}
-use Rattle.std.specs.List.{position_or_len}
+use Rattle.std.proofs.Common.{◌≡◌, ℕ, suc, ◌<◌, ◌≤◌, Bool, true, false, cond, List, [], ◌∷◌, ◌++◌, length, map, Option, None, Some, Contains, Vec, position, refl, sym, ap, subst, ◌∙◌, arith, zero, true≢false, get_or, slice_get, length-append}
 use Rattle.std.specs.Map.{lookup, keys_of}
 use Rattle.std.specs.Option.{option_map}
 use Rattle.std.specs.Str.{bytes_eq}
 use Rattle.std.specs.declared.alloc.Global.{Global}
-use Rattle.std.proofs.lemmas.Bool.Decides.{nat_tests}
-use Rattle.std.proofs.lemmas.List.Elements.{Contains-push_cases, Contains-append_right, All-push, All-contains}
-use Rattle.std.proofs.lemmas.Option.{slice_get-map, slice_get_within, get_or_from_slice_get}
+use Rattle.std.proofs.lemmas.List.Elements.{Contains-append_right, All-push, All-contains}
 use Rattle.std.proofs.lemmas.Slice.Eq.{bytes_eq-Decides}
 use Rattle.enf_value.specs.Membership.{HasNoRepeats}
+use Rattle.enf_value.specs.MembershipLaws.{HasNoRepeats-push, HasNoRepeats-middle}
 use Rattle.enf_value.specs.declared.events.NameId.{NameId}
 use Rattle.signature.specs.declared.entries.NameEntry.{NameEntry}
 use Rattle.signature.specs.Grammar.{names, number_of, IsEntry, IsSignature, IsNew}
 use Rattle.signature.specs.Keys.{AreKeyed}
-
--- the first item that passes is the first, or among the others
-pub position-cons : {X : Type 0} (p : X → Bool) (x : X) (xs : List X) → position p (x ∷ xs) ≡ cond (p x) (Some 0) (option_map suc (position p xs))
-position-cons p x xs = by (p x) (ltb (position_or_len p xs) (length xs)) refl refl
-  where
-    by : (b d : Bool) → p x ≡ b → ltb (position_or_len p xs) (length xs) ≡ d → position p (x ∷ xs) ≡ cond (p x) (Some 0) (option_map suc (position p xs))
-    by true d e f = grind (arith, nat_tests)
-    by false true e f = grind (arith, nat_tests)
-    by false false e f = grind (arith, nat_tests)
+use Rattle.signature.specs.NumberLaws.{number_only, position-cons}
 
 -- the keys tell the numbers of the entries
 pub number_is : (name : List ℕ) (pairs : List (Vec ℕ Global × NameEntry)) → AreKeyed pairs → position (λ (key : Vec ℕ Global). bytes_eq name key.items) (keys_of pairs) ≡ number_of (map (λ pair. pair.1) pairs) name
@@ -72,25 +62,6 @@ absent_from_none (entry ∷ entries) name none there =
     by zero within is rest = true≢false (sym ((bytes_eq-Decides name entry.text).1 (sym is)) ∙ (none_head entry entries name none).0)
     by (suc k) within is rest = rest (k, omega (arith, within), is)
 
--- the entry at a place has its name among the names
-pub name_at_place : (entries : List NameEntry) (name : List ℕ) (number : ℕ) → option_map (λ (entry : NameEntry). entry.text) (slice_get entries number) ≡ Some name → Contains (names entries) name
-name_at_place entries name number is =
-    let there : slice_get (names entries) number ≡ Some name = slice_get-map (λ (entry : NameEntry). entry.text) entries number ∙ is in
-    (number, slice_get_within (names entries) number name there, get_or_from_slice_get (names entries) number name name there)
-
--- among names that differ, the entry with a name is the one at its number
-pub number_only : (entries : List NameEntry) (name : List ℕ) (number : ℕ) → HasNoRepeats (names entries) → option_map (λ (entry : NameEntry). entry.text) (slice_get entries number) ≡ Some name → number_of entries name ≡ Some number
-number_only [] name number distinct is = absurd cc
-number_only (entry ∷ entries) name zero distinct is =
-    let same : entry.text ≡ name = cc in
-    position-cons (λ y. bytes_eq name y.text) entry entries ∙ ap (λ b. cond b (Some 0) (option_map suc (number_of entries name))) ((bytes_eq-Decides name entry.text).1 (sym same))
-number_only (entry ∷ entries) name (suc number) distinct is =
-    position-cons (λ y. bytes_eq name y.text) entry entries ∙ by (bytes_eq name entry.text) refl (number_only entries name number distinct.1 is)
-  where
-    by : (b : Bool) → bytes_eq name entry.text ≡ b → number_of entries name ≡ Some number → cond (bytes_eq name entry.text) (Some 0) (option_map suc (number_of entries name)) ≡ Some (suc number)
-    by true same rest = absurd (distinct.0 (subst (Contains (names entries)) ((bytes_eq-Decides name entry.text).0 same) (name_at_place entries name number is)))
-    by false differs rest = ap (λ b. cond b (Some 0) (option_map suc (number_of entries name))) differs ∙ ap (option_map suc) rest
-
 -- the number that was found is that of each place with the name
 pub found_only : (entries : List NameEntry) (name : List ℕ) (number : NameId) (other : NameId) → HasNoRepeats (names entries) → number_of entries name ≡ Some number.0
     → option_map (λ (entry : NameEntry). entry.text) (slice_get entries other.0) ≡ Some name → ◌≡◌ {A = Option NameId} (Some number) (Some other)
@@ -120,33 +91,17 @@ names_push : (entries : List NameEntry) (entry : NameEntry) → names (entries +
 names_push [] entry = refl
 names_push (first ∷ entries) entry = ap (λ rest. first.text ∷ rest) (names_push entries entry)
 
-pub distinct_push : (xs : List (List ℕ)) (x : List ℕ) → HasNoRepeats xs → (Contains xs x → ⊥) → HasNoRepeats (xs ++ x ∷ [])
-distinct_push [] x distinct absent = (λ there. omega (arith, there.1), tt)
-distinct_push (y ∷ ys) x distinct absent = (
-  λ there. ⊎_elim distinct.0 (λ same. absent (0, omega arith, sym same)) (Contains-push_cases ys x y there),
-  distinct_push ys x distinct.1 (λ there. absent (suc there.0, omega (arith, there.1), there.2)),
-)
-
 -- an entry that can be put behind a signature makes one with it
 pub signature_push : (entries : List NameEntry) (entry : NameEntry) → IsSignature entries → IsNew entries entry → IsSignature (entries ++ entry ∷ [])
 signature_push entries entry signature new = record {
   few = omega (arith, length-append entries (entry ∷ []), new.room);
   each = All-push IsEntry entries entry signature.each new.fits;
-  distinct = rw names_push (distinct_push (names entries) entry.text signature.distinct (absent_from_none entries entry.text new.absent));
+  distinct = rw names_push (HasNoRepeats-push (names entries) entry.text signature.distinct (absent_from_none entries entry.text new.absent));
 }
 
 names_append : (front back : List NameEntry) → names (front ++ back) ≡ names front ++ names back
 names_append [] back = refl
 names_append (first ∷ front) back = ap (λ rest. first.text ∷ rest) (names_append front back)
-
-distinct_middle : (xs : List (List ℕ)) (x : List ℕ) (ys : List (List ℕ)) → HasNoRepeats (xs ++ x ∷ ys) → Contains xs x → ⊥
-distinct_middle [] x ys distinct there = omega (arith, there.1)
-distinct_middle (first ∷ xs) x ys distinct there =
-    by there.0 there.1 there.2 (distinct_middle xs x ys distinct.1)
-  where
-    by : (k : ℕ) → k < length (first ∷ xs) → get_or (first ∷ xs) k x ≡ x → (Contains xs x → ⊥) → ⊥
-    by zero within is rest = distinct.0 (subst (Contains (xs ++ x ∷ ys)) (sym is) (Contains-append_right xs (x ∷ ys) x (0, omega arith, refl)))
-    by (suc k) within is rest = rest (k, omega (arith, within), is)
 
 -- each entry of a signature can be put behind those before it
 pub new_next : (entries front back : List NameEntry) (entry : NameEntry) → IsSignature entries → entries ≡ front ++ entry ∷ back → IsNew front entry
@@ -157,7 +112,7 @@ new_next entries front back entry signature is =
     record {
       room = omega (arith, few, length-append front (entry ∷ back));
       fits = All-contains IsEntry entries entry signature.each within;
-      absent = number_none front entry.text (distinct_middle (names front) entry.text (names back) distinct);
+      absent = number_none front entry.text (HasNoRepeats-middle (names front) (names back) entry.text distinct);
     }
 
 -- the entry with the number of a name has that name

@@ -1,19 +1,20 @@
 -- Runs of the reader without its limits: the tokens of entries lead to those entries, and to no others.
-use Rattle.std.proofs.Common.{◌≡◌, ℕ, ◌<◌, Bool, true, false, not, cond, List, [], ◌∷◌, ◌++◌, length, Option, None, Some, refl, sym, ap, ◌∙◌, arith, append_assoc}
+use Rattle.std.proofs.Common.{◌≡◌, ℕ, ◌<◌, Bool, true, false, cond, List, [], ◌∷◌, ◌++◌, length, Option, None, Some, refl, sym, ap, ◌∙◌, arith, append_assoc}
 use Rattle.std.specs.List.{AllByRecursion, flat_map}
 use Rattle.std.specs.Option.{option_and_then}
 use Rattle.std.specs.Prelude.{IsTrue}
 use Rattle.std.proofs.lemmas.List.{append-nil}
 use Rattle.std.proofs.lemmas.List.Elements.{recursion_from_All}
+use Rattle.enf_value.specs.Names.{is_name}
 use Rattle.signature.specs.declared.entries.NameEntry.{NameEntry}
 use Rattle.signature.specs.declared.entries.Sort.{Sort}
 use Rattle.signature.specs.declared.entries.Sort.TheVariants.{Int, Text}
 use Rattle.signature.specs.declared.reading.Part.{Part}
 use Rattle.signature.specs.declared.reading.Part.TheVariants as parts
-use Rattle.signature.specs.Grammar.{AreNamed, CanBegin, entry_tokens, is_name, is_reserved, mark_tokens, sort_token, sort_tokens, tokens_of}
+use Rattle.signature.specs.Grammar.{AreNamed, CanBegin, entry_tokens, mark_tokens, sort_token, sort_tokens, tokens_of}
 use Rattle.signature.specs.Reading.{State, next}
-use Rattle.signature.specs.Tokens.{Token, Word, OpenParen, CloseParen, Comma, Semicolon, is_word}
-use Rattle.signature.proofs.Words.{and_true}
+use Rattle.enf_value.specs.Tokens.{Token, Word, Mark}
+use Rattle.enf_value.specs.declared.tokens.Mark.TheVariants.{OpenParen, CloseParen, Comma, Semicolon}
 
 -- the state after tokens that can all stand
 abbrev pub run : List NameEntry → Part → List Token → Option State
@@ -33,16 +34,8 @@ run-append entries part (token ∷ xs) ys = by (next entries part token) (λ (s 
     by None rest = refl
     by (Some s) rest = rest s
 
-not_true : (b : Bool) → not b ≡ true → b ≡ false
-not_true true e = absurd cc
-not_true false e = refl
-
--- a name is no reserved word
-pub name_is_free : (name : List ℕ) → is_name name ≡ true → is_reserved name ≡ false
-name_is_free name e = not_true (is_reserved name) (and_true (is_word name) (not (is_reserved name)) e).1
-
 -- more sorts, each behind a comma
-run_more : (entries : List NameEntry) (name : List ℕ) (front sorts : List Sort) (rest : List Token) → run entries (parts.Sorts name front) (flat_map (λ s. Comma ∷ sort_token s ∷ []) sorts ++ rest) ≡ run entries (parts.Sorts name (front ++ sorts)) rest
+run_more : (entries : List NameEntry) (name : List ℕ) (front sorts : List Sort) (rest : List Token) → run entries (parts.Sorts name front) (flat_map (λ s. (Mark Comma) ∷ sort_token s ∷ []) sorts ++ rest) ≡ run entries (parts.Sorts name (front ++ sorts)) rest
 run_more entries name front [] rest = ap (λ sorts. run entries (parts.Sorts name sorts) rest) (sym (append-nil front))
 run_more entries name front (Int ∷ sorts) rest =
     run_more entries name (front ++ Int ∷ []) sorts rest ∙ ap (λ all. run entries (parts.Sorts name all) rest) (append_assoc front (Int ∷ []) sorts)
@@ -56,16 +49,16 @@ run_sorts entries name (Int ∷ sorts) rest some = run_more entries name (Int �
 run_sorts entries name (Text ∷ sorts) rest some = run_more entries name (Text ∷ []) sorts rest
 
 -- the sorts up to the parenthesis
-run_close : (entries : List NameEntry) (name : List ℕ) (sorts : List Sort) (rest : List Token) → run entries (parts.Open name) (sort_tokens sorts ++ CloseParen ∷ rest) ≡ run entries (parts.Close name sorts) rest
+run_close : (entries : List NameEntry) (name : List ℕ) (sorts : List Sort) (rest : List Token) → run entries (parts.Open name) (sort_tokens sorts ++ (Mark CloseParen) ∷ rest) ≡ run entries (parts.Close name sorts) rest
 run_close entries name [] rest = refl
-run_close entries name (sort ∷ sorts) rest = run_sorts entries name (sort ∷ sorts) (CloseParen ∷ rest) (omega arith)
+run_close entries name (sort ∷ sorts) rest = run_sorts entries name (sort ∷ sorts) ((Mark CloseParen) ∷ rest) (omega arith)
 
 -- the name and the parenthesis
-pub run_open : (entries : List NameEntry) (name : List ℕ) (rest : List Token) → is_name name ≡ true → run entries parts.Nothing (Word name ∷ OpenParen ∷ rest) ≡ run entries (parts.Open name) rest
+pub run_open : (entries : List NameEntry) (name : List ℕ) (rest : List Token) → is_name name ≡ true → run entries parts.Nothing (Word name ∷ (Mark OpenParen) ∷ rest) ≡ run entries (parts.Open name) rest
 run_open entries name rest named =
-    ap (λ b. option_and_then (λ (s : State). run s.0 s.1 (OpenParen ∷ rest)) (cond b None (Some (entries, parts.Name name)))) (name_is_free name named)
+    ap (λ b. option_and_then (λ (s : State). run s.0 s.1 (Mark OpenParen ∷ rest)) (cond b (Some (entries, parts.Name name)) None)) named
 
-run_mark : (entries : List NameEntry) (name : List ℕ) (sorts : List Sort) (c s : Bool) (rest : List Token) → run entries (parts.Close name sorts) (mark_tokens c s ++ Semicolon ∷ rest) ≡ run (entries ++ record { text = name; sorts = sorts; causable = c; suppressible = s } ∷ []) parts.Nothing rest
+run_mark : (entries : List NameEntry) (name : List ℕ) (sorts : List Sort) (c s : Bool) (rest : List Token) → run entries (parts.Close name sorts) (mark_tokens c s ++ (Mark Semicolon) ∷ rest) ≡ run (entries ++ record { text = name; sorts = sorts; causable = c; suppressible = s } ∷ []) parts.Nothing rest
 run_mark entries name sorts true true rest = refl
 run_mark entries name sorts true false rest = refl
 run_mark entries name sorts false true rest = refl
@@ -74,10 +67,10 @@ run_mark entries name sorts false false rest = refl
 -- an entry
 run_entry : (entries : List NameEntry) (entry : NameEntry) (rest : List Token) → is_name entry.text ≡ true → run entries parts.Nothing (entry_tokens entry ++ rest) ≡ run (entries ++ entry ∷ []) parts.Nothing rest
 run_entry entries entry rest named =
-    let regrouped : entry_tokens entry ++ rest ≡ Word entry.text ∷ OpenParen ∷ (sort_tokens entry.sorts ++ CloseParen ∷ (mark_tokens entry.causable entry.suppressible ++ Semicolon ∷ rest)) = simp append_assoc in
+    let regrouped : entry_tokens entry ++ rest ≡ Word entry.text ∷ (Mark OpenParen) ∷ (sort_tokens entry.sorts ++ (Mark CloseParen) ∷ (mark_tokens entry.causable entry.suppressible ++ (Mark Semicolon) ∷ rest)) = simp append_assoc in
     ap (run entries parts.Nothing) regrouped
-    ∙ run_open entries entry.text (sort_tokens entry.sorts ++ CloseParen ∷ (mark_tokens entry.causable entry.suppressible ++ Semicolon ∷ rest)) named
-    ∙ run_close entries entry.text entry.sorts (mark_tokens entry.causable entry.suppressible ++ Semicolon ∷ rest)
+    ∙ run_open entries entry.text (sort_tokens entry.sorts ++ (Mark CloseParen) ∷ (mark_tokens entry.causable entry.suppressible ++ (Mark Semicolon) ∷ rest)) named
+    ∙ run_close entries entry.text entry.sorts (mark_tokens entry.causable entry.suppressible ++ (Mark Semicolon) ∷ rest)
     ∙ run_mark entries entry.text entry.sorts entry.causable entry.suppressible rest
 
 -- entries

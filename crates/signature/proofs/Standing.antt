@@ -1,10 +1,11 @@
 -- A refusal stands at a token exactly where the reader refuses it.
-use Rattle.std.proofs.Common.{◌≡◌, ℕ, ◌≤◌, ◌==◌, nat_lt, Bool, true, false, ◌&&◌, not, cond, List, [], ◌∷◌, ◌++◌, length, ◌⊎◌, inl, inr, Option, None, Some, Result, Ok, Err, refl, sym, ap, subst, ◌∙◌, arith, append_assoc, eqb-true, eq-eqb, ⊎_elim}
+use Rattle.std.proofs.Common.{◌≡◌, ℕ, ◌≤◌, ◌==◌, nat_lt, Bool, true, false, cond, List, [], ◌∷◌, ◌++◌, length, ◌⊎◌, inl, inr, Option, None, Some, Result, Ok, Err, refl, sym, ap, subst, ◌∙◌, arith, append_assoc, eqb-true, eq-eqb, ⊎_elim}
 use Rattle.std.specs.Option.{option_and_then}
 use Rattle.std.specs.Prelude.{IsTrue}
 use Rattle.std.proofs.lemmas.Bool.{ltb-false, ltb-true, lt-ltb, le-ltb}
 use Rattle.std.proofs.lemmas.Bool.Decides.{nat_tests}
 use Rattle.std.proofs.lemmas.List.{append-nil}
+use Rattle.enf_value.specs.Names.{is_name}
 use Rattle.signature.specs.declared.entries.NameEntry.{NameEntry}
 use Rattle.signature.specs.declared.entries.Sort.{Sort}
 use Rattle.signature.specs.declared.entries.Sort.TheVariants.{Int, Text}
@@ -13,12 +14,13 @@ use Rattle.signature.specs.declared.reading.Part.TheVariants as parts
 use Rattle.signature.specs.declared.refusals.SignatureLimit.TheVariants.{Names, Arity, Name}
 use Rattle.signature.specs.declared.refusals.SignatureRefusal.{SignatureRefusal}
 use Rattle.signature.specs.declared.refusals.SignatureRefusal.TheVariants.{Syntax, Repeated, Limit, NoMemory}
-use Rattle.signature.specs.Grammar.{AreNamed, CanBegin, is_name, is_reserved, number_of, sort_token, sort_tokens, tokens_of}
-use Rattle.signature.specs.Reading.{State, limit_refusal, name_refusal, next, repeated, sort_of, taken, taken_by, IsProper}
+use Rattle.signature.specs.Grammar.{AreNamed, CanBegin, number_of, sort_token, sort_tokens, tokens_of}
+use Rattle.signature.specs.Reading.{State, limit_refusal, name_refusal, next, repeated, sort_of, taken, taken_by}
 use Rattle.signature.specs.Refusals.{IsNextName, IsNextSort, Stands}
-use Rattle.signature.specs.Tokens.{Token, Word, OpenParen, Comma, Placed, is_word}
+use Rattle.enf_value.specs.Tokens.{Token, Word, Placed, Mark}
+use Rattle.enf_value.specs.declared.tokens.Mark.TheVariants.{OpenParen, Comma}
 use Rattle.signature.proofs.Fits.{chosen_some, sort_taken, some_is}
-use Rattle.signature.proofs.Runs.{run, run-append, run_tokens, run_open, run_sorts, onward, name_is_free, same_entries, cannot_begin}
+use Rattle.signature.proofs.Runs.{run, run-append, run_tokens, run_open, run_sorts, onward, same_entries, cannot_begin}
 use Rattle.signature.proofs.Written.{IsSound, written, written_next, sound_next, named_next, written_can_begin, sort_word}
 
 -- the tokens lead to the state, and are what was written of it
@@ -33,27 +35,27 @@ nothing_reached = record { run = refl; is = refl; named = λ k d h. absurd (omeg
 
 module _ (front : List Token) (entries : List NameEntry) (part : Part) (reached : Reached front entries part) where
   -- a token more
-  pub reached_next : (token : Token) (after : State) → IsProper token → next entries part token ≡ Some after → Reached (front ++ token ∷ []) after.0 after.1
-  reached_next token after proper e = record {
+  pub reached_next : (token : Token) (after : State) → next entries part token ≡ Some after → Reached (front ++ token ∷ []) after.0 after.1
+  reached_next token after e = record {
     run = run-append [] parts.Nothing front (token ∷ []) ∙ ap (onward (token ∷ [])) reached.run ∙ ap (option_and_then (λ (s : State). run s.0 s.1 [])) e;
     is = ap (λ tokens. tokens ++ token ∷ []) reached.is ∙ sym (written_next entries part token after reached.sound e);
     named = named_next entries part token after reached.named reached.sound e;
-    sound = sound_next entries part token after proper reached.sound e;
+    sound = sound_next entries part token after reached.sound e;
   }
 
   -- a token that can stand can go on
-  pub can_begin_next : (token : Token) (after : State) → IsProper token → next entries part token ≡ Some after → CanBegin (front ++ token ∷ [])
-  can_begin_next token after proper e =
-      let then_reached = reached_next token after proper e in
+  pub can_begin_next : (token : Token) (after : State) → next entries part token ≡ Some after → CanBegin (front ++ token ∷ [])
+  can_begin_next token after e =
+      let then_reached = reached_next token after e in
       subst CanBegin (sym then_reached.is) (written_can_begin after.0 after.1 then_reached.named then_reached.sound)
 
 -- a name where no part of an entry has come
-next_name : (front : List Token) (entries : List NameEntry) (word : List ℕ) (after : State) → Reached front entries parts.Nothing → IsTrue (is_word word) → next entries parts.Nothing (Word word) ≡ Some after → IsNextName front (Word word) entries word
-next_name front entries word after reached proper e = record {
+next_name : (front : List Token) (entries : List NameEntry) (word : List ℕ) (after : State) → Reached front entries parts.Nothing → next entries parts.Nothing (Word word) ≡ Some after → IsNextName front (Word word) entries word
+next_name front entries word after reached e = record {
   before = reached.is ∙ append-nil (tokens_of entries);
   each = reached.named;
   word = refl;
-  free = (λ j. proper j && not ((chosen_some (is_reserved word) _ after e).0 j));
+  free = (chosen_some (is_name word) _ after e).0;
 }
 
 none_some : (refusal : SignatureRefusal) → None ≡ Some refusal → ⊥
@@ -93,12 +95,12 @@ sort_stands front entries name sorts sort place token refusal at e = by (length 
     by false h = absurd (none_some refusal (sym (ap (λ c. cond c (Some (Limit Arity place)) None) h) ∙ e))
 
 -- where a limit refuses a token, that refusal stands there
-pub limit_stands : (front : List Token) (entries : List NameEntry) (part : Part) (place : ℕ) (token : Token) (after : State) (refusal : SignatureRefusal) → Reached front entries part → length entries ≤ 256 → IsProper token → next entries part token ≡ Some after → limit_refusal entries part place token ≡ Some refusal → Stands refusal front (place, token)
-limit_stands front entries parts.Nothing place (Word word) after refusal reached few proper e l = name_stands front entries word place refusal (next_name front entries word after reached proper e) few l
-limit_stands front entries (parts.Comma name sorts) place (Word word) after refusal reached few proper e l =
+pub limit_stands : (front : List Token) (entries : List NameEntry) (part : Part) (place : ℕ) (token : Token) (after : State) (refusal : SignatureRefusal) → Reached front entries part → length entries ≤ 256 → next entries part token ≡ Some after → limit_refusal entries part place token ≡ Some refusal → Stands refusal front (place, token)
+limit_stands front entries parts.Nothing place (Word word) after refusal reached few e l = name_stands front entries word place refusal (next_name front entries word after reached e) few l
+limit_stands front entries (parts.Comma name sorts) place (Word word) after refusal reached few e l =
     let h = sort_taken entries name sorts (sort_of word) after e in
     sort_stands front entries name sorts h.0 place (Word word) refusal (record { before = reached.is ∙ simp append_assoc; each = reached.named; free = reached.sound.0; some = reached.sound.1; word = sort_word word h.0 h.1 }) l
-limit_stands front entries part place token after refusal reached few proper e l = absurd cc
+limit_stands front entries part place token after refusal reached few e l = absurd cc
 
 -- where a limit's refusal stands, the limit refuses the token, which could stand there otherwise
 pub record IsLimit (entries : List NameEntry) (part : Part) (token : Placed) (refusal : SignatureRefusal) : Type 0 where
@@ -107,7 +109,7 @@ pub record IsLimit (entries : List NameEntry) (part : Part) (token : Placed) (re
   pub next : next entries part token.1 ≡ Some after
 
 name_next : (entries : List NameEntry) (name : List ℕ) → IsTrue (is_name name) → next entries parts.Nothing (Word name) ≡ Some (entries, parts.Name name)
-name_next entries name named = ap (λ b. cond b None (Some (entries, parts.Name name))) (name_is_free name named)
+name_next entries name named = ap (λ b. cond b (Some (entries, parts.Name name)) None) named
 
 module _ (front : List Token) (entries : List NameEntry) (part : Part) (token : Placed) (refusal : SignatureRefusal) (reached : Reached front entries part) where
   -- a name that a limit refuses
@@ -123,8 +125,8 @@ module _ (front : List Token) (entries : List NameEntry) (part : Part) (token : 
 
   sort_reached : (others : List NameEntry) (name : List ℕ) (sorts : List Sort) (sort : Sort) → IsNextSort front token.1 others name sorts sort → ◌≡◌ {A = State} (others, parts.Comma name sorts) (entries, part)
   sort_reached others name sorts sort at =
-      let regrouped : front ≡ tokens_of others ++ (Word name ∷ OpenParen ∷ (sort_tokens sorts ++ Comma ∷ [])) = at.before ∙ simp append_assoc in
-      let leads : run [] parts.Nothing front ≡ Some (others, parts.Comma name sorts) = ap (run [] parts.Nothing) regrouped ∙ run_tokens others (Word name ∷ OpenParen ∷ (sort_tokens sorts ++ Comma ∷ [])) at.each ∙ run_open others name (sort_tokens sorts ++ Comma ∷ []) at.free ∙ run_sorts others name sorts (Comma ∷ []) at.some in
+      let regrouped : front ≡ tokens_of others ++ (Word name ∷ (Mark OpenParen) ∷ (sort_tokens sorts ++ (Mark Comma) ∷ [])) = at.before ∙ simp append_assoc in
+      let leads : run [] parts.Nothing front ≡ Some (others, parts.Comma name sorts) = ap (run [] parts.Nothing) regrouped ∙ run_tokens others (Word name ∷ (Mark OpenParen) ∷ (sort_tokens sorts ++ (Mark Comma) ∷ [])) at.each ∙ run_open others name (sort_tokens sorts ++ (Mark Comma) ∷ []) at.free ∙ run_sorts others name sorts ((Mark Comma) ∷ []) at.some in
       some_is (others, parts.Comma name sorts) (entries, part) (sym leads ∙ reached.run)
 
   sort_limit : (others : List NameEntry) (name : List ℕ) (sorts : List Sort) (sort : Sort) → IsNextSort front token.1 others name sorts sort → length sorts ≡ 8 → Limit Arity token.0 ≡ refusal → IsLimit entries part token refusal
@@ -167,7 +169,7 @@ stands_by front entries part token (Limit Name place) reached (at, (others, name
     ((λ j. cond (room j) (Some (Limit Names token.0)) (cond (above j) (Some (Limit Name token.0)) (repeated token.0 (number_of others name)))) ∙ ap (λ p. Some (Limit Name p)) (sym at)))
 stands_by front entries part token NoMemory reached stands = absurd stands
 
-module _ (front : List Token) (entries : List NameEntry) (part : Part) (token : Placed) (reached : Reached front entries part) (few : length entries ≤ 256) (proper : IsProper token.1) where
+module _ (front : List Token) (entries : List NameEntry) (part : Part) (token : Placed) (reached : Reached front entries part) (few : length entries ≤ 256) where
   -- what the reader refuses stands
   pub refused_stands : (refusal : SignatureRefusal) → taken entries part token.0 token.1 ≡ Err refusal → Stands refusal front token
   refused_stands refusal e = by (next entries part token.1) (limit_refusal entries part token.0 token.1) refl refl
@@ -177,7 +179,7 @@ module _ (front : List Token) (entries : List NameEntry) (part : Part) (token : 
           subst (λ r. Stands r front token) (err_is (Syntax token.0) refusal (sym (ap (λ s. taken_by token.0 s (limit_refusal entries part token.0 token.1)) h) ∙ e)) (refl, cannot_begin entries part front token.1 reached.run h)
       by (Some after) (Some other) h i =
           let is : other ≡ refusal = err_is other refusal (sym (λ j. taken_by token.0 (h j) (i j)) ∙ e) in
-          limit_stands front entries part token.0 token.1 after refusal reached few proper h (i ∙ ap Some is)
+          limit_stands front entries part token.0 token.1 after refusal reached few h (i ∙ ap Some is)
       by (Some after) None h i = absurd (ok_not_err after refusal (sym (λ j. taken_by token.0 (h j) (i j)) ∙ e))
 
   -- what stands, the reader refuses
@@ -189,4 +191,4 @@ module _ (front : List Token) (entries : List NameEntry) (part : Part) (token : 
 
       by : (o : Option State) → next entries part token.1 ≡ o → (Syntax token.0 ≡ refusal) × (CanBegin (front ++ token.1 ∷ []) → ⊥) → taken entries part token.0 token.1 ≡ Err refusal
       by None h (is, never) = ap (λ s. taken_by token.0 s (limit_refusal entries part token.0 token.1)) h ∙ ap Err is
-      by (Some after) h (is, never) = absurd (never (can_begin_next front entries part reached token.1 after proper h))
+      by (Some after) h (is, never) = absurd (never (can_begin_next front entries part reached token.1 after h))

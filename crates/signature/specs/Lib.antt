@@ -1,6 +1,7 @@
-pub mod Tokens
-pub mod Pieces
 pub mod Grammar
 pub mod Keys
-pub mod Refusals
+pub mod Laws
+pub mod NumberLaws
 pub mod Reading
+pub mod Refusals
+pub mod SignatureTokens

@@ -6,13 +6,7 @@ pub mod laws;
 mod reading;
 pub mod refusals;
 pub mod signatures;
-mod tokens;
 
 pub use entries::{NameEntry, Sort, Sorts};
-pub use reading::is_reserved;
-pub use refusals::{Place, SignatureLimit, SignatureRefusal};
-pub use signatures::{MOST_SIGNATURE_BYTES, Signature};
-pub use tokens::word_at_front;
-
-#[cfg(test)]
-mod tests;
+pub use refusals::{SignatureLimit, SignatureRefusal};
+pub use signatures::Signature;

@@ -1,27 +1,24 @@
 //! The reader of signatures, token by token.
-ghost use Rattle.std.specs.Prelude.{◌≡◌, ◌≤◌, IfErr, IfOk, IsTrue, List, Result, false, length};
-ghost use Rattle.signature.specs.Grammar.{IsNew, is_reserved};
-ghost use Rattle.signature.specs.Pieces.{token_of};
-ghost use Rattle.signature.specs.Reading.{Adds, IsFit, IsProper, Takes, entry_of, sort_of};
-ghost use Rattle.signature.specs.Tokens.{is_word};
+ghost use Rattle.std.specs.Prelude.{◌≡◌, ◌≤◌, ◌<◌, ◌↔◌, IsTrue, List, Result, false, length};
+ghost use Rattle.enf_value.specs.Tokens as AnyToken;
+ghost use Rattle.enf_value.specs.Tokens.{IsProper};
+ghost use Rattle.enf_value.specs.TokenViews.{token_of};
+ghost use Rattle.signature.specs.Grammar.{IsNew};
+ghost use Rattle.signature.specs.Reading.{Adds, IsFit, RefusesArrow, Takes, entry_of, sort_of};
 ghost use Rattle.signature.specs.Refusals.{Gives, GivesAnswer, IsAnswer};
 ghost use Rattle.signature.specs.declared.entries.NameEntry.{NameEntry};
 ghost use Rattle.signature.specs.declared.refusals.SignatureRefusal.{SignatureRefusal};
 
 use crate::entries::{NameEntry, Sort, Sorts};
-use crate::refusals::{Place, SignatureLimit, SignatureRefusal};
-use crate::signatures::{MOST_SIGNATURE_BYTES, Signature};
-use crate::tokens::{Piece, Token};
-use enf_value::{TextRefusal, TextValue};
+use crate::refusals::{SignatureLimit, SignatureRefusal};
+use crate::signatures::Signature;
+use enf_value::{
+    MOST_COLUMNS, MOST_FILE_BYTES, MOST_NAME_BYTES, MOST_NAMES, Mark, Place, TextValue, Token,
+    is_reserved, name_text, next_token,
+};
 use std::alloc::Global;
 
-const MOST_NAMES: u32 = 256;
-
-const MOST_SORTS: usize = 8;
-
-const MOST_NAME_BYTES: usize = 64;
-
-/// What has come of the next entry.
+// What has come of the next entry.
 #[derive(Debug, Drop)]
 pub(crate) enum Part {
     Nothing,
@@ -33,33 +30,6 @@ pub(crate) enum Part {
     Mark(NameEntry),
 }
 
-/// Whether a word is one of those that are no names.
-pub fn is_reserved(word: &[u8]) -> bool
-    ensures { result ≡ is_reserved word.now }
-{
-    let reserved: [&[u8]; 18] = [
-        b"true",
-        b"false",
-        b"not",
-        b"and",
-        b"or",
-        b"exists",
-        b"forall",
-        b"prev",
-        b"next",
-        b"once",
-        b"historically",
-        b"since",
-        b"eventually",
-        b"always",
-        b"until",
-        b"rule",
-        b"int",
-        b"text",
-    ];
-    reserved.contains(&word)
-}
-
 fn sort_of(word: &[u8]) -> Option<Sort>
     ensures { result ≡ sort_of word.now }
 {
@@ -67,20 +37,6 @@ fn sort_of(word: &[u8]) -> Option<Sort>
         b"int" => Some(Sort::Int),
         b"text" => Some(Sort::Text),
         _ => None,
-    }
-}
-
-fn name_text(alloc: Global, word: &[u8]) -> Result<TextValue, SignatureRefusal>
-    requires word { IsTrue (is_word word.now) }
-    requires short { length word.now ≤ 64 }
-    ensures ok { IfOk result (λ name. name ≡ word.now) }
-    ensures err { IfErr result (λ refusal. refusal ≡ SignatureRefusal.NoMemory) }
-{
-    match TextValue::from_bytes(alloc, word) {
-        Ok(name) => Ok(name),
-        Err(TextRefusal::NoMemory) => Err(SignatureRefusal::NoMemory),
-        Err(TextRefusal::TooLong) => unreachable!(),
-        Err(TextRefusal::NotUtf8) => unreachable!(),
     }
 }
 
@@ -117,7 +73,7 @@ fn take_open(name: TextValue, token: Token<'_>, place: Place) -> Result<Part, Si
     ensures { (entries : List NameEntry) → Takes entries (Part.Name name) place (token_of token.entry) entries result }
 {
     match token {
-        Token::OpenParen => Ok(Part::Open(name)),
+        Token::Mark(Mark::OpenParen) => Ok(Part::Open(name)),
         _ => Err(SignatureRefusal::Syntax { place }),
     }
 }
@@ -149,7 +105,7 @@ fn take_first_sort(
 {
     match token {
         Token::Word(word) => push_sort(name, Sorts::new(alloc), word, place),
-        Token::CloseParen => Ok(Part::Close(name, Sorts::new(alloc))),
+        Token::Mark(Mark::CloseParen) => Ok(Part::Close(name, Sorts::new(alloc))),
         _ => Err(SignatureRefusal::Syntax { place }),
     }
 }
@@ -163,8 +119,8 @@ fn take_comma(
     ensures { (entries : List NameEntry) → Takes entries (Part.Sorts name sorts) place (token_of token.entry) entries result }
 {
     match token {
-        Token::Comma => Ok(Part::Comma(name, sorts)),
-        Token::CloseParen => Ok(Part::Close(name, sorts)),
+        Token::Mark(Mark::Comma) => Ok(Part::Comma(name, sorts)),
+        Token::Mark(Mark::CloseParen) => Ok(Part::Close(name, sorts)),
         _ => Err(SignatureRefusal::Syntax { place }),
     }
 }
@@ -180,7 +136,7 @@ fn take_sort(
     let Token::Word(word) = token else {
         return Err(SignatureRefusal::Syntax { place });
     };
-    if sorts.len() == MOST_SORTS && sort_of(word).is_some() {
+    if sorts.len() == MOST_COLUMNS && sort_of(word).is_some() {
         let which = SignatureLimit::Arity;
         return Err(SignatureRefusal::Limit { which, place });
     }
@@ -199,10 +155,10 @@ fn take_mark(
     ensures { Takes signature.old (Part.Close name sorts) place (token_of token.entry) signature.new result }
 {
     let (causable, suppressible) = match token {
-        Token::Semicolon => (false, false),
-        Token::Plus => (true, false),
-        Token::Minus => (false, true),
-        Token::PlusMinus => (true, true),
+        Token::Mark(Mark::Semicolon) => (false, false),
+        Token::Mark(Mark::Plus) => (true, false),
+        Token::Mark(Mark::Minus) => (false, true),
+        Token::Mark(Mark::PlusMinus) => (true, true),
         _ => return Err(SignatureRefusal::Syntax { place }),
     };
     let entry = NameEntry {
@@ -229,7 +185,7 @@ fn take_end(
     ensures { Takes signature.old (Part.Mark entry) place (token_of token.entry) signature.new result }
 {
     match token {
-        Token::Semicolon => {
+        Token::Mark(Mark::Semicolon) => {
             signature.push(alloc, entry)?;
             Ok(Part::Nothing)
         }
@@ -237,7 +193,7 @@ fn take_end(
     }
 }
 
-/// Takes the next token: what has come of the next entry, or the refusal at the token.
+// Takes the next token: what has come of the next entry, or the refusal at the token.
 pub(crate) fn take(
     alloc: Global,
     signature: &mut Signature,
@@ -260,26 +216,50 @@ pub(crate) fn take(
     }
 }
 
-/// Reads a signature, up to its end or the first refusal.
+// Whether the token is an arrow, which a signature does not have.
+fn is_arrow(token: &Token<'_>) -> bool
+    ensures { IsTrue result ↔ (token_of token.now ≡ AnyToken.Mark Mark.Arrow) }
+{
+    matches!(token, Token::Mark(Mark::Arrow))
+}
+
+// The refusal of an arrow: a minus stands there, and a wrong byte behind it.
+fn arrow_refusal(
+    alloc: Global,
+    signature: &mut Signature,
+    part: Part,
+    place: Place,
+) -> SignatureRefusal
+    requires place { place < MOST_FILE_BYTES }
+    requires fits { IsFit signature.old part }
+    ensures { RefusesArrow signature.old part place result }
+{
+    match take(alloc, signature, part, Token::Mark(Mark::Minus), place) {
+        Ok(_part) => SignatureRefusal::Syntax { place: place + 1 },
+        Err(refusal) => refusal,
+    }
+}
+
+// Reads a signature, up to its end or the first refusal.
 pub(crate) fn read(alloc: Global, bytes: &[u8]) -> Result<Signature, SignatureRefusal>
-    requires { length bytes.now ≤ MOST_SIGNATURE_BYTES }
+    requires { length bytes.now ≤ MOST_FILE_BYTES }
     ensures answer { GivesAnswer bytes.now result }
     ensures only { (answer : Result (List NameEntry) SignatureRefusal) → IsAnswer bytes.now answer → Gives result answer }
 {
     let mut signature = Signature::new(alloc);
     let mut part = Part::Nothing;
     let mut place = 0;
-    while place < bytes.len() {
-        let piece = Piece::at_front(&bytes[place..]);
-        if let Some(token) = piece.token {
-            part = take(alloc, &mut signature, part, token, place as Place)?;
+    while let Some(next) = next_token(alloc, bytes, place)? {
+        if is_arrow(&next.token) {
+            return Err(arrow_refusal(alloc, &mut signature, part, next.place));
         }
-        place += piece.length;
+        part = take(alloc, &mut signature, part, next.token, next.place)?;
+        place = next.end;
     }
     match part {
         Part::Nothing => Ok(signature),
         _ => Err(SignatureRefusal::Syntax {
-            place: place as Place,
+            place: bytes.len() as Place,
         }),
     }
 }

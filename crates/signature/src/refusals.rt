@@ -2,10 +2,7 @@
 ghost use Rattle.std.specs.Prelude.{◌≡◌};
 ghost use Rattle.signature.specs.declared.refusals.SignatureRefusal.TheVariants.{NoMemory as OutOfMemory};
 
-use enf_value::{NameId, NoMemory};
-
-/// A byte offset in a signature, counted from 0.
-pub type Place = u32;
+use enf_value::{NameId, NoMemory, Place};
 
 /// Which limit a signature passes.
 #[derive(Clone, Copy, Debug, PartialEq, Eq)]

@@ -10,13 +10,10 @@ ghost use Rattle.signature.specs.declared.refusals.SignatureRefusal.{SignatureRe
 use crate::entries::NameEntry;
 use crate::reading;
 use crate::refusals::SignatureRefusal;
-use enf_value::{Duplicate, NameId, NoMemory};
+use enf_value::{Duplicate, MOST_FILE_BYTES, NameId, NoMemory};
 use indexmap::IndexMap;
 use std::alloc::Global;
 use std::marker::Model;
-
-/// The greatest length of the text of a signature.
-pub const MOST_SIGNATURE_BYTES: usize = 1_048_576;
 
 /// A list of names with their columns and marks, by the order of declaration.
 #[derive(Drop)]
@@ -49,7 +46,7 @@ impl Signature {
 
     /// The signature that a text spells, or the first refusal by place.
     pub fn read(alloc: Global, bytes: &[u8]) -> Result<Signature, SignatureRefusal>
-        requires { length bytes.now ≤ MOST_SIGNATURE_BYTES }
+        requires { length bytes.now ≤ MOST_FILE_BYTES }
         // The text's answer, unless there is no memory.
         ensures answer { GivesAnswer bytes.now result }
         // No other answer than the text's.

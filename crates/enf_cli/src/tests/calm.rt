@@ -1,6 +1,7 @@
 //! Runs over the devices that never fail.
-ghost use Rattle.std.specs.Prelude.{◌≡◌, IfOk, codes};
-ghost use Rattle.enf_io.specs.Calm.{IsHeld, contents_under};
+ghost use Rattle.std.specs.Prelude.{◌≡◌, ◌≢◌, IfOk, codes};
+ghost use Rattle.enf_io.specs.Calm.{contents_under};
+ghost use Rattle.enf_io.specs.Contents.{Missing};
 ghost use Rattle.enf_cli.specs.Words.{IsEnforce, texts};
 
 use crate::refusals::Status;
@@ -55,8 +56,8 @@ pub fn enforce_words(alloc: Global) -> Result<[String; 3], NoMemory>
 
 /// The files that those words name.
 pub fn files_of(alloc: Global, signature: &[u8], policy: &[u8]) -> Result<CalmFiles, NoMemory>
-    ensures signature { IfOk result (λ files. IsHeld (contents_under files (codes "sig"))) }
-    ensures policy { IfOk result (λ files. IsHeld (contents_under files (codes "pol"))) }
+    ensures signature { IfOk result (λ files. contents_under files (codes "sig") ≢ Missing) }
+    ensures policy { IfOk result (λ files. contents_under files (codes "pol") ≢ Missing) }
 {
     let mut files = CalmFiles::new(alloc);
     files.put("sig", Vec::from_slice(alloc, signature)?)?;
@@ -73,8 +74,8 @@ pub fn run_calmly(
     report: &mut CalmSink,
 ) -> Status
     requires words { IsEnforce (texts words.now) (codes "sig") (codes "pol") }
-    requires signature { IsHeld (contents_under files.old (codes "sig")) }
-    requires policy { IsHeld (contents_under files.old (codes "pol")) }
+    requires signature { contents_under files.old (codes "sig") ≢ Missing }
+    requires policy { contents_under files.old (codes "pol") ≢ Missing }
     ensures no_read_fault { result ≡ Status.ReadFault → ⊥ }
     ensures no_write_fault { result ≡ Status.WriteFault → ⊥ }
 {

@@ -1,29 +1,29 @@
 //! Runs over a gate or a report that takes only pieces, or fails.
 use super::calm::{Outcome, RAISE, SIGNATURE, enforce_words, files_of};
-use super::faulty::{FaultyGate, FaultySink};
 use crate::refusals::Status;
 use crate::run::run;
 use enf_io::devices::NoMemory;
+use enf_io::mem_gate::MemGate;
+use enf_io::mem_sink::MemSink;
+use enf_io::turns::Turn;
 use std::alloc::Global;
 use std::test::Fail;
 
-const ALL: usize = usize::MAX;
-
-// Enforces `raise` on the log over devices with these sizes.
-fn enforced_in_pieces(
+// Enforces `raise` on the log over devices with these turns.
+fn enforced_in_turns(
     alloc: Global,
     log: &[u8],
-    reads: &[usize],
-    writes: &[usize],
-    report_writes: &[usize],
+    reads: &[Turn],
+    writes: &[Turn],
+    report_writes: &[Turn],
 ) -> Result<Outcome, NoMemory> {
     let words = enforce_words(alloc)?;
     let mut files = files_of(alloc, SIGNATURE, RAISE)?;
     let log = Vec::from_slice(alloc, log)?;
     let reads = Vec::from_slice(alloc, reads)?;
     let writes = Vec::from_slice(alloc, writes)?;
-    let mut gate = FaultyGate::new(alloc, log, reads, writes);
-    let mut report = FaultySink::new(alloc, Vec::from_slice(alloc, report_writes)?);
+    let mut gate = MemGate::new(alloc, log, reads, writes);
+    let mut report = MemSink::new(alloc, Vec::from_slice(alloc, report_writes)?);
     let status = run(alloc, &words, &mut gate, &mut files, &mut report);
     Ok(Outcome {
         status,
@@ -39,35 +39,41 @@ fn a_read_fault_keeps_the_whole_records(rt: HostRuntime) -> Result<(), Fail> {
     for (name, reads, output, status, report) in [
         (
             "behind a record",
-            [16].as_slice(),
+            [Turn::Take(16), Turn::Fail].as_slice(),
             b"@5 request(\"a\") alarm();\n".as_slice(),
             Status::ReadFault,
             b"read fault\n".as_slice(),
         ),
         (
             "within the second",
-            &[10, 12],
+            &[Turn::Take(10), Turn::Take(12), Turn::Fail],
             b"@5 request(\"a\") alarm();\n",
             Status::ReadFault,
             b"read fault\n",
         ),
         (
             "within the first",
-            &[9],
+            &[Turn::Take(9), Turn::Fail],
             b"",
             Status::ReadFault,
             b"read fault\n",
         ),
-        ("at once", &[], b"", Status::ReadFault, b"read fault\n"),
+        (
+            "at once",
+            &[Turn::Fail],
+            b"",
+            Status::ReadFault,
+            b"read fault\n",
+        ),
         (
             "behind a refused record",
-            &[ALL],
+            &[Turn::All, Turn::Fail],
             b"@5 request(\"a\") alarm();\n@6 request(\"b\") alarm();\n",
             Status::Record,
             b"record 3: time 2 is below 6\n",
         ),
     ] {
-        let outcome = enforced_in_pieces(alloc, log, reads, &[ALL, ALL], &[ALL])?;
+        let outcome = enforced_in_turns(alloc, log, reads, &[], &[])?;
         outcome.assert_is(&rt, name, status, output, report);
     }
     Ok(())
@@ -77,8 +83,8 @@ fn a_read_fault_keeps_the_whole_records(rt: HostRuntime) -> Result<(), Fail> {
 fn a_write_is_finished_by_further_writes(rt: HostRuntime) -> Result<(), Fail> {
     let alloc = rt.alloc();
     let log = b"@5 request(\"a\"); @7; @6;";
-    let threes = vec![in alloc; 3; 20]?;
-    let outcome = enforced_in_pieces(alloc, log, &[ALL, ALL], &threes, &threes)?;
+    let threes = vec![in alloc; Turn::Take(3); 20]?;
+    let outcome = enforced_in_turns(alloc, log, &[], &threes, &threes)?;
     outcome.assert_is(
         &rt,
         "three bytes a write",
@@ -96,30 +102,30 @@ fn a_write_fault_ends_the_run(rt: HostRuntime) -> Result<(), Fail> {
     for (name, writes, report_writes, status, output, report) in [
         (
             "at once",
+            [Turn::Fail].as_slice(),
             [].as_slice(),
-            [ALL].as_slice(),
             Status::WriteFault,
             b"".as_slice(),
             b"".as_slice(),
         ),
         (
             "within a line",
-            &[ALL, 2],
-            &[ALL],
+            &[Turn::All, Turn::Take(2), Turn::Fail],
+            &[],
             Status::WriteFault,
             b"@5 request(\"a\") alarm();\n@7",
             b"",
         ),
         (
             "on the report",
-            &[ALL, ALL],
-            &[4],
+            &[],
+            &[Turn::Take(4), Turn::Fail],
             Status::Record,
             b"@5 request(\"a\") alarm();\n@7;\n",
             b"reco",
         ),
     ] {
-        let outcome = enforced_in_pieces(alloc, log, &[ALL, ALL], writes, report_writes)?;
+        let outcome = enforced_in_turns(alloc, log, &[], writes, report_writes)?;
         outcome.assert_is(&rt, name, status, output, report);
     }
     Ok(())

@@ -70,85 +70,36 @@ fn a_policy_has_at_most_64_rules(rt: HostRuntime) -> Result<(), Fail> {
     Ok(())
 }
 
-// So many records of 1,024 bytes with their line feeds, which no rule reacts to.
-fn records(alloc: Global, count: usize) -> Result<Vec<u8>, NoMemory> {
-    let word = vec![in alloc; b'x'; 1011]?;
-    let mut log = Vec::new(alloc);
-    for _record in 0..count {
-        log.extend_from_slice(b"@1 lock(\"")?;
-        log.extend_from_slice(&word)?;
-        log.extend_from_slice(b"\");\n")?;
-    }
+// `@1`, so many blanks, `;`.
+fn record_with_blanks(alloc: Global, count: usize) -> Result<Vec<u8>, NoMemory> {
+    let mut log = Vec::from_slice(alloc, b"@1")?;
+    log.extend_from_slice(&vec![in alloc; b' '; count]?)?;
+    log.push(b';')?;
     Ok(log)
 }
 
 #[test]
-fn a_log_has_its_limit(rt: HostRuntime) -> Result<(), Fail> {
+fn a_record_has_its_limit(rt: HostRuntime) -> Result<(), Fail> {
     let alloc = rt.alloc();
-    let semicolons = vec![in alloc; b';'; 1024]?;
-    let mut open_text = vec![in alloc; b'"']?;
-    open_text.extend_from_slice(&semicolons)?;
-    let endless = vec![in alloc; b'x'; 65_536]?;
-    for (name, count, rest, status, report) in [
+    for (name, blanks, status, output, report) in [
         (
-            "below the limit",
-            1023,
-            b"".as_slice(),
+            "65,536 bytes",
+            65_533,
             Status::Done,
+            b"@1;\n".as_slice(),
             b"".as_slice(),
         ),
         (
-            "the limit",
-            1024,
+            "65,537 bytes",
+            65_534,
+            Status::Record,
             b"",
-            Status::Record,
-            b"record 1025: input limit\n",
-        ),
-        (
-            "past the limit",
-            1024,
-            b";",
-            Status::Record,
-            b"record 1025: input limit\n",
-        ),
-        (
-            "an open text",
-            1023,
-            open_text.as_slice(),
-            Status::Record,
-            b"record 1024: input limit\n",
-        ),
-        (
-            "a semicolon",
-            1023,
-            semicolons.as_slice(),
-            Status::Record,
-            b"record 1024: not built\n",
-        ),
-        (
-            "a long record",
-            960,
-            endless.as_slice(),
-            Status::Record,
-            b"record 961: not built\n",
+            b"record 1: too long\n",
         ),
     ] {
-        let accepted = records(alloc, count)?;
-        let mut log = records(alloc, count)?;
-        log.extend_from_slice(rest)?;
+        let log = record_with_blanks(alloc, blanks)?;
         let outcome = enforced(alloc, SIGNATURE, RAISE, &log, Vec::new(alloc))?;
-        outcome.assert_is(&rt, name, status, &accepted, report);
+        outcome.assert_is(&rt, name, status, output, report);
     }
-    Ok(())
-}
-
-#[test]
-fn one_byte_below_the_limit_is_enforced(rt: HostRuntime) -> Result<(), Fail> {
-    let alloc = rt.alloc();
-    let accepted = records(alloc, 1024)?;
-    let mut log = records(alloc, 1024)?;
-    log.truncate(MOST_BYTES - 1);
-    let outcome = enforced(alloc, SIGNATURE, RAISE, &log, Vec::new(alloc))?;
-    outcome.assert_is(&rt, "one byte below", Status::Done, &accepted, b"");
     Ok(())
 }

@@ -14,6 +14,7 @@ fn raise_adds_the_alarm_once(rt: HostRuntime) -> Result<(), Fail> {
             b"@1 request(\"a\") alarm();\n",
         ),
         ("equal times", b"@1; @1; @2;", b"@1;\n@1;\n@2;\n"),
+        ("blanks and ticks", b" \t>1;\r\n @ 1 ;>2; ", b"@1;\n"),
         (
             "already there",
             b"@1 request(\"a\") alarm();\n@2 alarm() request(\"b\");\n",
@@ -124,15 +125,27 @@ fn a_refused_record_keeps_those_before_it(rt: HostRuntime) -> Result<(), Fail> {
             "a name",
             b"@1 foo();".as_slice(),
             b"".as_slice(),
-            b"record 1: not built\n".as_slice(),
+            b"record 1: unknown name at 3\n".as_slice(),
         ),
-        ("a blank", b" @1;", b"", b"record 1: not built\n"),
-        ("no end", b"@1 request(\"a\"", b"", b"record 1: not built\n"),
+        ("a mark", b"@x;", b"", b"record 1: bad at 1\n"),
+        (
+            "no argument",
+            b"@1 request();",
+            b"",
+            b"record 1: arity at 3\n",
+        ),
+        (
+            "a number",
+            b"@1 request(1);",
+            b"",
+            b"record 1: sort at 11\n",
+        ),
+        ("no end", b"@1 request(\"a\"", b"", b"record 1: truncated\n"),
         (
             "a late time",
             b"@1000000000000001;",
             b"",
-            b"record 1: not built\n",
+            b"record 1: time too large\n",
         ),
         (
             "falling time",
@@ -141,10 +154,16 @@ fn a_refused_record_keeps_those_before_it(rt: HostRuntime) -> Result<(), Fail> {
             b"record 2: time 7 is below 9\n",
         ),
         (
+            "a tick",
+            b"@1; >5; @3;",
+            b"@1;\n",
+            b"record 3: time 3 is below 5\n",
+        ),
+        (
             "in the middle",
             b"@1 request(\"a\"); @2 foo(); @3 request(\"b\");",
             b"@1 request(\"a\") alarm();\n",
-            b"record 2: not built\n",
+            b"record 2: unknown name at 3\n",
         ),
     ] {
         let outcome = enforced(alloc, SIGNATURE, RAISE, log, Vec::new(alloc))?;

@@ -1,15 +1,19 @@
-use Rattle.std.proofs.Common.{◌≡◌, ◌≤◌, length}
-use Rattle.enf_cli.proofs.LogProgress.{HasCome}
+use Rattle.std.proofs.Common.{◌≡◌, ◌+◌, ◌*◌, ◌-◌, ◌≤◌, List, ℕ, length, vec_len}
+use Rattle.enf_cli.specs.Progress.{reads_on}
+use Rattle.enf_cli.proofs.LogProgress.{Progress}
 use Rattle.enf_cli.proofs.log.enforce_log.Given as goal
 
-abbrev pub invariant-loop-rest : goal.invariant-loop-rest
-invariant-loop-rest g l =
-    let gate = g.G.Gate in
+abbrev pub invariant-loop-piece : goal.invariant-loop-piece
+invariant-loop-piece g l =
+    let seen = g.G.Sink.seen in
     record {
-      come : HasCome l.signature l.fn.rules.items l.log l.rest l.accepted l.enforcer (gate.told l.fn.gate) (gate.told l.gate);
-      writes : gate.write_faults l.fn.gate ≤ gate.write_faults l.gate;
-      reads : gate.read_faults l.gate ≡ gate.read_faults l.fn.gate;
+      bytes : List ℕ;
+      count : l.log.taken ≡ length bytes;
+      most : l.log.taken ≤ 1099511627776;
+      reader : l.log.reader ≡ reads_on l.signature l.log.reader.rest;
+      piece : vec_len l.piece ≡ 65536;
+      progress : Progress l.signature l.fn.rules.items (seen l.fn.gate) bytes l.log.reader.rest l.log.accepted l.log.enforcer (seen l.gate);
     }
 
-abbrev pub decreases-loop-rest : goal.decreases-loop-rest
-decreases-loop-rest g l = length l.rest
+abbrev pub decreases-loop-piece : goal.decreases-loop-piece
+decreases-loop-piece g l = 2 * (1099511627776 - l.log.taken) + length l.log.reader.rest

@@ -2,7 +2,7 @@ use Rattle.std.proofs.Common.{sym, ap, subst, ◌∙◌, take, w64}
 use Rattle.std.specs.Str.{IsUtf8}
 use Rattle.std.proofs.Math.Facts.{to_z-of_z}
 use Rattle.std.proofs.lemmas.Result.{MatchResult-at_ok}
-use Rattle.enf_value.specs.Tokens.{TokenAt}
+use Rattle.enf_value.specs.ValueTokens.{TokenAt}
 use Rattle.enf_value.specs.declared.values.Value.TheVariants.{Num}
 use Rattle.enf_value.proofs.Numerals.{err_utf8, none_ok, ok_some, front_utf8, front_parses, parsed_front, fits_from_number}
 use Rattle.enf_value.proofs.reading.read_number.Goals as goal

@@ -1,7 +1,7 @@
 use Rattle.std.proofs.Common.{sym, ap, subst, ◌∙◌, ◌+◌, Err, length, arith}
 use Rattle.std.specs.Str.{IsUtf8}
 use Rattle.enf_value.specs.Text.{IsText}
-use Rattle.enf_value.specs.Tokens.{TokenAt, WrittenAt}
+use Rattle.enf_value.specs.ValueTokens.{TokenAt, WrittenAt}
 use Rattle.enf_value.specs.declared.values.Value.TheVariants.{Text}
 use Rattle.enf_value.proofs.TextTokens.{none_from_refused, slice_from, token_from_written, written_from_token}
 use Rattle.enf_value.proofs.reading.read_text.Goals as goal

@@ -1,5 +1,5 @@
 use Rattle.std.proofs.Common.{length, sym, subst}
-use Rattle.enf_value.specs.Tokens.{TokenAt}
+use Rattle.enf_value.specs.ValueTokens.{TokenAt}
 use Rattle.enf_value.proofs.TextTokens.{slice_from, token_at_front}
 use Rattle.enf_value.proofs.reading.read_value.Goals as goal
 

@@ -2,8 +2,8 @@ use Rattle.std.proofs.Common.{◌-◌, length}
 use Rattle.signature.proofs.Loop.{IsOnTheWay}
 use Rattle.signature.proofs.reading.read.Given as goal
 
-abbrev pub invariant-loop-place : goal.invariant-loop-place
-invariant-loop-place l = IsOnTheWay l.bytes l.place l.signature l.part
+abbrev pub invariant-loop-part : goal.invariant-loop-part
+invariant-loop-part l = IsOnTheWay l.bytes l.place l.signature l.part
 
-abbrev pub decreases-loop-place : goal.decreases-loop-place
-decreases-loop-place l = length l.bytes - l.place
+abbrev pub decreases-loop-part : goal.decreases-loop-part
+decreases-loop-part l = length l.bytes - l.place

@@ -2,7 +2,7 @@
 use Rattle.std.proofs.Common.{ap, ◌∙◌}
 use Rattle.enf_io.specs.Contents.{Holds}
 use Rattle.enf_io.specs.Calm.{contents_under}
-use Rattle.enf_io.proofs.Kept.{contents_from, IsHeld-stays}
+use Rattle.enf_io.proofs.Kept.{contents_from}
 use Rattle.enf_io.proofs.calm_files.CalmFilesFiles.write.Goals as goal
 
 pub returns-clause-contents : goal.returns-clause-contents
@@ -10,9 +10,3 @@ returns-clause-contents c =
     let put = c.in_ok-put.ensures in
     contents_from c.args.name.now c.args.bytes.now (contents_under c.args.self.now) (contents_under c.put.new.self)
     (put.held ∙ ap Holds c.in_ok-copy.ensures.items) put.others
-
-pub returns-clause-stays : goal.returns-clause-stays
-returns-clause-stays c = λ other held.
-    let put = c.in_ok-put.ensures in
-    IsHeld-stays c.args.name.now c.in_ok-copy.copy.items other (contents_under c.args.self.now) (contents_under c.put.new.self)
-    (contents_from _ _ _ _ put.held put.others) held

@@ -1,14 +1,23 @@
-use Rattle.std.proofs.Common.{◌∙◌, ap, subst, List}
-use Rattle.enf_value.specs.Data.{Step}
-use Rattle.enforcer_core.specs.Steps.{KeepsSatisfied, IsLawfulFor}
+use Rattle.std.proofs.Common.{◌∙◌, ◌∷◌, [], List, ap, subst}
+use Rattle.enf_value.specs.declared.steps.Step.{Step}
+use Rattle.trace_meaning.specs.Records.{StepRecord}
+use Rattle.enforcer_core.specs.Answered.{ChangesLawfully}
+use Rattle.enforcer_core.specs.Enforcers.{Enforcing, out_steps}
+use Rattle.enforcer_core.specs.Stands.{KeepsRules}
 use Rattle.enforcer_core.specs.declared.enforcer.CauseRule.{CauseRule}
+use Rattle.enforcer_core.proofs.OneStep.{keeps_standing}
 use Rattle.enforcer_core.proofs.enforcer.Enforcer.step.Goals as goal
 
-pub returns-clause-satisfied : goal.returns-clause-satisfied
-returns-clause-satisfied c =
-    subst (λ (rules : List CauseRule). KeepsSatisfied rules c.in_ok-out.out) (c.deref.ensures.value ∙ ap (λ e. e.rules) c.self.view_is) c.in_ok-out.ensures.satisfied
+pub returns-in-Ok-clause-stands : goal.returns-in-Ok-clause-stands
+returns-in-Ok-clause-stands c =
+    let after : Enforcing = record { rules = c.self.inside.rules.items; clock = c.args.time; stopped = c.self.inside.stopped } in
+    let out = out_steps c.in-Ok.out.steps in
+    keeps_standing c.args.self.now after out c.in_ok-admit.ensures.not_over (ap (λ e. e.rules) c.self.view_is)
+    (subst (λ (rules : List CauseRule). KeepsRules rules c.args.time out) (c.deref.ensures.value ∙ ap (λ e. e.rules) c.self.view_is) c.in-Ok.ensures.kept)
 
-pub returns-clause-lawful : goal.returns-clause-lawful
-returns-clause-lawful c =
+pub returns-in-Ok-clause-changed : goal.returns-in-Ok-clause-changed
+returns-in-Ok-clause-changed c =
     let before : Step = record { time = c.args.time; events = c.args.events } in
-    subst (λ (rules : List CauseRule). IsLawfulFor rules before c.in_ok-out.out) (c.deref.ensures.value ∙ ap (λ e. e.rules) c.self.view_is) c.in_ok-out.ensures.lawful
+    let out = out_steps c.in-Ok.out.steps in
+    subst (λ (rules : List CauseRule). ChangesLawfully rules c.args.self.now.clock c.args.time (StepRecord before ∷ []) out) (c.deref.ensures.value ∙ ap (λ e. e.rules) c.self.view_is)
+    (c.in-Ok.ensures.changed c.args.self.now.clock c.in_ok-admit.ensures.not_over)

@@ -1,7 +1,8 @@
 use Rattle.std.proofs.Common.{◌≡◌, None, Some, sym, ◌∙◌, ap, subst, rules}
 use Rattle.enf_value.specs.Membership.{HasNoRepeats}
 use Rattle.signature.specs.Grammar.{names, number_of}
-use Rattle.signature.proofs.Numbers.{absent_from_none, found_only, name_at_place, number_found, number_is}
+use Rattle.signature.specs.NumberLaws.{name_at_place}
+use Rattle.signature.proofs.Numbers.{absent_from_none, found_only, number_found, number_is}
 use Rattle.signature.proofs.signatures.Signature.find.Goals as goal
 
 pub returns : goal.returns

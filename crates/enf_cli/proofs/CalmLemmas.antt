@@ -1,0 +1,44 @@
+-- Over the devices that never fail, with the files that the words name, no fault comes.
+use Rattle.std.proofs.Common.{◌≡◌, ◌≢◌, ℕ, List, refl, subst, arith, inl, inr, ◌⊎◌}
+use Rattle.enf_io.specs.Calm.{CalmContents, calm_files, contents_under}
+use Rattle.enf_io.specs.Counts.{one_more}
+use Rattle.signature.specs.declared.entries.NameEntry.{NameEntry}
+use Rattle.enf_io.specs.Contents.{Missing}
+use Rattle.enf_cli.specs.Calls.{Call}
+use Rattle.enf_cli.specs.Files.{FailsToRead, HoldsSignature}
+use Rattle.enf_cli.specs.Outcomes.{BreaksOffLog, MissesFile, Outcome}
+use Rattle.enf_cli.specs.Words.{IsEnforce}
+use Rattle.enf_cli.specs.declared.refusals.Status.TheVariants as statuses
+use Rattle.enf_cli.proofs.DueLemmas.{one_form}
+
+-- a count that stays 0 is not one more
+none_more : (before after : ℕ) → before ≡ 0 → after ≡ 0 → after ≡ one_more before → ⊥
+none_more before after b a more = omega (arith, b, a, more)
+
+module _ {Gate : Type 0} (call : Call Gate) (x : CalmContents) (files : call.before.files ≡ calm_files x) where
+  -- a file that is there is read
+  reads_held : (name : List ℕ) → contents_under x name ≢ Missing → FailsToRead name call.before.files call.after.files → ⊥
+  reads_held name held failed =
+      let h = subst (λ v. FailsToRead name v call.after.files) files failed in
+      held (h.missing refl refl)
+
+  module _ (signature policy : List ℕ) (form : IsEnforce call.words signature policy) (held : contents_under x signature ≢ Missing) (also : contents_under x policy ≢ Missing) where
+    misses_none : MissesFile call → ⊥
+    misses_none m = by (one_form call.words signature policy m.signature m.policy form m.form) m.failed
+      where
+        by : (signature ≡ m.signature) × (policy ≡ m.policy)
+            → FailsToRead m.signature call.before.files call.after.files ⊎ (((entries : List NameEntry) × HoldsSignature call.before.files.contents m.signature entries) × FailsToRead m.policy call.before.files call.after.files) → ⊥
+        by names (inl failed) = reads_held m.signature (subst (λ (n : List ℕ). contents_under x n ≢ Missing) names.0 held) failed
+        by names (inr (holds, failed)) = reads_held m.policy (subst (λ (n : List ℕ). contents_under x n ≢ Missing) names.1 also) failed
+
+    -- no read fault comes
+    pub no_read_fault : call.before.gate.read_faults ≡ 0 → call.after.gate.read_faults ≡ 0 → Outcome call statuses.ReadFault → ⊥
+    no_read_fault before after o = by o.meets
+      where
+        by : MissesFile call ⊎ BreaksOffLog call → ⊥
+        by (inl m) = misses_none m
+        by (inr b) = none_more call.before.gate.read_faults call.after.gate.read_faults before after b.failed
+
+  -- no write fault comes
+  pub no_write_fault : call.before.gate.write_faults ≡ 0 → call.after.gate.write_faults ≡ 0 → Outcome call statuses.WriteFault → ⊥
+  no_write_fault before after o = none_more call.before.gate.write_faults call.after.gate.write_faults before after o.0.cut.2

@@ -1,0 +1,468 @@
+-- Where each status must come: what holds at the other statuses leaves no room for it.
+use Rattle.std.proofs.Common.{◌≡◌, ℕ, ◌-◌, ◌<◌, ◌≤◌, List, [], ◌∷◌, ◌++◌, Option, Some, None, Result, Err, Ok, length, take, drop, codes, refl, sym, ap, subst, ◌∙◌, inl, inr, arith, length-take}
+use Rattle.std.specs.Prelude.{◌⊎◌}
+use Rattle.std.proofs.lemmas.List.{append-nil, take-append-drop}
+use Rattle.enf_io.specs.Contents.{Contents}
+use Rattle.enf_io.specs.Exchange.{Exchange, IsAtEnd, left}
+use Rattle.enf_io.specs.FileCalls.{FileView}
+use Rattle.enf_io.specs.Since.{Grew, GrewWhereTold, OfCalls}
+use Rattle.enf_io.specs.SinceLaws.{left-since}
+use Rattle.enf_io.specs.Streams.{Stream}
+use Rattle.enforcer_core.specs.declared.enforcer.CauseRule.{CauseRule}
+use Rattle.log_stream.specs.Judgement.{IsAnswer}
+use Rattle.log_stream.specs.LogLaws.{BeginsWith-append, Refuses-append, Spells-append}
+use Rattle.log_stream.specs.Logs.{BeginsWith, HasRecord, IsLog, IsPending, Refuses as RefusesText, Spells, behind_blanks, record_bytes, record_length}
+use Rattle.log_stream.specs.declared.items.LogItem.{LogItem}
+use Rattle.log_stream.specs.declared.items.LogMode.{LogMode}
+use Rattle.log_stream.specs.declared.items.LogMode.TheVariants.{Input}
+use Rattle.log_stream.specs.declared.items.LogRefusal.{LogRefusal}
+use Rattle.log_stream.specs.declared.items.LogRefusal.TheVariants as log
+use Rattle.signature.specs.Laws.{OneAnswer, same_answer}
+use Rattle.signature.specs.Refusals.{IsAnswer as IsSignatureAnswer}
+use Rattle.signature.specs.declared.entries.NameEntry.{NameEntry}
+use Rattle.signature.specs.declared.refusals.SignatureRefusal.{SignatureRefusal as TextRefusal}
+use Rattle.signature.specs.declared.refusals.SignatureRefusal.TheVariants as answers
+use Rattle.trace_meaning.specs.Records.{NeverFall, clock_after, time_of}
+use Rattle.enf_cli.specs.Accepted.{Accepts, UpToDate, record_of, records_of}
+use Rattle.enf_cli.specs.Calls.{Call, LeavesFiles, LeavesGate}
+use Rattle.enf_cli.specs.Dues.{AsksRefusedPolicy, AsksRefusedSignature, AsksSignature, AsksTold, BreaksOff, IsDue, MeetsReadFault, MeetsRefusal, TellBytes, taken_between}
+use Rattle.enf_cli.specs.Exchanges.{Exchanged, IsExchange}
+use Rattle.enf_cli.specs.Files.{AreHeld, AreUnder, HoldsSignature, IsRefusedPolicy, IsRefusedSignature}
+use Rattle.enf_cli.specs.Logs.{IsFalling, IsRefusedAs, RunsLog}
+use Rattle.enf_cli.specs.Outcomes.{Asks, IsDone, MatchNoForm, Outcome, Refuses, RefusesPolicy, RefusesRecord, RefusesSignature, RefusesWords}
+use Rattle.enf_cli.specs.Rules.{IsPolicy}
+use Rattle.enf_cli.specs.Signatures.{SpellsSignature}
+use Rattle.enf_cli.specs.Words.{IsEnforce}
+use Rattle.enf_cli.specs.declared.log.TheConstants.{MOST_LOG_BYTES}
+use Rattle.enf_cli.specs.declared.log.Verdict.{Verdict}
+use Rattle.enf_cli.specs.declared.log.Verdict.TheVariants as verdicts
+use Rattle.enf_cli.specs.declared.refusals.PolicyRefusal.{PolicyRefusal}
+use Rattle.enf_cli.specs.declared.refusals.PolicyRefusal.TheVariants as policies
+use Rattle.enf_cli.specs.declared.refusals.RecordRefusal.{RecordRefusal}
+use Rattle.enf_cli.specs.declared.refusals.RecordRefusal.TheVariants as records
+use Rattle.enf_cli.specs.declared.refusals.Refusal.TheVariants as refusals
+use Rattle.enf_cli.specs.declared.refusals.SignatureRefusal.{SignatureRefusal}
+use Rattle.enf_cli.specs.declared.refusals.SignatureRefusal.TheVariants as signatures
+use Rattle.enf_cli.specs.declared.refusals.Status.{Status}
+use Rattle.enf_cli.specs.declared.refusals.Status.TheVariants as statuses
+
+-- the bytes of a record have one answer at most
+abbrev pub OneRecordAnswer : Type 0
+OneRecordAnswer = (entries : List NameEntry) (mode : LogMode) (bytes : List ℕ) (answer other : Result LogItem LogRefusal)
+    → IsAnswer entries mode bytes answer → IsAnswer entries mode bytes other → answer ≡ other
+
+-- ---- the words and the files ask for one thing
+
+-- the words name one signature and one policy
+pub one_form : (words : List (List ℕ)) (signature policy signature' policy' : List ℕ) → IsEnforce words signature policy → IsEnforce words signature' policy' → (signature ≡ signature') × (policy ≡ policy')
+one_form words signature policy signature' policy' e f =
+    let both : codes "enforce" ∷ signature ∷ policy ∷ [] ≡ codes "enforce" ∷ signature' ∷ policy' ∷ [] = sym e ∙ f in
+    (cc, cc)
+
+-- where files tell a file's bytes, no others are under its name
+told_bytes : (files : Option (List ℕ → Contents)) (name other all bytes : List ℕ) → name ≡ other → TellBytes files name all → AreUnder files other bytes → bytes ≡ all
+told_bytes None name other all bytes e told under = absurd told
+told_bytes (Some files) name other all bytes e told under = subst (AreHeld bytes) (ap files (sym e) ∙ told) under
+
+-- each text of a signature has one answer
+module _ (one : OneAnswer) where
+  -- bytes are one signature at most
+  same_signature : (bytes : List ℕ) (entries others : List NameEntry) → SpellsSignature bytes entries → SpellsSignature bytes others → entries ≡ others
+  same_signature bytes entries others p q =
+      let same : ◌≡◌ {A = Result (List NameEntry) TextRefusal} (Ok entries) (Ok others) = same_answer one bytes (Ok entries) (Ok others) p.answer q.answer in
+      cc
+
+  -- a text that spells a signature has no refusal
+  spelled_not_refused : (bytes : List ℕ) (entries : List NameEntry) (refusal : TextRefusal) → SpellsSignature bytes entries → IsSignatureAnswer bytes (Err refusal) → ⊥
+  spelled_not_refused bytes entries refusal is refused =
+      let same : ◌≡◌ {A = Result (List NameEntry) TextRefusal} (Ok entries) (Err refusal) = same_answer one bytes (Ok entries) (Err refusal) is.answer refused in
+      absurd cc
+
+  signature_not_refused : (why : SignatureRefusal) (bytes : List ℕ) (entries : List NameEntry) → SpellsSignature bytes entries → IsRefusedSignature why bytes → ⊥
+  signature_not_refused signatures.TooLong bytes entries is refused = omega (arith, is.short, refused)
+  signature_not_refused (signatures.Syntax place) bytes entries is refused = spelled_not_refused bytes entries (answers.Syntax place) is refused.1
+  signature_not_refused (signatures.Repeated name place) bytes entries is refused = spelled_not_refused bytes entries (answers.Repeated refused.2 place) is refused.3
+  signature_not_refused (signatures.Limit place) bytes entries is refused = spelled_not_refused bytes entries (answers.Limit refused.1 place) is refused.2
+
+  policy_not_refused : (entries : List NameEntry) (why : PolicyRefusal) (bytes : List ℕ) (rules : List CauseRule) → IsPolicy entries bytes rules → IsRefusedPolicy entries why bytes → ⊥
+  policy_not_refused entries policies.TooLong bytes rules is refused = omega (arith, is.short, refused)
+  policy_not_refused entries policies.NotBuilt bytes rules is refused = refused.1 rules is
+
+  module _ {Gate : Type 0} (call : Call Gate) (entries : List NameEntry) (t : AsksSignature call entries) where
+    -- the words match a form
+    some_form : MatchNoForm call.words → ⊥
+    some_form none = none t.signature t.policy t.form
+
+    -- files have no other signature under the name
+    one_signature : (signature policy : List ℕ) (others : List NameEntry) → IsEnforce call.words signature policy → HoldsSignature call.before.files.contents signature others → entries ≡ others
+    one_signature signature policy others form holds =
+        let names = one_form call.words t.signature t.policy signature policy t.form form in
+        let all = told_bytes call.before.files.contents t.signature signature t.bytes holds.bytes names.0 t.told holds.under in
+        same_signature t.bytes entries others t.is_signature (subst (λ (b : List ℕ). SpellsSignature b others) all holds.is_signature)
+
+    -- the signature is not refused
+    no_signature_refusal : (why : SignatureRefusal) → RefusesSignature call why → ⊥
+    no_signature_refusal why r =
+        let names = one_form call.words t.signature t.policy r.signature r.policy t.form r.form in
+        let all = told_bytes call.before.files.contents t.signature r.signature t.bytes r.refused.bytes names.0 t.told r.refused.under in
+        signature_not_refused why t.bytes entries t.is_signature (subst (IsRefusedSignature why) all r.refused.refused)
+
+  module _ {Gate : Type 0} (call : Call Gate) where
+    -- a signature that is refused is under no name of a run
+    refused_signature_not_asked : (t : AsksRefusedSignature call) (entries : List NameEntry) (rules : List CauseRule) → Asks call entries rules → ⊥
+    refused_signature_not_asked t entries rules a =
+        let names = one_form call.words t.signature t.policy a.signature a.policy t.form a.form in
+        let all = told_bytes call.before.files.contents t.signature a.signature t.bytes a.holds_signature.bytes names.0 t.told a.holds_signature.under in
+        signature_not_refused t.why t.bytes entries (subst (λ (b : List ℕ). SpellsSignature b entries) all a.holds_signature.is_signature) t.refused
+
+    -- nor is a policy that is refused
+    refused_policy_not_asked : (t : AsksRefusedPolicy call) (others : List NameEntry) (rules : List CauseRule) → Asks call others rules → ⊥
+    refused_policy_not_asked t others rules a =
+        let same = one_signature call t.entries t.asks a.signature a.policy others a.form a.holds_signature in
+        let names = one_form call.words t.asks.signature t.asks.policy a.signature a.policy t.asks.form a.form in
+        let all = told_bytes call.before.files.contents t.asks.policy a.policy t.bytes a.holds_policy.bytes names.1 t.told a.holds_policy.under in
+        let here = subst (λ (es : List NameEntry). IsPolicy es a.holds_policy.bytes rules) (sym same) a.holds_policy.is_policy in
+        policy_not_refused t.entries t.why t.bytes rules (subst (λ (b : List ℕ). IsPolicy t.entries b rules) all here) t.refused
+
+    not_asked : AsksRefusedSignature call ⊎ AsksRefusedPolicy call → (entries : List NameEntry) (rules : List CauseRule) → Asks call entries rules → ⊥
+    not_asked (inl t) entries rules a = refused_signature_not_asked t entries rules a
+    not_asked (inr t) entries rules a = refused_policy_not_asked t entries rules a
+
+    -- words that match no form ask for nothing
+    files_some_form : AsksRefusedSignature call ⊎ AsksRefusedPolicy call → MatchNoForm call.words → ⊥
+    files_some_form (inl t) none = none t.signature t.policy t.form
+    files_some_form (inr t) none = some_form call t.entries t.asks none
+
+  module _ {Gate : Type 0} (call : Call Gate) (entries : List NameEntry) (rules : List CauseRule) (t : AsksTold call entries rules) where
+    -- what is asked for has these entries
+    asked_same : (others : List NameEntry) (rules' : List CauseRule) → Asks call others rules' → entries ≡ others
+    asked_same others rules' a = one_signature call entries t.asks a.signature a.policy others a.form a.holds_signature
+
+    -- a policy that has rules is not refused
+    no_policy_refusal : (why : PolicyRefusal) → RefusesPolicy call why → ⊥
+    no_policy_refusal why r =
+        let w = r.refused in
+        let same = one_signature call entries t.asks r.signature r.policy r.entries r.form r.holds_signature in
+        let names = one_form call.words t.asks.signature t.asks.policy r.signature r.policy t.asks.form r.form in
+        let all = told_bytes call.before.files.contents t.asks.policy r.policy t.bytes w.bytes names.1 t.told w.under in
+        let here = subst (λ (es : List NameEntry). IsRefusedPolicy es why w.bytes) (sym same) w.refused in
+        policy_not_refused entries why t.bytes rules t.is_policy (subst (IsRefusedPolicy entries why) all here)
+
+    -- neither file is refused
+    no_refusal_of_files : ((why : SignatureRefusal) × Refuses call (refusals.Signature why)) ⊎ ((why : PolicyRefusal) × Refuses call (refusals.Policy why)) → ⊥
+    no_refusal_of_files (inl (why, r)) = no_signature_refusal call entries t.asks why r.meets
+    no_refusal_of_files (inr (why, r)) = no_policy_refusal why r.meets
+
+    -- the log is run under the entries that are told
+    ran_told : (others : List NameEntry) (rules' : List CauseRule) (verdict : Verdict) → Asks call others rules' → RunsLog others rules' verdict call.before.gate call.after.gate → RunsLog entries rules' verdict call.before.gate call.after.gate
+    ran_told others rules' verdict asks ran = subst (λ (es : List NameEntry). RunsLog es rules' verdict call.before.gate call.after.gate) (sym (asked_same others rules' asks)) ran
+
+  -- ---- a log is read in one way
+
+  none_some : (n : ℕ) → ◌≡◌ {A = Option ℕ} None (Some n) → ⊥
+  none_some n e = cc
+
+  same_number : (n m : ℕ) → ◌≡◌ {A = Option ℕ} (Some n) (Some m) → n ≡ m
+  same_number n m e = cc
+
+  same_item : (x y : LogItem) → ◌≡◌ {A = Result LogItem LogRefusal} (Ok x) (Ok y) → x ≡ y
+  same_item x y e = cc
+
+  ok_not_err : (x : LogItem) (refusal : LogRefusal) → ◌≡◌ {A = Result LogItem LogRefusal} (Ok x) (Err refusal) → ⊥
+  ok_not_err x refusal e = cc
+
+  module _ (law : OneRecordAnswer) where
+    -- a record at the front is one alone
+    begins_same : (entries : List NameEntry) (bytes : List ℕ) (x y : LogItem) (r s : List ℕ) → BeginsWith entries Input bytes x r → BeginsWith entries Input bytes y s → (x ≡ y) × (r ≡ s)
+    begins_same entries bytes x y r s (n, whole, answer, is) (m, whole', answer', is') =
+        let same : n ≡ m = same_number n m (sym whole ∙ whole') in
+        let other = subst (λ (k : ℕ). IsAnswer entries Input (take k (behind_blanks bytes)) (Ok y)) (sym same) answer' in
+        (same_item x y (law entries Input (take n (behind_blanks bytes)) (Ok x) (Ok y) answer other), is ∙ ap (λ (k : ℕ). drop k (behind_blanks bytes)) same ∙ sym is')
+
+    by_answer : (entries : List NameEntry) (bytes : List ℕ) (x : LogItem) (r : List ℕ) (refusal : LogRefusal) → BeginsWith entries Input bytes x r → (n : ℕ) → HasRecord bytes n → IsAnswer entries Input (record_bytes bytes n) (Err refusal) → ⊥
+    by_answer entries bytes x r refusal (m, whole, answer, is) n whole' answer' =
+        let same : m ≡ n = same_number m n (sym whole ∙ whole') in
+        let mine = subst (λ (k : ℕ). IsAnswer entries Input (take k (behind_blanks bytes)) (Ok x)) same answer in
+        ok_not_err x refusal (law entries Input (take n (behind_blanks bytes)) (Ok x) (Err refusal) mine answer')
+
+    -- and it is not refused
+    begins_not_refused : (entries : List NameEntry) (bytes : List ℕ) (x : LogItem) (r : List ℕ) (refusal : LogRefusal) → BeginsWith entries Input bytes x r → RefusesText entries Input bytes refusal → ⊥
+    begins_not_refused entries bytes x r log.TooLong begins refused = none_some begins.0 (sym refused.0 ∙ begins.1)
+    begins_not_refused entries bytes x r log.Truncated begins refused = refused
+    begins_not_refused entries bytes x r log.NoMemory begins refused = refused
+    begins_not_refused entries bytes x r (log.BadRecord place) begins refused = by_answer entries bytes x r (log.BadRecord place) begins refused.0 refused.1 refused.2
+    begins_not_refused entries bytes x r (log.UnknownName place) begins refused = by_answer entries bytes x r (log.UnknownName place) begins refused.0 refused.1 refused.2
+    begins_not_refused entries bytes x r (log.Arity place) begins refused = by_answer entries bytes x r (log.Arity place) begins refused.0 refused.1 refused.2
+    begins_not_refused entries bytes x r (log.SortClash place) begins refused = by_answer entries bytes x r (log.SortClash place) begins refused.0 refused.1 refused.2
+    begins_not_refused entries bytes x r log.TimeTooLarge begins refused = by_answer entries bytes x r log.TimeTooLarge begins refused.0 refused.1 refused.2
+
+    -- no record at the front has a time that is not below the clock
+    abbrev Stops : List NameEntry → ℕ → List ℕ → Type 0
+    Stops entries clock rest = (item : LogItem) (more : List ℕ) → BeginsWith entries Input rest item more → time_of (record_of item) < clock
+
+    refused_stops : (entries : List NameEntry) (clock : ℕ) (rest : List ℕ) (refusal : LogRefusal) → RefusesText entries Input rest refusal → Stops entries clock rest
+    refused_stops entries clock rest refusal refused item more begins = absurd (begins_not_refused entries rest item more refusal begins refused)
+
+    pending_stops : (entries : List NameEntry) (clock : ℕ) (rest : List ℕ) → IsPending rest → Stops entries clock rest
+    pending_stops entries clock rest pending item more begins = absurd (none_some begins.0 (sym pending.0 ∙ begins.1))
+
+    blank_stops : (entries : List NameEntry) (clock : ℕ) (rest : List ℕ) → behind_blanks rest ≡ [] → Stops entries clock rest
+    blank_stops entries clock rest blank item more begins = absurd (none_some begins.0 (sym (ap record_length blank) ∙ begins.1))
+
+    falling_stops : (entries : List NameEntry) (clock : ℕ) (rest : List ℕ) (given : ℕ) → IsFalling entries clock rest given → Stops entries clock rest
+    falling_stops entries clock rest given falling item more begins =
+        let same = begins_same entries rest falling.item item falling.more more falling.begins begins in
+        omega (arith, falling.below, ap (λ (x : LogItem). time_of (record_of x)) same.0)
+
+    blank_not_refused : (entries : List NameEntry) (rest : List ℕ) (refusal : LogRefusal) → behind_blanks rest ≡ [] → RefusesText entries Input rest refusal → ⊥
+    blank_not_refused entries rest log.TooLong blank h = omega (arith, h.1, ap length blank)
+    blank_not_refused entries rest log.Truncated blank h = h
+    blank_not_refused entries rest log.NoMemory blank h = h
+    blank_not_refused entries rest (log.BadRecord place) blank h = none_some h.0 (sym (ap record_length blank) ∙ h.1)
+    blank_not_refused entries rest (log.UnknownName place) blank h = none_some h.0 (sym (ap record_length blank) ∙ h.1)
+    blank_not_refused entries rest (log.Arity place) blank h = none_some h.0 (sym (ap record_length blank) ∙ h.1)
+    blank_not_refused entries rest (log.SortClash place) blank h = none_some h.0 (sym (ap record_length blank) ∙ h.1)
+    blank_not_refused entries rest log.TimeTooLarge blank h = none_some h.0 (sym (ap record_length blank) ∙ h.1)
+
+    -- where a record is refused, records stop
+    refusal_stops : (entries : List NameEntry) (clock count : ℕ) (rest : List ℕ) (after : Stream) (why : RecordRefusal) → IsRefusedAs entries clock count rest after why → Stops entries clock rest
+    refusal_stops entries clock count rest after (records.Bad place) h = refused_stops entries clock rest (log.BadRecord place) h
+    refusal_stops entries clock count rest after (records.UnknownName place) h = refused_stops entries clock rest (log.UnknownName place) h
+    refusal_stops entries clock count rest after (records.Arity place) h = refused_stops entries clock rest (log.Arity place) h
+    refusal_stops entries clock count rest after (records.Sort place) h = refused_stops entries clock rest (log.SortClash place) h
+    refusal_stops entries clock count rest after records.TooLong h = refused_stops entries clock rest log.TooLong h
+    refusal_stops entries clock count rest after records.TimeTooLarge h = refused_stops entries clock rest log.TimeTooLarge h
+    refusal_stops entries clock count rest after records.Truncated h = pending_stops entries clock rest h.0.0
+    refusal_stops entries clock count rest after (records.Falling given at) h = falling_stops entries clock rest given h.1
+    refusal_stops entries clock count rest after records.InputLimit h = pending_stops entries clock rest h.0
+
+    -- blanks in front count for nothing
+    begins_blanks : (entries : List NameEntry) (text other : List ℕ) (item : LogItem) (rest : List ℕ) → behind_blanks text ≡ behind_blanks other → BeginsWith entries Input text item rest → BeginsWith entries Input other item rest
+    begins_blanks entries text other item rest same begins =
+        let P : List ℕ → Type 0 = λ l. (n : ℕ) × (record_length l ≡ Some n) × IsAnswer entries Input (take n l) (Ok item) × (rest ≡ drop n l) in
+        subst P same begins
+
+    -- up to where records stop, those that are accepted are the same
+    read_same : (entries : List NameEntry) (clock : ℕ) (bytes : List ℕ) (xs : List LogItem) (r : List ℕ) (ys : List LogItem) (s : List ℕ) → Stops entries (clock_after clock (records_of xs)) r → Stops entries (clock_after clock (records_of ys)) s
+        → Spells entries Input bytes xs r → NeverFall clock (records_of xs) → Spells entries Input bytes ys s → NeverFall clock (records_of ys) → (xs ≡ ys) × (behind_blanks r ≡ behind_blanks s)
+    read_same entries clock bytes [] r [] s r-stops s-stops p m q n = (refl, p ∙ sym q)
+    read_same entries clock bytes [] r (y ∷ ys) s r-stops s-stops p m q n =
+        let below = r-stops y q.0 (begins_blanks entries bytes r y q.0 (sym p) q.1) in
+        absurd (omega (arith, below, n.0))
+    read_same entries clock bytes (x ∷ xs) r [] s r-stops s-stops p m q n =
+        let below = s-stops x p.0 (begins_blanks entries bytes s x p.0 (sym q) p.1) in
+        absurd (omega (arith, below, m.0))
+    read_same entries clock bytes (x ∷ xs) r (y ∷ ys) s r-stops s-stops p m q n =
+        let same = begins_same entries bytes x y p.0 q.0 p.1 q.1 in
+        let time : time_of (record_of y) ≡ time_of (record_of x) = ap (λ (z : LogItem). time_of (record_of z)) (sym same.0) in
+        let stops = subst (λ (k : ℕ). Stops entries (clock_after k (records_of ys)) s) time s-stops in
+        let others = read_same entries (time_of (record_of x)) p.0 xs r ys s r-stops stops p.2 m.1 (subst (λ (b : List ℕ). Spells entries Input b ys s) (sym same.1) q.2) (subst (λ (k : ℕ). NeverFall k (records_of ys)) time n.1) in
+        (rw (same.0, others.0) refl, others.1)
+
+    -- ---- what was taken
+
+    -- what a gate that tells was seen to take is what was taken between
+    taken_at : (P : List ℕ → List ℕ → Type 0) (taken given : List ℕ) (before after : Option Exchange) (x y : Exchange) → before ≡ Some x → after ≡ Some y → Exchanged P taken given before after → taken ≡ taken_between x y
+    taken_at P taken given before after x y e f h =
+        let told = subst (λ (b : Option Exchange). OfCalls (IsExchange P taken given) (Some x) b) f (subst (λ (a : Option Exchange). OfCalls (IsExchange P taken given) a after) e h.calls) in
+        sym told.took
+
+    -- a gate that told tells still
+    still_told : (x : Exchange) (after : Option Exchange) → GrewWhereTold (Some x) after → (y : Exchange) × (after ≡ Some y) × Grew x y
+    still_told x None grew = absurd grew
+    still_told x (Some y) grew = (y, refl, grew)
+
+    tells_still : (before after : Option Exchange) (x : Exchange) → before ≡ Some x → GrewWhereTold before after → (y : Exchange) × (after ≡ Some y) × Grew x y
+    tells_still before after x e grew = still_told x after (subst (λ (b : Option Exchange). GrewWhereTold b after) e grew)
+
+    -- all was taken where nothing is left
+    all_between : (x y : Exchange) → Grew x y → left y ≡ [] → taken_between x y ≡ left x
+    all_between x y grew ended =
+        let count = y.taken - x.taken in
+        let behind : drop count (left x) ≡ [] = left-since x y grew ∙ ended in
+        sym (append-nil (take count (left x))) ∙ ap (λ (t : List ℕ). take count (left x) ++ t) (sym behind) ∙ take-append-drop count (left x)
+
+    between_le : (x y : Exchange) → length (taken_between x y) ≤ length (left x)
+    between_le x y = omega (arith, length-take (y.taken - x.taken) (left x))
+
+    -- ---- what a run meets
+
+    -- a run that is done meets no refusal
+    done_meets_none : {Gate : Type 0} (call : Call Gate) → IsDone call → MeetsRefusal call → ⊥
+    done_meets_none call d m = by m.why m.refused (read_same m.entries 0 bytes m.read m.rest d.read d.log.0 (refusal_stops m.entries (clock_after 0 (records_of m.read)) (length bytes) m.rest call.after.gate m.why m.refused)
+        (blank_stops m.entries (clock_after 0 (records_of d.read)) d.log.0 d.log.2) m.accepts.spelled m.accepts.rising mine d.rising)
+      where
+        bytes : List ℕ
+        bytes = taken_between m.x m.y
+
+        taken : d.taken ≡ taken_between m.x m.y
+        taken = taken_at (UpToDate d.entries d.rules) d.taken d.given call.before.gate.told call.after.gate.told m.x m.y m.told m.told' d.exchanged
+
+        mine : Spells m.entries Input (taken_between m.x m.y) d.read d.log.0
+        mine = subst (λ (b : List ℕ). Spells m.entries Input b d.read d.log.0) taken (subst (λ (es : List NameEntry). Spells es Input d.taken d.read d.log.0) (sym (asked_same call m.entries m.rules m.asks d.entries d.rules d.asks)) d.log.1)
+
+        blank : (m.read ≡ d.read) × (behind_blanks m.rest ≡ behind_blanks d.log.0) → behind_blanks m.rest ≡ []
+        blank same = same.1 ∙ d.log.2
+
+        no_record : behind_blanks m.rest ≡ [] → (n : ℕ) → HasRecord m.rest n → ⊥
+        no_record empty n whole = none_some n (sym (ap record_length empty) ∙ whole)
+
+        by : (why : RecordRefusal) → IsRefusedAs m.entries (clock_after 0 (records_of m.read)) (length (taken_between m.x m.y)) m.rest call.after.gate why → (m.read ≡ d.read) × (behind_blanks m.rest ≡ behind_blanks d.log.0) → ⊥
+        by (records.Bad place) h same = no_record (blank same) h.0 h.1
+        by (records.UnknownName place) h same = no_record (blank same) h.0 h.1
+        by (records.Arity place) h same = no_record (blank same) h.0 h.1
+        by (records.Sort place) h same = no_record (blank same) h.0 h.1
+        by records.TooLong h same = omega (arith, h.1, ap length (blank same))
+        by records.TimeTooLarge h same = no_record (blank same) h.0 h.1
+        by records.Truncated h same = omega (arith, h.0.1, ap length (blank same))
+        by (records.Falling given at) h same = no_record (blank same) h.1.begins.0 h.1.begins.1
+        by records.InputLimit h same = omega (arith, h.1, d.whole.0, ap length taken)
+
+    module _ {Gate : Type 0} (call : Call Gate) (entries : List NameEntry) (rules : List CauseRule) (why : RecordRefusal)
+        (ran : RunsLog entries rules (verdicts.Refused why) call.before.gate call.after.gate) (x : Exchange) (told : call.before.gate.told ≡ Some x) where
+      -- a refused log meets a refusal
+      meets_refusal : (others : List CauseRule) → AsksTold call entries others → MeetsRefusal call
+      meets_refusal others t =
+          let y = tells_still call.before.gate.told call.after.gate.told x told ran.exchanged.grew in
+          let taken = taken_at (UpToDate entries rules) ran.taken ran.given call.before.gate.told call.after.gate.told x y.0 told y.1 ran.exchanged in
+          record {
+            entries = entries;
+            rules = others;
+            asks = t;
+            x = x;
+            told = told;
+            y = y.0;
+            told' = y.1;
+            read = ran.answers.read;
+            rest = ran.rest;
+            accepts = subst (λ (b : List ℕ). Accepts entries b ran.answers.read ran.rest) taken ran.answers.accepts;
+            why = why;
+            refused = subst (λ (b : List ℕ). IsRefusedAs entries (clock_after 0 (records_of ran.answers.read)) (length b) ran.rest call.after.gate why) taken ran.ends.0;
+          }
+
+      -- a refusal behind the bytes taken is one behind a whole log, whose records end there
+      module _ (read : List LogItem) (is_log : IsLog entries Input (left x) read None) (rising : NeverFall 0 (records_of read)) (y : Exchange) (told' : call.after.gate.told ≡ Some y) (grew : Grew x y) where
+        more : List ℕ
+        more = drop (y.taken - x.taken) (left x)
+
+        whole : ran.taken ++ drop (y.taken - x.taken) (left x) ≡ left x
+        whole =
+            ap (λ (t : List ℕ). t ++ drop (y.taken - x.taken) (left x)) (taken_at (UpToDate entries rules) ran.taken ran.given call.before.gate.told call.after.gate.told x y told told' ran.exchanged)
+            ∙ take-append-drop (y.taken - x.taken) (left x)
+
+        -- what is left of it is all of it
+        nothing_more : (rest : List ℕ) → Stops entries (clock_after 0 (records_of ran.answers.read)) rest → Spells entries Input (left x) ran.answers.read rest → behind_blanks rest ≡ []
+        nothing_more rest stops spelled =
+            (read_same entries 0 (left x) ran.answers.read rest read is_log.0 stops (blank_stops entries (clock_after 0 (records_of read)) is_log.0 is_log.2) spelled ran.answers.accepts.rising is_log.1 rising).1 ∙ is_log.2
+
+        longer : Spells entries Input (left x) ran.answers.read (ran.rest ++ drop (y.taken - x.taken) (left x))
+        longer =
+            subst (λ (b : List ℕ). Spells entries Input b ran.answers.read (ran.rest ++ drop (y.taken - x.taken) (left x))) whole
+            (Spells-append entries Input ran.taken ran.answers.read ran.rest (drop (y.taken - x.taken) (left x)) ran.answers.accepts.spelled)
+
+        not_refused : (refusal : LogRefusal) → RefusesText entries Input ran.rest refusal → ⊥
+        not_refused refusal h =
+            let r = Refuses-append entries Input ran.rest (drop (y.taken - x.taken) (left x)) refusal h in
+            blank_not_refused entries (ran.rest ++ drop (y.taken - x.taken) (left x)) refusal (nothing_more (ran.rest ++ drop (y.taken - x.taken) (left x)) (refused_stops entries (clock_after 0 (records_of ran.answers.read)) (ran.rest ++ drop (y.taken - x.taken) (left x)) refusal r) longer) r
+
+        not_acceptable : length (left x) < MOST_LOG_BYTES → ⊥
+        not_acceptable below = by why ran.ends.0
+          where
+            by : (why : RecordRefusal) → IsRefusedAs entries (clock_after 0 (records_of ran.answers.read)) (length ran.taken) ran.rest call.after.gate why → ⊥
+            by (records.Bad place) h = not_refused (log.BadRecord place) h
+            by (records.UnknownName place) h = not_refused (log.UnknownName place) h
+            by (records.Arity place) h = not_refused (log.Arity place) h
+            by (records.Sort place) h = not_refused (log.SortClash place) h
+            by records.TooLong h = not_refused log.TooLong h
+            by records.TimeTooLarge h = not_refused log.TimeTooLarge h
+            by records.Truncated h =
+                let ended = subst IsAtEnd told' h.1.1 in
+                let all = taken_at (UpToDate entries rules) ran.taken ran.given call.before.gate.told call.after.gate.told x y told told' ran.exchanged ∙ all_between x y grew ended in
+                let spelled = subst (λ (b : List ℕ). Spells entries Input b ran.answers.read ran.rest) all ran.answers.accepts.spelled in
+                omega (arith, h.0.1, ap length (nothing_more ran.rest (pending_stops entries (clock_after 0 (records_of ran.answers.read)) ran.rest h.0.0) spelled))
+            by (records.Falling given at) h =
+                let f = h.1 in
+                let begins = BeginsWith-append entries Input ran.rest f.item f.more (drop (y.taken - x.taken) (left x)) f.begins in
+                let still : IsFalling entries (clock_after 0 (records_of ran.answers.read)) (ran.rest ++ drop (y.taken - x.taken) (left x)) given =
+                record { item = f.item; more = f.more ++ drop (y.taken - x.taken) (left x); begins = begins; time = f.time; below = f.below } in
+                let blank = nothing_more (ran.rest ++ drop (y.taken - x.taken) (left x)) (falling_stops entries (clock_after 0 (records_of ran.answers.read)) (ran.rest ++ drop (y.taken - x.taken) (left x)) given still) longer in
+                none_some begins.0 (sym (ap record_length blank) ∙ begins.1)
+            by records.InputLimit h =
+                let all = taken_at (UpToDate entries rules) ran.taken ran.given call.before.gate.told call.after.gate.told x y told told' ran.exchanged in
+                omega (arith, h.1, ap length all, between_le x y, below)
+
+    -- ---- where each status must come
+
+    module _ {Gate : Type 0} (call : Call Gate) where
+      -- no read failed
+      no_read_fault : LeavesFiles call → call.after.gate.read_faults ≡ call.before.gate.read_faults → MeetsReadFault call → ⊥
+      no_read_fault files gate (inl (name, moved)) = moved (ap (λ (v : FileView). v.read_faults name) files)
+      no_read_fault files gate (inr lost) = lost.failed gate
+
+      by_done : (status : Status) → IsDone call → IsDue call status → (statuses.Done ≡ status) ⊎ BreaksOff statuses.Done
+      by_done statuses.Done o due = inl refl
+      by_done statuses.Words o due = absurd (due o.asks.signature o.asks.policy o.asks.form)
+      by_done statuses.Files o due = absurd (not_asked call due o.entries o.rules o.asks)
+      by_done statuses.Record o due = absurd (done_meets_none call o due)
+      by_done statuses.ReadFault o due = absurd (no_read_fault o.files o.reads due)
+      by_done statuses.WriteFault o due = absurd (due o.writes)
+      by_done statuses.NoMemory o due = absurd due
+
+      by_words : (status : Status) → RefusesWords call → IsDue call status → (statuses.Words ≡ status) ⊎ BreaksOff statuses.Words
+      by_words statuses.Done o due = absurd (some_form call due.entries due.asks.asks o.words)
+      by_words statuses.Words o due = inl refl
+      by_words statuses.Files o due = absurd (files_some_form call due o.words)
+      by_words statuses.Record o due = absurd (some_form call due.entries due.asks.asks o.words)
+      by_words statuses.ReadFault o due = absurd (no_read_fault o.files (ap (λ (s : Stream). s.read_faults) o.gate.1) due)
+      by_words statuses.WriteFault o due = absurd (due (ap (λ (s : Stream). s.write_faults) o.gate.1))
+      by_words statuses.NoMemory o due = absurd due
+
+      -- what a refused file leaves
+      abbrev FilesRefused : Type 0
+      FilesRefused = ((why : SignatureRefusal) × Refuses call (refusals.Signature why)) ⊎ ((why : PolicyRefusal) × Refuses call (refusals.Policy why))
+
+      refused_gate : FilesRefused → LeavesGate call
+      refused_gate (inl (why, r)) = r.meets.gate
+      refused_gate (inr (why, r)) = r.meets.gate
+
+      refused_files : FilesRefused → LeavesFiles call
+      refused_files (inl (why, r)) = r.meets.files
+      refused_files (inr (why, r)) = r.meets.files
+
+      refused_form : FilesRefused → MatchNoForm call.words → ⊥
+      refused_form (inl (why, r)) none = none r.meets.signature r.meets.policy r.meets.form
+      refused_form (inr (why, r)) none = none r.meets.signature r.meets.policy r.meets.form
+
+      by_files : (status : Status) → FilesRefused → IsDue call status → (statuses.Files ≡ status) ⊎ BreaksOff statuses.Files
+      by_files statuses.Done o due = absurd (no_refusal_of_files call due.entries due.rules due.asks o)
+      by_files statuses.Words o due = absurd (refused_form o due)
+      by_files statuses.Files o due = inl refl
+      by_files statuses.Record o due = absurd (no_refusal_of_files call due.entries due.rules due.asks o)
+      by_files statuses.ReadFault o due = absurd (no_read_fault (refused_files o) (ap (λ (s : Stream). s.read_faults) (refused_gate o).1) due)
+      by_files statuses.WriteFault o due = absurd (due (ap (λ (s : Stream). s.write_faults) (refused_gate o).1))
+      by_files statuses.NoMemory o due = absurd due
+
+      by_record : (status : Status) (number : ℕ) (why : RecordRefusal) → RefusesRecord call number why → IsDue call status → (statuses.Record ≡ status) ⊎ BreaksOff statuses.Record
+      by_record statuses.Done number why o due =
+          let ran = ran_told call due.entries due.rules due.asks o.entries o.rules (verdicts.Refused why) o.asks o.ran in
+          let y = tells_still call.before.gate.told call.after.gate.told due.gate due.told ran.exchanged.grew in
+          absurd (not_acceptable call due.entries o.rules why ran due.gate due.told due.read due.log due.rising y.0 y.1 y.2 due.below)
+      by_record statuses.Words number why o due = absurd (due o.asks.signature o.asks.policy o.asks.form)
+      by_record statuses.Files number why o due = absurd (not_asked call due o.entries o.rules o.asks)
+      by_record statuses.Record number why o due = inl refl
+      by_record statuses.ReadFault number why o (inl (name, moved)) = absurd (moved (ap (λ (v : FileView). v.read_faults name) o.files))
+      by_record statuses.ReadFault number why o (inr lost) =
+          let ran = ran_told call lost.entries lost.rules lost.asks o.entries o.rules (verdicts.Refused why) o.asks o.ran in
+          absurd (lost.none (meets_refusal call lost.entries o.rules why ran lost.x lost.told lost.rules lost.asks))
+      by_record statuses.WriteFault number why o due = absurd (due o.ran.writes)
+      by_record statuses.NoMemory number why o due = absurd due
+
+      -- what holds at a status leaves no room for another that is due
+      pub due_of : (result status : Status) → Outcome call result → IsDue call status → (result ≡ status) ⊎ BreaksOff result
+      due_of statuses.Done status o due = by_done status o.0 due
+      due_of statuses.Words status o due = by_words status o.meets due
+      due_of statuses.Files status o due = by_files status o due
+      due_of statuses.Record status o due = by_record status o.0 o.1 o.2.meets due
+      due_of statuses.ReadFault status o due = inr (inl refl)
+      due_of statuses.WriteFault status o due = inr (inr (inl refl))
+      due_of statuses.NoMemory status o due = inr (inr (inr refl))

@@ -1,0 +1,60 @@
+-- Records at the front of a log: how many bytes they have, and their times.
+use Rattle.std.proofs.Common.{◌≡◌, ℕ, ◌<◌, ◌≤◌, suc, nat_lt, Bool, true, false, List, [], ◌∷◌, length, Option, None, Some, Result, Ok, Err, if◌then◌else◌, refl, ap, subst, arith, length-drop}
+use Rattle.std.proofs.lemmas.Bool.Decides.{nat_tests}
+use Rattle.enf_value.specs.Tokens.{is_blank}
+use Rattle.enf_value.specs.declared.events.Event.{Event}
+use Rattle.log_stream.specs.Judgement.{IsAnswer, events_of, first_refusal, judged_step}
+use Rattle.log_stream.specs.LogLaws.{end_stays}
+use Rattle.log_stream.specs.Logs.{BeginsWith, behind_blanks}
+use Rattle.log_stream.specs.Written.{Line, TickLine}
+use Rattle.log_stream.specs.declared.items.LogItem.{LogItem}
+use Rattle.log_stream.specs.declared.items.LogItem.TheVariants as items
+use Rattle.log_stream.specs.declared.items.LogMode.{LogMode}
+use Rattle.log_stream.specs.declared.items.LogMode.TheVariants.{Input}
+use Rattle.log_stream.specs.declared.items.LogRefusal.{LogRefusal}
+use Rattle.log_stream.specs.declared.items.LogRefusal.TheVariants.{TimeTooLarge}
+use Rattle.log_stream.specs.declared.scanning.Scan.TheVariants.{Outside}
+use Rattle.signature.specs.declared.entries.NameEntry.{NameEntry}
+use Rattle.trace_meaning.specs.Records.{time_of}
+use Rattle.trace_meaning.specs.declared.kinds.StepKind.TheVariants.{System, Inserted}
+use Rattle.enf_cli.specs.Accepted.{record_of}
+
+-- without its blanks in front a text is no longer
+pub behind_le : (text : List ℕ) → length (behind_blanks text) ≤ length text
+behind_le [] = omega arith
+behind_le (byte ∷ text) = by (is_blank byte) (behind_le text)
+  where
+    by : (b : Bool) → length (behind_blanks text) ≤ length text → length (if b then behind_blanks text else byte ∷ text) ≤ suc (length text)
+    by true h = omega (arith, h)
+    by false h = omega arith
+
+-- behind a record there are fewer bytes
+pub begins_shorter : (entries : List NameEntry) (mode : LogMode) (text : List ℕ) (item : LogItem) (rest : List ℕ) → BeginsWith entries mode text item rest → length rest < length text
+begins_shorter entries mode text item rest (n, whole, answer, is) =
+    let end = end_stays Outside 65536 (behind_blanks text) [] n whole in
+    omega (arith, ap length is, length-drop n (behind_blanks text), end.1, end.2, behind_le text)
+
+pub same_item : (x y : LogItem) → ◌≡◌ {A = Result LogItem LogRefusal} (Ok x) (Ok y) → x ≡ y
+same_item x y e = cc
+
+-- a step that is read has its time
+step_time : (item : LogItem) (time : ℕ) (events : List Event) (refusal : Option LogRefusal) → judged_step System time events refusal ≡ Ok item → time ≤ 1000000000000000 → time_of (record_of item) ≤ 1000000000000000
+step_time item time events None is le = subst (λ (x : LogItem). time_of (record_of x) ≤ 1000000000000000) (same_item (items.Step System time events) item is) le
+step_time item time events (Some refusal) is le = cc
+
+-- the time of a record that is read is one that an enforcer takes
+pub item_time : (entries : List NameEntry) (bytes : List ℕ) (item : LogItem) → IsAnswer entries Input bytes (Ok item) → time_of (record_of item) ≤ 1000000000000000
+item_time entries bytes item (Line System time events, spelled, is) = by (nat_lt 1000000000000000 time) refl is
+  where
+    by : (b : Bool) → nat_lt 1000000000000000 time ≡ b
+        → ◌≡◌ {A = Result LogItem LogRefusal} (if b then Err TimeTooLarge else judged_step System time (events_of entries events) (first_refusal entries events)) (Ok item)
+        → time_of (record_of item) ≤ 1000000000000000
+    by true e is = cc
+    by false e is = step_time item time (events_of entries events) (first_refusal entries events) is (grind (arith, nat_tests, e))
+item_time entries bytes item (Line Inserted time events, spelled, is) = absurd spelled.0.0
+item_time entries bytes item (TickLine time, spelled, is) = by (nat_lt 1000000000000000 time) refl is
+  where
+    by : (b : Bool) → nat_lt 1000000000000000 time ≡ b
+        → ◌≡◌ {A = Result LogItem LogRefusal} (if b then Err TimeTooLarge else Ok (items.Tick time)) (Ok item) → time_of (record_of item) ≤ 1000000000000000
+    by true e is = cc
+    by false e is = subst (λ (x : LogItem). time_of (record_of x) ≤ 1000000000000000) (same_item (items.Tick time) item is) (grind (arith, nat_tests, e))

@@ -1,0 +1,129 @@
+-- What one turn of the run of a log does, from what its calls do.
+use Rattle.std.proofs.Common.{◌≡◌, ℕ, ◌+◌, ◌<◌, ◌≤◌, List, [], length, refl, sym, ap, subst, ◌∙◌, inl, inr, Option, None, Some, Ok, Err, arith}
+use Rattle.std.specs.Prelude.{◌⊎◌}
+use Rattle.enf_io.specs.Exchange.{Exchange, Took}
+use Rattle.enf_io.specs.Streams.{Stream}
+use Rattle.enforcer_core.specs.Enforcers.{Enforcing}
+use Rattle.log_stream.specs.LogLaws.{IsPending-blanks, Spells-blanks}
+use Rattle.log_stream.specs.Logs.{BeginsWith, IsPending, IsTruncated, Refuses, behind_blanks}
+use Rattle.log_stream.specs.Readers.{Answers, Reader, ReadsNext, fed}
+use Rattle.log_stream.specs.declared.items.Found.TheVariants.{Item, Pending}
+use Rattle.log_stream.specs.declared.items.LogItem.{LogItem}
+use Rattle.log_stream.specs.declared.items.LogMode.{LogMode}
+use Rattle.log_stream.specs.declared.items.LogMode.TheVariants.{Input}
+use Rattle.log_stream.specs.declared.items.LogRefusal.{LogRefusal}
+use Rattle.log_stream.specs.declared.items.LogRefusal.TheVariants as log
+use Rattle.signature.specs.declared.entries.NameEntry.{NameEntry}
+use Rattle.enf_cli.specs.Accepted.{record_of}
+use Rattle.enf_cli.specs.Progress.{CutsItem, CutsNext, EndsTurn, JudgesEnd, LeavesItem, MeetsEnd, RefusesNext, TakesMore, TakesPiece, TakesTurn, WaitsForMore, reads_on, refusal_for}
+use Rattle.enf_cli.specs.declared.endings.Cut.{Cut}
+use Rattle.enf_cli.specs.declared.endings.Cut.TheVariants as cuts
+use Rattle.enf_cli.specs.declared.log.Enforcement.{Enforcement}
+use Rattle.enf_cli.specs.declared.log.TheConstants.{MOST_LOG_BYTES}
+use Rattle.enf_cli.specs.declared.log.Turn.TheVariants as turns
+use Rattle.enf_cli.specs.declared.log.Verdict.{Verdict}
+use Rattle.enf_cli.specs.declared.log.Verdict.TheVariants as verdicts
+use Rattle.enf_cli.specs.declared.refusals.RecordRefusal.{RecordRefusal}
+use Rattle.enf_cli.specs.declared.refusals.RecordRefusal.TheVariants as records
+
+module _ (entries : List NameEntry) (before after : Reader) (going : before ≡ reads_on entries before.rest) where
+  same_entries : before.entries ≡ entries
+  same_entries = ap (λ (r : Reader). r.entries) going
+
+  same_mode : before.mode ≡ Input
+  same_mode = ap (λ (r : Reader). r.mode) going
+
+  same_refused : before.refused ≡ None
+  same_refused = ap (λ (r : Reader). r.refused) going
+
+  -- the record that was read
+  pub reads_item : (item : LogItem) → ReadsNext before (Ok (Item item)) after → BeginsWith entries Input before.rest item after.rest × (after ≡ reads_on entries after.rest)
+  reads_item item (none, begins, is) = (
+    subst (λ (es : List NameEntry). BeginsWith es Input before.rest item after.rest) same_entries (subst (λ (m : LogMode). BeginsWith before.entries m before.rest item after.rest) same_mode begins),
+    is ∙ (λ i. record { entries = same_entries i; mode = same_mode i; rest = after.rest; refused = same_refused i }),
+  )
+
+  pub reads_pending : ReadsNext before (Ok Pending) after → IsPending before.rest × (after ≡ reads_on entries (behind_blanks before.rest))
+  reads_pending (none, pending, is) =
+      (pending, is ∙ (λ i. record { entries = same_entries i; mode = same_mode i; rest = behind_blanks before.rest; refused = same_refused i }))
+
+  -- a refusal that was not answered before has its cause
+  first_cause : (refusal : LogRefusal) → Answers before refusal (Refuses before.entries before.mode before.rest refusal) after → Refuses entries Input before.rest refusal
+  first_cause refusal (inl again) = cc (sym again.0 ∙ same_refused)
+  first_cause refusal (inr first) =
+      subst (λ (es : List NameEntry). Refuses es Input before.rest refusal) same_entries (subst (λ (m : LogMode). Refuses before.entries m before.rest refusal) same_mode first.1)
+
+  pub reads_refused : (clock : ℕ) (refusal : LogRefusal) (why : RecordRefusal) → refusal_for refusal ≡ Some why → ReadsNext before (Err refusal) after → RefusesNext entries before.rest clock why
+  reads_refused clock (log.BadRecord place) why is h = let same : why ≡ records.Bad place = cc in subst (RefusesNext entries before.rest clock) (sym same) (first_cause (log.BadRecord place) h)
+  reads_refused clock (log.UnknownName place) why is h = let same : why ≡ records.UnknownName place = cc in subst (RefusesNext entries before.rest clock) (sym same) (first_cause (log.UnknownName place) h)
+  reads_refused clock (log.Arity place) why is h = let same : why ≡ records.Arity place = cc in subst (RefusesNext entries before.rest clock) (sym same) (first_cause (log.Arity place) h)
+  reads_refused clock (log.SortClash place) why is h = let same : why ≡ records.Sort place = cc in subst (RefusesNext entries before.rest clock) (sym same) (first_cause (log.SortClash place) h)
+  reads_refused clock log.TooLong why is h = let same : why ≡ records.TooLong = cc in subst (RefusesNext entries before.rest clock) (sym same) (first_cause log.TooLong h)
+  reads_refused clock log.TimeTooLarge why is h = let same : why ≡ records.TimeTooLarge = cc in subst (RefusesNext entries before.rest clock) (sym same) (first_cause log.TimeTooLarge h)
+  reads_refused clock log.Truncated why is h = absurd (first_cause log.Truncated h)
+  reads_refused clock log.NoMemory why is h = cc
+
+-- a record whose time is below the clock is refused
+pub falls : (entries : List NameEntry) (rest more : List ℕ) (item : LogItem) (why : RecordRefusal) (now : Enforcing) (told told' : Option Exchange) → BeginsWith entries Input rest item more
+    → LeavesItem (record_of item) why now told told' → RefusesNext entries rest now.clock why × (told' ≡ told)
+falls entries rest more item why now told told' begins l =
+    (subst (RefusesNext entries rest now.clock) (sym l.falls) (record { item = item; more = more; begins = begins; is = refl; below = l.below }), l.given)
+
+-- what cut the answer of a record cut that of the front
+pub cuts_next : (entries : List NameEntry) (rest more : List ℕ) (item : LogItem) (now : Enforcing) (told told' : Option Exchange) (cut : Cut) → BeginsWith entries Input rest item more
+    → CutsItem entries (record_of item) now told told' cut → CutsNext entries rest now told told' cut
+cuts_next entries rest more item now told told' cuts.WriteFault begins c = record { item = item; more = more; begins = begins; cut = c }
+cuts_next entries rest more item now told told' cuts.NoMemory begins (inl same) = inl same
+cuts_next entries rest more item now told told' cuts.NoMemory begins (inr c) = inr (record { item = item; more = more; begins = begins; cut = c })
+
+module _ (entries : List NameEntry) (old : Enforcement) (middle reader : Reader) (now : Enforcing) (a b c : Stream)
+    (waits : WaitsForMore entries old.reader middle old.enforcer now a.told b.told) (same_reads : b.read_faults ≡ a.read_faults) where
+  -- a piece was taken
+  pub takes_more : (count left : ℕ) → left + old.taken ≤ MOST_LOG_BYTES → TakesPiece count left middle reader b c
+      → TakesMore entries old (record { reader = reader; enforcer = now; accepted = old.accepted; taken = old.taken + count }) a c
+  takes_more count left room t =
+      record {
+        pending = waits.pending;
+        bytes = t.bytes;
+        took = subst (λ (o : Option Exchange). Took t.bytes o c.told) waits.given t.took;
+        some = omega (arith, t.some, t.count_is);
+        reader = t.fed_is ∙ ap (λ (r : Reader). fed r t.bytes) waits.reader_is;
+        enforcer = waits.enforcer;
+        accepted = refl;
+        taken = ap (λ (n : ℕ). old.taken + n) (sym t.count_is);
+        within = omega (arith, t.within, room);
+        reads = t.reads ∙ same_reads;
+      }
+
+  -- what is left is still pending
+  pub still_pending : reader ≡ middle → IsPending reader.rest × (reader.refused ≡ None)
+  still_pending same =
+      let is : reader ≡ reads_on entries (behind_blanks old.reader.rest) = same ∙ waits.reader_is in
+      (subst (λ (r : Reader). IsPending r.rest) (sym is) (IsPending-blanks old.reader.rest waits.pending), ap (λ (r : Reader). r.refused) is)
+
+  -- the end was met
+  pub ends_turn : (left : ℕ) (verdict : Verdict) → left + old.taken ≤ MOST_LOG_BYTES → TakesTurn turns.Ended left middle reader b c → JudgesEnd reader.rest verdict → EndsTurn entries old a c verdict
+  ends_turn left verdict room t judged = by judged
+    where
+      meets : MeetsEnd old a c
+      meets =
+          record {
+            pending = waits.pending;
+            took = subst (λ (o : Option Exchange). Took [] o c.told) waits.given t.2;
+            at_end = t.3;
+            below = omega (arith, t.0, room);
+            reads = t.4 ∙ same_reads;
+          }
+
+      is : reader ≡ reads_on entries (behind_blanks old.reader.rest)
+      is = t.1 ∙ waits.reader_is
+
+      rest_is : reader.rest ≡ behind_blanks old.reader.rest
+      rest_is = ap (λ (r : Reader). r.rest) is
+
+      again : behind_blanks (behind_blanks old.reader.rest) ≡ behind_blanks old.reader.rest
+      again = Spells-blanks entries Input old.reader.rest [] old.reader.rest refl
+
+      by : ((verdict ≡ verdicts.Accepted) × (behind_blanks reader.rest ≡ [])) ⊎ ((verdict ≡ verdicts.Refused records.Truncated) × IsTruncated reader.rest) → EndsTurn entries old a c verdict
+      by (inl (same, blank)) = subst (EndsTurn entries old a c) (sym same) (sym again ∙ ap behind_blanks (sym rest_is) ∙ blank, meets)
+      by (inr (same, truncated)) = subst (EndsTurn entries old a c) (sym same) ((waits.pending, subst (λ (l : List ℕ). 0 < length l) (ap behind_blanks rest_is ∙ again) truncated.1), meets)

@@ -1,8 +1,0 @@
-use Rattle.std.proofs.Common.{◌≡◌, ◌++◌, ◌∷◌, take}
-use Rattle.std.specs.List.{flat_map}
-use Rattle.enforcer_core.specs.Lines.{spelled_event}
-use Rattle.signature.specs.Grammar.{names as names_of}
-use Rattle.enf_cli.proofs.lines.print_events.Given as goal
-
-abbrev pub invariant-loop-event : goal.invariant-loop-event
-invariant-loop-event l = l.out.items ≡ l.fn.out.items ++ flat_map (λ event. 32 ∷ spelled_event (names_of l.fn.signature) event) (take l.event-index l.events)

@@ -1,7 +1,0 @@
-use Rattle.std.proofs.Common.{◌≡◌, ◌++◌, ◌∷◌, take}
-use Rattle.std.specs.List.{flat_map}
-use Rattle.enf_value.specs.Spelling.{spelled}
-use Rattle.enf_cli.proofs.lines.print_row.Given as goal
-
-abbrev pub invariant-loop-value : goal.invariant-loop-value
-invariant-loop-value l = l.out.items ≡ l.initial.out.items ++ flat_map (λ value. 44 ∷ spelled value) (take l.value-index l.rest)

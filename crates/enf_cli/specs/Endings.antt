@@ -1,0 +1,45 @@
+-- Why the parts of a run end before they are done, and how one becomes another.
+use Rattle.std.specs.Prelude.{◌≡◌, ℕ, List, ◌++◌, Option, Result, Ok, Err}
+use Rattle.enf_io.specs.Counts.{one_more}
+use Rattle.enf_io.specs.Exchange.{Exchange, Gave}
+use Rattle.enf_io.specs.declared.devices.IoRefusal.{IoRefusal}
+use Rattle.enf_io.specs.declared.devices.IoRefusal.TheVariants as io
+use Rattle.enf_io.specs.declared.writing.WriteRefusal.{WriteRefusal}
+use Rattle.enf_io.specs.declared.writing.WriteRefusal.TheVariants as writes
+use Rattle.enf_cli.specs.declared.endings.Cut.{Cut}
+use Rattle.enf_cli.specs.declared.endings.Cut.TheVariants as cuts
+use Rattle.enf_cli.specs.declared.endings.Ending.{Ending}
+use Rattle.enf_cli.specs.declared.endings.Ending.TheVariants as endings
+use Rattle.enf_cli.specs.declared.endings.FileEnding.{FileEnding}
+use Rattle.enf_cli.specs.declared.endings.FileEnding.TheVariants as files
+use Rattle.enf_cli.specs.declared.refusals.Refusal.{Refusal}
+use Rattle.enf_cli.specs.declared.refusals.Refusal.TheVariants.{ReadFault}
+
+-- why output ends after a refusal to write
+abbrev pub cut_after : WriteRefusal → Cut
+cut_after (writes.WriteFault written) = cuts.WriteFault
+cut_after (writes.NoMemory written) = cuts.NoMemory
+
+-- why a file gives nothing after a read was refused
+abbrev pub file_ending_after : {W : Type 0} → IoRefusal → FileEnding W
+file_ending_after io.Failed = files.Fault
+file_ending_after io.NoMemory = files.NoMemory
+
+-- why a run ends after a file gave nothing; of what the file holds, the refusal is made
+abbrev pub ending_after_file : {W : Type 0} → (W → Refusal) → FileEnding W → Ending
+ending_after_file refusal_of (files.Refused why) = endings.Refused (refusal_of why)
+ending_after_file refusal_of files.Fault = endings.Refused ReadFault
+ending_after_file refusal_of files.NoMemory = endings.Cut cuts.NoMemory
+
+-- the count of write faults behind output: one more where a fault cut it
+abbrev pub write_faults_behind : {T : Type 0} → Result T Cut → ℕ → ℕ
+write_faults_behind (Ok value) count = count
+write_faults_behind (Err cuts.WriteFault) count = one_more count
+write_faults_behind (Err cuts.NoMemory) count = count
+
+-- a device that tells was given the text up to somewhere in it
+pub record GaveFront (text : List ℕ) (before after : Option Exchange) : Type 0 where
+  pub front : List ℕ
+  pub rest : List ℕ
+  pub split : text ≡ front ++ rest
+  pub gave : Gave front before after

@@ -1,0 +1,109 @@
+-- What a run of the log takes from the gate and gives to it, by how it ends.
+use Rattle.std.specs.Prelude.{◌≡◌, ℕ, ◌+◌, ◌<◌, List, [], ◌++◌, length, Result, Ok, Err}
+use Rattle.enf_io.specs.Counts.{one_more}
+use Rattle.enf_io.specs.Exchange.{IsAtEnd}
+use Rattle.enf_io.specs.Streams.{Stream}
+use Rattle.enforcer_core.specs.Follows.{Follows}
+use Rattle.enforcer_core.specs.Rules.{policy_of}
+use Rattle.enforcer_core.specs.declared.enforcer.CauseRule.{CauseRule}
+use Rattle.log_stream.specs.Logs.{BeginsWith, IsPending, IsTruncated, Refuses, behind_blanks}
+use Rattle.log_stream.specs.declared.items.LogItem.{LogItem}
+use Rattle.log_stream.specs.declared.items.LogMode.TheVariants.{Input}
+use Rattle.log_stream.specs.declared.items.LogRefusal.TheVariants as log
+use Rattle.signature.specs.declared.entries.NameEntry.{NameEntry}
+use Rattle.trace_meaning.specs.Records.{clock_after, time_of}
+use Rattle.enf_cli.specs.Accepted.{Accepts, Answers, UpToDate, record_of, records_of}
+use Rattle.enf_cli.specs.Enforcement.{IsEnforced}
+use Rattle.enf_cli.specs.Exchanges.{Exchanged, IsBegun}
+use Rattle.enf_cli.specs.declared.endings.Cut.{Cut}
+use Rattle.enf_cli.specs.declared.endings.Cut.TheVariants as cuts
+use Rattle.enf_cli.specs.declared.log.TheConstants.{MOST_LOG_BYTES}
+use Rattle.enf_cli.specs.declared.log.Judged.{Judged}
+use Rattle.enf_cli.specs.declared.log.Verdict.{Verdict}
+use Rattle.enf_cli.specs.declared.log.Verdict.TheVariants as verdicts
+use Rattle.enf_cli.specs.declared.refusals.RecordRefusal.{RecordRefusal}
+use Rattle.enf_cli.specs.declared.refusals.RecordRefusal.TheVariants as records
+use Rattle.enf_cli.specs.declared.refusals.Refusal.{Refusal}
+use Rattle.enf_cli.specs.declared.refusals.Refusal.TheVariants as refusals
+
+-- a record stands at the front whose time is below the clock
+pub record IsFalling (entries : List NameEntry) (clock : ℕ) (rest : List ℕ) (given : ℕ) : Type 0 where
+  pub item : LogItem
+  pub more : List ℕ
+  pub begins : BeginsWith entries Input rest item more
+  pub time : given ≡ time_of (record_of item)
+  pub below : time_of (record_of item) < clock
+
+-- the input was taken to its end, where that is told
+abbrev pub MetEnd : ℕ → Stream → Type 0
+MetEnd count after = (count < MOST_LOG_BYTES) × IsAtEnd after.told
+
+-- why the rest behind the accepted records is refused, after so many bytes were taken, at this clock
+abbrev pub IsRefusedAs : List NameEntry → ℕ → ℕ → List ℕ → Stream → RecordRefusal → Type 0
+IsRefusedAs entries clock count rest after (records.Bad place) = Refuses entries Input rest (log.BadRecord place)
+IsRefusedAs entries clock count rest after (records.UnknownName place) =
+    Refuses entries Input rest (log.UnknownName place)
+IsRefusedAs entries clock count rest after (records.Arity place) = Refuses entries Input rest (log.Arity place)
+IsRefusedAs entries clock count rest after (records.Sort place) = Refuses entries Input rest (log.SortClash place)
+IsRefusedAs entries clock count rest after records.TooLong = Refuses entries Input rest log.TooLong
+IsRefusedAs entries clock count rest after records.TimeTooLarge = Refuses entries Input rest log.TimeTooLarge
+IsRefusedAs entries clock count rest after records.Truncated = IsTruncated rest × MetEnd count after
+IsRefusedAs entries clock count rest after (records.Falling given at) =
+    (at ≡ clock) × IsFalling entries clock rest given
+IsRefusedAs entries clock count rest after records.InputLimit = IsPending rest × (count ≡ MOST_LOG_BYTES)
+
+-- how the log ends behind the accepted records: nothing is left of it, a read failed, or a record is refused
+abbrev pub EndsAs : List NameEntry → ℕ → ℕ → List ℕ → Stream → Stream → Verdict → Type 0
+EndsAs entries clock count rest before after verdicts.Accepted =
+    (behind_blanks rest ≡ []) × MetEnd count after × (after.read_faults ≡ before.read_faults)
+EndsAs entries clock count rest before after verdicts.Fault =
+    IsPending rest × (after.read_faults ≡ one_more before.read_faults)
+EndsAs entries clock count rest before after (verdicts.Refused why) =
+    IsRefusedAs entries clock count rest after why × (after.read_faults ≡ before.read_faults)
+
+-- the log was begun and ended so, and what was given is what is owed to its accepted records
+pub record RunsLog (entries : List NameEntry) (rules : List CauseRule) (verdict : Verdict)
+    (before after : Stream) : Type 0 where
+  pub taken : List ℕ
+  pub given : List ℕ
+  pub exchanged : Exchanged (UpToDate entries rules) taken given before.told after.told
+  pub rest : List ℕ
+  pub answers : Answers entries rules taken given rest
+  pub ends : EndsAs entries (clock_after 0 (records_of answers.read)) (length taken) rest before after verdict
+  pub writes : after.write_faults ≡ before.write_faults
+
+-- the run of the log ended as it was judged, behind so many accepted records
+pub record RanAsJudged (entries : List NameEntry) (rules : List CauseRule) (judged : Judged)
+    (before after : Stream) : Type 0 where
+  pub ran : RunsLog entries rules judged.verdict before after
+  pub count : judged.accepted ≡ length ran.answers.read
+
+-- some of the log was taken, and of what is owed to its first accepted records a front was given: whole lines, and at
+-- most one that is cut
+pub record RunsShort (entries : List NameEntry) (rules : List CauseRule) (before after : Stream) : Type 0 where
+  pub taken : List ℕ
+  pub given : List ℕ
+  pub exchanged : Exchanged (UpToDate entries rules) taken given before.told after.told
+  pub read : List LogItem
+  pub rest : List ℕ
+  pub accepts : Accepts entries taken read rest
+  pub text : List ℕ
+  pub enforced : IsEnforced entries (policy_of rules) (records_of read) text
+  pub decided : Follows rules (records_of read) enforced.out
+  pub missing : List ℕ
+  pub front : text ≡ given ++ missing
+  pub reads : after.read_faults ≡ before.read_faults
+
+-- the run of the log was cut: by a write that failed, behind a read at least, or by want of memory
+abbrev pub CutsRun : List NameEntry → List CauseRule → Stream → Stream → Cut → Type 0
+CutsRun entries rules before after cuts.WriteFault =
+    RunsShort entries rules before after × IsBegun before.told after.told
+    × (after.write_faults ≡ one_more before.write_faults)
+CutsRun entries rules before after cuts.NoMemory =
+    RunsShort entries rules before after × (after.write_faults ≡ before.write_faults)
+
+-- what the judgement of the log makes of a run; the number is that of the record behind the accepted ones
+abbrev pub conclusion_of : ℕ → Verdict → Result (Unit {0}) Refusal
+conclusion_of accepted verdicts.Accepted = Ok tt
+conclusion_of accepted verdicts.Fault = Err refusals.ReadFault
+conclusion_of accepted (verdicts.Refused why) = Err (refusals.Record (accepted + 1) why)

@@ -1,0 +1,137 @@
+//! Why the parts of a run end before they are done, and how one becomes another.
+ghost use Rattle.std.specs.Prelude.{◌≡◌};
+ghost use Rattle.enf_cli.specs.declared.endings.Cut.TheVariants.{NoMemory as OutOfMemory};
+ghost use Rattle.enf_cli.specs.declared.endings.Ending.TheVariants as ending;
+ghost use Rattle.enf_cli.specs.declared.refusals.Refusal.TheVariants as refused;
+
+use crate::refusals::{PolicyRefusal, Refusal, SignatureRefusal};
+use enf_io::devices::IoRefusal;
+use enf_io::writing::WriteRefusal;
+use enf_value::memory::NoMemory;
+use std::alloc::AllocError;
+
+/// Why output ends before it is whole.
+#[derive(Clone, Copy, Debug, PartialEq, Eq)]
+pub enum Cut {
+    WriteFault,
+    NoMemory,
+}
+
+impl From<NoMemory> for Cut {
+    ghost from_gives = { λ _ cut. cut ≡ OutOfMemory };
+
+    fn from(_no_memory: NoMemory) -> Cut {
+        Cut::NoMemory
+    }
+}
+
+impl From<AllocError> for Cut {
+    ghost from_gives = { λ _ cut. cut ≡ OutOfMemory };
+
+    fn from(_error: AllocError) -> Cut {
+        Cut::NoMemory
+    }
+}
+
+impl From<WriteRefusal> for Cut {
+    ghost use Rattle.enf_cli.specs.Endings.{cut_after};
+
+    ghost from_gives = { λ refusal cut. cut ≡ cut_after refusal };
+
+    fn from(refusal: WriteRefusal) -> Cut {
+        match refusal {
+            WriteRefusal::WriteFault { .. } => Cut::WriteFault,
+            WriteRefusal::NoMemory { .. } => Cut::NoMemory,
+        }
+    }
+}
+
+/// Why a file gives nothing: what it holds is refused, or it was not read.
+#[derive(Debug, PartialEq, Eq, Drop)]
+pub enum FileEnding<W> {
+    Refused(W),
+    Fault,
+    NoMemory,
+}
+
+impl<W> From<NoMemory> for FileEnding<W> {
+    ghost use Rattle.enf_cli.specs.declared.endings.FileEnding.TheVariants.{NoMemory as OutOfRoom};
+
+    ghost from_gives = { λ _ end. end ≡ OutOfRoom };
+
+    fn from(_no_memory: NoMemory) -> FileEnding<W> {
+        FileEnding::NoMemory
+    }
+}
+
+impl<W> From<IoRefusal> for FileEnding<W> {
+    ghost use Rattle.enf_cli.specs.Endings.{file_ending_after};
+
+    ghost from_gives = { λ refusal ending. ending ≡ file_ending_after refusal };
+
+    fn from(refusal: IoRefusal) -> FileEnding<W> {
+        match refusal {
+            IoRefusal::Failed => FileEnding::Fault,
+            IoRefusal::NoMemory => FileEnding::NoMemory,
+        }
+    }
+}
+
+/// Why a run ends before it is done.
+#[derive(Debug, PartialEq, Eq, Drop)]
+pub enum Ending {
+    Refused(Refusal),
+    Cut(Cut),
+}
+
+impl From<NoMemory> for Ending {
+    ghost from_gives = { λ _ end. end ≡ ending.Cut OutOfMemory };
+
+    fn from(_no_memory: NoMemory) -> Ending {
+        Ending::Cut(Cut::NoMemory)
+    }
+}
+
+impl From<Refusal> for Ending {
+    ghost from_gives = { λ refusal end. end ≡ ending.Refused refusal };
+
+    fn from(refusal: Refusal) -> Ending {
+        Ending::Refused(refusal)
+    }
+}
+
+impl From<Cut> for Ending {
+    ghost from_gives = { λ cut end. end ≡ ending.Cut cut };
+
+    fn from(cut: Cut) -> Ending {
+        Ending::Cut(cut)
+    }
+}
+
+impl From<FileEnding<SignatureRefusal>> for Ending {
+    ghost use Rattle.enf_cli.specs.Endings.{ending_after_file};
+
+    ghost from_gives = { λ end ending. ending ≡ ending_after_file refused.Signature end };
+
+    fn from(end: FileEnding<SignatureRefusal>) -> Ending {
+        match end {
+            FileEnding::Refused(why) => Ending::Refused(Refusal::Signature(why)),
+            FileEnding::Fault => Ending::Refused(Refusal::ReadFault),
+            FileEnding::NoMemory => Ending::Cut(Cut::NoMemory),
+        }
+    }
+}
+
+impl From<FileEnding<PolicyRefusal>> for Ending {
+    ghost use Rattle.enf_cli.specs.Endings.{ending_after_file};
+
+    ghost from_gives = { λ end ending. ending ≡ ending_after_file refused.Policy end };
+
+    fn from(end: FileEnding<PolicyRefusal>) -> Ending {
+        match end {
+            FileEnding::Refused(why) => Ending::Refused(Refusal::Policy(why)),
+            FileEnding::Fault => Ending::Refused(Refusal::ReadFault),
+            FileEnding::NoMemory => Ending::Cut(Cut::NoMemory),
+        }
+    }
+}

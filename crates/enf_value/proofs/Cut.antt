@@ -1,0 +1,203 @@
+-- Each text is cut into tokens, blanks and comments.
+use Rattle.std.proofs.Common.{◌≡◌, ℕ, zero, suc, ◌+◌, ◌<◌, ◌≤◌, ◌==◌, Bool, true, false, cond, List, [], ◌∷◌, ◌++◌, length, take, drop, Some, ◌⊎◌, inl, inr, refl, sym, ap, subst, ◌∙◌, arith, append_assoc, append-nil, length-append, length-drop}
+use Rattle.std.specs.List.{prefix_len, take_while}
+use Rattle.std.proofs.lemmas.Bool.{eqb-true, eqb-false}
+use Rattle.std.proofs.lemmas.Bool.Decides.{nat_tests}
+use Rattle.std.proofs.lemmas.List.{take-append-drop, drop_all}
+use Rattle.std.proofs.lemmas.List.Folds.{length-prefix_len}
+use Rattle.std.proofs.Math.Seq.{drop-append_seam, take-append_seam}
+use Rattle.enf_value.specs.Tokens.{Token, Placed, Word, Digits, Negative, Text, Mark, Wrong, IsProper, is_blank, is_comment_byte, lexeme_at, token_piece, tokens_from, wrong}
+use Rattle.enf_value.specs.TokenLaws.{AreCut, Nothing, Blank, Comment, IsInside, IsLastGap, Gap, Open, IsLongest, Spells, StandsAt, TextsAreCut, blank_is_passed}
+use Rattle.enf_value.specs.TokenViews.{BeginsToken, IsFront}
+use Rattle.enf_value.proofs.Fronts.{front_all, front_is_within}
+use Rattle.enf_value.proofs.Gaps.{front_step, space_step}
+use Rattle.enf_value.proofs.Shapes.{Shape, Spelled, shape}
+
+-- ---- a gap more
+
+module _ (place behind_place : ℕ) (bytes behind : List ℕ) (stands : (at : ℕ) (text : List ℕ) → StandsAt behind_place behind at text → StandsAt place bytes at text)
+    (last : IsLastGap behind → IsLastGap bytes) where
+  -- what is cut behind a gap is cut with it
+  moved : (placed : List Placed) → AreCut behind_place behind placed → AreCut place bytes placed
+  moved [] cut = last cut
+  moved ((at, Word word) ∷ rest) (piece, after, at_gap, longest, proper, cut) = (piece, after, stands at _ at_gap, longest, proper, cut)
+  moved ((at, Digits value) ∷ rest) (piece, after, at_gap, longest, proper, cut) = (piece, after, stands at _ at_gap, longest, proper, cut)
+  moved ((at, Negative value) ∷ rest) (piece, after, at_gap, longest, proper, cut) = (piece, after, stands at _ at_gap, longest, proper, cut)
+  moved ((at, Text text) ∷ rest) (piece, after, at_gap, longest, proper, cut) = (piece, after, stands at _ at_gap, longest, proper, cut)
+  moved ((at, Mark mark) ∷ rest) (piece, after, at_gap, longest, proper, cut) = (piece, after, stands at _ at_gap, longest, proper, cut)
+  moved ((at, Wrong) ∷ rest) (text, at_gap, fault, none) = (text, stands at text at_gap, fault, none)
+
+last_blank : (byte : ℕ) (bytes : List ℕ) → is_blank byte ≡ true → IsLastGap bytes → IsLastGap (byte ∷ bytes)
+last_blank byte bytes blank (Gap gap is) = Gap (byte ∷ gap) (Blank byte gap blank is)
+last_blank byte bytes blank (Open gap inside is each) = Open (byte ∷ gap) inside (Blank byte gap blank is) each
+
+behind_blank : (place byte : ℕ) (rest : List ℕ) (placed : List Placed) → is_blank byte ≡ true → AreCut (place + 1) rest placed → AreCut place (byte ∷ rest) placed
+behind_blank place byte rest placed blank =
+    moved place (place + 1) (byte ∷ rest) rest
+    (λ at text s. record {
+      gap = byte ∷ s.gap;
+      splits = ap (λ l. byte ∷ l) s.splits;
+      between = Blank byte s.gap blank s.between;
+      place_is = omega (arith, s.place_is);
+    })
+    (last_blank byte rest blank) placed
+
+last_comment : (inside bytes : List ℕ) → IsInside inside → IsLastGap bytes → IsLastGap (35 ∷ (inside ++ 10 ∷ bytes))
+last_comment inside bytes each (Gap gap is) = Gap (35 ∷ (inside ++ 10 ∷ gap)) (Comment inside gap each is)
+last_comment inside bytes each (Open gap tail is all) =
+    subst IsLastGap (ap (λ l. 35 ∷ l) (append_assoc inside (10 ∷ gap) (35 ∷ tail))) (Open (35 ∷ (inside ++ 10 ∷ gap)) tail (Comment inside gap each is) all)
+
+behind_comment : (place : ℕ) (inside rest : List ℕ) (placed : List Placed) → IsInside inside → AreCut (place + (1 + length inside) + 1) rest placed → AreCut place (35 ∷ (inside ++ 10 ∷ rest)) placed
+behind_comment place inside rest placed each =
+    moved place (place + (1 + length inside) + 1) (35 ∷ (inside ++ 10 ∷ rest)) rest
+    (λ at text s. record {
+      gap = 35 ∷ (inside ++ 10 ∷ s.gap);
+      splits = ap (λ l. 35 ∷ l) (ap (λ l. inside ++ 10 ∷ l) s.splits ∙ sym (append_assoc inside (10 ∷ s.gap) text));
+      between = Comment inside s.gap each s.between;
+      place_is = omega (arith, s.place_is, length-append inside (10 ∷ s.gap));
+    })
+    (last_comment inside rest each) placed
+
+-- ---- a token
+
+here : (place : ℕ) (text : List ℕ) → StandsAt place text place text
+here place text = record { gap = []; splits = refl; between = Nothing; place_is = omega arith }
+
+cut_token : (place : ℕ) (piece behind : List ℕ) (token : Token) (rest : List Placed) → IsLongest piece behind token → IsProper token
+    → AreCut (place + length piece) behind rest → AreCut place (piece ++ behind) ((place, token) ∷ rest)
+cut_token place piece behind (Word word) rest longest proper cut = (piece, behind, here place (piece ++ behind), longest, proper, cut)
+cut_token place piece behind (Digits value) rest longest proper cut = (piece, behind, here place (piece ++ behind), longest, proper, cut)
+cut_token place piece behind (Negative value) rest longest proper cut = (piece, behind, here place (piece ++ behind), longest, proper, cut)
+cut_token place piece behind (Text text) rest longest proper cut = (piece, behind, here place (piece ++ behind), longest, proper, cut)
+cut_token place piece behind (Mark mark) rest longest proper cut = (piece, behind, here place (piece ++ behind), longest, proper, cut)
+cut_token place piece behind Wrong rest longest proper cut = absurd longest.spells
+
+piece_kept : (all : ℕ) (token : Token) (piece : List ℕ) → Spells piece token → token_piece all (token, length piece) ≡ (Some token, length piece)
+piece_kept all (Word word) piece spells = refl
+piece_kept all (Digits value) piece spells = refl
+piece_kept all (Negative value) piece spells = refl
+piece_kept all (Text text) piece spells = refl
+piece_kept all (Mark mark) piece spells = refl
+piece_kept all Wrong piece spells = absurd spells
+
+longest_is : (byte : ℕ) (rest : List ℕ) (s : Spelled byte rest) → IsLongest s.piece s.behind s.token
+longest_is byte rest s = record {
+  spells = s.spells;
+  longest = λ more after other split long spells.
+      let bound = s.bound more after other (s.splits ∙ split) spells in omega arith;
+}
+
+-- nothing is cut behind a wrong token
+wrong_alone : (place byte : ℕ) (rest : List ℕ) → BeginsToken byte → lexeme_at byte rest ≡ wrong → tokens_from 0 place (byte ∷ rest) ≡ (place, Wrong) ∷ []
+wrong_alone place byte rest begins lexeme =
+    front_step place byte rest Wrong (1 + length rest) begins (ap (token_piece (1 + length rest)) lexeme) (omega arith)
+    ∙ ap (λ l. (place, Wrong) ∷ tokens_from 0 (place + (1 + length rest)) l) (drop_all (1 + length rest) (byte ∷ rest) (omega arith))
+
+cut_wrong : (place byte : ℕ) (rest : List ℕ) → BeginsToken byte
+    → ((piece behind : List ℕ) (token : Token) → byte ∷ rest ≡ piece ++ behind → IsLongest piece behind token → IsProper token → ⊥)
+    → AreCut place (byte ∷ rest) ((place, Wrong) ∷ [])
+cut_wrong place byte rest begins fault =
+    (byte ∷ rest, here place (byte ∷ rest), record { first = byte; rest = rest; is = refl; begins = begins; fault = fault }, refl)
+
+pub lt_or_eq : (m n : ℕ) → m ≤ n → (m < n) ⊎ (m ≡ n)
+lt_or_eq m n h = by (m == n) refl
+  where
+    by : (b : Bool) → (m == n) ≡ b → (m < n) ⊎ (m ≡ n)
+    by true e = inr (eqb-true m n e)
+    by false e = let differ = eqb-false m n e in inl (omega arith)
+
+-- the longest piece that is spelled is that of the shape
+fault_of : (byte : ℕ) (rest : List ℕ) (s : Spelled byte rest) → (IsProper s.token → ⊥)
+    → (piece behind : List ℕ) (token : Token) → byte ∷ rest ≡ piece ++ behind → IsLongest piece behind token → IsProper token → ⊥
+fault_of byte rest s improper piece behind token split longest proper = by (lt_or_eq (length piece) (length s.piece) (s.bound piece behind token split longest.spells))
+  where
+    by : (length piece < length s.piece) ⊎ (length piece ≡ length s.piece) → ⊥
+    by (inl shorter) = longest.longest s.piece s.behind s.token (sym split ∙ s.splits) shorter s.spells
+    by (inr equal) =
+        let same : piece ≡ s.piece =
+        sym (take-append_seam piece behind) ∙ (λ j. take (equal j) ((sym split ∙ s.splits) j)) ∙ take-append_seam s.piece s.behind in
+        let is : token ≡ s.token = s.same token (subst (λ l. Spells l token) same longest.spells) in
+        improper (subst IsProper is proper)
+
+-- ---- the text
+
+no_line_feed : (byte : ℕ) → is_comment_byte byte ≡ false → byte ≡ 10
+no_line_feed byte e = grind (arith, nat_tests)
+
+behind_front : (kind : ℕ → Bool) (bytes : List ℕ) (byte : ℕ) (rest : List ℕ) → drop (prefix_len kind bytes) bytes ≡ byte ∷ rest → kind byte ≡ false
+behind_front kind [] byte rest e = absurd cc
+behind_front kind (x ∷ bytes) byte rest e = by (kind x) refl e (behind_front kind bytes byte rest)
+  where
+    by : (b : Bool) → kind x ≡ b → drop (cond (kind x) (1 + prefix_len kind bytes) 0) (x ∷ bytes) ≡ byte ∷ rest
+        → (drop (prefix_len kind bytes) bytes ≡ byte ∷ rest → kind byte ≡ false) → kind byte ≡ false
+    by true h is later =
+        let more : 1 + prefix_len kind bytes ≡ suc (prefix_len kind bytes) = omega arith in
+        later (sym (ap (λ n. drop n (x ∷ bytes)) (ap (λ b. cond b (1 + prefix_len kind bytes) 0) h ∙ more)) ∙ is)
+    by false h is later =
+        let same : x ∷ bytes ≡ byte ∷ rest = sym (ap (λ b. drop (cond b (1 + prefix_len kind bytes) 0) (x ∷ bytes)) h) ∙ is in
+        let first : x ≡ byte = cc in
+        ap kind (sym first) ∙ h
+
+pub cut_from : (n place : ℕ) (bytes : List ℕ) → length bytes ≤ n → AreCut place bytes (tokens_from 0 place bytes)
+cut_from n place [] few = Gap [] Nothing
+cut_from zero place (byte ∷ rest) few = absurd (omega arith)
+cut_from (suc n) place (byte ∷ rest) few = by (is_blank byte) (byte == 35) refl refl (cut_from n)
+  where
+    token : BeginsToken byte → Shape byte rest → ((p : ℕ) (l : List ℕ) → length l ≤ n → AreCut p l (tokens_from 0 p l)) → AreCut place (byte ∷ rest) (tokens_from 0 place (byte ∷ rest))
+    token begins (inr none) later =
+        subst (AreCut place (byte ∷ rest)) (sym (wrong_alone place byte rest begins none.lexeme))
+        (cut_wrong place byte rest begins (λ piece behind t split longest proper. none.none piece behind t split longest.spells))
+    token begins (inl s) later = fits s.lexeme
+      where
+        fits : ((lexeme_at byte rest ≡ (s.token, length s.piece)) × IsProper s.token) ⊎ ((lexeme_at byte rest ≡ wrong) × (IsProper s.token → ⊥)) → AreCut place (byte ∷ rest) (tokens_from 0 place (byte ∷ rest))
+        fits (inr (lexeme, improper)) =
+            subst (AreCut place (byte ∷ rest)) (sym (wrong_alone place byte rest begins lexeme)) (cut_wrong place byte rest begins (fault_of byte rest s improper))
+        fits (inl (lexeme, proper)) =
+            let front : IsFront (byte ∷ rest) s.token (length s.piece) =
+            ap (token_piece (1 + length rest)) lexeme ∙ piece_kept (1 + length rest) s.token s.piece s.spells in
+            let some = (front_is_within (byte ∷ rest) s.token (length s.piece) front).0 in
+            let few_left : length s.behind ≤ n = omega (arith, ap length s.splits, length-append s.piece s.behind, some) in
+            let behind : drop (length s.piece) (byte ∷ rest) ≡ s.behind = ap (drop (length s.piece)) s.splits ∙ drop-append_seam s.piece s.behind in
+            let step : tokens_from 0 place (byte ∷ rest) ≡ (place, s.token) ∷ tokens_from 0 (place + length s.piece) s.behind =
+            front_step place byte rest s.token (length s.piece) begins front some
+            ∙ ap (λ l. (place, s.token) ∷ tokens_from 0 (place + length s.piece) l) behind in
+            subst (AreCut place (byte ∷ rest)) (sym step)
+            (subst (λ l. AreCut place l ((place, s.token) ∷ tokens_from 0 (place + length s.piece) s.behind)) (sym s.splits)
+            (cut_token place s.piece s.behind s.token _ (longest_is byte rest s) proper (later (place + length s.piece) s.behind few_left)))
+
+    comment : (byte == 35) ≡ true → (l : List ℕ) → drop (prefix_len is_comment_byte rest) rest ≡ l
+        → ((p : ℕ) (m : List ℕ) → length m ≤ n → AreCut p m (tokens_from 0 p m))
+        → AreCut place (byte ∷ rest) (tokens_from 0 (place + (1 + length (take_while is_comment_byte rest))) l)
+    comment hash [] e later =
+        let inside = take_while is_comment_byte rest in
+        let whole : inside ≡ rest =
+        sym (append-nil inside) ∙ ap (λ m. inside ++ m) (sym e) ∙ take-append-drop (prefix_len is_comment_byte rest) rest in
+        let open_is : IsLastGap (35 ∷ inside) = Open [] inside Nothing (front_all is_comment_byte rest) in
+        subst IsLastGap (λ j. sym (eqb-true byte 35 hash) j ∷ whole j) open_is
+    comment hash (x ∷ more) e later =
+        let inside = take_while is_comment_byte rest in
+        let p = place + (1 + length inside) in
+        let feed : x ≡ 10 = no_line_feed x (behind_front is_comment_byte rest x more e) in
+        let whole : rest ≡ inside ++ 10 ∷ more =
+        sym (take-append-drop (prefix_len is_comment_byte rest) rest) ∙ ap (λ m. inside ++ m) e ∙ ap (λ y. inside ++ y ∷ more) feed in
+        let few_left : length more ≤ n = omega (arith, ap length e, length-drop (prefix_len is_comment_byte rest) rest) in
+        let cut : AreCut place (35 ∷ (inside ++ 10 ∷ more)) (tokens_from 0 (p + 1) more) =
+        behind_comment place inside more _ (front_all is_comment_byte rest) (later (p + 1) more few_left) in
+        subst (λ y. AreCut place (byte ∷ rest) (tokens_from 0 p (y ∷ more))) (sym feed)
+        (subst (λ l. AreCut place l (tokens_from 0 (p + 1) more)) (λ j. sym (eqb-true byte 35 hash) j ∷ sym whole j) cut)
+
+    by : (a b : Bool) → is_blank byte ≡ a → (byte == 35) ≡ b → ((p : ℕ) (l : List ℕ) → length l ≤ n → AreCut p l (tokens_from 0 p l)) → AreCut place (byte ∷ rest) (tokens_from 0 place (byte ∷ rest))
+    by true b blank hash later =
+        subst (AreCut place (byte ∷ rest)) (sym (blank_is_passed place byte rest blank)) (behind_blank place byte rest _ blank (later (place + 1) rest (omega arith)))
+    by false true blank hash later =
+        let size : 1 + length (take_while is_comment_byte rest) ≡ suc (prefix_len is_comment_byte rest) =
+        omega (arith, length-prefix_len is_comment_byte rest) in
+        let step : tokens_from 0 place (byte ∷ rest)
+        ≡ tokens_from 0 (place + (1 + length (take_while is_comment_byte rest))) (drop (prefix_len is_comment_byte rest) rest) =
+        space_step place byte rest blank hash
+        ∙ ap (λ k. tokens_from 0 (place + (1 + length (take_while is_comment_byte rest))) (drop k (byte ∷ rest))) size in
+        subst (AreCut place (byte ∷ rest)) (sym step) (comment hash (drop (prefix_len is_comment_byte rest) rest) refl later)
+    by false false blank hash later = token (blank, eqb-false byte 35 hash) (shape byte rest) later
+
+pub texts_are_cut : TextsAreCut
+texts_are_cut bytes = cut_from (length bytes) 0 bytes (omega arith)

@@ -1,0 +1,5 @@
+use Rattle.enf_value.proofs.TokenLaws.{is_one}
+use Rattle.enf_value.proofs.laws.one_token_at_place.Goals as goal
+
+pub returns : goal.returns
+returns c = is_one

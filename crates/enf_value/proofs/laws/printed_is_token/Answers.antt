@@ -1,0 +1,5 @@
+use Rattle.enf_value.proofs.TokenLaws.{is_printed}
+use Rattle.enf_value.proofs.laws.printed_is_token.Goals as goal
+
+pub returns : goal.returns
+returns c = is_printed

@@ -1,0 +1,5 @@
+use Rattle.enf_value.proofs.TokenLaws.{is_longest}
+use Rattle.enf_value.proofs.laws.token_is_longest.Goals as goal
+
+pub returns : goal.returns
+returns c = is_longest

@@ -1,5 +1,0 @@
-use Rattle.enf_value.proofs.TokenLaws.{is_one}
-use Rattle.enf_value.proofs.reading.one_token_at_place.Goals as goal
-
-pub returns : goal.returns
-returns c = is_one

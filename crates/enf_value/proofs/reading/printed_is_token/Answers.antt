@@ -1,5 +1,0 @@
-use Rattle.enf_value.proofs.TokenLaws.{is_printed}
-use Rattle.enf_value.proofs.reading.printed_is_token.Goals as goal
-
-pub returns : goal.returns
-returns c = is_printed

@@ -1,5 +1,0 @@
-use Rattle.enf_value.proofs.TokenLaws.{is_longest}
-use Rattle.enf_value.proofs.reading.token_is_longest.Goals as goal
-
-pub returns : goal.returns
-returns c = is_longest

@@ -1,0 +1,15 @@
+pub mod Machine
+pub mod Printing
+pub mod Names
+pub mod Reading
+pub mod Parts
+pub mod Answers
+pub mod Steps
+pub mod Scans
+pub mod Windows
+pub mod Readers
+pub mod OneReading
+pub mod OneLog
+pub mod Plain
+pub mod PrintedTokens
+pub mod RoundTrips

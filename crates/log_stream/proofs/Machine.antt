@@ -1,0 +1,277 @@
+-- The tokens of a record, one after another: the state behind a front of them, and the fronts that can begin a record.
+use Rattle.std.proofs.Common.{◌≡◌, ℕ, ◌+◌, ◌<◌, ◌≤◌, ◌==◌, nat_lt, pos, Bool, true, false, List, [], ◌∷◌, ◌++◌, length, Option, None, Some, if◌then◌else◌, refl, sym, ap, subst, ◌∙◌, arith, append_assoc, length-append}
+use Rattle.std.specs.List.{flat_map}
+use Rattle.std.specs.Option.{option_and_then}
+use Rattle.std.proofs.lemmas.List.{append-nil}
+use Rattle.std.proofs.lemmas.List.Concat.{flat_map-append}
+use Rattle.std.proofs.lemmas.Bool.{eqb-true}
+use Rattle.std.proofs.lemmas.Bool.Decides.{nat_tests}
+use Rattle.enf_value.specs.declared.values.Value.TheVariants.{Num}
+use Rattle.trace_meaning.specs.declared.kinds.StepKind.{StepKind}
+use Rattle.trace_meaning.specs.declared.kinds.StepKind.TheVariants.{System, Inserted}
+use Rattle.log_stream.specs.declared.items.LogMode.{LogMode}
+use Rattle.log_stream.specs.declared.items.LogMode.TheVariants.{Input, TraceLog}
+use Rattle.log_stream.specs.States.{State, Start, Marked, Ticking, Ticked, Events, Named, Opened, Valued, Comma, Done, argument_at, event_at, inserted, next, run}
+use Rattle.log_stream.specs.Tokens.{Token, Mark, Time, Name, Argument}
+use Rattle.log_stream.specs.Written.{WrittenArgument, WrittenEvent, Written, Line, TickLine, mark_of, argument_token, row_tokens, event_tokens, tokens_of, IsRead, IsForm, IsSentence, CanBegin}
+
+pub run-append : (mode : LogMode) (state : State) (front rest : List Token) → run mode state (front ++ rest) ≡ option_and_then (λ after. run mode after rest) (run mode state front)
+run-append mode state [] rest = refl
+run-append mode state (token ∷ front) rest = by (next mode state token) (λ after. run-append mode after front rest)
+  where
+    by : (o : Option State) → ((after : State) → run mode after (front ++ rest) ≡ option_and_then (λ s. run mode s rest) (run mode after front)) →
+        option_and_then (λ after. run mode after (front ++ rest)) o ≡ option_and_then (λ after. run mode after rest) (option_and_then (λ after. run mode after front) o)
+    by None h = refl
+    by (Some after) h = h after
+
+-- from one state to another, and on
+pub run_onto : (mode : LogMode) (state middle : State) (front rest : List Token) → run mode state front ≡ Some middle → run mode state (front ++ rest) ≡ run mode middle rest
+run_onto mode state middle front rest e = run-append mode state front rest ∙ ap (option_and_then (λ after. run mode after rest)) e
+
+-- the tokens of a state
+abbrev pub head_tokens : StepKind → ℕ → List WrittenEvent → List Token
+head_tokens kind time events = Mark (mark_of kind) ∷ Time time ∷ flat_map event_tokens events
+
+abbrev pub so_far : State → List Token
+so_far Start = []
+so_far (Marked kind) = Mark (mark_of kind) ∷ []
+so_far Ticking = Mark 62 ∷ []
+so_far (Ticked time) = Mark 62 ∷ Time time ∷ []
+so_far (Events kind time events) = head_tokens kind time events
+so_far (Named kind time events place name) = head_tokens kind time events ++ Name place name ∷ []
+so_far (Opened kind time events place name) = head_tokens kind time events ++ Name place name ∷ Mark 40 ∷ []
+so_far (Valued kind time events place name args) = head_tokens kind time events ++ Name place name ∷ Mark 40 ∷ row_tokens args
+so_far (Comma kind time events place name args) = head_tokens kind time events ++ (Name place name ∷ Mark 40 ∷ row_tokens args ++ Mark 44 ∷ [])
+so_far (Done written) = tokens_of written
+
+-- what the grammar leaves of a state
+abbrev pub IsFit : LogMode → State → Type 0
+IsFit mode Start = Unit {0}
+IsFit mode (Marked kind) = IsRead mode kind
+IsFit mode Ticking = Unit {0}
+IsFit mode (Ticked time) = Unit {0}
+IsFit mode (Events kind time events) = IsRead mode kind × (length events ≤ 2048)
+IsFit mode (Named kind time events place name) = IsRead mode kind × (length events < 2048)
+IsFit mode (Opened kind time events place name) = IsRead mode kind × (length events < 2048)
+IsFit mode (Valued kind time events place name args) = IsRead mode kind × (length events < 2048) × (0 < length args)
+IsFit mode (Comma kind time events place name args) = IsRead mode kind × (length events < 2048) × (0 < length args)
+IsFit mode (Done written) = IsForm mode written
+
+-- a choice that leaves something
+pub chosen_some : {X : Type 0} (b : Bool) (x : Option X) (y : X) → (if b then x else None) ≡ Some y → (b ≡ true) × (x ≡ Some y)
+chosen_some true x y e = (refl, e)
+chosen_some false x y e = cc
+
+pub some_is : {X : Type 0} (x y : X) → Some x ≡ Some y → x ≡ y
+some_is x y e = cc
+
+-- an argument behind others
+pub row_push : (args : List WrittenArgument) (arg : WrittenArgument) → 0 < length args → row_tokens (args ++ arg ∷ []) ≡ row_tokens args ++ Mark 44 ∷ argument_token arg ∷ []
+row_push [] arg some = absurd (omega arith)
+row_push (first ∷ args) arg some =
+    ap (λ l. argument_token first ∷ l) (flat_map-append (λ (a : WrittenArgument). Mark 44 ∷ argument_token a ∷ []) args (arg ∷ []))
+
+-- an event behind others
+pub head_push : (kind : StepKind) (time : ℕ) (events : List WrittenEvent) (event : WrittenEvent) → head_tokens kind time (events ++ event ∷ []) ≡ head_tokens kind time events ++ event_tokens event
+head_push kind time events event =
+    ap (λ l. Mark (mark_of kind) ∷ Time time ∷ l) (flat_map-append event_tokens events (event ∷ []) ∙ ap (λ l. flat_map event_tokens events ++ l) (append-nil (event_tokens event)))
+
+-- a step onward: its tokens and what fits
+abbrev pub Onward : LogMode → State → Token → State → Type 0
+Onward mode state token after = (so_far after ≡ so_far state ++ token ∷ []) × IsFit mode after
+
+onward_to : (mode : LogMode) (state : State) (token : Token) (x after : State) → Some x ≡ Some after → Onward mode state token x → Onward mode state token after
+onward_to mode state token x after e h = subst (Onward mode state token) (some_is x after e) h
+
+pushed_length : (events : List WrittenEvent) (event : WrittenEvent) → length events < 2048 → length (events ++ event ∷ []) ≤ 2048
+pushed_length events event h = omega (arith, length-append events (event ∷ []))
+
+pub step_onward : (mode : LogMode) (state : State) (token : Token) (after : State) → IsFit mode state → next mode state token ≡ Some after → Onward mode state token after
+step_onward mode Start (Mark byte) after fit e = by (byte == 64) (byte == 62) (byte == 43) refl refl refl e
+  where
+    mode_by : (m : LogMode) → byte ≡ 43 → inserted m ≡ Some after → Onward m Start (Mark byte) after
+    mode_by Input is e = cc
+    mode_by TraceLog is e = onward_to TraceLog Start (Mark byte) (Marked Inserted) after e (ap (λ b. Mark b ∷ []) (sym is), tt)
+
+    read_system : (m : LogMode) → IsRead m System
+    read_system Input = tt
+    read_system TraceLog = tt
+
+    by : (a b c : Bool) → (byte == 64) ≡ a → (byte == 62) ≡ b → (byte == 43) ≡ c → (if a then Some (Marked System) else (if b then Some Ticking else (if c then inserted mode else None))) ≡ Some after → Onward mode Start (Mark byte) after
+    by true b c p q r e = onward_to mode Start (Mark byte) (Marked System) after e (ap (λ b. Mark b ∷ []) (sym (eqb-true byte 64 p)), read_system mode)
+    by false true c p q r e = onward_to mode Start (Mark byte) Ticking after e (ap (λ b. Mark b ∷ []) (sym (eqb-true byte 62 q)), tt)
+    by false false true p q r e = mode_by mode (eqb-true byte 43 r) e
+    by false false false p q r e = cc
+step_onward mode (Marked kind) (Time time) after fit e = onward_to mode (Marked kind) (Time time) (Events kind time []) after e (refl, (fit, omega arith))
+step_onward mode Ticking (Time time) after fit e = onward_to mode Ticking (Time time) (Ticked time) after e (refl, tt)
+step_onward mode (Ticked time) (Mark byte) after fit e =
+    let h = chosen_some (byte == 59) (Some (Done (TickLine time))) after e in
+    onward_to mode (Ticked time) (Mark byte) (Done (TickLine time)) after h.1 (ap (λ b. Mark 62 ∷ Time time ∷ Mark b ∷ []) (sym (eqb-true byte 59 h.0)), tt)
+step_onward mode (Events kind time events) (Name place name) after fit e =
+    let h = chosen_some (nat_lt (length events) 2048) (Some (Named kind time events place name)) after e in
+    let t = h.0 in
+    let lt : length events < 2048 = grind (arith, nat_tests) in
+    onward_to mode (Events kind time events) (Name place name) (Named kind time events place name) after h.1 (refl, (fit.0, lt))
+step_onward mode (Events kind time events) (Mark byte) after fit e =
+    let h = chosen_some (byte == 59) (Some (Done (Line kind time events))) after e in
+    onward_to mode (Events kind time events) (Mark byte) (Done (Line kind time events)) after h.1 (ap (λ b. head_tokens kind time events ++ Mark b ∷ []) (sym (eqb-true byte 59 h.0)), fit)
+step_onward mode (Named kind time events place name) (Mark byte) after fit e =
+    let h = chosen_some (byte == 40) (Some (Opened kind time events place name)) after e in
+    onward_to mode (Named kind time events place name) (Mark byte) (Opened kind time events place name) after h.1
+    (ap (λ b. head_tokens kind time events ++ Name place name ∷ Mark b ∷ []) (sym (eqb-true byte 40 h.0)) ∙ sym (append_assoc (head_tokens kind time events) (Name place name ∷ []) (Mark byte ∷ [])), fit)
+step_onward mode (Opened kind time events place name) (Mark byte) after fit e =
+    let h = chosen_some (byte == 41) (Some (Events kind time (events ++ event_at place name [] ∷ []))) after e in
+    onward_to mode (Opened kind time events place name) (Mark byte) (Events kind time (events ++ event_at place name [] ∷ [])) after h.1
+    (head_push kind time events (event_at place name []) ∙ ap (λ b. head_tokens kind time events ++ Name place name ∷ Mark 40 ∷ Mark b ∷ []) (sym (eqb-true byte 41 h.0)) ∙ sym (append_assoc (head_tokens kind time events) (Name place name ∷ Mark 40 ∷ []) (Mark byte ∷ [])), (fit.0, pushed_length events (event_at place name []) fit.1))
+step_onward mode (Opened kind time events place name) (Argument at value) after fit e =
+    onward_to mode (Opened kind time events place name) (Argument at value) (Valued kind time events place name (argument_at at value ∷ [])) after e
+    (sym (append_assoc (head_tokens kind time events) (Name place name ∷ Mark 40 ∷ []) (Argument at value ∷ [])), (fit.0, fit.1, omega arith))
+step_onward mode (Valued kind time events place name args) (Mark byte) after fit e = by (byte == 44) (byte == 41) refl refl e
+  where
+    by : (a b : Bool) → (byte == 44) ≡ a → (byte == 41) ≡ b → (if a then Some (Comma kind time events place name args) else (if b then Some (Events kind time (events ++ event_at place name args ∷ [])) else None)) ≡ Some after → Onward mode (Valued kind time events place name args) (Mark byte) after
+    by true b p q e =
+        onward_to mode (Valued kind time events place name args) (Mark byte) (Comma kind time events place name args) after e
+        (ap (λ b. head_tokens kind time events ++ (Name place name ∷ Mark 40 ∷ row_tokens args ++ Mark b ∷ [])) (sym (eqb-true byte 44 p)) ∙ sym (append_assoc (head_tokens kind time events) (Name place name ∷ Mark 40 ∷ row_tokens args) (Mark byte ∷ [])), fit)
+    by false true p q e =
+        onward_to mode (Valued kind time events place name args) (Mark byte) (Events kind time (events ++ event_at place name args ∷ [])) after e
+        (head_push kind time events (event_at place name args) ∙ ap (λ b. head_tokens kind time events ++ (Name place name ∷ Mark 40 ∷ row_tokens args ++ Mark b ∷ [])) (sym (eqb-true byte 41 q)) ∙ sym (append_assoc (head_tokens kind time events) (Name place name ∷ Mark 40 ∷ row_tokens args) (Mark byte ∷ [])), (fit.0, pushed_length events (event_at place name args) fit.1))
+    by false false p q e = cc
+step_onward mode (Comma kind time events place name args) (Argument at value) after fit e =
+    onward_to mode (Comma kind time events place name args) (Argument at value) (Valued kind time events place name (args ++ argument_at at value ∷ [])) after e (
+      ap (λ l. head_tokens kind time events ++ (Name place name ∷ Mark 40 ∷ l)) (row_push args (argument_at at value) fit.2 ∙ sym (append_assoc (row_tokens args) (Mark 44 ∷ []) (Argument at value ∷ [])))
+          ∙ sym (append_assoc (head_tokens kind time events) (Name place name ∷ Mark 40 ∷ row_tokens args ++ Mark 44 ∷ []) (Argument at value ∷ [])),
+      (fit.0, fit.1, omega (arith, length-append args (argument_at at value ∷ []))),
+    )
+step_onward mode state token after fit e = absurd cc
+
+pub run_onward : (mode : LogMode) (state : State) (tokens : List Token) (after : State) → IsFit mode state → run mode state tokens ≡ Some after → (so_far after ≡ so_far state ++ tokens) × IsFit mode after
+run_onward mode state [] after fit e = (subst (λ s. so_far s ≡ so_far state ++ []) (some_is state after e) (sym (append-nil (so_far state))), subst (IsFit mode) (some_is state after e) fit)
+run_onward mode state (token ∷ tokens) after fit e = by (next mode state token) refl e (λ middle fits is. run_onward mode middle tokens after fits is)
+  where
+    by : (o : Option State) → next mode state token ≡ o → option_and_then (λ s. run mode s tokens) o ≡ Some after → ((middle : State) → IsFit mode middle → run mode middle tokens ≡ Some after → (so_far after ≡ so_far middle ++ tokens) × IsFit mode after) → (so_far after ≡ so_far state ++ token ∷ tokens) × IsFit mode after
+    by None p e later = cc
+    by (Some middle) p e later =
+        let h = step_onward mode state token middle fit p in
+        let r = later middle h.1 e in
+        (r.0 ∙ ap (λ l. l ++ tokens) h.0 ∙ append_assoc (so_far state) (token ∷ []) tokens, r.1)
+
+-- each state can be completed
+pub completed : (mode : LogMode) (state : State) → IsFit mode state → CanBegin mode (so_far state)
+completed mode Start fit = (TickLine 0, tokens_of (TickLine 0), tt, refl)
+completed mode (Marked kind) fit = (Line kind 0 [], Time 0 ∷ Mark 59 ∷ [], (fit, omega arith), refl)
+completed mode Ticking fit = (TickLine 0, Time 0 ∷ Mark 59 ∷ [], tt, refl)
+completed mode (Ticked time) fit = (TickLine time, Mark 59 ∷ [], tt, refl)
+completed mode (Events kind time events) fit = (Line kind time events, Mark 59 ∷ [], fit, refl)
+completed mode (Named kind time events place name) fit =
+    let event = event_at place name [] in (
+      Line kind time (events ++ event ∷ []),
+      Mark 40 ∷ Mark 41 ∷ Mark 59 ∷ [],
+      (fit.0, pushed_length events event fit.1),
+      ap (λ l. l ++ Mark 59 ∷ []) (head_push kind time events event) ∙ simp append_assoc,
+    )
+completed mode (Opened kind time events place name) fit =
+    let event = event_at place name [] in (
+      Line kind time (events ++ event ∷ []),
+      Mark 41 ∷ Mark 59 ∷ [],
+      (fit.0, pushed_length events event fit.1),
+      ap (λ l. l ++ Mark 59 ∷ []) (head_push kind time events event) ∙ simp append_assoc,
+    )
+completed mode (Valued kind time events place name args) fit =
+    let event = event_at place name args in (
+      Line kind time (events ++ event ∷ []),
+      Mark 41 ∷ Mark 59 ∷ [],
+      (fit.0, pushed_length events event fit.1),
+      ap (λ l. l ++ Mark 59 ∷ []) (head_push kind time events event) ∙ simp append_assoc,
+    )
+completed mode (Comma kind time events place name args) fit =
+    let more = argument_at 0 (Num (pos 0)) in
+    let event = event_at place name (args ++ more ∷ []) in (
+      Line kind time (events ++ event ∷ []),
+      argument_token more ∷ Mark 41 ∷ Mark 59 ∷ [],
+      (fit.0, pushed_length events event fit.1),
+      ap (λ l. l ++ Mark 59 ∷ []) (head_push kind time events event) ∙ ap (λ l. (head_tokens kind time events ++ (Name place name ∷ Mark 40 ∷ l ++ Mark 41 ∷ [])) ++ Mark 59 ∷ []) (row_push args more fit.2)
+          ∙ append_assoc (head_tokens kind time events) (Name place name ∷ Mark 40 ∷ (row_tokens args ++ Mark 44 ∷ argument_token more ∷ []) ++ Mark 41 ∷ []) (Mark 59 ∷ [])
+          ∙ ap (λ l. head_tokens kind time events ++ (Name place name ∷ Mark 40 ∷ l))
+          (append_assoc (row_tokens args ++ Mark 44 ∷ argument_token more ∷ []) (Mark 41 ∷ []) (Mark 59 ∷ []) ∙ append_assoc (row_tokens args) (Mark 44 ∷ argument_token more ∷ []) (Mark 41 ∷ Mark 59 ∷ []) ∙ sym (append_assoc (row_tokens args) (Mark 44 ∷ []) (argument_token more ∷ Mark 41 ∷ Mark 59 ∷ [])))
+          ∙ sym (append_assoc (head_tokens kind time events) (Name place name ∷ Mark 40 ∷ row_tokens args ++ Mark 44 ∷ []) (argument_token more ∷ Mark 41 ∷ Mark 59 ∷ [])),
+    )
+completed mode (Done written) fit = (written, [], fit, sym (append-nil (tokens_of written)))
+
+-- the tokens of a row behind `(`, and of what is behind it
+pub run_values : (mode : LogMode) (kind : StepKind) (time : ℕ) (events : List WrittenEvent) (place : ℕ) (name : List ℕ) (before args : List WrittenArgument) →
+    run mode (Valued kind time events place name before) (flat_map (λ next. Mark 44 ∷ argument_token next ∷ []) args) ≡ Some (Valued kind time events place name (before ++ args))
+run_values mode kind time events place name before [] = ap (λ l. Some (Valued kind time events place name l)) (sym (append-nil before))
+run_values mode kind time events place name before (arg ∷ args) =
+    run_values mode kind time events place name (before ++ arg ∷ []) args ∙ ap (λ l. Some (Valued kind time events place name l)) (append_assoc before (arg ∷ []) args)
+
+-- an event's tokens lead from before it to behind it
+pub run_row : (mode : LogMode) (kind : StepKind) (time : ℕ) (events : List WrittenEvent) (place : ℕ) (name : List ℕ) (args : List WrittenArgument) →
+    run mode (Opened kind time events place name) (row_tokens args ++ Mark 41 ∷ []) ≡ Some (Events kind time (events ++ event_at place name args ∷ []))
+run_row mode kind time events place name [] = refl
+run_row mode kind time events place name (arg ∷ args) =
+    run_onto mode (Valued kind time events place name (arg ∷ [])) (Valued kind time events place name (arg ∷ args)) (flat_map (λ next. Mark 44 ∷ argument_token next ∷ []) args) (Mark 41 ∷ []) (run_values mode kind time events place name (arg ∷ []) args)
+
+pub run_event : (mode : LogMode) (kind : StepKind) (time : ℕ) (events : List WrittenEvent) (event : WrittenEvent) → length events < 2048 →
+    run mode (Events kind time events) (event_tokens event) ≡ Some (Events kind time (events ++ event ∷ []))
+run_event mode kind time events event few =
+    let t : nat_lt (length events) 2048 ≡ true = grind (arith, nat_tests) in
+    ap (λ b. option_and_then (λ after. run mode after (Mark 40 ∷ row_tokens event.args ++ Mark 41 ∷ [])) (if b then Some (Named kind time events event.place event.name) else None)) t
+    ∙ run_row mode kind time events event.place event.name event.args
+
+pub run_events : (mode : LogMode) (kind : StepKind) (time : ℕ) (before events : List WrittenEvent) → length before + length events ≤ 2048 →
+    run mode (Events kind time before) (flat_map event_tokens events) ≡ Some (Events kind time (before ++ events))
+run_events mode kind time before [] few = ap (λ l. Some (Events kind time l)) (sym (append-nil before))
+run_events mode kind time before (event ∷ events) few =
+    run_onto mode (Events kind time before) (Events kind time (before ++ event ∷ [])) (event_tokens event) (flat_map event_tokens events) (run_event mode kind time before event (omega arith))
+    ∙ run_events mode kind time (before ++ event ∷ []) events (omega (arith, length-append before (event ∷ [])))
+    ∙ ap (λ l. Some (Events kind time l)) (append_assoc before (event ∷ []) events)
+
+-- the tokens of a record lead to its end
+pub run_tokens : (mode : LogMode) (written : Written) → IsForm mode written → run mode Start (tokens_of written) ≡ Some (Done written)
+run_tokens mode (TickLine time) form = refl
+run_tokens mode (Line kind time events) form =
+    begun mode kind form.0
+    ∙ run_onto mode (Events kind time []) (Events kind time events) (flat_map event_tokens events) (Mark 59 ∷ []) (run_events mode kind time [] events (omega (arith, form.1)))
+  where
+    begun : (m : LogMode) (k : StepKind) → IsRead m k → run m Start (Mark (mark_of k) ∷ Time time ∷ flat_map event_tokens events ++ Mark 59 ∷ []) ≡ run m (Events k time []) (flat_map event_tokens events ++ Mark 59 ∷ [])
+    begun m System read = refl
+    begun TraceLog Inserted read = refl
+    begun Input Inserted read = absurd read
+
+-- what is behind some tokens, where more lead on
+pub run_front : (mode : LogMode) (state : State) (front rest : List Token) (end : State) → run mode state (front ++ rest) ≡ Some end → (middle : State) × (run mode state front ≡ Some middle) × (run mode middle rest ≡ Some end)
+run_front mode state front rest end e = by (run mode state front) refl (sym (run-append mode state front rest) ∙ e)
+  where
+    by : (o : Option State) → run mode state front ≡ o → option_and_then (λ after. run mode after rest) o ≡ Some end → (middle : State) × (run mode state front ≡ Some middle) × (run mode middle rest ≡ Some end)
+    by None p e = cc
+    by (Some middle) p e = (middle, p, e)
+
+-- fronts that can begin a record, and no others, lead to a state
+pub begins_runs : (mode : LogMode) (front : List Token) → CanBegin mode front → (state : State) × (run mode Start front ≡ Some state)
+begins_runs mode front (written, rest, form, is) =
+    let r = run_front mode Start front rest (Done written) (ap (run mode Start) (sym is) ∙ run_tokens mode written form) in
+    (r.0, r.1)
+
+pub runs_begin : (mode : LogMode) (front : List Token) (state : State) → run mode Start front ≡ Some state → CanBegin mode front
+runs_begin mode front state e =
+    let r = run_onward mode Start front state tt e in
+    subst (CanBegin mode) r.0 (completed mode state r.1)
+
+-- a token that does not continue the state does not continue its front
+pub not_begun : (mode : LogMode) (front : List Token) (state : State) (token : Token) → run mode Start front ≡ Some state → next mode state token ≡ None → CanBegin mode (front ++ token ∷ []) → ⊥
+not_begun mode front state token e none begins =
+    let r = begins_runs mode (front ++ token ∷ []) begins in
+    let onto : run mode Start (front ++ token ∷ []) ≡ run mode state (token ∷ []) = run_onto mode Start state front (token ∷ []) e in
+    none_some (sym (ap (option_and_then (λ after. run mode after [])) none) ∙ sym onto ∙ r.1)
+  where
+    none_some : {s : State} → None ≡ Some s → ⊥
+    none_some e = cc
+
+-- tokens that end a record
+pub sentence_done : (mode : LogMode) (tokens : List Token) (state : State) → IsSentence mode tokens → run mode Start tokens ≡ Some state → (written : Written) × (state ≡ Done written)
+sentence_done mode tokens state (written, form, is) e = (written, some_is state (Done written) (sym e ∙ ap (run mode Start) (sym is) ∙ run_tokens mode written form))
+
+-- a whole run is a record
+pub done_is : (mode : LogMode) (tokens : List Token) (written : Written) → run mode Start tokens ≡ Some (Done written) → IsForm mode written × (tokens_of written ≡ tokens)
+done_is mode tokens written e =
+    let r = run_onward mode Start tokens (Done written) tt e in (r.1, r.0)

@@ -1,0 +1,295 @@
+-- The parts of a record as its reader puts them together.
+use Rattle.std.proofs.Common.{◌≡◌, ℕ, ◌+◌, ◌<◌, ◌≤◌, ◌==◌, nat_lt, Bool, true, false, List, [], ◌∷◌, ◌++◌, length, map, Option, None, Some, Result, Ok, Err, Contains, if◌then◌else◌, refl, sym, ap, subst, ◌∙◌, arith, append_assoc, slice_get, length-append, unwrap_or}
+use Rattle.std.specs.List.{flat_map}
+use Rattle.std.specs.Bool.{Decides}
+use Rattle.std.specs.Option.{option_map, option_and_then, option_or}
+use Rattle.std.proofs.lemmas.Bool.Decides.{nat_tests}
+use Rattle.std.proofs.lemmas.List.{append-nil, length-map, map-append}
+use Rattle.std.proofs.lemmas.List.Concat.{flat_map-append}
+use Rattle.enf_value.specs.Decided.{has_event, has_event-Decides}
+use Rattle.enf_value.specs.Membership.{Inserts}
+use Rattle.std.specs.Borrow.{Bor}
+use Rattle.std.specs.Option.{IfSome}
+use Rattle.enf_value.specs.declared.events.Event.{Event}
+use Rattle.enf_value.specs.declared.events.NameId.{NameId}
+use Rattle.enf_value.specs.declared.values.Value.{Value}
+use Rattle.signature.specs.Grammar.{number_of}
+use Rattle.signature.specs.declared.entries.NameEntry.{NameEntry}
+use Rattle.signature.specs.declared.entries.Sort.{Sort}
+use Rattle.trace_meaning.specs.declared.kinds.StepKind.{StepKind}
+use Rattle.log_stream.specs.declared.items.LogMode.{LogMode}
+use Rattle.log_stream.specs.declared.items.LogRefusal.{LogRefusal}
+use Rattle.log_stream.specs.declared.items.LogRefusal.TheVariants.{BadRecord, UnknownName, Arity, SortClash, TooLong, TimeTooLarge, Truncated, NoMemory}
+use Rattle.log_stream.specs.Judgement.{clash, entry_with, event_of, event_refusal, event_refusal_by, events_of, first_refusal, put, put_all, values_of}
+use Rattle.log_stream.specs.States.{State, Start, Events, Named, Opened, Valued, Comma, IsBadFrom, Fails, GivesAnswer, Judges, JudgesAll, JudgesEvent, PutsEvent, ReadsEvent, ReadsEvents, ReadsRow, argument_at, clash_at, event_at, next, run, sorted_event}
+use Rattle.log_stream.specs.Tokens.{Mark, Name, Argument, StandsAt, Leads}
+use Rattle.log_stream.specs.Written.{WrittenArgument, WrittenEvent, event_tokens, row_tokens}
+use Rattle.log_stream.proofs.Machine.{row_push, run_events, run_onto, run_values, some_is}
+use Rattle.log_stream.proofs.Reading.{bad_behind, bad_here, clash_push, fails_behind, is_bad, leads-append, stuck_comma, stuck_events, stuck_named, stuck_opened, stuck_valued}
+
+-- a fault at a place
+pub fails_bad : (mode : LogMode) (bytes : List ℕ) (from : ℕ) (state : State) (place : ℕ) (refusal : LogRefusal) → refusal ≡ BadRecord place → IsBadFrom mode bytes from state place → Fails mode bytes from state refusal
+fails_bad mode bytes from state place refusal is bad = subst (Fails mode bytes from state) (sym is) bad
+
+-- what fails from the start on is the answer
+pub fails_gives : (entries : List NameEntry) (mode : LogMode) (bytes : List ℕ) (refusal : LogRefusal) → Fails mode bytes 0 Start refusal → GivesAnswer entries mode bytes (Err refusal)
+fails_gives entries mode bytes (BadRecord place) bad = is_bad mode bytes place bad
+fails_gives entries mode bytes NoMemory bad = tt
+fails_gives entries mode bytes (UnknownName place) bad = absurd bad
+fails_gives entries mode bytes (Arity place) bad = absurd bad
+fails_gives entries mode bytes (SortClash place) bad = absurd bad
+fails_gives entries mode bytes TooLong bad = absurd bad
+fails_gives entries mode bytes TimeTooLarge bad = absurd bad
+fails_gives entries mode bytes Truncated bad = absurd bad
+
+-- where the next argument is, behind `(` or behind a comma
+abbrev pub LeadsToArgument : List ℕ → (from : ℕ) → List WrittenArgument → (place : ℕ) → Type 0
+LeadsToArgument bytes from [] place = (place ≡ from) × ((end : ℕ) → StandsAt bytes from end (Mark 41) → ⊥)
+LeadsToArgument bytes from (arg ∷ args) place = Leads bytes from (row_tokens (arg ∷ args) ++ Mark 44 ∷ []) place
+
+pub record IsRowSoFar (sorts : List Sort) (bytes : List ℕ) (from : ℕ) (row : List Value) (clashes : Option ℕ) (place : ℕ) : Type 0 where
+  pub args : List WrittenArgument
+  pub leads : LeadsToArgument bytes from args place
+  pub values : row ≡ values_of args
+  pub first : clashes ≡ clash sorts args
+  pub onward : from ≤ place
+  pub within : place ≤ length bytes
+
+pub row_start : (sorts : List Sort) (bytes : List ℕ) (from : ℕ) → from ≤ length bytes → ((end : ℕ) → StandsAt bytes from end (Mark 41) → ⊥) → clash sorts [] ≡ None → IsRowSoFar sorts bytes from [] None from
+row_start sorts bytes from within none e = record { args = []; leads = (refl, none); values = refl; first = sym e; onward = omega arith; within = within }
+
+-- a value more
+valued : (bytes : List ℕ) (from : ℕ) (args : List WrittenArgument) (place next : ℕ) (value : Value) → LeadsToArgument bytes from args place → Leads bytes place (Argument place value ∷ []) next → Leads bytes from (row_tokens (args ++ argument_at place value ∷ [])) next
+valued bytes from [] place next value leads l = subst (λ n. Leads bytes n (Argument place value ∷ []) next) leads.0 l
+valued bytes from (arg ∷ args) place next value leads l =
+    subst (λ ts. Leads bytes from ts next)
+    (append_assoc (row_tokens (arg ∷ args)) (Mark 44 ∷ []) (Argument place value ∷ []) ∙ sym (row_push (arg ∷ args) (argument_at place value) (omega arith)))
+    (leads-append bytes from place next (row_tokens (arg ∷ args) ++ Mark 44 ∷ []) (Argument place value ∷ []) leads l)
+
+values_push : (row : List Value) (args : List WrittenArgument) (place : ℕ) (value : Value) → row ≡ values_of args → row ++ value ∷ [] ≡ values_of (args ++ argument_at place value ∷ [])
+values_push row args place value e = ap (λ l. l ++ value ∷ []) e ∙ sym (map-append (λ (a : WrittenArgument). a.value) args (argument_at place value ∷ []))
+
+first_push : (sorts : List Sort) (row : List Value) (args : List WrittenArgument) (place : ℕ) (value : Value) (clashes : Option ℕ) → row ≡ values_of args → clashes ≡ clash sorts args → option_or clashes (clash_at (slice_get sorts (length row)) value place) ≡ clash sorts (args ++ argument_at place value ∷ [])
+first_push sorts row args place value clashes e f =
+    ap (λ c. option_or c (clash_at (slice_get sorts (length row)) value place)) f
+    ∙ ap (λ n. option_or (clash sorts args) (clash_at (slice_get sorts n) value place)) (ap length e ∙ length-map args (λ (a : WrittenArgument). a.value))
+    ∙ sym (clash_push sorts args place value)
+
+pub row_done : (sorts : List Sort) (bytes : List ℕ) (from : ℕ) (row : List Value) (clashes : Option ℕ) (place next to : ℕ) (value : Value) → IsRowSoFar sorts bytes from row clashes place → Leads bytes place (Argument place value ∷ []) next → Leads bytes next (Mark 41 ∷ []) to → ReadsRow sorts bytes from (row ++ value ∷ []) (option_or clashes (clash_at (slice_get sorts (length row)) value place)) to
+row_done sorts bytes from row clashes place next to value so l close = record {
+  args = so.args ++ argument_at place value ∷ [];
+  leads = leads-append bytes from next to (row_tokens (so.args ++ argument_at place value ∷ [])) (Mark 41 ∷ []) (valued bytes from so.args place next value so.leads l) close;
+  values = values_push row so.args place value so.values;
+  first = first_push sorts row so.args place value clashes so.values so.first;
+}
+
+comma_behind : (bytes : List ℕ) (from : ℕ) (args : List WrittenArgument) (arg : WrittenArgument) (place : ℕ) → Leads bytes from (row_tokens (args ++ arg ∷ []) ++ Mark 44 ∷ []) place → LeadsToArgument bytes from (args ++ arg ∷ []) place
+comma_behind bytes from [] arg place l = l
+comma_behind bytes from (first ∷ args) arg place l = l
+
+pub row_more : (sorts : List Sort) (bytes : List ℕ) (from : ℕ) (row : List Value) (clashes : Option ℕ) (place next after : ℕ) (value : Value) → IsRowSoFar sorts bytes from row clashes place → Leads bytes place (Argument place value ∷ []) next → Leads bytes next (Mark 44 ∷ []) after → place < after → after ≤ length bytes → IsRowSoFar sorts bytes from (row ++ value ∷ []) (option_or clashes (clash_at (slice_get sorts (length row)) value place)) after
+row_more sorts bytes from row clashes place next after value so l comma onward within = record {
+  args = so.args ++ argument_at place value ∷ [];
+  leads = comma_behind bytes from so.args (argument_at place value) after
+      (leads-append bytes from next after (row_tokens (so.args ++ argument_at place value ∷ [])) (Mark 44 ∷ []) (valued bytes from so.args place next value so.leads l) comma);
+  values = values_push row so.args place value so.values;
+  first = first_push sorts row so.args place value clashes so.values so.first;
+  onward = omega (arith, so.onward);
+  within = within;
+}
+
+run_some_row : (mode : LogMode) (kind : StepKind) (time : ℕ) (events : List WrittenEvent) (place : ℕ) (name : List ℕ) (args : List WrittenArgument) (arg : WrittenArgument) → run mode (Opened kind time events place name) (row_tokens (args ++ arg ∷ [])) ≡ Some (Valued kind time events place name (args ++ arg ∷ []))
+run_some_row mode kind time events place name [] arg = refl
+run_some_row mode kind time events place name (first ∷ args) arg = run_values mode kind time events place name (first ∷ []) (args ++ arg ∷ [])
+
+run_comma : (mode : LogMode) (kind : StepKind) (time : ℕ) (events : List WrittenEvent) (place : ℕ) (name : List ℕ) (first : WrittenArgument) (args : List WrittenArgument) → run mode (Opened kind time events place name) (row_tokens (first ∷ args) ++ Mark 44 ∷ []) ≡ Some (Comma kind time events place name (first ∷ args))
+run_comma mode kind time events place name first args =
+    run_onto mode (Opened kind time events place name) (Valued kind time events place name (first ∷ args)) (row_tokens (first ∷ args)) (Mark 44 ∷ []) (run_values mode kind time events place name (first ∷ []) args)
+
+pub row_without_value : (mode : LogMode) (sorts : List Sort) (bytes : List ℕ) (from : ℕ) (row : List Value) (clashes : Option ℕ) (at : ℕ) (kind : StepKind) (time : ℕ) (events : List WrittenEvent) (place : ℕ) (name : List ℕ) → IsRowSoFar sorts bytes from row clashes at → ((p end : ℕ) (value : Value) → StandsAt bytes at end (Argument p value) → ⊥) → IsBadFrom mode bytes from (Opened kind time events place name) at
+row_without_value mode sorts bytes from row clashes at kind time events place name so no_value = by so.args so.leads
+  where
+    by : (args : List WrittenArgument) → LeadsToArgument bytes from args at → IsBadFrom mode bytes from (Opened kind time events place name) at
+    by [] (here, none) =
+        subst (λ n. IsBadFrom mode bytes n (Opened kind time events place name) at) here
+        (bad_here mode bytes at (Opened kind time events place name) (stuck_opened mode bytes at kind time events place name (subst (λ n. (end : ℕ) → StandsAt bytes n end (Mark 41) → ⊥) (sym here) none) no_value))
+    by (first ∷ args) leads =
+        bad_behind mode bytes from at (Opened kind time events place name) (Comma kind time events place name (first ∷ args)) (row_tokens (first ∷ args) ++ Mark 44 ∷ []) at leads (run_comma mode kind time events place name first args)
+        (bad_here mode bytes at (Comma kind time events place name (first ∷ args)) (stuck_comma mode bytes at kind time events place name (first ∷ args) no_value))
+
+pub row_without_mark : (mode : LogMode) (sorts : List Sort) (bytes : List ℕ) (from : ℕ) (row : List Value) (clashes : Option ℕ) (at next : ℕ) (value : Value) (kind : StepKind) (time : ℕ) (events : List WrittenEvent) (place : ℕ) (name : List ℕ) → IsRowSoFar sorts bytes from row clashes at → Leads bytes at (Argument at value ∷ []) next → ((end : ℕ) → StandsAt bytes next end (Mark 41) → ⊥) → ((end : ℕ) → StandsAt bytes next end (Mark 44) → ⊥) → IsBadFrom mode bytes from (Opened kind time events place name) next
+row_without_mark mode sorts bytes from row clashes at next value kind time events place name so l no_close no_comma =
+    let args = so.args ++ argument_at at value ∷ [] in
+    bad_behind mode bytes from next (Opened kind time events place name) (Valued kind time events place name args) (row_tokens args) next (valued bytes from so.args at next value so.leads l) (run_some_row mode kind time events place name so.args (argument_at at value))
+    (bad_here mode bytes next (Valued kind time events place name args) (stuck_valued mode bytes next kind time events place name args no_close no_comma))
+
+-- an event's name, where there is room for one
+pub run_name : (mode : LogMode) (kind : StepKind) (time : ℕ) (events : List WrittenEvent) (place : ℕ) (name : List ℕ) → length events < 2048 → run mode (Events kind time events) (Name place name ∷ []) ≡ Some (Named kind time events place name)
+run_name mode kind time events place name few =
+    let t : nat_lt (length events) 2048 ≡ true = grind (arith, nat_tests) in
+    ap (λ b. option_and_then (λ after. run mode after []) (if b then Some (Named kind time events place name) else None)) t
+
+pub event_without_name : (mode : LogMode) (bytes : List ℕ) (from : ℕ) (kind : StepKind) (time : ℕ) (events : List WrittenEvent) → ((end : ℕ) → StandsAt bytes from end (Mark 59) → ⊥) → ((p end : ℕ) (name : List ℕ) → StandsAt bytes from end (Name p name) → ⊥) → IsBadFrom mode bytes from (Events kind time events) from
+event_without_name mode bytes from kind time events none no_name =
+    bad_here mode bytes from (Events kind time events) (stuck_events mode bytes from kind time events none (λ p end name stands. absurd (no_name p end name stands)))
+
+pub event_without_open : (mode : LogMode) (bytes : List ℕ) (from next : ℕ) (name : List ℕ) (kind : StepKind) (time : ℕ) (events : List WrittenEvent) → length events < 2048 → Leads bytes from (Name from name ∷ []) next → ((end : ℕ) → StandsAt bytes next end (Mark 40) → ⊥) → IsBadFrom mode bytes from (Events kind time events) next
+event_without_open mode bytes from next name kind time events few l none =
+    bad_behind mode bytes from next (Events kind time events) (Named kind time events from name) (Name from name ∷ []) next l (run_name mode kind time events from name few)
+    (bad_here mode bytes next (Named kind time events from name) (stuck_named mode bytes next kind time events from name none))
+
+pub event_with_bad_row : (mode : LogMode) (bytes : List ℕ) (from next inside : ℕ) (name : List ℕ) (kind : StepKind) (time : ℕ) (events : List WrittenEvent) (refusal : LogRefusal) → length events < 2048 → Leads bytes from (Name from name ∷ []) next → Leads bytes next (Mark 40 ∷ []) inside → Fails mode bytes inside (Opened kind time events from name) refusal → Fails mode bytes from (Events kind time events) refusal
+event_with_bad_row mode bytes from next inside name kind time events refusal few l paren fails =
+    fails_behind mode bytes from inside (Events kind time events) (Opened kind time events from name) (Name from name ∷ Mark 40 ∷ []) refusal
+    (leads-append bytes from next inside (Name from name ∷ []) (Mark 40 ∷ []) l paren)
+    (run_onto mode (Events kind time events) (Named kind time events from name) (Name from name ∷ []) (Mark 40 ∷ []) (run_name mode kind time events from name few)) fails
+
+-- the event that is judged is the one that is written
+judges : (entries : List NameEntry) (written : WrittenEvent) (found : Option (ℕ × NameEntry)) (sorts : List Sort) (row : List Value) (clashes : Option ℕ) (event : Result Event LogRefusal) →
+    option_map (λ (f : ℕ × NameEntry). f.1) found ≡ entry_with entries written.name → ((n : ℕ) (entry : NameEntry) → found ≡ Some (n, entry) → (number_of entries written.name ≡ Some n) × (sorts ≡ entry.sorts)) →
+    row ≡ values_of written.args → clashes ≡ clash sorts written.args → JudgesEvent found row clashes written.place event → Judges entries written event
+judges entries written None sorts row clashes event entry known values first is =
+    subst (Judges entries written) (sym is) (ap (λ e. event_refusal_by e written) (sym entry))
+judges entries written (Some (n, found)) sorts row clashes event entry known values first is =
+    subst (Judges entries written) (sym is) (by (length row == length found.sorts) refl)
+  where
+    k : (number_of entries written.name ≡ Some n) × (sorts ≡ found.sorts)
+    k = known n found refl
+
+    refusal_is : event_refusal entries written ≡ (if length written.args == length found.sorts then option_map SortClash (clash found.sorts written.args) else Some (Arity written.place))
+    refusal_is = ap (λ e. event_refusal_by e written) (sym entry)
+
+    lengths : length row ≡ length written.args
+    lengths = ap length values ∙ length-map written.args (λ (a : WrittenArgument). a.value)
+
+    event_is : record { name = record { 0 = n }; args = row } ≡ event_of entries written
+    event_is = λ j. record { name = record { 0 = unwrap_or (sym k.0 j) 0 }; args = values j }
+
+    sorted : (c : Option ℕ) → c ≡ clash found.sorts written.args → event_refusal entries written ≡ option_map SortClash (clash found.sorts written.args) → Judges entries written (sorted_event n row c)
+    sorted None e r = (r ∙ ap (option_map SortClash) (sym e), event_is)
+    sorted (Some place) e r = r ∙ ap (option_map SortClash) (sym e)
+
+    by : (b : Bool) → (length row == length found.sorts) ≡ b → Judges entries written (if b then sorted_event n row clashes else Err (Arity written.place))
+    by true e = sorted clashes (first ∙ ap (λ s. clash s written.args) k.1) (refusal_is ∙ ap (λ b. if b then option_map SortClash (clash found.sorts written.args) else Some (Arity written.place)) (ap (λ m. m == length found.sorts) (sym lengths) ∙ e))
+    by false e = refusal_is ∙ ap (λ b. if b then option_map SortClash (clash found.sorts written.args) else Some (Arity written.place)) (ap (λ m. m == length found.sorts) (sym lengths) ∙ e)
+
+pub event_read : (entries : List NameEntry) (bytes : List ℕ) (from next inside to : ℕ) (name : List ℕ) (found : Option (ℕ × NameEntry)) (sorts : List Sort) (row : List Value) (clashes : Option ℕ) (event : Result Event LogRefusal) →
+    Leads bytes from (Name from name ∷ []) next → Leads bytes next (Mark 40 ∷ []) inside → ReadsRow sorts bytes inside row clashes to →
+    option_map (λ (f : ℕ × NameEntry). f.1) found ≡ entry_with entries name → ((n : ℕ) (entry : NameEntry) → found ≡ Some (n, entry) → (number_of entries name ≡ Some n) × (sorts ≡ entry.sorts)) →
+    JudgesEvent found row clashes from event → ReadsEvent entries bytes from event to
+event_read entries bytes from next inside to name found sorts row clashes event l paren reads entry known is =
+    let written = event_at from name reads.args in (
+      written,
+      leads-append bytes from next to (Name from name ∷ []) (Mark 40 ∷ row_tokens reads.args ++ Mark 41 ∷ []) l (leads-append bytes next inside to (Mark 40 ∷ []) (row_tokens reads.args ++ Mark 41 ∷ []) paren reads.leads),
+      judges entries written found sorts row clashes event entry known reads.values reads.first is,
+    )
+
+-- what an insertion leaves
+pub inserts_put : (events : List Event) (event : Event) (fresh : Bool) (after : List Event) → Inserts event events fresh after → after ≡ put events event
+inserts_put events event fresh after i = by fresh refl (has_event events event) refl
+  where
+    d : Decides (has_event events event) (Contains events event)
+    d = has_event-Decides events event
+
+    clash_of : has_event events event ≡ true → has_event events event ≡ false → ⊥
+    clash_of p q = cc
+
+    by : (f : Bool) → fresh ≡ f → (b : Bool) → has_event events event ≡ b → after ≡ (if b then events else events ++ event ∷ [])
+    by true e true h = absurd ((i.absent e).0 (d.0 h))
+    by true e false h = (i.absent e).1
+    by false e true h = (i.present e).1
+    by false e false h = absurd (clash_of (d.1 (i.present e).0) h)
+
+-- events so far, each judged
+pub record AreEventsSoFar (entries : List NameEntry) (bytes : List ℕ) (from : ℕ) (events : Result (List Event) LogRefusal) (count place : ℕ) : Type 0 where
+  pub written : List WrittenEvent
+  pub counted : length written ≡ count
+  pub leads : Leads bytes from (flat_map event_tokens written) place
+  pub judged : JudgesAll entries written events
+  pub within : place ≤ length bytes
+
+first_refusal-push : (entries : List NameEntry) (events : List WrittenEvent) (event : WrittenEvent) → first_refusal entries (events ++ event ∷ []) ≡ option_or (first_refusal entries events) (event_refusal entries event)
+first_refusal-push entries [] event = by (event_refusal entries event)
+  where
+    by : (o : Option LogRefusal) → option_or o None ≡ o
+    by None = refl
+    by (Some r) = refl
+first_refusal-push entries (x ∷ events) event = by (event_refusal entries x) (first_refusal-push entries events event)
+  where
+    by : (o : Option LogRefusal) → first_refusal entries (events ++ event ∷ []) ≡ option_or (first_refusal entries events) (event_refusal entries event) → option_or o (first_refusal entries (events ++ event ∷ [])) ≡ option_or (option_or o (first_refusal entries events)) (event_refusal entries event)
+    by None h = h
+    by (Some r) h = refl
+
+put_all-push : (before events : List Event) (event : Event) → put_all before (events ++ event ∷ []) ≡ put (put_all before events) event
+put_all-push before [] event = refl
+put_all-push before (x ∷ events) event = put_all-push (put before x) events event
+
+events_of-push : (entries : List NameEntry) (events : List WrittenEvent) (event : WrittenEvent) → events_of entries (events ++ event ∷ []) ≡ put (events_of entries events) (event_of entries event)
+events_of-push entries events event = ap (put_all []) (map-append (event_of entries) events (event ∷ [])) ∙ put_all-push [] (map (event_of entries) events) (event_of entries event)
+
+judged_more : (entries : List NameEntry) (written : List WrittenEvent) (one : WrittenEvent) (events : Result (List Event) LogRefusal) (event : Result Event LogRefusal) (after : Result (List Event) LogRefusal) → JudgesAll entries written events → Judges entries one event → PutsEvent events event after → JudgesAll entries (written ++ one ∷ []) after
+judged_more entries written one (Ok events) (Ok event) after all here puts =
+    subst (JudgesAll entries (written ++ one ∷ [])) (sym puts)
+    (first_refusal-push entries written one ∙ (λ j. option_or (all.0 j) (here.0 j)), (λ j. put (all.1 j) (here.1 j)) ∙ sym (events_of-push entries written one))
+judged_more entries written one (Ok events) (Err refusal) after all here puts =
+    subst (JudgesAll entries (written ++ one ∷ [])) (sym puts) (first_refusal-push entries written one ∙ (λ j. option_or (all.0 j) (here j)))
+judged_more entries written one (Err refusal) event after all here puts =
+    subst (JudgesAll entries (written ++ one ∷ [])) (sym puts) (first_refusal-push entries written one ∙ ap (λ o. option_or o (event_refusal entries one)) all)
+
+pub events_start : (entries : List NameEntry) (bytes : List ℕ) (from : ℕ) → from ≤ length bytes → AreEventsSoFar entries bytes from (Ok []) 0 from
+events_start entries bytes from within = record { written = []; counted = refl; leads = refl; judged = (refl, refl); within = within }
+
+pub events_more : (entries : List NameEntry) (bytes : List ℕ) (from : ℕ) (events : Result (List Event) LogRefusal) (count place next : ℕ) (event : Result Event LogRefusal) (after : Result (List Event) LogRefusal) → AreEventsSoFar entries bytes from events count place → ReadsEvent entries bytes place event next → next ≤ length bytes → PutsEvent events event after → AreEventsSoFar entries bytes from after (count + 1) next
+events_more entries bytes from events count place next event after so (one, leads, judged) within puts = record {
+  written = so.written ++ one ∷ [];
+  counted = omega (arith, length-append so.written (one ∷ []), so.counted);
+  leads = subst (λ ts. Leads bytes from ts next) (ap (λ l. flat_map event_tokens so.written ++ l) (sym (append-nil (event_tokens one))) ∙ sym (flat_map-append event_tokens so.written (one ∷ []))) (leads-append bytes from place next (flat_map event_tokens so.written) (event_tokens one) so.leads leads);
+  judged = judged_more entries so.written one events event after so.judged judged puts;
+  within = within;
+}
+
+pub events_done : (entries : List NameEntry) (bytes : List ℕ) (from : ℕ) (events : Result (List Event) LogRefusal) (count place end : ℕ) → AreEventsSoFar entries bytes from events count place → count ≤ 2048 → Leads bytes place (Mark 59 ∷ []) end → ReadsEvents entries bytes from events end
+events_done entries bytes from events count place end so few l = record {
+  written = so.written;
+  few = omega (arith, so.counted);
+  leads = leads-append bytes from place end (flat_map event_tokens so.written) (Mark 59 ∷ []) so.leads l;
+  judged = so.judged;
+}
+
+run_all : (mode : LogMode) (kind : StepKind) (time : ℕ) (events : List WrittenEvent) → length events ≤ 2048 → run mode (Events kind time []) (flat_map event_tokens events) ≡ Some (Events kind time events)
+run_all mode kind time events few = run_events mode kind time [] events (omega arith)
+
+-- a fault of the next event
+pub events_with_bad_event : (entries : List NameEntry) (mode : LogMode) (bytes : List ℕ) (from : ℕ) (events : Result (List Event) LogRefusal) (count place : ℕ) (kind : StepKind) (time : ℕ) (refusal : LogRefusal) → AreEventsSoFar entries bytes from events count place → count < 2048 → ((others : List WrittenEvent) → length others < 2048 → Fails mode bytes place (Events kind time others) refusal) → Fails mode bytes from (Events kind time []) refusal
+events_with_bad_event entries mode bytes from events count place kind time refusal so few fails =
+    fails_behind mode bytes from place (Events kind time []) (Events kind time so.written) (flat_map event_tokens so.written) refusal so.leads (run_all mode kind time so.written (omega (arith, so.counted))) (fails so.written (omega (arith, so.counted)))
+
+-- as many events as there may be, and no semicolon
+pub events_too_many : (entries : List NameEntry) (mode : LogMode) (bytes : List ℕ) (from : ℕ) (events : Result (List Event) LogRefusal) (place : ℕ) (kind : StepKind) (time : ℕ) → AreEventsSoFar entries bytes from events 2048 place → ((end : ℕ) → StandsAt bytes place end (Mark 59) → ⊥) → IsBadFrom mode bytes from (Events kind time []) place
+events_too_many entries mode bytes from events place kind time so none =
+    bad_behind mode bytes from place (Events kind time []) (Events kind time so.written) (flat_map event_tokens so.written) place so.leads (run_all mode kind time so.written (omega (arith, so.counted)))
+    (bad_here mode bytes place (Events kind time so.written) (stuck_events mode bytes place kind time so.written none (λ p end name stands. no_room p name)))
+  where
+    no_room : (p : ℕ) (name : List ℕ) → next mode (Events kind time so.written) (Name p name) ≡ None
+    no_room p name =
+        let many = so.counted in
+        let t : nat_lt (length so.written) 2048 ≡ false = grind (arith, nat_tests) in
+        ap (λ b. if b then Some (Named kind time so.written p name) else None) t
+
+-- the columns of a name that was looked up
+abbrev pub AreSortsOf : Option (NameId × Bor NameEntry) → List Sort → Type 0
+AreSortsOf None sorts = Unit {0}
+AreSortsOf (Some found) sorts = sorts ≡ found.1.now.sorts
+
+abbrev pub found_of : Option (NameId × Bor NameEntry) → Option (ℕ × NameEntry)
+found_of found = option_map (λ (f : NameId × Bor NameEntry). (f.0.0, f.1.now)) found
+
+pub entry_found : (found : Option (NameId × Bor NameEntry)) (entry : Option NameEntry) → option_map (λ (f : NameId × Bor NameEntry). f.1.now) found ≡ entry → option_map (λ (f : ℕ × NameEntry). f.1) (found_of found) ≡ entry
+entry_found None entry e = e
+entry_found (Some f) entry e = e
+
+pub sorts_known : (found : Option (NameId × Bor NameEntry)) (sorts : List Sort) (number : Option ℕ) → IfSome found (λ f. number ≡ Some f.0.0) → AreSortsOf found sorts → (n : ℕ) (entry : NameEntry) → found_of found ≡ Some (n, entry) → (number ≡ Some n) × (sorts ≡ entry.sorts)
+sorts_known None sorts number known are n entry e = cc
+sorts_known (Some f) sorts number known are n entry e =
+    let same : (f.0.0, f.1.now) ≡ (n, entry) = some_is (f.0.0, f.1.now) (n, entry) e in
+    (known ∙ ap (λ (p : ℕ × NameEntry). Some p.0) same, are ∙ ap (λ (p : ℕ × NameEntry). p.1.sorts) same)

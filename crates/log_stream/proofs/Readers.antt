@@ -1,0 +1,82 @@
+-- What a call of a reader does, by what stands at the front of its rest.
+use Rattle.std.proofs.Common.{◌≡◌, ℕ, ◌-◌, ◌<◌, ◌≤◌, List, [], length, take, drop, Option, None, Ok, Err, inr, refl, sym, ap, subst, ◌∙◌, arith, length-drop}
+use Rattle.std.proofs.lemmas.List.{drop-drop, drop_all, take_all}
+use Rattle.signature.specs.declared.entries.NameEntry.{NameEntry}
+use Rattle.log_stream.specs.declared.items.Found.TheVariants.{Item}
+use Rattle.log_stream.specs.declared.items.LogItem.{LogItem}
+use Rattle.log_stream.specs.declared.items.LogMode.{LogMode}
+use Rattle.log_stream.specs.declared.items.LogRefusal.{LogRefusal}
+use Rattle.log_stream.specs.declared.items.LogRefusal.TheVariants.{BadRecord, UnknownName, Arity, SortClash, TooLong, TimeTooLarge, Truncated, NoMemory}
+use Rattle.log_stream.specs.declared.scanning.Scan.{Scan}
+use Rattle.log_stream.specs.declared.scanning.Scan.TheVariants.{Outside}
+use Rattle.log_stream.specs.Judgement.{IsAnswer}
+use Rattle.log_stream.specs.Logs.{IsPending, IsTruncated, behind_blanks, length_to_end, record_bytes}
+use Rattle.log_stream.specs.Readers.{Reader, ReadsNext}
+use Rattle.log_stream.specs.Scanning.{BeginsAt, IsKept, IsReader, IsScanned, IsWholeAt, kept, scan_after}
+use Rattle.log_stream.specs.States.{GivesAnswer}
+use Rattle.log_stream.proofs.Steps.{refusal_judged}
+use Rattle.log_stream.proofs.Windows.{behind_not_blank}
+
+abbrev pub reader_at : List NameEntry → LogMode → List ℕ → Option LogRefusal → Reader
+reader_at entries mode rest refused = record { entries = entries; mode = mode; rest = rest; refused = refused }
+
+-- the bytes of the record that was found
+bytes_found : (bytes : List ℕ) (front begin end : ℕ) → (w : IsWholeAt bytes front begin end) → take (end - begin) (drop begin bytes) ≡ record_bytes (drop front bytes) w.n
+bytes_found bytes front begin end w =
+    let n : end - begin ≡ w.n = omega (arith, w.ends) in
+    (λ j. take (n j) (w.begins.rest_is j))
+
+rest_found : (bytes : List ℕ) (front begin end : ℕ) → (w : IsWholeAt bytes front begin end) → drop end bytes ≡ drop w.n (behind_blanks (drop front bytes))
+rest_found bytes front begin end w = ap (λ n. drop n bytes) w.ends ∙ sym (drop-drop w.n begin bytes) ∙ ap (drop w.n) w.begins.rest_is
+
+pub item_read : (entries : List NameEntry) (mode : LogMode) (bytes : List ℕ) (front begin end : ℕ) (refused : Option LogRefusal) (item : LogItem) → refused ≡ None → IsWholeAt bytes front begin end → IsAnswer entries mode (take (end - begin) (drop begin bytes)) (Ok item) →
+    ReadsNext (reader_at entries mode (drop front bytes) refused) (Ok (Item item)) (reader_at entries mode (drop end bytes) refused)
+item_read entries mode bytes front begin end refused item none w answer =
+    (none, (w.n, w.whole, subst (λ l. IsAnswer entries mode l (Ok item)) (bytes_found bytes front begin end w) answer, rest_found bytes front begin end w), refl)
+
+pub refusal_read : (entries : List NameEntry) (mode : LogMode) (bytes : List ℕ) (front begin end : ℕ) (refusal : LogRefusal) → IsWholeAt bytes front begin end → GivesAnswer entries mode (take (end - begin) (drop begin bytes)) (Err refusal) →
+    ReadsNext (reader_at entries mode (drop front bytes) None) (Err refusal) (reader_at entries mode (drop front bytes) (kept refusal))
+refusal_read entries mode bytes front begin end NoMemory w answer = (refl, refl)
+refusal_read entries mode bytes front begin end (BadRecord place) w answer =
+    inr (refl, (w.n, w.whole, subst (λ l. IsAnswer entries mode l (Err (BadRecord place))) (bytes_found bytes front begin end w) answer), refl)
+refusal_read entries mode bytes front begin end (UnknownName place) w answer =
+    inr (refl, (w.n, w.whole, subst (λ l. IsAnswer entries mode l (Err (UnknownName place))) (bytes_found bytes front begin end w) answer), refl)
+refusal_read entries mode bytes front begin end (Arity place) w answer =
+    inr (refl, (w.n, w.whole, subst (λ l. IsAnswer entries mode l (Err (Arity place))) (bytes_found bytes front begin end w) answer), refl)
+refusal_read entries mode bytes front begin end (SortClash place) w answer =
+    inr (refl, (w.n, w.whole, subst (λ l. IsAnswer entries mode l (Err (SortClash place))) (bytes_found bytes front begin end w) answer), refl)
+refusal_read entries mode bytes front begin end TimeTooLarge w answer =
+    inr (refl, (w.n, w.whole, subst (λ l. IsAnswer entries mode l (Err TimeTooLarge)) (bytes_found bytes front begin end w) answer), refl)
+refusal_read entries mode bytes front begin end TooLong w answer = absurd (refusal_judged entries answer.0 TooLong answer.2)
+refusal_read entries mode bytes front begin end Truncated w answer = absurd (refusal_judged entries answer.0 Truncated answer.2)
+
+-- an answer with the refusal of a reader that had none
+pub refusal_kept : (entries : List NameEntry) (mode : LogMode) (rest : List ℕ) (refused : Option LogRefusal) (refusal : LogRefusal) (R : Reader) → refused ≡ None → ReadsNext (reader_at entries mode rest None) (Err refusal) R → ReadsNext (reader_at entries mode rest refused) (Err refusal) R
+refusal_kept entries mode rest refused refusal R none reads = subst (λ r. ReadsNext (reader_at entries mode rest r) (Err refusal) R) (sym none) reads
+
+-- what is kept of a pending record
+pub pending_kept : (bytes kept_bytes : List ℕ) (front begin count : ℕ) (scan : Scan) (refused : Option LogRefusal) → IsPending (drop front bytes) → BeginsAt bytes front begin → scan ≡ scan_after Outside (behind_blanks (drop front bytes)) → kept_bytes ≡ drop begin bytes → count ≡ length kept_bytes → IsKept refused → IsReader kept_bytes 0 count scan refused
+pending_kept bytes kept_bytes front begin count scan refused pending begins scan_is is counted kept_is =
+    let rest = behind_blanks (drop front bytes) in
+    let same : kept_bytes ≡ rest = is ∙ begins.rest_is in
+    let all : take (length rest) rest ≡ rest = take_all (length rest) rest (omega arith) in
+    let window : take 65536 rest ≡ rest = take_all 65536 rest (omega (arith, pending.1)) in
+    record {
+      within = omega arith;
+      scanned_is = subst (λ n. IsScanned kept_bytes n scan) (sym (counted ∙ ap length same)) (subst (λ l. IsScanned l (length rest) scan) (sym same) (record {
+        within = omega arith;
+        short = pending.1;
+        endless = ap (length_to_end Outside) (all ∙ sym window) ∙ pending.0;
+        scan_is = scan_is ∙ ap (scan_after Outside) (sym all);
+        begun = λ some. behind_not_blank (drop front bytes);
+      }));
+      kept = kept_is;
+    }
+
+-- a record was begun, or nothing is left
+pub truncated_at : (bytes : List ℕ) (front begin : ℕ) → IsPending (drop front bytes) → BeginsAt bytes front begin → begin < length bytes → IsTruncated (drop front bytes)
+truncated_at bytes front begin pending begins some =
+    (pending, let long = ap length begins.rest_is in omega (arith, long, length-drop begin bytes))
+
+pub nothing_left : (bytes : List ℕ) (front begin : ℕ) → BeginsAt bytes front begin → length bytes ≤ begin → behind_blanks (drop front bytes) ≡ []
+nothing_left bytes front begin begins all = sym begins.rest_is ∙ drop_all begin bytes all

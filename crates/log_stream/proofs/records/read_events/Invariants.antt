@@ -1,0 +1,5 @@
+use Rattle.log_stream.proofs.Parts.{AreEventsSoFar}
+use Rattle.log_stream.proofs.records.read_events.Given as goal
+
+abbrev pub invariant-loop-count : goal.invariant-loop-count
+invariant-loop-count l = AreEventsSoFar l.signature l.bytes l.from l.events l._count l.place

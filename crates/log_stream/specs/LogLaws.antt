@@ -1,0 +1,217 @@
+-- What a caller needs of a log that comes in pieces: what is read of it so far, as each piece and each record comes.
+use Rattle.std.proofs.Common.{◌≡◌, ℕ, ◌+◌, ◌<◌, ◌≤◌, ◌==◌, ◌&&◌, suc, zero, Bool, true, false, List}
+use Rattle.std.proofs.Common.{[], ◌∷◌, ◌++◌, length, take, drop, Option, None, Some, Ok, Err}
+use Rattle.std.proofs.Common.{if◌then◌else◌, refl, sym, ap, subst, ◌∙◌, arith, length-append, length-drop}
+use Rattle.std.specs.Option.{option_map}
+use Rattle.std.proofs.lemmas.List.{drop-append-le, take-append-le}
+use Rattle.enf_value.specs.Tokens.{is_blank}
+use Rattle.signature.specs.declared.entries.NameEntry.{NameEntry}
+use Rattle.log_stream.specs.declared.items.LogItem.{LogItem}
+use Rattle.log_stream.specs.declared.items.LogMode.{LogMode}
+use Rattle.log_stream.specs.declared.items.LogRefusal.{LogRefusal}
+use Rattle.log_stream.specs.declared.items.LogRefusal.TheVariants.{BadRecord, UnknownName, Arity, SortClash, TooLong}
+use Rattle.log_stream.specs.declared.items.LogRefusal.TheVariants.{TimeTooLarge, Truncated, NoMemory}
+use Rattle.log_stream.specs.declared.scanning.Scan.{Scan}
+use Rattle.log_stream.specs.declared.scanning.Scan.TheVariants.{Outside}
+use Rattle.log_stream.specs.Judgement.{IsAnswer}
+use Rattle.log_stream.specs.Logs.{BeginsWith, HasRecord, IsPending}
+use Rattle.log_stream.specs.Logs.{Refuses, Spells, behind_blanks, is_outside, length_to_end}
+use Rattle.log_stream.specs.Logs.{record_length, scan_behind}
+
+-- nothing was read of what was fed
+pub Spells-none : (entries : List NameEntry) (mode : LogMode) (text : List ℕ) → Spells entries mode text [] text
+Spells-none entries mode text = refl
+
+-- bytes behind a text without blanks in front
+abbrev pub behind_more : List ℕ → List ℕ → List ℕ
+behind_more [] more = behind_blanks more
+behind_more (byte ∷ rest) more = (byte ∷ rest) ++ more
+
+pub behind-append : (text more : List ℕ) → behind_blanks (text ++ more) ≡ behind_more (behind_blanks text) more
+behind-append [] more = refl
+behind-append (byte ∷ text) more = by (is_blank byte) (behind-append text more)
+  where
+    by : (b : Bool) → behind_blanks (text ++ more) ≡ behind_more (behind_blanks text) more
+        → (if b then behind_blanks (text ++ more) else byte ∷ text
+        ++ more) ≡ behind_more (if b then behind_blanks text else byte ∷ text) more
+    by true h = h
+    by false h = refl
+
+behind_some : (rest more : List ℕ) → 0 < length rest → behind_more rest more ≡ rest ++ more
+behind_some [] more some = absurd (omega arith)
+behind_some (byte ∷ rest) more some = refl
+
+-- an end that is found stays found, whatever follows
+pub end_stays : (scan : Scan) (k : ℕ) (bytes more : List ℕ) (n : ℕ) → length_to_end scan (take k bytes) ≡ Some n
+    → (length_to_end scan (take k (bytes ++ more)) ≡ Some n) × (0 < n) × (n ≤ length bytes)
+end_stays scan zero bytes more n e = cc
+end_stays scan (suc k) [] more n e = cc
+end_stays scan (suc k) (byte ∷ bytes) more n e =
+    by (is_outside scan && (byte == 59)) e (λ m is. end_stays (scan_behind scan byte) k bytes more m is)
+  where
+    number : (a b : ℕ) → Some a ≡ Some b → a ≡ b
+    number a b e = cc
+
+    inner : (o : Option ℕ) → option_map (λ x. x + 1) o ≡ Some n → (m : ℕ) × (o ≡ Some m) × (m + 1 ≡ n)
+    inner None e = cc
+    inner (Some m) e = (m, refl, number (m + 1) n e)
+
+    by : (b : Bool) → (if b then Some 1 else option_map (λ x. x + 1) (length_to_end (scan_behind scan byte)
+        (take k bytes))) ≡ Some n
+        → ((m : ℕ) → length_to_end (scan_behind scan byte) (take k bytes) ≡ Some m
+        → (length_to_end (scan_behind scan byte) (take k (bytes ++ more)) ≡ Some m) × (0 < m)
+        × (m ≤ length bytes))
+        → ((if b then Some 1 else option_map (λ x. x + 1) (length_to_end (scan_behind scan byte) (take k (bytes
+        ++ more)))) ≡ Some n) × (0 < n) × (n ≤ suc (length bytes))
+    by true e later = let is = number 1 n e in (e, omega (arith, is), omega (arith, is))
+    by false e later =
+        let i = inner (length_to_end (scan_behind scan byte) (take k bytes)) e in
+        let l = later i.0 i.1 in
+        (ap (option_map (λ x. x + 1)) l.0 ∙ ap Some i.2, omega (arith, i.2), omega (arith, l.2, i.2))
+
+-- a whole record at the front stays where it is
+pub record StaysWhole (text more : List ℕ) (n : ℕ) : Type 0 where
+  pub whole : HasRecord (text ++ more) n
+  pub some : 0 < n
+  pub within : n ≤ length (behind_blanks text)
+  pub behind : behind_blanks (text ++ more) ≡ behind_blanks text ++ more
+
+stays_whole : (text more : List ℕ) (n : ℕ) → HasRecord text n → StaysWhole text more n
+stays_whole text more n whole =
+    let e = end_stays Outside 65536 (behind_blanks text) more n whole in
+    let behind : behind_blanks (text ++ more) ≡ behind_blanks text ++ more = behind-append text more
+    ∙ behind_some (behind_blanks text) more (omega (arith, e.1, e.2)) in
+    record { whole = ap record_length behind ∙ e.0; some = e.1; within = e.2; behind = behind }
+
+bytes_stay : (text more : List ℕ) (n : ℕ) → StaysWhole text more n
+    → take n (behind_blanks (text ++ more)) ≡ take n (behind_blanks text)
+bytes_stay text more n s = ap (take n) s.behind ∙ take-append-le n (behind_blanks text) more s.within
+
+-- what is read at the front of a text is read of each longer one
+pub BeginsWith-append : (entries : List NameEntry) (mode : LogMode) (text : List ℕ) (item : LogItem)
+    (rest more : List ℕ) → BeginsWith entries mode text item rest
+    → BeginsWith entries mode (text ++ more) item (rest ++ more)
+BeginsWith-append entries mode text item rest more (n, whole, answer, is) =
+    let s = stays_whole text more n whole in (
+      n,
+      s.whole,
+      subst (λ l. IsAnswer entries mode l (Ok item)) (sym (bytes_stay text more n s)) answer,
+      ap (λ l. l ++ more) is ∙ sym (drop-append-le n (behind_blanks text) more s.within) ∙ ap (drop n) (sym s.behind),
+    )
+
+-- a refusal stands, whatever follows
+pub Refuses-append : (entries : List NameEntry) (mode : LogMode) (text more : List ℕ) (refusal : LogRefusal)
+    → Refuses entries mode text refusal → Refuses entries mode (text ++ more) refusal
+Refuses-append entries mode text more TooLong (none, long) =
+    let behind : behind_blanks (text ++ more) ≡ behind_blanks text ++ more = behind-append text more
+    ∙ behind_some (behind_blanks text) more (omega (arith, long)) in (
+      ap record_length behind ∙ ap (length_to_end Outside) (take-append-le 65536 (behind_blanks text) more long)
+          ∙ none,
+      omega (arith, ap length behind, length-append (behind_blanks text) more, long),
+    )
+Refuses-append entries mode text more Truncated refused = refused
+Refuses-append entries mode text more NoMemory refused = refused
+Refuses-append entries mode text more (BadRecord place) (n, whole, answer) =
+    let s = stays_whole text more n whole in (
+      n,
+      s.whole,
+      subst (λ l. IsAnswer entries mode l (Err
+          (BadRecord place))) (sym (bytes_stay text more n s)) answer,
+    )
+Refuses-append entries mode text more (UnknownName place) (n, whole, answer) =
+    let s = stays_whole text more n whole in (
+      n,
+      s.whole,
+      subst (λ l. IsAnswer entries mode l (Err
+          (UnknownName place))) (sym (bytes_stay text more n s)) answer,
+    )
+Refuses-append entries mode text more (Arity place) (n, whole, answer) =
+    let s = stays_whole text more n whole in (
+      n,
+      s.whole,
+      subst (λ l. IsAnswer entries mode l (Err (Arity place)))
+          (sym (bytes_stay text more n s)) answer,
+    )
+Refuses-append entries mode text more (SortClash place) (n, whole, answer) =
+    let s = stays_whole text more n whole in (
+      n,
+      s.whole,
+      subst (λ l. IsAnswer entries mode l (Err
+          (SortClash place))) (sym (bytes_stay text more n s)) answer,
+    )
+Refuses-append entries mode text more TimeTooLarge (n, whole, answer) =
+    let s = stays_whole text more n whole in (
+      n,
+      s.whole,
+      subst (λ l. IsAnswer entries mode l (Err TimeTooLarge))
+          (sym (bytes_stay text more n s)) answer,
+    )
+
+-- a piece is fed: what was read is read of the longer text, and the piece is behind the rest
+pub Spells-append : (entries : List NameEntry) (mode : LogMode) (text : List ℕ) (items : List LogItem)
+    (rest piece : List ℕ) → Spells entries mode text items rest
+    → Spells entries mode (text ++ piece) items (rest ++ piece)
+Spells-append entries mode text [] rest piece same =
+    behind-append rest piece ∙ ap (λ l. behind_more l piece) same ∙ sym (behind-append text piece)
+Spells-append entries mode text (item ∷ items) rest piece (between, begins, later) = (
+  between ++ piece,
+  BeginsWith-append entries mode text item between piece begins,
+  Spells-append entries mode between items rest piece later,
+)
+
+-- blanks in front count for nothing
+BeginsWith-same : (entries : List NameEntry) (mode : LogMode) (text other : List ℕ) (item : LogItem)
+    (rest : List ℕ) → behind_blanks text ≡ behind_blanks other → BeginsWith entries mode text item rest
+    → BeginsWith entries mode other item rest
+BeginsWith-same entries mode text other item rest same begins =
+    let P : List ℕ → Type 0 = λ l. (n : ℕ) × (record_length l ≡ Some n)
+    × IsAnswer entries mode (take n l) (Ok item) × (rest ≡ drop n l) in
+    subst P same begins
+
+-- a record is handed out: it is the next that was read
+pub Spells-push : (entries : List NameEntry) (mode : LogMode) (text : List ℕ) (items : List LogItem)
+    (rest : List ℕ) (item : LogItem) (after : List ℕ) → Spells entries mode text items rest
+    → BeginsWith entries mode rest item after → Spells entries mode text (items ++ item ∷ []) after
+Spells-push entries mode text [] rest item after same begins =
+    (after, BeginsWith-same entries mode rest text item after same begins, refl)
+Spells-push entries mode text (first ∷ items) rest item after (between, read, later) begins =
+    (between, read, Spells-push entries mode between items rest item after later begins)
+
+behind-behind : (text : List ℕ) → behind_blanks (behind_blanks text) ≡ behind_blanks text
+behind-behind [] = refl
+behind-behind (byte ∷ text) = by (is_blank byte) refl (behind-behind text)
+  where
+    by : (b : Bool) → is_blank byte ≡ b → behind_blanks (behind_blanks text) ≡ behind_blanks text
+        → behind_blanks (if b then behind_blanks text else byte ∷ text) ≡
+        (if b then behind_blanks text else byte ∷ text)
+    by true e h = h
+    by false e h = ap (λ b. if b then behind_blanks text else byte ∷ text) e
+
+-- blanks in front of the rest are let go
+pub Spells-blanks : (entries : List NameEntry) (mode : LogMode) (text : List ℕ) (items : List LogItem)
+    (rest : List ℕ) → Spells entries mode text items rest → Spells entries mode text items (behind_blanks rest)
+Spells-blanks entries mode text [] rest same = behind-behind rest ∙ same
+Spells-blanks entries mode text (item ∷ items) rest (between, begins, later) =
+    (between, begins, Spells-blanks entries mode between items rest later)
+
+-- without blanks in front a rest is pending as it was
+pub IsPending-blanks : (rest : List ℕ) → IsPending rest → IsPending (behind_blanks rest)
+IsPending-blanks rest pending =
+    let P : List ℕ → Type 0 = λ l. (record_length l ≡ None) × (length l < 65536) in
+    subst P (sym (behind-behind rest)) pending
+
+behind-shorter : (text : List ℕ) → length (behind_blanks text) ≤ length text
+behind-shorter [] = omega arith
+behind-shorter (byte ∷ text) = by (is_blank byte) (behind-shorter text)
+  where
+    by : (b : Bool) → length (behind_blanks text) ≤ length text
+        → length (if b then behind_blanks text else byte ∷ text) ≤ suc (length text)
+    by true h = omega (arith, h)
+    by false h = omega arith
+
+-- behind a record less is left, so that reading on ends
+pub BeginsWith-shorter : (entries : List NameEntry) (mode : LogMode) (text : List ℕ) (item : LogItem) (rest : List ℕ)
+    → BeginsWith entries mode text item rest → length rest < length text
+BeginsWith-shorter entries mode text item rest (n, whole, answer, is) =
+    let e = end_stays Outside 65536 (behind_blanks text) [] n whole in
+    omega (arith, ap length is, length-drop n (behind_blanks text), e.1, e.2, behind-shorter text)

@@ -1,0 +1,96 @@
+//! The tokens of a record, each read where it is wanted, with the blanks behind it.
+ghost use Rattle.std.specs.Prelude.{◌≡◌, ◌<◌, ◌≤◌, ◌∷◌, [], ℕ, List, IfNone, IfOk, IfSome, length};
+ghost use Rattle.enf_value.specs.Tokens.{is_blank};
+ghost use Rattle.enf_value.specs.declared.values.Value.{Value as AnyValue};
+ghost use Rattle.log_stream.specs.Tokens.{Argument, IsGap, Leads, Mark, Name, StandsAt, Time};
+
+use enf_value::{ByteKind, NoMemory, Value, read_value};
+use std::alloc::Global;
+
+fn is_blank(byte: u8) -> bool
+    ensures { result ≡ is_blank byte }
+{
+    matches!(byte, b' ' | b'\t' | b'\r' | b'\n')
+}
+
+// The first place from here on that has no blank.
+pub(crate) fn skip_blanks(bytes: &[u8], from: usize) -> usize
+    requires { from ≤ length bytes.now }
+    ensures gap { IsGap bytes.now from result }
+    ensures within { result ≤ length bytes.now }
+{
+    let mut at = from;
+    while at < bytes.len() && is_blank(bytes[at]) {
+        at += 1;
+    }
+    at
+}
+
+// The place of the next token, where the mark stands here.
+pub(crate) fn behind_mark(bytes: &[u8], at: usize, mark: u8) -> Option<usize>
+    ensures some { IfSome result (λ next. Leads bytes.now at (Mark mark ∷ []) next) }
+    ensures within { IfSome result (λ next. (at < next) × (next ≤ length bytes.now)) }
+    ensures none { IfNone result ((end : ℕ) → StandsAt bytes.now at end (Mark mark) → ⊥) }
+{
+    if at < bytes.len() && bytes[at] == mark {
+        Some(skip_blanks(bytes, at + 1))
+    } else {
+        None
+    }
+}
+
+// The time that stands here, and the place of the next token.
+pub(crate) fn time_at(
+    alloc: Global,
+    bytes: &[u8],
+    at: usize,
+) -> Result<Option<(u64, usize)>, NoMemory>
+    requires { at ≤ length bytes.now }
+    ensures some { IfOk result (λ found. IfSome found (λ read. Leads bytes.now at (Time read.0 ∷ []) read.1)) }
+    ensures within { IfOk result (λ found. IfSome found (λ read. (at < read.1) × (read.1 ≤ length bytes.now))) }
+    ensures none { IfOk result (λ found. IfNone found ((time end : ℕ) → StandsAt bytes.now at end (Time time) → ⊥)) }
+{
+    if at < bytes.len() && bytes[at] == b'-' {
+        return Ok(None);
+    }
+    match read_value(alloc, bytes, at)? {
+        Some((Value::Num(number), end)) => Ok(Some((
+            number.unsigned_abs(),
+            skip_blanks(bytes, end),
+        ))),
+        Some((Value::Text(_), _)) => Ok(None),
+        None => Ok(None),
+    }
+}
+
+// The name that stands here, and the place of the next token.
+pub(crate) fn name_at(bytes: &[u8], at: usize) -> Option<(&[u8], usize)>
+    requires { at ≤ length bytes.now }
+    ensures some { IfSome result (λ read. Leads bytes.now at (Name at read.0.now ∷ []) read.1) }
+    ensures within { IfSome result (λ read. (at < read.1) × (read.1 ≤ length bytes.now)) }
+    ensures none { IfNone result ((place end : ℕ) (name : List ℕ) → StandsAt bytes.now at end (Name place name) → ⊥) }
+{
+    let name = ByteKind::Word.front(&bytes[at..]);
+    if name.is_empty() || name[0].is_ascii_digit() {
+        return None;
+    }
+    Some((name, skip_blanks(bytes, at + name.len())))
+}
+
+// The value that stands here, and the place of the next token.
+pub(crate) fn value_at(
+    alloc: Global,
+    bytes: &[u8],
+    at: usize,
+) -> Result<Option<(Value, usize)>, NoMemory>
+    requires { at ≤ length bytes.now }
+    ensures some { IfOk result (λ found. IfSome found (λ read. Leads bytes.now at (Argument at read.0 ∷ []) read.1)) }
+    ensures within { IfOk result (λ found. IfSome found (λ read. (at < read.1) × (read.1 ≤ length bytes.now))) }
+    ensures none { IfOk result (λ found. IfNone found ((place end : ℕ) (value : AnyValue)
+        → StandsAt bytes.now at end (Argument place value) → ⊥)) }
+{
+    match read_value(alloc, bytes, at)? {
+        Some((value, end)) => Ok(Some((value, skip_blanks(bytes, end)))),
+        None => Ok(None),
+    }
+}

@@ -1,0 +1,102 @@
+//! The canonical lines of steps.
+ghost use Rattle.std.specs.Prelude.{◌≡◌, ◌++◌, ◌∷◌, [], OnErr, OnOk, decimal, slice_index_or};
+ghost use Rattle.std.specs.List.{flat_map};
+ghost use Rattle.enf_value.specs.Spelling.{AppendsPart, spelled};
+ghost use Rattle.log_stream.specs.Lines.{spelled_event, spelled_row, step_line};
+ghost use Rattle.log_stream.specs.Written.{mark_of};
+ghost use Rattle.signature.specs.Grammar.{names as names_of};
+
+use enf_value::{Event, EventSet, NameId, NoMemory, Value, print_bytes, print_number, print_value};
+use signature::Signature;
+use trace_meaning::StepKind;
+
+/// Appends the step's line; for want of memory a front of it is appended. Of a name that the signature lacks
+/// nothing is printed.
+pub fn write_step(
+    signature: &Signature,
+    kind: StepKind,
+    time: u64,
+    events: &EventSet,
+    out: &mut Vec<u8>,
+) -> Result<(), NoMemory>
+    ensures ok { OnOk result (out.new.items
+        ≡ out.old.items ++ step_line (names_of signature.now) kind time events.now) }
+    ensures err { OnErr result (AppendsPart (step_line (names_of signature.now) kind time events.now)
+        out.old.items out.new.items) }
+{
+    print_bytes(mark(kind), out)?;
+    print_number(time, out)?;
+    print_events(signature, events.as_slice(), out)?;
+    print_bytes(b";\n", out)
+}
+
+fn mark(kind: StepKind) -> &'static [u8]
+    ensures { result.now ≡ mark_of kind ∷ [] }
+{
+    match kind {
+        StepKind::System => b"@",
+        StepKind::Inserted => b"+",
+    }
+}
+
+fn print_events(signature: &Signature, events: &[Event], out: &mut Vec<u8>) -> Result<(), NoMemory>
+    ensures ok { OnOk result (out.new.items ≡ out.old.items
+        ++ flat_map (λ event. 32 ∷ spelled_event (names_of signature.now) event) events.now) }
+    ensures err { OnErr result (AppendsPart
+        (flat_map (λ event. 32 ∷ spelled_event (names_of signature.now) event) events.now)
+        out.old.items out.new.items) }
+{
+    for event in events {
+        print_event(signature, event, out)?;
+    }
+    Ok(())
+}
+
+// An event behind a space.
+fn print_event(signature: &Signature, event: &Event, out: &mut Vec<u8>) -> Result<(), NoMemory>
+    ensures ok { OnOk result (out.new.items
+        ≡ out.old.items ++ 32 ∷ spelled_event (names_of signature.now) event.now) }
+    ensures err { OnErr result (AppendsPart (32 ∷ spelled_event (names_of signature.now) event.now)
+        out.old.items out.new.items) }
+{
+    print_bytes(b" ", out)?;
+    print_name(signature, event.name, out)?;
+    print_bytes(b"(", out)?;
+    print_row(event.args.as_slice(), out)?;
+    print_bytes(b")", out)
+}
+
+fn print_name(signature: &Signature, name: NameId, out: &mut Vec<u8>) -> Result<(), NoMemory>
+    ensures ok { OnOk result (out.new.items
+        ≡ out.old.items ++ slice_index_or (names_of signature.now) name.0 []) }
+    ensures err { OnErr result (out.new.items ≡ out.old.items) }
+{
+    match signature.entry(name) {
+        Some(entry) => print_bytes(entry.text.bytes(), out),
+        None => Ok(()),
+    }
+}
+
+// Values with commas between them.
+fn print_row(row: &[Value], out: &mut Vec<u8>) -> Result<(), NoMemory>
+    ensures ok { OnOk result (out.new.items ≡ out.old.items ++ spelled_row row.now) }
+    ensures err { OnErr result (AppendsPart (spelled_row row.now) out.old.items out.new.items) }
+{
+    let [first, rest @ ..] = row else {
+        return Ok(());
+    };
+    print_value(first, out)?;
+    for value in rest {
+        print_next(value, out)?;
+    }
+    Ok(())
+}
+
+// A value behind a comma.
+fn print_next(value: &Value, out: &mut Vec<u8>) -> Result<(), NoMemory>
+    ensures ok { OnOk result (out.new.items ≡ out.old.items ++ 44 ∷ spelled value.now) }
+    ensures err { OnErr result (AppendsPart (44 ∷ spelled value.now) out.old.items out.new.items) }
+{
+    print_bytes(b",", out)?;
+    print_value(value, out)
+}

@@ -1,0 +1,149 @@
+//! A log that comes in pieces, read record by record.
+ghost use Rattle.std.specs.Prelude.{◌≡◌, ◌≤◌, ◌++◌, [], None, OnErr, OnOk, drop, length};
+ghost use Rattle.log_stream.specs.Logs.{IsPending};
+ghost use Rattle.log_stream.specs.Readers.{EndsAt, ReadsNext, fed};
+ghost use Rattle.log_stream.specs.Scanning.{kept};
+
+use crate::cursor::skip_blanks;
+use crate::fronts::{Front, front_at};
+use crate::items::{Found, LogMode, LogRefusal};
+use crate::records::read_record;
+use crate::scanning::Scan;
+use enf_value::NoMemory;
+use signature::Signature;
+use std::alloc::Global;
+use std::marker::Model;
+
+/// The records of a log that is fed in any pieces. It keeps the record that is not whole yet and what was fed
+/// behind it, and lets go what was handed out.
+#[derive(Drop)]
+pub struct LogReader {
+    signature: Signature,
+    mode: LogMode,
+    bytes: Vec<u8>,
+    front: usize,
+    scanned: usize,
+    scan: Scan,
+    refused: Option<LogRefusal>,
+}
+
+impl Model for LogReader {
+    ghost use Rattle.std.specs.Prelude.{drop};
+    ghost use Rattle.log_stream.specs.Readers.{Reader};
+
+    ghost Value = { Reader };
+
+    ghost use Rattle.log_stream.specs.Scanning.{IsReader};
+
+    ghost view = { λ r. record {
+      entries = r.signature;
+      mode = r.mode;
+      rest = drop r.front r.bytes.items;
+      refused = r.refused;
+    } };
+
+    ghost invariant = { λ r. IsReader r.bytes.items r.front r.scanned r.scan r.refused };
+}
+
+// Lets the first bytes go.
+fn let_go(bytes: &mut Vec<u8>, count: usize)
+    requires { count ≤ length bytes.old.items }
+    ensures { bytes.new.items ≡ drop count bytes.old.items }
+{
+    if count == 0 {
+        return;
+    }
+    let kept = bytes.len() - count;
+    bytes.copy_within(count.., 0);
+    bytes.truncate(kept);
+}
+
+// The refusal that every later call answers again: want of memory is none.
+fn kept(refusal: LogRefusal) -> Option<LogRefusal>
+    ensures { result ≡ kept refusal }
+{
+    match refusal {
+        LogRefusal::NoMemory => None,
+        _ => Some(refusal),
+    }
+}
+
+impl LogReader {
+    /// A reader to which nothing was fed.
+    pub fn new(alloc: Global, signature: Signature, mode: LogMode) -> LogReader
+        ensures { result ≡ record { entries = signature; mode = mode; rest = []; refused = None } }
+    {
+        LogReader {
+            signature,
+            mode,
+            bytes: Vec::new(alloc),
+            front: 0,
+            scanned: 0,
+            scan: Scan::Outside,
+            refused: None,
+        }
+    }
+
+    /// Puts a piece behind what was fed. After a refusal nothing is kept.
+    pub fn feed(&mut self, piece: &[u8]) -> Result<(), NoMemory>
+        ensures ok { OnOk result (self.new ≡ fed self.old piece.now) }
+        ensures err { OnErr result (self.new ≡ self.old) }
+    {
+        if self.refused.is_none() {
+            self.bytes.extend_from_slice(piece)?;
+        }
+        Ok(())
+    }
+
+    /// The next record, or its refusal, which every later call answers again. Pending comes exactly where the bytes
+    /// so far hold no whole record more and no refusal.
+    pub fn next_record(&mut self, alloc: Global) -> Result<Found, LogRefusal>
+        ensures { ReadsNext self.old result self.new }
+    {
+        if let Some(refusal) = self.refused {
+            return Err(refusal);
+        }
+        match front_at(&self.bytes, self.front, self.scanned, self.scan) {
+            Front::Whole { begin, end } => {
+                match read_record(alloc, &self.signature, self.mode, &self.bytes[begin..end]) {
+                    Ok(item) => {
+                        self.front = end;
+                        self.scanned = 0;
+                        self.scan = Scan::Outside;
+                        Ok(Found::Item(item))
+                    }
+                    Err(refusal) => {
+                        self.refused = kept(refusal);
+                        Err(refusal)
+                    }
+                }
+            }
+            Front::TooLong => {
+                self.refused = Some(LogRefusal::TooLong);
+                Err(LogRefusal::TooLong)
+            }
+            Front::Pending { begin, scan } => {
+                let_go(&mut self.bytes, begin);
+                self.front = 0;
+                self.scanned = self.bytes.len();
+                self.scan = scan;
+                Ok(Found::Pending)
+            }
+        }
+    }
+
+    /// The end of the log, where no whole record is left: it is refused where a record was begun.
+    pub fn end(&mut self) -> Result<(), LogRefusal>
+        requires { self.old.refused ≡ None → IsPending self.old.rest }
+        ensures { EndsAt self.old result self.new }
+    {
+        if let Some(refusal) = self.refused {
+            return Err(refusal);
+        }
+        if skip_blanks(&self.bytes, self.front) < self.bytes.len() {
+            self.refused = Some(LogRefusal::Truncated);
+            return Err(LogRefusal::Truncated);
+        }
+        Ok(())
+    }
+}

@@ -1,0 +1,4 @@
+pub mod Records
+pub mod Growth
+pub mod LawfulChange
+pub mod GoodPrefixes

@@ -1,0 +1,31 @@
+//! Laws of records, traces, lawful change and good prefixes, each the contract of a function with an empty body.
+ghost use Rattle.trace_meaning.specs.Laws.{RecordsJoin, ClockJoins, ClockRises, TraceGrows, LastIsTheNew};
+ghost use Rattle.trace_meaning.specs.Laws.{OrderOfAny, WithinJoins, LawfulJoins};
+ghost use Rattle.trace_meaning.specs.Laws.{SatisfyingIsGood, GoodFromEarlier, GoodFromLonger};
+
+/// Records one behind another.
+pub fn records_join()
+    ensures never_fall { RecordsJoin }
+    ensures clock { ClockJoins }
+    ensures rises { ClockRises }
+{}
+
+/// A trace with one step more.
+pub fn trace_grows()
+    ensures trace { TraceGrows }
+    ensures last { LastIsTheNew }
+{}
+
+/// Lawful changes one behind another.
+pub fn lawful_joins()
+    ensures order { OrderOfAny }
+    ensures within { WithinJoins }
+    ensures lawful { LawfulJoins }
+{}
+
+/// What can be continued well.
+pub fn good()
+    ensures satisfying { SatisfyingIsGood }
+    ensures earlier { GoodFromEarlier }
+    ensures longer { GoodFromLonger }
+{}
