@@ -1,0 +1,5 @@
+use Rattle.valuations.proofs.TableLemmas.{contains_valuation, contains_from_valuation}
+use Rattle.valuations.proofs.laws.rows_are_valuations.Goals as goal
+
+pub returns : goal.returns
+returns c = λ t row table long. (contains_valuation t row table, contains_from_valuation t row table long)

@@ -1,0 +1,7 @@
+use Rattle.std.proofs.Common.{◌≡◌, drop}
+use Rattle.std.specs.FinMap.Entries.{find}
+use Rattle.enf_value.specs.Valuations.{variable_cmp}
+use Rattle.valuations.proofs.valuation.Valuation.get.Given as goal
+
+abbrev pub invariant-loop-binding : goal.invariant-loop-binding
+invariant-loop-binding l = find variable_cmp l.var l.binding-items ≡ find variable_cmp l.var (drop l.binding-index l.binding-items)

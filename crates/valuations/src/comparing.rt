@@ -1,0 +1,178 @@
+//! The rows for which a comparison holds, and those that agree with a valuation.
+ghost use Rattle.std.specs.Prelude.{◌≡◌, ◌↔◌, IfOk, IsTrue, Contains, map, filter, length};
+ghost use Rattle.std.specs.Option.{option_copied};
+ghost use Rattle.enf_value.specs.Valuations.{Valuation as Bound, value_at, value_of};
+ghost use Rattle.enf_value.specs.declared.terms.VarId.{VarId as Variable};
+ghost use Rattle.valuations.specs.Comparisons.{Compares, compares, is_as_bound, is_bound_same};
+ghost use Rattle.valuations.specs.Tables.{IsTable, Has, AgreesWhereBound};
+ghost use Rattle.valuations.specs.Terms.{IsColumnOf, operand_value, ReadsTerm};
+
+use crate::cells::place_of;
+use crate::tables::Table;
+use crate::valuation::Valuation;
+use enf_value::items::Duplicate;
+use enf_value::memory::NoMemory;
+use enf_value::rows::Row;
+use enf_value::terms::{Term, VarId};
+use enf_value::values::Value;
+use std::alloc::Global;
+
+/// What a comparison asks of two values.
+#[derive(Clone, Copy, Debug, PartialEq, Eq)]
+pub enum Compare {
+    Equal,
+    Less,
+    AtMost,
+}
+
+// Where a term's value stands for each row.
+#[derive(Drop)]
+enum Operand<'a> {
+    Cell(usize),
+    Fixed(&'a Value),
+    Nowhere,
+}
+
+impl Table {
+    /// The rows where the comparison holds; the variables of the terms are columns.
+    pub fn select(
+        &self,
+        alloc: Global,
+        left: &Term,
+        right: &Term,
+        kind: Compare,
+    ) -> Result<Table, NoMemory>
+        requires left { IsColumnOf self.now.columns left.now }
+        requires right { IsColumnOf self.now.columns right.now }
+        ensures table { IfOk result IsTable }
+        ensures columns { IfOk result (λ t. t.columns ≡ self.now.columns) }
+        ensures rows { IfOk result (λ t. (v : Bound) → Has t v
+            ↔ (Has self.now v × Compares kind (value_of v left.now) (value_of v right.now))) }
+    {
+        let columns = self.columns().as_slice();
+        let rows = compared_rows(
+            alloc,
+            self.rows(),
+            &operand_of(columns, left),
+            &operand_of(columns, right),
+            kind,
+        )?;
+        Table::from_rows(self.columns().duplicate(alloc)?, rows)
+    }
+
+    /// The rows that agree with the valuation on each column that it binds.
+    pub fn rows_under(&self, alloc: Global, v: &Valuation) -> Result<Table, NoMemory>
+        ensures table { IfOk result IsTable }
+        ensures columns { IfOk result (λ t. t.columns ≡ self.now.columns) }
+        ensures rows { IfOk result (λ t. (w : Bound) → Has t w
+            ↔ (Has self.now w × AgreesWhereBound self.now.columns v.now w)) }
+    {
+        let bounds = bounds_of(alloc, self.columns().as_slice(), v)?;
+        let rows = agreeing_rows(alloc, self.rows(), bounds.as_slice())?;
+        Table::from_rows(self.columns().duplicate(alloc)?, rows)
+    }
+}
+
+fn operand_of<'a>(columns: &[VarId], term: &'a Term) -> Operand<'a>
+    ensures { ReadsTerm columns.now term.now result }
+{
+    match term {
+        Term::Const(value) => Operand::Fixed(value),
+        Term::Var(variable) => match place_of(columns, *variable) {
+            Some(place) => Operand::Cell(place),
+            None => Operand::Nowhere,
+        },
+    }
+}
+
+fn value_under<'a>(operand: &Operand<'a>, row: &'a Row) -> Option<&'a Value>
+    ensures { option_copied result ≡ operand_value operand.now row.now }
+{
+    match operand {
+        Operand::Cell(place) => row.get(*place),
+        Operand::Fixed(value) => Some(*value),
+        Operand::Nowhere => None,
+    }
+}
+
+fn compares(kind: Compare, left: Option<&Value>, right: Option<&Value>) -> bool
+    ensures { result ≡ compares kind (option_copied left.entry) (option_copied right.entry) }
+{
+    match (kind, left, right) {
+        (Compare::Equal, Some(a), Some(b)) => a.compare(b).is_eq(),
+        (Compare::Less, Some(Value::Num(a)), Some(Value::Num(b))) => *a < *b,
+        (Compare::AtMost, Some(Value::Num(a)), Some(Value::Num(b))) => *a <= *b,
+        _ => false,
+    }
+}
+
+fn compared_rows(
+    alloc: Global,
+    rows: &[Row],
+    left: &Operand,
+    right: &Operand,
+    kind: Compare,
+) -> Result<Vec<Row>, NoMemory>
+    ensures { IfOk result (λ out. out.items ≡ filter (λ row. compares kind
+        (operand_value left.now row) (operand_value right.now row)) rows.now) }
+{
+    let mut out = Vec::new(alloc);
+    for row in rows {
+        if compares(kind, value_under(left, row), value_under(right, row)) {
+            out.push(row.duplicate(alloc)?)?;
+        }
+    }
+    Ok(out)
+}
+
+fn bounds_of<'a>(
+    alloc: Global,
+    columns: &[VarId],
+    v: &'a Valuation,
+) -> Result<Vec<Option<&'a Value>>, NoMemory>
+    ensures { IfOk result (λ bounds. map option_copied bounds.items
+        ≡ map (value_at v.now) columns.now) }
+{
+    let mut bounds = Vec::with_capacity(alloc, columns.len())?;
+    for column in columns {
+        bounds.push(v.get(*column))?;
+    }
+    Ok(bounds)
+}
+
+fn is_bound_same(bound: Option<&Value>, value: &Value) -> bool
+    ensures { result ≡ is_bound_same (option_copied bound.entry) value.now }
+{
+    match bound {
+        Some(bound) => bound.compare(value).is_eq(),
+        None => true,
+    }
+}
+
+fn is_as_bound(bounds: &[Option<&Value>], row: &[Value]) -> bool
+    ensures { result ≡ is_as_bound (map option_copied bounds.now) row.now }
+{
+    for (bound, value) in bounds.iter().zip(row) {
+        if !is_bound_same(*bound, value) {
+            return false;
+        }
+    }
+    true
+}
+
+fn agreeing_rows(
+    alloc: Global,
+    rows: &[Row],
+    bounds: &[Option<&Value>],
+) -> Result<Vec<Row>, NoMemory>
+    ensures { IfOk result (λ out. out.items
+        ≡ filter (λ row. is_as_bound (map option_copied bounds.now) row) rows.now) }
+{
+    let mut out = Vec::new(alloc);
+    for row in rows {
+        if is_as_bound(bounds, row.as_slice()) {
+            out.push(row.duplicate(alloc)?)?;
+        }
+    }
+    Ok(out)
+}

@@ -1,0 +1,114 @@
+//! The natural join, and the rows without a partner.
+ghost use Rattle.std.specs.Prelude.{◌≡◌, ◌↔◌, ◌++◌, ◌∷◌, [], List, map, IfOk, OnOk, All, Contains, length};
+ghost use Rattle.enf_value.specs.declared.values.Value.{Value as AnyValue};
+ghost use Rattle.valuations.specs.Cells.{key, part, IsInOrder, IsJoined, IsSingle, shown};
+
+use crate::cells::{append_part, compare_keys};
+use enf_value::items::Duplicate;
+use enf_value::memory::NoMemory;
+use enf_value::rows::Row;
+use std::alloc::Global;
+use std::cmp::Ordering;
+
+// The rows in the order of their values at the places.
+pub fn in_order<'a>(
+    alloc: Global,
+    rows: &'a [Row],
+    places: &[usize],
+) -> Result<Vec<&'a Row>, NoMemory>
+    ensures order { IfOk result (λ order. IsInOrder places.now order.items) }
+    ensures rows { IfOk result (λ order. (row : List AnyValue)
+        → Contains (shown order.items) row ↔ Contains rows.now row) }
+{
+    let mut order = Vec::with_capacity(alloc, rows.len())?;
+    for row in rows {
+        order.push(row)?;
+    }
+    order.sort_unstable_by(|a, b| compare_keys(a, places, b, places));
+    Ok(order)
+}
+
+// Those of the rows in order that have at the right places what the row has at the left ones.
+pub fn partners<'s, 'a>(
+    order: &'s [&'a Row],
+    right: &[usize],
+    row: &Row,
+    left: &[usize],
+) -> &'s [&'a Row]
+    requires order { IsInOrder right.now order.now }
+    requires same { length right.now ≡ length left.now }
+    ensures { (other : List AnyValue) → Contains (shown result.now) other
+        ↔ (Contains (shown order.now) other × (key other right.now ≡ key row.now left.now)) }
+{
+    let from = order.partition_point(|other| compare_keys(other, right, row, left).is_lt());
+    let rest = &order[from..];
+    let count = rest.partition_point(|other| compare_keys(other, right, row, left).is_le());
+    &rest[..count]
+}
+
+// Each of the rows joined with each of its partners.
+pub fn joined_rows(
+    alloc: Global,
+    rows: &[Row],
+    left: &[usize],
+    order: &[&Row],
+    right: &[usize],
+    rest: &[usize],
+) -> Result<Vec<Row>, NoMemory>
+    requires order { IsInOrder right.now order.now }
+    requires same { length right.now ≡ length left.now }
+    ensures { IfOk result (λ out. IsJoined left.now right.now rest.now rows.now (shown order.now)
+        out.items) }
+{
+    let mut joined = Vec::new(alloc);
+    for row in rows {
+        push_joined(
+            alloc,
+            row,
+            partners(order, right, row, left),
+            rest,
+            &mut joined,
+        )?;
+    }
+    Ok(joined)
+}
+
+fn push_joined(
+    alloc: Global,
+    row: &Row,
+    partners: &[&Row],
+    rest: &[usize],
+    out: &mut Vec<Row>,
+) -> Result<(), NoMemory>
+    ensures { OnOk result (out.new.items
+        ≡ out.old.items ++ map (λ other. row.now ++ part other rest.now) (shown partners.now)) }
+{
+    for other in partners {
+        let mut joined = row.duplicate(alloc)?;
+        append_part(alloc, other, rest, &mut joined)?;
+        out.push(joined)?;
+    }
+    Ok(())
+}
+
+// The rows without a partner.
+pub fn single_rows(
+    alloc: Global,
+    rows: &[Row],
+    left: &[usize],
+    order: &[&Row],
+    right: &[usize],
+) -> Result<Vec<Row>, NoMemory>
+    requires order { IsInOrder right.now order.now }
+    requires same { length right.now ≡ length left.now }
+    ensures { IfOk result (λ out. IsSingle left.now right.now rows.now (shown order.now)
+        out.items) }
+{
+    let mut single = Vec::new(alloc);
+    for row in rows {
+        if partners(order, right, row, left).is_empty() {
+            single.push(row.duplicate(alloc)?)?;
+        }
+    }
+    Ok(single)
+}

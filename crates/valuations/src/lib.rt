@@ -1,0 +1,16 @@
+//! Valuations, and tables of them: finite sets of valuations of the same variables, kept as rows, with the
+//! operations of relations. It stands on `enf_value`.
+#![tactic(auto)]
+
+mod cells;
+pub mod comparing;
+mod joining;
+pub mod laws;
+mod relations;
+mod searching;
+pub mod tables;
+pub mod valuation;
+
+pub use comparing::Compare;
+pub use tables::Table;
+pub use valuation::Valuation;

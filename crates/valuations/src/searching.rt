@@ -1,0 +1,47 @@
+//! The look-up of a valuation in a table.
+ghost use Rattle.std.specs.Prelude.{◌≡◌, ◌↔◌, IsTrue, Some, map, length};
+ghost use Rattle.std.specs.Option.{option_copied, option_cmp};
+ghost use Rattle.enf_value.specs.Order.{value_cmp};
+ghost use Rattle.enf_value.specs.Valuations.{value_at};
+ghost use Rattle.valuations.specs.Cells.{key_cmp};
+ghost use Rattle.valuations.specs.Tables.{IsTable, Has};
+
+use crate::tables::Table;
+use crate::valuation::Valuation;
+use enf_value::terms::VarId;
+use enf_value::values::Value;
+use std::cmp::Ordering;
+
+impl Table {
+    /// Whether the valuation has for each column the value of one and the same row; it takes no memory.
+    pub fn has_valuation(&self, v: &Valuation) -> bool
+        ensures has { IsTrue result ↔ Has self.now v.now }
+        ensures table { IsTable self.now }
+    {
+        let columns = self.columns().as_slice();
+        self.rows()
+            .binary_search_by(|row| compare_to_bound(row.as_slice(), columns, v))
+            .is_ok()
+    }
+}
+
+fn compare_to_bound(row: &[Value], columns: &[VarId], v: &Valuation) -> Ordering
+    ensures { result ≡ key_cmp (map Some row.now) (map (value_at v.now) columns.now) }
+{
+    for (value, column) in row.iter().zip(columns) {
+        match compare_to(value, v.get(*column)) {
+            Ordering::Equal => {}
+            apart => return apart,
+        }
+    }
+    row.len().cmp(&columns.len())
+}
+
+fn compare_to(value: &Value, bound: Option<&Value>) -> Ordering
+    ensures { result ≡ option_cmp value_cmp (Some value.now) (option_copied bound.entry) }
+{
+    match bound {
+        Some(bound) => value.compare(bound),
+        None => Ordering::Greater,
+    }
+}

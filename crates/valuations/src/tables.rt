@@ -1,0 +1,113 @@
+//! Tables: columns and rows.
+ghost use Rattle.std.specs.Prelude.{◌≡◌, ◌↔◌, [], ◌∷◌, List, IsTrue, IfOk, All, Contains, length, slice_get};
+ghost use Rattle.std.specs.Option.{option_copied};
+ghost use Rattle.enf_value.specs.Membership.{HasNoRepeats};
+ghost use Rattle.enf_value.specs.declared.values.Value.{Value as AnyValue};
+
+use enf_value::memory::NoMemory;
+use enf_value::rows::Row;
+use enf_value::terms::{VarId, Vars};
+use std::alloc::Global;
+use std::marker::Model;
+
+/// A finite set of valuations of the same variables: distinct columns, and rows that strictly rise, each with a
+/// value for each column.
+#[derive(Debug, Drop)]
+pub struct Table {
+    columns: Vars,
+    rows: Vec<Row>,
+}
+
+impl Model for Table {
+    ghost use Rattle.valuations.specs.Tables.{Relation, IsTable, relation_code};
+
+    ghost Value = { Relation };
+
+    ghost coded = { relation_code };
+
+    ghost view = { λ t. record { columns = t.columns; rows = t.rows.items } };
+
+    ghost invariant = { λ t. IsTable (record { columns = t.columns; rows = t.rows.items }) };
+}
+
+impl Table {
+    ghost use Rattle.valuations.specs.Tables.{Relation, IsTable};
+
+    /// No column and one row: the valuation that binds nothing.
+    pub fn unit(alloc: Global) -> Result<Table, NoMemory>
+        ensures table { IfOk result IsTable }
+        ensures unit { IfOk result (λ t. t ≡ record { columns = []; rows = [] ∷ [] }) }
+    {
+        let mut rows = Vec::new(alloc);
+        rows.push(Row::new(alloc))?;
+        Ok(Table {
+            columns: Vars::new(alloc),
+            rows,
+        })
+    }
+
+    /// The rows in order, each once.
+    pub fn from_rows(columns: Vars, rows: Vec<Row>) -> Result<Table, NoMemory>
+        requires distinct { HasNoRepeats columns }
+        requires fits { All (λ row. length row ≡ length columns) rows.items }
+        ensures table { IfOk result IsTable }
+        ensures columns { IfOk result (λ t. t.columns ≡ columns) }
+        ensures rows { IfOk result (λ t. (row : List AnyValue)
+            → Contains t.rows row ↔ Contains rows.items row) }
+    {
+        let mut rows = rows;
+        rows.sort_unstable_by(|a, b| a.compare(b));
+        rows.dedup_by(|a, b| a.compare(b).is_eq());
+        Ok(Table { columns, rows })
+    }
+
+    /// Whether the row is there.
+    pub fn has(&self, row: &Row) -> bool
+        ensures has { IsTrue result ↔ Contains self.now.rows row.now }
+        ensures table { IsTable self.now }
+    {
+        self.rows
+            .binary_search_by(|candidate| candidate.compare(row))
+            .is_ok()
+    }
+
+    /// How many rows there are.
+    pub fn len(&self) -> usize
+        ensures len { result ≡ length self.now.rows }
+        ensures table { IsTable self.now }
+    {
+        self.rows.len()
+    }
+
+    /// Whether there is no row.
+    pub fn is_empty(&self) -> bool
+        ensures empty { IsTrue result ↔ (self.now.rows ≡ []) }
+        ensures table { IsTable self.now }
+    {
+        self.rows.is_empty()
+    }
+
+    /// The row at a place, counted from 0.
+    pub fn row(&self, place: usize) -> Option<&Row>
+        ensures row { option_copied result ≡ slice_get self.now.rows place }
+        ensures table { IsTable self.now }
+    {
+        self.rows.get(place)
+    }
+
+    /// The columns in order.
+    pub fn columns(&self) -> &Vars
+        ensures columns { result.now ≡ self.now.columns }
+        ensures table { IsTable self.now }
+    {
+        &self.columns
+    }
+
+    /// The rows in order.
+    pub fn rows(&self) -> &[Row]
+        ensures rows { result.now ≡ self.now.rows }
+        ensures table { IsTable self.now }
+    {
+        self.rows.as_slice()
+    }
+}

@@ -1,0 +1,96 @@
+//! Valuations of variables.
+ghost use Rattle.std.specs.Prelude.{◌≡◌, OnOk, OnErr, None, slice_get};
+ghost use Rattle.std.specs.Option.{option_copied, option_map};
+ghost use Rattle.enf_value.specs.Valuations.{value_at, bindings, no_values};
+ghost use Rattle.valuations.specs.Bindings.{place_before, with_value};
+
+use enf_value::items::Duplicate;
+use enf_value::memory::NoMemory;
+use enf_value::terms::VarId;
+use enf_value::values::Value;
+use std::alloc::Global;
+use std::marker::Model;
+
+/// A finite map from variables to values.
+#[derive(Debug, Drop)]
+pub struct Valuation {
+    bindings: Vec<(VarId, Value)>,
+}
+
+impl Model for Valuation {
+    ghost use Rattle.std.specs.Prelude.{T};
+    ghost use Rattle.std.specs.FinMap as map;
+    ghost use Rattle.enf_value.specs.Valuations.{Valuation as Bound, valuation_code, variable_cmp};
+
+    ghost Value = { Bound };
+
+    ghost coded = { valuation_code };
+
+    ghost view = { λ v. map.from_sorted v.bindings.items };
+
+    ghost invariant = { λ v. T (map.is_sorted variable_cmp v.bindings.items) };
+}
+
+impl Valuation {
+    /// Binds nothing.
+    pub fn empty(alloc: Global) -> Valuation
+        ensures { result ≡ no_values }
+    {
+        Valuation {
+            bindings: Vec::new(alloc),
+        }
+    }
+
+    /// Binds one more variable.
+    pub fn bind(&mut self, var: VarId, value: Value) -> Result<(), NoMemory>
+        requires { value_at self.old var ≡ None }
+        ensures ok { OnOk result (self.new ≡ with_value self.old var value) }
+        ensures err { OnErr result (self.new ≡ self.old) }
+    {
+        let place = place_in(self.bindings.as_slice(), var);
+        self.bindings.insert(place, (var, value))?;
+        Ok(())
+    }
+
+    /// The value of a variable, where it is bound.
+    pub fn get(&self, var: VarId) -> Option<&Value>
+        ensures { option_copied result ≡ value_at self.now var }
+    {
+        for binding in &self.bindings {
+            if binding.0 == var {
+                return Some(&binding.1);
+            }
+        }
+        None
+    }
+
+    /// The binding at a place, in rising variable number, counted from 0.
+    pub fn item(&self, place: usize) -> Option<(VarId, &Value)>
+        ensures { option_map (λ found. (found.0, found.1.now)) result ≡ slice_get (bindings self.now) place }
+    {
+        match self.bindings.get(place) {
+            Some(binding) => Some((binding.0, &binding.1)),
+            None => None,
+        }
+    }
+}
+
+impl Duplicate for Valuation {
+    fn duplicate(&self, alloc: Global) -> Result<Valuation, NoMemory> {
+        let mut bindings = Vec::with_capacity(alloc, self.bindings.len())?;
+        for (variable, value) in &self.bindings {
+            bindings.push((*variable, value.duplicate(alloc)?))?;
+        }
+        Ok(Valuation { bindings })
+    }
+}
+
+fn place_in(bindings: &[(VarId, Value)], var: VarId) -> usize
+    ensures { result ≡ place_before var bindings.now }
+{
+    let mut place = 0;
+    while place < bindings.len() && bindings[place].0 < var {
+        place += 1;
+    }
+    place
+}
