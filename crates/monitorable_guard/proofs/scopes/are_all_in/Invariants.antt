@@ -1,0 +1,5 @@
+use Rattle.std.proofs.Common.{take, All, Contains}
+use Rattle.monitorable_guard.proofs.scopes.are_all_in.Given as goal
+
+abbrev pub invariant-loop-x : goal.invariant-loop-x
+invariant-loop-x l = All (Contains l.others) (take l.x-index l.xs)

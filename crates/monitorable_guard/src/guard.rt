@@ -1,0 +1,101 @@
+//! Guards: formulas that can be evaluated over finite tables, with the variables that are bound.
+ghost use Rattle.std.specs.Prelude.{◌≡◌, ◌↔◌, IfOk, IfErr, OnOk, IsTrue, Contains};
+ghost use Rattle.enf_formula.specs.Formulas.{tree_of};
+ghost use Rattle.monitorable_guard.specs.Safety.{Safe, IsTest};
+ghost use Rattle.monitorable_guard.specs.Refusals.{RefusesGuard};
+
+use crate::safety::is_safe;
+use crate::scopes::is_free_within;
+use enf_formula::Formula;
+use enf_value::items::Duplicate;
+use enf_value::memory::NoMemory;
+use enf_value::places::Place;
+use enf_value::terms::Vars;
+use std::alloc::Global;
+use std::marker::Model;
+
+/// Why a formula is no guard.
+#[derive(Clone, Copy, Debug, PartialEq, Eq)]
+pub enum GuardRefusal {
+    Unguarded { place: Place },
+    NoMemory,
+}
+
+impl From<NoMemory> for GuardRefusal {
+    ghost use Rattle.std.specs.Prelude.{◌≡◌};
+    ghost use Rattle.monitorable_guard.specs.declared.guard.GuardRefusal.TheVariants.{NoMemory as OutOfMemory};
+
+    ghost from_gives = { λ _ refusal. refusal ≡ OutOfMemory };
+
+    fn from(_error: NoMemory) -> GuardRefusal {
+        GuardRefusal::NoMemory
+    }
+}
+
+/// A formula that can be evaluated over finite tables with these variables bound.
+#[derive(Debug, Drop)]
+pub struct Guard {
+    formula: Formula,
+    bound: Vars,
+}
+
+impl Model for Guard {
+    ghost use Rattle.std.specs.Prelude.{Contains};
+    ghost use Rattle.enf_formula.specs.Formulas.{tree_of};
+    ghost use Rattle.monitorable_guard.specs.Guards.{BoundFormula, bound_formula_code};
+    ghost use Rattle.monitorable_guard.specs.Safety.{Safe};
+
+    ghost Value = { BoundFormula };
+
+    ghost coded = { bound_formula_code };
+
+    ghost view = { λ g. record { formula = g.formula; bound = g.bound } };
+
+    ghost invariant = { λ g. Safe (tree_of g.formula) (Contains g.bound) };
+}
+
+impl Guard {
+    /// The guard, exactly where the formula can be evaluated with these variables bound.
+    pub fn of(alloc: Global, formula: Formula, bound: &Vars) -> Result<Guard, GuardRefusal>
+        ensures ok { IfOk result (λ g. (g.formula ≡ formula) × (g.bound ≡ bound.now)) }
+        ensures safe { OnOk result (Safe (tree_of formula) (Contains bound.now)) }
+        ensures refused { IfErr result (RefusesGuard (tree_of formula) bound.now) }
+    {
+        if is_safe(alloc, &formula, bound.as_slice())? {
+            let bound = bound.duplicate(alloc)?;
+            Ok(Guard { formula, bound })
+        } else {
+            Err(GuardRefusal::Unguarded {
+                place: formula.place(),
+            })
+        }
+    }
+
+    /// The formula.
+    pub fn formula(&self) -> &Formula
+        ensures formula { result.now ≡ self.now.formula }
+        ensures safe { Safe (tree_of self.now.formula) (Contains self.now.bound) }
+    {
+        &self.formula
+    }
+
+    /// The variables that are bound.
+    pub fn bound(&self) -> &Vars
+        ensures bound { result.now ≡ self.now.bound }
+        ensures safe { Safe (tree_of self.now.formula) (Contains self.now.bound) }
+    {
+        &self.bound
+    }
+}
+
+/// Whether the formula is safe with all its free variables bound.
+pub fn is_test(alloc: Global, formula: &Formula, bound: &Vars) -> Result<bool, NoMemory>
+    ensures { IfOk result (λ test. IsTrue test
+        ↔ IsTest (tree_of formula.now) (Contains bound.now)) }
+{
+    if is_safe(alloc, formula, bound.as_slice())? {
+        is_free_within(alloc, formula, bound.as_slice())
+    } else {
+        Ok(false)
+    }
+}

@@ -1,0 +1,25 @@
+//! What safety is for: a law over the definitions, the contract of a function with an empty body.
+ghost use Rattle.monitorable_guard.specs.Present.{PresentIsSatisfied};
+ghost use Rattle.monitorable_guard.specs.Safety.{HistoricallyAsksDenial};
+ghost use Rattle.monitorable_guard.specs.Sources.{SafeValuesAreKnown};
+
+use enf_formula::laws::is_classical;
+
+/// With the bound variables fixed, finitely many values of the others satisfy a safe formula: those of the events
+/// up to there, of its constants, and of the bound variables.
+pub fn safe_values_are_known()
+    ensures { SafeValuesAreKnown }
+{}
+
+/// `historically g` is as safe as the denial of g that `once` takes in its place.
+pub fn historically_asks_denial()
+    ensures { HistoricallyAsksDenial }
+{}
+
+/// Where tables stand for the outermost operators on the past at a position of a trace, a formula holds by them where
+/// it is satisfied there.
+pub fn present_is_satisfied()
+    ensures { PresentIsSatisfied }
+{
+    is_classical();
+}
