@@ -1,0 +1,6 @@
+use Rattle.std.proofs.Common.{refl}
+use Rattle.log_gen.proofs.Sample.{IsSignature-sample}
+use Rattle.log_gen.proofs.samples.sample_signature.Goals as goal
+
+pub returns-clause-read : goal.returns-clause-read
+returns-clause-read c = (IsSignature-sample, refl)

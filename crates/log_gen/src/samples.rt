@@ -1,0 +1,22 @@
+//! A signature and a policy to go with generated logs.
+ghost use Rattle.std.specs.Prelude.{◌≡◌, Ok};
+ghost use Rattle.log_gen.specs.Samples.{policy_text, sample_entries, signature_text};
+ghost use Rattle.signature.specs.Refusals.{IsAnswer};
+
+/// The text of the sample signature.
+pub fn sample_signature() -> &'static [u8]
+    ensures text { result.now ≡ signature_text }
+    ensures read { IsAnswer signature_text (Ok sample_entries) }
+{
+    b"request(text); consent(text); use(text) -; delete(text) +; unlock(text) +;\n\
+      lock(text); note(text) +-; alarm() +; ping() +; pong() +;\n"
+}
+
+/// The text of the sample policy.
+pub fn sample_policy() -> &'static [u8]
+    ensures { result.now ≡ policy_text }
+{
+    b"rule consent: forall u. use(u) -> once[0,*] consent(u);\n\
+      rule erase: forall u. request(u) -> eventually[0,30] delete(u);\n\
+      rule hold: forall u. lock(u) -> (not use(u)) until[0,10] unlock(u);\n"
+}
