@@ -1,0 +1,56 @@
+//! Prints what the libraries answer to cases: each line of standard input is a kind, a blank and an input, and each
+//! line of standard output the answer. The wanted answers, from outside, stand in the file `stdout`.
+//! An input writes `\n`, `\r`, `\t`, `\\` and `\xNN` for bytes that a line cannot hold.
+#![tactic(auto)]
+
+mod case;
+mod escapes;
+mod event_sets;
+mod intervals;
+mod logs;
+mod signatures;
+mod values;
+
+use case::CaseError;
+use enf_value::print_bytes;
+use log_stream::LogMode;
+use std::alloc::Global;
+use std::io;
+use std::io::{BufRead, BufReader, Write};
+
+fn main(rt: HostRuntime) -> io::Result<()> {
+    let mut output = io::writer(&rt);
+    let mut answer = Vec::new(rt.alloc());
+    for line in BufReader::new(rt.alloc(), rt.reader())?.lines(rt.alloc()) {
+        answer.clear();
+        if let Err(error) = answer_line(rt.alloc(), line?.as_bytes(), &mut answer) {
+            println!(rt; "{error}")?;
+            continue;
+        }
+        answer.push(b'\n')?;
+        output.write_all(&answer)?;
+    }
+    Ok(())
+}
+
+// Appends the answer to a line.
+fn answer_line(alloc: Global, line: &[u8], out: &mut Vec<u8>) -> Result<(), CaseError> {
+    let end = line
+        .iter()
+        .position(|byte| *byte == b' ')
+        .unwrap_or(line.len());
+    let input = escapes::unescaped(alloc, line.get(end + 1..).unwrap_or(&[]))?;
+    match &line[..end] {
+        b"" => Ok(()),
+        b"#" => Ok(print_bytes(line, out)?),
+        b"signature" => signatures::answer(alloc, &input, out),
+        b"text" => values::answer_text(alloc, &input, out),
+        b"value" => values::answer_value(alloc, &input, out),
+        b"compare" => values::answer_compare(alloc, &input, out),
+        b"interval" => intervals::answer(&input, out),
+        b"events" => event_sets::answer(alloc, &input, out),
+        b"log" => logs::answer(alloc, LogMode::Input, &input, out),
+        b"trace" => logs::answer(alloc, LogMode::TraceLog, &input, out),
+        _ => Err(CaseError::UnknownKind),
+    }
+}
