@@ -1,21 +1,43 @@
-# enf: the first run, the proved program, the tests.
+# enf: a first run, files of one's own, the proved program, the tests.
 
-.PHONY: demo build test clean
+.PHONY: help demo try build bench check test fmt clean
 
-# Enforces the logs of examples/. It takes the proved program where it is there.
+help:
+	@echo 'make demo                            enforces the logs of examples/ and shows what was changed'
+	@echo 'make try SIG=FILE POLICY=FILE LOG=FILE    the same for files of your own, before any proof'
+	@echo 'make build                           proves the program and leaves it as bin/enf'
+	@echo 'make bench                           measures the proved program on generated logs'
+	@echo 'make check                           proves every crate, over what earlier checks kept'
+	@echo 'make test                            the gate: rt ci'
+	@echo 'make fmt                             lays out the sources of every crate'
+	@echo 'make clean                           removes what was built'
+
 demo:
-	@./examples/demo.sh
+	@./scripts/demo.sh
 
-# Proves the program and all crates below it, and leaves it as bin/enf.
+try:
+	@./scripts/try.sh "$(SIG)" "$(POLICY)" "$(LOG)"
+
+# The program runs once, since `rt run` is what proves, compiles and links it.
 build:
+	@echo 'Proving the program and the crates below it; docs/DEVELOPING.md says how long that takes.'
 	cd crates/enf_cli && rt run -- enforce ../../examples/access.sig ../../examples/access.policy \
 		< ../../examples/access.log > /dev/null
 	mkdir -p bin
 	cp crates/enf_cli/out/enf_cli bin/enf
+	./scripts/sources.sh > bin/enf.sources
 
-# Proves every crate, tries the must-fail edits, and runs the tests and the program.
+bench:
+	@./scripts/bench.sh
+
+check:
+	rt all check
+
 test:
 	rt ci
+
+fmt:
+	for crate in crates/*/; do (cd "$$crate" && rt fmt) || exit 1; done
 
 clean:
 	rm -rf bin out crates/*/out

@@ -1,0 +1,69 @@
+#!/usr/bin/env bash
+# Sourced by the other scripts: runs enf on files, by the proved program where it was built from these sources.
+
+# Whether bin/enf was built from the sources as they stand.
+is_proved() {
+    [ -x bin/enf ] && [ -f bin/enf.sources ] && [ "$(cat bin/enf.sources)" = "$(scripts/sources.sh)" ]
+}
+
+# Says which program runs, before it runs.
+say_program() {
+    if is_proved; then
+        echo "This is the proved program, bin/enf."
+        return
+    fi
+    if [ -x bin/enf ]; then
+        echo "bin/enf was built from other sources, so it is not taken."
+    else
+        echo "bin/enf is not there."
+    fi
+    echo "This run is NOT PROVED: 'rt try' compiles the program and runs it. 'make build' proves it."
+    echo "Each run compiles anew, which takes about half a minute; please wait."
+}
+
+# enforce SIGNATURE POLICY LOG OUTPUT REPORT: enforces the log, and answers the status of the program.
+enforce() {
+    local status
+    if is_proved; then
+        bin/enf enforce "$1" "$2" < "$3" > "$4" 2> "$5"
+        return
+    fi
+    local here
+    here=$(pwd)
+    (cd crates/enf_cli && rt try \
+        --data signature="$(absolute "$here" "$1")" --data policy="$(absolute "$here" "$2")" \
+        -- enforce signature policy) < "$3" > "$4" 2> "$5.all"
+    status=$?
+    # `rt try` adds lines of its own to the report.
+    grep -v -e '^checked: ' -e '^run=' "$5.all" > "$5"
+    rm -f "$5.all"
+    return "$status"
+}
+
+# A path as seen from every folder.
+absolute() {
+    case $2 in
+        /*) echo "$2" ;;
+        *) echo "$1/$2" ;;
+    esac
+}
+
+# The lines of a file, or `(empty)`.
+show_lines() {
+    if [ -s "$1" ]; then
+        sed 's/^/  /' "$1"
+    else
+        echo "  (empty)"
+    fi
+}
+
+# Shows a log beside what went out: '-' came in, '+' goes out in its place, all other lines pass unchanged.
+show_changes() {
+    if [ ! -s "$1" ] && [ ! -s "$2" ]; then
+        echo "  (empty)"
+    elif cmp -s "$1" "$2"; then
+        show_lines "$1"
+    else
+        diff -U 100000 "$1" "$2" | tail -n +4 | sed 's/^\(.\)/\1 /'
+    fi
+}
