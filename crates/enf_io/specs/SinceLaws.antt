@@ -122,7 +122,8 @@ pub GrewWhereTold-took : (bytes : List ℕ) (before after : Option Exchange)
     → Took bytes before after → GrewWhereTold before after
 GrewWhereTold-took bytes before after took =
     grew_by (λ x. with_taken (length bytes) (with_mark x))
-    (λ x. Grew-trans x (with_mark x) _ (Grew-mark x) (Grew-taken (with_mark x) (length bytes))) before after took.counted
+    (λ x. Grew-trans x (with_mark x) _ (Grew-mark x) (Grew-taken (with_mark x) (length bytes)))
+    before after took.counted
 
 pub Later-refl : (x : Stream) → Later x x
 Later-refl x = record { told = GrewWhereTold-refl x.told; reads = omega arith; writes = omega arith }
@@ -294,7 +295,8 @@ OfCalls-took P bytes first before after grew took told =
 
 -- the end of the input is the end of what is left to take
 pub OfCalls-at_end : (P : Exchange → Type 0) (first before : Option Exchange)
-    → GrewWhereTold first before → IsAtEnd before → OfCalls (λ x. left x ≡ [] → P x) first before → OfCalls P first before
+    → GrewWhereTold first before → IsAtEnd before → OfCalls (λ x. left x ≡ [] → P x) first before
+    → OfCalls P first before
 OfCalls-at_end P None before grew ended told = tt
 OfCalls-at_end P (Some x) None grew ended told = tt
 OfCalls-at_end P (Some x) (Some y) grew ended told = told (left-since x y grew ∙ ended)

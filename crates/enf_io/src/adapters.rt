@@ -156,7 +156,7 @@ impl<'a, R: std::rt::Files + AllocGlobal> Files for StdFiles<'a, R> {
     }
 }
 
-/// Reads no further than `most` bytes, however long the file is.
+// Reads no further than `most` bytes, however long the file is.
 fn read_front<R: std::rt::Files + AllocGlobal>(
     rt: &R,
     name: &str,

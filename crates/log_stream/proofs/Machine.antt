@@ -14,6 +14,7 @@ use Rattle.log_stream.specs.declared.items.LogMode.TheVariants.{Input, TraceLog}
 use Rattle.log_stream.specs.States.{State, Start, Marked, Ticking, Ticked, Events, Named, Opened, Valued, Comma, Done, argument_at, event_at, inserted, next, run}
 use Rattle.log_stream.specs.Tokens.{Token, Mark, Time, Name, Argument}
 use Rattle.log_stream.specs.Written.{WrittenArgument, WrittenEvent, Written, Line, TickLine, mark_of, argument_token, row_tokens, event_tokens, tokens_of, IsRead, IsForm, IsSentence, CanBegin}
+use Rattle.log_stream.specs.declared.limits.TheConstants.{MOST_EVENTS}
 
 pub run-append : (mode : LogMode) (state : State) (front rest : List Token) → run mode state (front ++ rest) ≡ option_and_then (λ after. run mode after rest) (run mode state front)
 run-append mode state [] rest = refl
@@ -50,11 +51,11 @@ IsFit mode Start = Unit {0}
 IsFit mode (Marked kind) = IsRead mode kind
 IsFit mode Ticking = Unit {0}
 IsFit mode (Ticked time) = Unit {0}
-IsFit mode (Events kind time events) = IsRead mode kind × (length events ≤ 2048)
-IsFit mode (Named kind time events place name) = IsRead mode kind × (length events < 2048)
-IsFit mode (Opened kind time events place name) = IsRead mode kind × (length events < 2048)
-IsFit mode (Valued kind time events place name args) = IsRead mode kind × (length events < 2048) × (0 < length args)
-IsFit mode (Comma kind time events place name args) = IsRead mode kind × (length events < 2048) × (0 < length args)
+IsFit mode (Events kind time events) = IsRead mode kind × (length events ≤ MOST_EVENTS)
+IsFit mode (Named kind time events place name) = IsRead mode kind × (length events < MOST_EVENTS)
+IsFit mode (Opened kind time events place name) = IsRead mode kind × (length events < MOST_EVENTS)
+IsFit mode (Valued kind time events place name args) = IsRead mode kind × (length events < MOST_EVENTS) × (0 < length args)
+IsFit mode (Comma kind time events place name args) = IsRead mode kind × (length events < MOST_EVENTS) × (0 < length args)
 IsFit mode (Done written) = IsForm mode written
 
 -- a choice that leaves something
@@ -83,7 +84,7 @@ Onward mode state token after = (so_far after ≡ so_far state ++ token ∷ []) 
 onward_to : (mode : LogMode) (state : State) (token : Token) (x after : State) → Some x ≡ Some after → Onward mode state token x → Onward mode state token after
 onward_to mode state token x after e h = subst (Onward mode state token) (some_is x after e) h
 
-pushed_length : (events : List WrittenEvent) (event : WrittenEvent) → length events < 2048 → length (events ++ event ∷ []) ≤ 2048
+pushed_length : (events : List WrittenEvent) (event : WrittenEvent) → length events < MOST_EVENTS → length (events ++ event ∷ []) ≤ MOST_EVENTS
 pushed_length events event h = omega (arith, length-append events (event ∷ []))
 
 pub step_onward : (mode : LogMode) (state : State) (token : Token) (after : State) → IsFit mode state → next mode state token ≡ Some after → Onward mode state token after
@@ -108,9 +109,9 @@ step_onward mode (Ticked time) (Mark byte) after fit e =
     let h = chosen_some (byte == 59) (Some (Done (TickLine time))) after e in
     onward_to mode (Ticked time) (Mark byte) (Done (TickLine time)) after h.1 (ap (λ b. Mark 62 ∷ Time time ∷ Mark b ∷ []) (sym (eqb-true byte 59 h.0)), tt)
 step_onward mode (Events kind time events) (Name place name) after fit e =
-    let h = chosen_some (nat_lt (length events) 2048) (Some (Named kind time events place name)) after e in
+    let h = chosen_some (nat_lt (length events) MOST_EVENTS) (Some (Named kind time events place name)) after e in
     let t = h.0 in
-    let lt : length events < 2048 = grind (arith, nat_tests) in
+    let lt : length events < MOST_EVENTS = grind (arith, nat_tests) in
     onward_to mode (Events kind time events) (Name place name) (Named kind time events place name) after h.1 (refl, (fit.0, lt))
 step_onward mode (Events kind time events) (Mark byte) after fit e =
     let h = chosen_some (byte == 59) (Some (Done (Line kind time events))) after e in
@@ -211,14 +212,14 @@ run_row mode kind time events place name [] = refl
 run_row mode kind time events place name (arg ∷ args) =
     run_onto mode (Valued kind time events place name (arg ∷ [])) (Valued kind time events place name (arg ∷ args)) (flat_map (λ next. Mark 44 ∷ argument_token next ∷ []) args) (Mark 41 ∷ []) (run_values mode kind time events place name (arg ∷ []) args)
 
-pub run_event : (mode : LogMode) (kind : StepKind) (time : ℕ) (events : List WrittenEvent) (event : WrittenEvent) → length events < 2048 →
+pub run_event : (mode : LogMode) (kind : StepKind) (time : ℕ) (events : List WrittenEvent) (event : WrittenEvent) → length events < MOST_EVENTS →
     run mode (Events kind time events) (event_tokens event) ≡ Some (Events kind time (events ++ event ∷ []))
 run_event mode kind time events event few =
-    let t : nat_lt (length events) 2048 ≡ true = grind (arith, nat_tests) in
+    let t : nat_lt (length events) MOST_EVENTS ≡ true = grind (arith, nat_tests) in
     ap (λ b. option_and_then (λ after. run mode after (Mark 40 ∷ row_tokens event.args ++ Mark 41 ∷ [])) (if b then Some (Named kind time events event.place event.name) else None)) t
     ∙ run_row mode kind time events event.place event.name event.args
 
-pub run_events : (mode : LogMode) (kind : StepKind) (time : ℕ) (before events : List WrittenEvent) → length before + length events ≤ 2048 →
+pub run_events : (mode : LogMode) (kind : StepKind) (time : ℕ) (before events : List WrittenEvent) → length before + length events ≤ MOST_EVENTS →
     run mode (Events kind time before) (flat_map event_tokens events) ≡ Some (Events kind time (before ++ events))
 run_events mode kind time before [] few = ap (λ l. Some (Events kind time l)) (sym (append-nil before))
 run_events mode kind time before (event ∷ events) few =

@@ -9,6 +9,7 @@ use Rattle.log_stream.specs.declared.items.LogRefusal.TheVariants.{BadRecord, Un
 use Rattle.log_stream.specs.Judgement.{IsAnswer}
 use Rattle.log_stream.specs.Logs.{AreWholeRecords, BeginsWith, EndsBy, HasRecord, IsLog, IsPending, IsStuck, Refuses, Spells, behind_blanks, behind_record, record_bytes, record_length}
 use Rattle.log_stream.proofs.OneReading.{one_answer}
+use Rattle.log_stream.specs.declared.limits.TheConstants.{MOST_RECORD_BYTES}
 
 one_length : (text : List ℕ) (m n : ℕ) → HasRecord text m → HasRecord text n → m ≡ n
 one_length text m n a b = number m n (sym a ∙ b)
@@ -62,7 +63,7 @@ not_stuck one entries mode text item rest (n, whole, answer, is) (inr (refusal, 
 
 pub refuses_same : (entries : List NameEntry) (mode : LogMode) (a b : List ℕ) → behind_blanks a ≡ behind_blanks b → (refusal : LogRefusal) → Refuses entries mode a refusal → Refuses entries mode b refusal
 refuses_same entries mode a b same TooLong r =
-    let P : List ℕ → Type 0 = λ l. (record_length l ≡ None) × (65536 ≤ length l) in subst P same r
+    let P : List ℕ → Type 0 = λ l. (record_length l ≡ None) × (MOST_RECORD_BYTES ≤ length l) in subst P same r
 refuses_same entries mode a b same Truncated r = r
 refuses_same entries mode a b same NoMemory r = r
 refuses_same entries mode a b same (BadRecord place) r =
@@ -79,7 +80,7 @@ refuses_same entries mode a b same TimeTooLarge r =
 -- a rest that differs by blanks in front alone
 pub stuck_same : (entries : List NameEntry) (mode : LogMode) (a b : List ℕ) → behind_blanks a ≡ behind_blanks b → IsStuck entries mode a → IsStuck entries mode b
 stuck_same entries mode a b same (inl pending) =
-    let P : List ℕ → Type 0 = λ l. (record_length l ≡ None) × (length l < 65536) in inl (subst P same pending)
+    let P : List ℕ → Type 0 = λ l. (record_length l ≡ None) × (length l < MOST_RECORD_BYTES) in inl (subst P same pending)
 stuck_same entries mode a b same (inr (refusal, refused)) = inr (refusal, refuses_same entries mode a b same refusal refused)
 
 -- whole records up to where nothing more is whole
@@ -98,7 +99,7 @@ one_whole one entries mode bytes a b (r, x, p) (s, y, q) = (one_records one entr
 -- the end of a log is stuck
 nothing_pending : (rest : List ℕ) → behind_blanks rest ≡ [] → IsPending rest
 nothing_pending rest e =
-    let P : List ℕ → Type 0 = λ l. (record_length l ≡ None) × (length l < 65536) in subst P (sym e) (refl, omega arith)
+    let P : List ℕ → Type 0 = λ l. (record_length l ≡ None) × (length l < MOST_RECORD_BYTES) in subst P (sym e) (refl, omega arith)
 
 ended_stuck : (entries : List NameEntry) (mode : LogMode) (rest : List ℕ) (refusal : Option LogRefusal) → EndsBy entries mode rest refusal → IsStuck entries mode rest
 ended_stuck entries mode rest None e = inl (nothing_pending rest e)
@@ -115,8 +116,8 @@ ended_stuck entries mode rest (Some TimeTooLarge) e = inr (TimeTooLarge, e)
 abbrev pub EndsSo : List NameEntry → LogMode → List ℕ → Option LogRefusal → Type 0
 EndsSo entries mode rest end =
     ((end ≡ None) × (rest ≡ []))
-    ⊎ (((end ≡ Some Truncated) × (record_length rest ≡ None) × (0 < length rest) × (length rest < 65536))
-    ⊎ (((end ≡ Some TooLong) × (record_length rest ≡ None) × (65536 ≤ length rest))
+    ⊎ (((end ≡ Some Truncated) × (record_length rest ≡ None) × (0 < length rest) × (length rest < MOST_RECORD_BYTES))
+    ⊎ (((end ≡ Some TooLong) × (record_length rest ≡ None) × (MOST_RECORD_BYTES ≤ length rest))
     ⊎ ((refusal : LogRefusal) × (n : ℕ) × (end ≡ Some refusal) × (record_length rest ≡ Some n) × IsAnswer entries mode (take n rest) (Err refusal))))
 
 ends_so : (entries : List NameEntry) (mode : LogMode) (rest : List ℕ) (end : Option LogRefusal) → EndsBy entries mode rest end → EndsSo entries mode (behind_blanks rest) end

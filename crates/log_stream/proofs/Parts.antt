@@ -26,6 +26,7 @@ use Rattle.log_stream.specs.Tokens.{Mark, Name, Argument, StandsAt, Leads}
 use Rattle.log_stream.specs.Written.{WrittenArgument, WrittenEvent, event_tokens, row_tokens}
 use Rattle.log_stream.proofs.Machine.{row_push, run_events, run_onto, run_values, some_is}
 use Rattle.log_stream.proofs.Reading.{bad_behind, bad_here, clash_push, fails_behind, is_bad, leads-append, stuck_comma, stuck_events, stuck_named, stuck_opened, stuck_valued}
+use Rattle.log_stream.specs.declared.limits.TheConstants.{MOST_EVENTS}
 
 -- a fault at a place
 pub fails_bad : (mode : LogMode) (bytes : List ℕ) (from : ℕ) (state : State) (place : ℕ) (refusal : LogRefusal) → refusal ≡ BadRecord place → IsBadFrom mode bytes from state place → Fails mode bytes from state refusal
@@ -124,21 +125,21 @@ row_without_mark mode sorts bytes from row clashes at next value kind time event
     (bad_here mode bytes next (Valued kind time events place name args) (stuck_valued mode bytes next kind time events place name args no_close no_comma))
 
 -- an event's name, where there is room for one
-pub run_name : (mode : LogMode) (kind : StepKind) (time : ℕ) (events : List WrittenEvent) (place : ℕ) (name : List ℕ) → length events < 2048 → run mode (Events kind time events) (Name place name ∷ []) ≡ Some (Named kind time events place name)
+pub run_name : (mode : LogMode) (kind : StepKind) (time : ℕ) (events : List WrittenEvent) (place : ℕ) (name : List ℕ) → length events < MOST_EVENTS → run mode (Events kind time events) (Name place name ∷ []) ≡ Some (Named kind time events place name)
 run_name mode kind time events place name few =
-    let t : nat_lt (length events) 2048 ≡ true = grind (arith, nat_tests) in
+    let t : nat_lt (length events) MOST_EVENTS ≡ true = grind (arith, nat_tests) in
     ap (λ b. option_and_then (λ after. run mode after []) (if b then Some (Named kind time events place name) else None)) t
 
 pub event_without_name : (mode : LogMode) (bytes : List ℕ) (from : ℕ) (kind : StepKind) (time : ℕ) (events : List WrittenEvent) → ((end : ℕ) → StandsAt bytes from end (Mark 59) → ⊥) → ((p end : ℕ) (name : List ℕ) → StandsAt bytes from end (Name p name) → ⊥) → IsBadFrom mode bytes from (Events kind time events) from
 event_without_name mode bytes from kind time events none no_name =
     bad_here mode bytes from (Events kind time events) (stuck_events mode bytes from kind time events none (λ p end name stands. absurd (no_name p end name stands)))
 
-pub event_without_open : (mode : LogMode) (bytes : List ℕ) (from next : ℕ) (name : List ℕ) (kind : StepKind) (time : ℕ) (events : List WrittenEvent) → length events < 2048 → Leads bytes from (Name from name ∷ []) next → ((end : ℕ) → StandsAt bytes next end (Mark 40) → ⊥) → IsBadFrom mode bytes from (Events kind time events) next
+pub event_without_open : (mode : LogMode) (bytes : List ℕ) (from next : ℕ) (name : List ℕ) (kind : StepKind) (time : ℕ) (events : List WrittenEvent) → length events < MOST_EVENTS → Leads bytes from (Name from name ∷ []) next → ((end : ℕ) → StandsAt bytes next end (Mark 40) → ⊥) → IsBadFrom mode bytes from (Events kind time events) next
 event_without_open mode bytes from next name kind time events few l none =
     bad_behind mode bytes from next (Events kind time events) (Named kind time events from name) (Name from name ∷ []) next l (run_name mode kind time events from name few)
     (bad_here mode bytes next (Named kind time events from name) (stuck_named mode bytes next kind time events from name none))
 
-pub event_with_bad_row : (mode : LogMode) (bytes : List ℕ) (from next inside : ℕ) (name : List ℕ) (kind : StepKind) (time : ℕ) (events : List WrittenEvent) (refusal : LogRefusal) → length events < 2048 → Leads bytes from (Name from name ∷ []) next → Leads bytes next (Mark 40 ∷ []) inside → Fails mode bytes inside (Opened kind time events from name) refusal → Fails mode bytes from (Events kind time events) refusal
+pub event_with_bad_row : (mode : LogMode) (bytes : List ℕ) (from next inside : ℕ) (name : List ℕ) (kind : StepKind) (time : ℕ) (events : List WrittenEvent) (refusal : LogRefusal) → length events < MOST_EVENTS → Leads bytes from (Name from name ∷ []) next → Leads bytes next (Mark 40 ∷ []) inside → Fails mode bytes inside (Opened kind time events from name) refusal → Fails mode bytes from (Events kind time events) refusal
 event_with_bad_row mode bytes from next inside name kind time events refusal few l paren fails =
     fails_behind mode bytes from inside (Events kind time events) (Opened kind time events from name) (Name from name ∷ Mark 40 ∷ []) refusal
     (leads-append bytes from next inside (Name from name ∷ []) (Mark 40 ∷ []) l paren)
@@ -248,7 +249,7 @@ events_more entries bytes from events count place next event after so (one, lead
   within = within;
 }
 
-pub events_done : (entries : List NameEntry) (bytes : List ℕ) (from : ℕ) (events : Result (List Event) LogRefusal) (count place end : ℕ) → AreEventsSoFar entries bytes from events count place → count ≤ 2048 → Leads bytes place (Mark 59 ∷ []) end → ReadsEvents entries bytes from events end
+pub events_done : (entries : List NameEntry) (bytes : List ℕ) (from : ℕ) (events : Result (List Event) LogRefusal) (count place end : ℕ) → AreEventsSoFar entries bytes from events count place → count ≤ MOST_EVENTS → Leads bytes place (Mark 59 ∷ []) end → ReadsEvents entries bytes from events end
 events_done entries bytes from events count place end so few l = record {
   written = so.written;
   few = omega (arith, so.counted);
@@ -256,16 +257,16 @@ events_done entries bytes from events count place end so few l = record {
   judged = so.judged;
 }
 
-run_all : (mode : LogMode) (kind : StepKind) (time : ℕ) (events : List WrittenEvent) → length events ≤ 2048 → run mode (Events kind time []) (flat_map event_tokens events) ≡ Some (Events kind time events)
+run_all : (mode : LogMode) (kind : StepKind) (time : ℕ) (events : List WrittenEvent) → length events ≤ MOST_EVENTS → run mode (Events kind time []) (flat_map event_tokens events) ≡ Some (Events kind time events)
 run_all mode kind time events few = run_events mode kind time [] events (omega arith)
 
 -- a fault of the next event
-pub events_with_bad_event : (entries : List NameEntry) (mode : LogMode) (bytes : List ℕ) (from : ℕ) (events : Result (List Event) LogRefusal) (count place : ℕ) (kind : StepKind) (time : ℕ) (refusal : LogRefusal) → AreEventsSoFar entries bytes from events count place → count < 2048 → ((others : List WrittenEvent) → length others < 2048 → Fails mode bytes place (Events kind time others) refusal) → Fails mode bytes from (Events kind time []) refusal
+pub events_with_bad_event : (entries : List NameEntry) (mode : LogMode) (bytes : List ℕ) (from : ℕ) (events : Result (List Event) LogRefusal) (count place : ℕ) (kind : StepKind) (time : ℕ) (refusal : LogRefusal) → AreEventsSoFar entries bytes from events count place → count < MOST_EVENTS → ((others : List WrittenEvent) → length others < MOST_EVENTS → Fails mode bytes place (Events kind time others) refusal) → Fails mode bytes from (Events kind time []) refusal
 events_with_bad_event entries mode bytes from events count place kind time refusal so few fails =
     fails_behind mode bytes from place (Events kind time []) (Events kind time so.written) (flat_map event_tokens so.written) refusal so.leads (run_all mode kind time so.written (omega (arith, so.counted))) (fails so.written (omega (arith, so.counted)))
 
 -- as many events as there may be, and no semicolon
-pub events_too_many : (entries : List NameEntry) (mode : LogMode) (bytes : List ℕ) (from : ℕ) (events : Result (List Event) LogRefusal) (place : ℕ) (kind : StepKind) (time : ℕ) → AreEventsSoFar entries bytes from events 2048 place → ((end : ℕ) → StandsAt bytes place end (Mark 59) → ⊥) → IsBadFrom mode bytes from (Events kind time []) place
+pub events_too_many : (entries : List NameEntry) (mode : LogMode) (bytes : List ℕ) (from : ℕ) (events : Result (List Event) LogRefusal) (place : ℕ) (kind : StepKind) (time : ℕ) → AreEventsSoFar entries bytes from events MOST_EVENTS place → ((end : ℕ) → StandsAt bytes place end (Mark 59) → ⊥) → IsBadFrom mode bytes from (Events kind time []) place
 events_too_many entries mode bytes from events place kind time so none =
     bad_behind mode bytes from place (Events kind time []) (Events kind time so.written) (flat_map event_tokens so.written) place so.leads (run_all mode kind time so.written (omega (arith, so.counted)))
     (bad_here mode bytes place (Events kind time so.written) (stuck_events mode bytes place kind time so.written none (λ p end name stands. no_room p name)))
@@ -273,7 +274,7 @@ events_too_many entries mode bytes from events place kind time so none =
     no_room : (p : ℕ) (name : List ℕ) → next mode (Events kind time so.written) (Name p name) ≡ None
     no_room p name =
         let many = so.counted in
-        let t : nat_lt (length so.written) 2048 ≡ false = grind (arith, nat_tests) in
+        let t : nat_lt (length so.written) MOST_EVENTS ≡ false = grind (arith, nat_tests) in
         ap (λ b. if b then Some (Named kind time so.written p name) else None) t
 
 -- the columns of a name that was looked up

@@ -16,6 +16,7 @@ use Rattle.log_stream.specs.Scanning.{BeginsAt, IsKept, IsReader, IsScanned, IsW
 use Rattle.log_stream.specs.States.{GivesAnswer}
 use Rattle.log_stream.proofs.Steps.{refusal_judged}
 use Rattle.log_stream.proofs.Windows.{behind_not_blank}
+use Rattle.log_stream.specs.declared.limits.TheConstants.{MOST_RECORD_BYTES}
 
 abbrev pub reader_at : List NameEntry → LogMode → List ℕ → Option LogRefusal → Reader
 reader_at entries mode rest refused = record { entries = entries; mode = mode; rest = rest; refused = refused }
@@ -60,7 +61,7 @@ pending_kept bytes kept_bytes front begin count scan refused pending begins scan
     let rest = behind_blanks (drop front bytes) in
     let same : kept_bytes ≡ rest = is ∙ begins.rest_is in
     let all : take (length rest) rest ≡ rest = take_all (length rest) rest (omega arith) in
-    let window : take 65536 rest ≡ rest = take_all 65536 rest (omega (arith, pending.1)) in
+    let window : take MOST_RECORD_BYTES rest ≡ rest = take_all MOST_RECORD_BYTES rest (omega (arith, pending.1)) in
     record {
       within = omega arith;
       scanned_is = subst (λ n. IsScanned kept_bytes n scan) (sym (counted ∙ ap length same)) (subst (λ l. IsScanned l (length rest) scan) (sym same) (record {

@@ -29,7 +29,8 @@ use Rattle.trace_meaning.specs.declared.kinds.StepKind.TheVariants.{System, Inse
 use Rattle.log_stream.specs.declared.items.LogItem.TheVariants.{Step}
 use Rattle.log_stream.specs.declared.items.LogRefusal.TheVariants.{Arity, SortClash, TimeTooLarge}
 use Rattle.log_stream.specs.declared.scanning.Scan.TheVariants.{Outside}
-use Rattle.log_stream.specs.Judgement.{IsAnswer, clash, entry_with, event_of, event_refusal, event_refusal_by, events_of, first_refusal, judged, judged_step, most_time, put_all, values_of}
+use Rattle.log_stream.specs.Judgement.{IsAnswer, clash, entry_with, event_of, event_refusal, event_refusal_by, events_of, first_refusal, judged, judged_step, put_all, values_of}
+use Rattle.trace_meaning.specs.Records.{most_time}
 use Rattle.log_stream.specs.Lines.{spelled_event, spelled_row, spelled_step, step_line}
 use Rattle.log_stream.specs.LogLaws.{end_stays}
 use Rattle.log_stream.specs.Logs.{behind_blanks, length_to_end, record_bytes, record_length}
@@ -40,6 +41,7 @@ use Rattle.log_stream.proofs.Plain.{Stays, decimal_plain, plain_stays, spelled_s
 use Rattle.log_stream.proofs.PrintedTokens.{AreValues, ArePrintable, at_place, behind_front, commas, events_lead, gap_none, mark_stands, name_of, space_before, spaced, value_stands, written_args, written_event, written_events}
 use Rattle.log_stream.proofs.Steps.{in_time}
 use Rattle.log_stream.proofs.Windows.{begun_stays, end_onward}
+use Rattle.log_stream.specs.declared.limits.TheConstants.{MOST_EVENTS, MOST_RECORD_BYTES}
 
 -- what a declared event has
 pub name_is : (entries : List NameEntry) (event : Event) → (d : IsDeclared entries event) → name_of (names_of entries) event ≡ d.entry.text
@@ -218,12 +220,12 @@ read_again printed entries mode kind time events rest signature read w =
     let are = printable entries events signature w.declared in
     let split : text ≡ bytes ++ 10 ∷ rest = append_assoc bytes (10 ∷ []) rest in
     let behind : behind_blanks text ≡ text = begun_stays text (mark_not_blank kind) in
-    let front : length_to_end Outside (take 65536 bytes) ≡ Some (length bytes) = ap (length_to_end Outside) (take_all 65536 bytes w.short) ∙ line_ends names kind time events (omega (arith, small)) are in
-    let ends = end_stays Outside 65536 bytes (10 ∷ rest) (length bytes) front in
+    let front : length_to_end Outside (take MOST_RECORD_BYTES bytes) ≡ Some (length bytes) = ap (length_to_end Outside) (take_all MOST_RECORD_BYTES bytes w.short) ∙ line_ends names kind time events (omega (arith, small)) are in
+    let ends = end_stays Outside MOST_RECORD_BYTES bytes (10 ∷ rest) (length bytes) front in
     let here : behind_blanks text ≡ bytes ++ 10 ∷ rest = behind ∙ split in
     let is : record_bytes text (length bytes) ≡ bytes = ap (take (length bytes)) here ∙ take_at bytes (10 ∷ rest) (length bytes) refl in
     let written = written_events names (1 + length (decimal time) + 1) events in
-    let few : length written ≤ 2048 = omega (arith, count_same names (1 + length (decimal time) + 1) events, w.few) in
+    let few : length written ≤ MOST_EVENTS = omega (arith, count_same names (1 + length (decimal time) + 1) events, w.few) in
     let spelled : IsSpelled mode bytes (Line kind time written) = ((read, few), line_leads printed names kind time events small are) in (
       length bytes,
       ap record_length here ∙ ends.0,

@@ -14,7 +14,8 @@ use Rattle.log_stream.specs.declared.items.LogMode.{LogMode}
 use Rattle.log_stream.specs.declared.items.LogMode.TheVariants.{Input, TraceLog}
 use Rattle.log_stream.specs.declared.items.LogRefusal.{LogRefusal}
 use Rattle.log_stream.specs.declared.items.LogRefusal.TheVariants.{BadRecord, UnknownName, Arity, SortClash, TooLong, TimeTooLarge, Truncated, NoMemory}
-use Rattle.log_stream.specs.Judgement.{clash, event_refusal, event_refusal_by, entry_with, events_of, first_refusal, judged, judged_step, most_time}
+use Rattle.log_stream.specs.Judgement.{clash, event_refusal, event_refusal_by, entry_with, events_of, first_refusal, judged, judged_step}
+use Rattle.trace_meaning.specs.Records.{most_time}
 use Rattle.log_stream.specs.States.{Start, Marked, Ticking, Ticked, Events, Done, Fails, GivesAnswer, ReadsEvents, next, run}
 use Rattle.log_stream.specs.Tokens.{Mark, Time, StandsAt, Leads}
 use Rattle.log_stream.specs.Written.{WrittenEvent, Written, Line, TickLine, IsRead, IsSpelled, event_tokens, mark_of, tokens_of}

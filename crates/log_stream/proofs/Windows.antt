@@ -9,6 +9,7 @@ use Rattle.log_stream.specs.Tokens.{IsGap}
 use Rattle.log_stream.specs.declared.scanning.Scan.{Scan}
 use Rattle.log_stream.specs.declared.scanning.Scan.TheVariants.{Outside}
 use Rattle.log_stream.proofs.Scans.{map_more, map_none}
+use Rattle.log_stream.specs.declared.limits.TheConstants.{MOST_RECORD_BYTES}
 
 blanks_front : (xs : List ℕ) (n : ℕ) → n ≤ length xs → ((k : ℕ) → k < n → IsTrue (is_blank (slice_index xs k))) → is_blank (slice_index xs n) ≡ false → drop n xs ≡ behind_blanks xs
 blanks_front [] zero within blank here = refl
@@ -98,16 +99,16 @@ end_within scan (byte ∷ bytes) n e = by (is_outside scan && (byte == 59)) e (�
         let l = later i.0 i.1 in (omega (arith, l.0, i.2), omega (arith, l.1, i.2))
 
 -- the bytes in which the end is looked for
-pub window_is : (bytes : List ℕ) (begin most : ℕ) → most ≡ min 65536 (length bytes - begin) → begin + most - begin ≡ most → take (begin + most - begin) (drop begin bytes) ≡ take 65536 (drop begin bytes)
+pub window_is : (bytes : List ℕ) (begin most : ℕ) → most ≡ min MOST_RECORD_BYTES (length bytes - begin) → begin + most - begin ≡ most → take (begin + most - begin) (drop begin bytes) ≡ take MOST_RECORD_BYTES (drop begin bytes)
 window_is bytes begin most e f =
-    ap (λ n. take n (drop begin bytes)) (f ∙ e ∙ ap (min 65536) (sym (length-drop begin bytes))) ∙ take_min 65536 (drop begin bytes)
+    ap (λ n. take n (drop begin bytes)) (f ∙ e ∙ ap (min MOST_RECORD_BYTES) (sym (length-drop begin bytes))) ∙ take_min MOST_RECORD_BYTES (drop begin bytes)
 
 -- the record is found by the bytes that were not scanned
 pub found_onward : (rest : List ℕ) (scanned : ℕ) (scan : Scan) → IsScanned rest scanned scan →
-    (record_length rest ≡ option_map (λ n. n + scanned) (length_to_end scan (drop scanned (take 65536 rest)))) × (scan_after Outside (take 65536 rest) ≡ scan_after scan (drop scanned (take 65536 rest)))
+    (record_length rest ≡ option_map (λ n. n + scanned) (length_to_end scan (drop scanned (take MOST_RECORD_BYTES rest)))) × (scan_after Outside (take MOST_RECORD_BYTES rest) ≡ scan_after scan (drop scanned (take MOST_RECORD_BYTES rest)))
 found_onward rest scanned scan is =
-    let window = take 65536 rest in
-    let front : take scanned window ≡ take scanned rest = take-take scanned 65536 rest (omega (arith, is.short)) in
+    let window = take MOST_RECORD_BYTES rest in
+    let front : take scanned window ≡ take scanned rest = take-take scanned MOST_RECORD_BYTES rest (omega (arith, is.short)) in
     let split = take-append-drop scanned window in
     let long : length (take scanned window) ≡ scanned = ap length front ∙ length-take scanned rest ∙ omega (arith, is.within) in
     let same : scan_after Outside (take scanned window) ≡ scan = ap (scan_after Outside) front ∙ sym is.scan_is in (
@@ -116,13 +117,13 @@ found_onward rest scanned scan is =
       ap (scan_after Outside) (sym split) ∙ after_onward Outside (take scanned window) (drop scanned window) ∙ ap (λ s. scan_after s (drop scanned window)) same,
     )
 
-pub whole_at : (bytes : List ℕ) (from begin scanned : ℕ) (scan : Scan) (found end : ℕ) → IsScanned (drop from bytes) scanned scan → BeginsAt bytes from begin → (n : ℕ) → length_to_end scan (drop scanned (take 65536 (drop begin bytes))) ≡ Some n → found ≡ scanned + n → end ≡ begin + found → IsWholeAt bytes from begin end
+pub whole_at : (bytes : List ℕ) (from begin scanned : ℕ) (scan : Scan) (found end : ℕ) → IsScanned (drop from bytes) scanned scan → BeginsAt bytes from begin → (n : ℕ) → length_to_end scan (drop scanned (take MOST_RECORD_BYTES (drop begin bytes))) ≡ Some n → found ≡ scanned + n → end ≡ begin + found → IsWholeAt bytes from begin end
 whole_at bytes from begin scanned scan found end is begins n e f g =
     let rest = drop begin bytes in
     let scanned_is = subst (λ r. IsScanned r scanned scan) (sym begins.rest_is) (scanned_behind (drop from bytes) scanned scan is) in
     let whole : record_length rest ≡ Some found = (found_onward rest scanned scan scanned_is).0 ∙ ap (option_map (λ m. m + scanned)) e ∙ ap Some (omega (arith, f)) in
-    let within = end_within Outside (take 65536 rest) found whole in
-    let long = length-take 65536 rest in
+    let within = end_within Outside (take MOST_RECORD_BYTES rest) found whole in
+    let long = length-take MOST_RECORD_BYTES rest in
     let far = length-drop begin bytes in
     record {
       n = found;
@@ -134,12 +135,12 @@ whole_at bytes from begin scanned scan found end is begins n e f g =
     }
 
 -- no end in the window
-pub endless_at : (bytes : List ℕ) (from begin scanned : ℕ) (scan : Scan) → IsScanned (drop from bytes) scanned scan → BeginsAt bytes from begin → length_to_end scan (drop scanned (take 65536 (drop begin bytes))) ≡ None → record_length (behind_blanks (drop from bytes)) ≡ None
+pub endless_at : (bytes : List ℕ) (from begin scanned : ℕ) (scan : Scan) → IsScanned (drop from bytes) scanned scan → BeginsAt bytes from begin → length_to_end scan (drop scanned (take MOST_RECORD_BYTES (drop begin bytes))) ≡ None → record_length (behind_blanks (drop from bytes)) ≡ None
 endless_at bytes from begin scanned scan is begins e =
     let scanned_is = subst (λ r. IsScanned r scanned scan) (sym begins.rest_is) (scanned_behind (drop from bytes) scanned scan is) in
     ap record_length (sym begins.rest_is) ∙ (found_onward (drop begin bytes) scanned scan scanned_is).0 ∙ ap (option_map (λ m. m + scanned)) e
 
-pub open_scan : (bytes : List ℕ) (from begin scanned : ℕ) (scan after : Scan) → IsScanned (drop from bytes) scanned scan → BeginsAt bytes from begin → length (drop begin bytes) < 65536 → after ≡ scan_after scan (drop scanned (take 65536 (drop begin bytes))) → after ≡ scan_after Outside (behind_blanks (drop from bytes))
+pub open_scan : (bytes : List ℕ) (from begin scanned : ℕ) (scan after : Scan) → IsScanned (drop from bytes) scanned scan → BeginsAt bytes from begin → length (drop begin bytes) < MOST_RECORD_BYTES → after ≡ scan_after scan (drop scanned (take MOST_RECORD_BYTES (drop begin bytes))) → after ≡ scan_after Outside (behind_blanks (drop from bytes))
 open_scan bytes from begin scanned scan after is begins short e =
     let scanned_is = subst (λ r. IsScanned r scanned scan) (sym begins.rest_is) (scanned_behind (drop from bytes) scanned scan is) in
-    e ∙ sym (found_onward (drop begin bytes) scanned scan scanned_is).1 ∙ ap (scan_after Outside) (take_all 65536 (drop begin bytes) (omega (arith, short)) ∙ begins.rest_is)
+    e ∙ sym (found_onward (drop begin bytes) scanned scan scanned_is).1 ∙ ap (scan_after Outside) (take_all MOST_RECORD_BYTES (drop begin bytes) (omega (arith, short)) ∙ begins.rest_is)

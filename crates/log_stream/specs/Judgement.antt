@@ -11,7 +11,8 @@ use Rattle.signature.specs.declared.entries.NameEntry.{NameEntry}
 use Rattle.signature.specs.declared.entries.Sort.{Sort}
 use Rattle.signature.specs.declared.entries.Sort.TheVariants as sorts
 use Rattle.trace_meaning.specs.declared.kinds.StepKind.{StepKind}
-use Rattle.trace_meaning.specs.declared.kinds.StepKind.TheVariants.{System, Inserted}
+use Rattle.trace_meaning.specs.Records.{most_time}
+use Rattle.trace_meaning.specs.declared.kinds.StepKind.TheVariants.{System}
 use Rattle.log_stream.specs.declared.items.LogItem.{LogItem}
 use Rattle.log_stream.specs.declared.items.LogItem.TheVariants.{Step, Tick}
 use Rattle.log_stream.specs.declared.items.LogMode.{LogMode}
@@ -19,11 +20,6 @@ use Rattle.log_stream.specs.declared.items.LogRefusal.{LogRefusal}
 use Rattle.log_stream.specs.declared.items.LogRefusal.TheVariants.{BadRecord, UnknownName, Arity, SortClash}
 use Rattle.log_stream.specs.declared.items.LogRefusal.TheVariants.{TimeTooLarge}
 use Rattle.log_stream.specs.Written.{WrittenArgument, WrittenEvent, Written, Line, TickLine, IsBad, IsSpelled}
-
--- the greatest time of a step; that of a tick is a system step's
-abbrev pub most_time : StepKind → ℕ
-most_time System = 1000000000000000
-most_time Inserted = 2000000000000000
 
 abbrev pub has_sort : Sort → Value → Bool
 has_sort sorts.Int (values.Num number) = true

@@ -17,6 +17,7 @@ use Rattle.log_stream.specs.Judgement.{IsAnswer}
 use Rattle.log_stream.specs.Logs.{BeginsWith, HasRecord, IsPending}
 use Rattle.log_stream.specs.Logs.{Refuses, Spells, behind_blanks, is_outside, length_to_end}
 use Rattle.log_stream.specs.Logs.{record_length, scan_behind}
+use Rattle.log_stream.specs.declared.limits.TheConstants.{MOST_RECORD_BYTES}
 
 -- nothing was read of what was fed
 pub Spells-none : (entries : List NameEntry) (mode : LogMode) (text : List ℕ) → Spells entries mode text [] text
@@ -78,7 +79,7 @@ pub record StaysWhole (text more : List ℕ) (n : ℕ) : Type 0 where
 
 stays_whole : (text more : List ℕ) (n : ℕ) → HasRecord text n → StaysWhole text more n
 stays_whole text more n whole =
-    let e = end_stays Outside 65536 (behind_blanks text) more n whole in
+    let e = end_stays Outside MOST_RECORD_BYTES (behind_blanks text) more n whole in
     let behind : behind_blanks (text ++ more) ≡ behind_blanks text ++ more = behind-append text more
     ∙ behind_some (behind_blanks text) more (omega (arith, e.1, e.2)) in
     record { whole = ap record_length behind ∙ e.0; some = e.1; within = e.2; behind = behind }
@@ -105,7 +106,7 @@ pub Refuses-append : (entries : List NameEntry) (mode : LogMode) (text more : Li
 Refuses-append entries mode text more TooLong (none, long) =
     let behind : behind_blanks (text ++ more) ≡ behind_blanks text ++ more = behind-append text more
     ∙ behind_some (behind_blanks text) more (omega (arith, long)) in (
-      ap record_length behind ∙ ap (length_to_end Outside) (take-append-le 65536 (behind_blanks text) more long)
+      ap record_length behind ∙ ap (length_to_end Outside) (take-append-le MOST_RECORD_BYTES (behind_blanks text) more long)
           ∙ none,
       omega (arith, ap length behind, length-append (behind_blanks text) more, long),
     )
@@ -197,7 +198,7 @@ Spells-blanks entries mode text (item ∷ items) rest (between, begins, later) =
 -- without blanks in front a rest is pending as it was
 pub IsPending-blanks : (rest : List ℕ) → IsPending rest → IsPending (behind_blanks rest)
 IsPending-blanks rest pending =
-    let P : List ℕ → Type 0 = λ l. (record_length l ≡ None) × (length l < 65536) in
+    let P : List ℕ → Type 0 = λ l. (record_length l ≡ None) × (length l < MOST_RECORD_BYTES) in
     subst P (sym (behind-behind rest)) pending
 
 behind-shorter : (text : List ℕ) → length (behind_blanks text) ≤ length text
@@ -213,5 +214,5 @@ behind-shorter (byte ∷ text) = by (is_blank byte) (behind-shorter text)
 pub BeginsWith-shorter : (entries : List NameEntry) (mode : LogMode) (text : List ℕ) (item : LogItem) (rest : List ℕ)
     → BeginsWith entries mode text item rest → length rest < length text
 BeginsWith-shorter entries mode text item rest (n, whole, answer, is) =
-    let e = end_stays Outside 65536 (behind_blanks text) [] n whole in
+    let e = end_stays Outside MOST_RECORD_BYTES (behind_blanks text) [] n whole in
     omega (arith, ap length is, length-drop n (behind_blanks text), e.1, e.2, behind-shorter text)

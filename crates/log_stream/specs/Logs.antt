@@ -11,6 +11,7 @@ use Rattle.log_stream.specs.declared.items.LogRefusal.TheVariants.{TooLong, Trun
 use Rattle.log_stream.specs.declared.scanning.Scan.{Scan}
 use Rattle.log_stream.specs.declared.scanning.Scan.TheVariants.{Outside, Inside, Escaped}
 use Rattle.log_stream.specs.Judgement.{IsAnswer}
+use Rattle.log_stream.specs.declared.limits.TheConstants.{MOST_RECORD_BYTES}
 
 -- the scan behind a byte: a quote outside of texts begins one wherever it stands, and inside it a backslash takes the
 -- next byte with it, whatever that is
@@ -33,7 +34,7 @@ length_to_end scan (byte ∷ bytes) =
 
 -- how many bytes the record at the front has, where its end is among the first 65,536
 abbrev pub record_length : List ℕ → Option ℕ
-record_length bytes = length_to_end Outside (take 65536 bytes)
+record_length bytes = length_to_end Outside (take MOST_RECORD_BYTES bytes)
 
 -- a record begins at the first byte that is no blank
 abbrev pub behind_blanks : List ℕ → List ℕ
@@ -59,7 +60,7 @@ BeginsWith entries mode text item rest =
 -- the record at the front is refused, whatever follows the text
 abbrev pub Refuses : List NameEntry → LogMode → List ℕ → LogRefusal → Type 0
 Refuses entries mode text TooLong =
-    (record_length (behind_blanks text) ≡ None) × (65536 ≤ length (behind_blanks text))
+    (record_length (behind_blanks text) ≡ None) × (MOST_RECORD_BYTES ≤ length (behind_blanks text))
 Refuses entries mode text Truncated = ⊥
 Refuses entries mode text NoMemory = ⊥
 Refuses entries mode text refusal =
@@ -67,7 +68,7 @@ Refuses entries mode text refusal =
 
 -- no record is whole at the front yet, and none is refused
 abbrev pub IsPending : List ℕ → Type 0
-IsPending text = (record_length (behind_blanks text) ≡ None) × (length (behind_blanks text) < 65536)
+IsPending text = (record_length (behind_blanks text) ≡ None) × (length (behind_blanks text) < MOST_RECORD_BYTES)
 
 -- a record was begun and not ended
 abbrev pub IsTruncated : List ℕ → Type 0

@@ -11,10 +11,12 @@ use Rattle.signature.specs.declared.entries.Sort.{Sort}
 use Rattle.trace_meaning.specs.declared.kinds.StepKind.{StepKind}
 use Rattle.log_stream.specs.declared.items.LogItem.TheVariants.{Step}
 use Rattle.log_stream.specs.declared.items.LogMode.{LogMode}
-use Rattle.log_stream.specs.Judgement.{has_sort, most_time}
+use Rattle.log_stream.specs.Judgement.{has_sort}
+use Rattle.trace_meaning.specs.Records.{most_time}
 use Rattle.log_stream.specs.Lines.{spelled_step, step_line}
 use Rattle.log_stream.specs.Logs.{BeginsWith}
 use Rattle.log_stream.specs.Written.{IsRead}
+use Rattle.log_stream.specs.declared.limits.TheConstants.{MOST_EVENTS, MOST_RECORD_BYTES}
 
 -- values of the program, one for each column and of its sort
 abbrev pub FitColumns : List Sort → List Value → Type 0
@@ -32,10 +34,10 @@ pub record IsDeclared (entries : List NameEntry) (event : Event) : Type 0 where
 -- a step within the limits of what is read
 pub record IsWithinLimits (entries : List NameEntry) (kind : StepKind) (time : ℕ) (events : List Event) : Type 0 where
   pub timed : time ≤ most_time kind
-  pub few : length events ≤ 2048
+  pub few : length events ≤ MOST_EVENTS
   pub distinct : HasNoRepeats events
   pub declared : AllByRecursion (IsDeclared entries) events
-  pub short : length (spelled_step (names entries) kind time events) ≤ 65536
+  pub short : length (spelled_step (names entries) kind time events) ≤ MOST_RECORD_BYTES
 
 -- the line is read as the step, and what follows it is left, behind a line feed
 abbrev pub IsReadAgain : Type 0

@@ -14,6 +14,7 @@ use Rattle.log_stream.specs.declared.items.LogRefusal.TheVariants.{NoMemory}
 use Rattle.log_stream.specs.declared.fronts.Front.{Front}
 use Rattle.log_stream.specs.declared.fronts.Front.TheVariants as fronts
 use Rattle.log_stream.specs.Logs.{HasRecord, IsPending, behind_blanks, length_to_end, record_length, scan_behind}
+use Rattle.log_stream.specs.declared.limits.TheConstants.{MOST_RECORD_BYTES}
 
 -- the scan behind some bytes
 abbrev pub scan_after : Scan → List ℕ → Scan
@@ -42,7 +43,7 @@ Scans scan bytes from (Open after) = (length_to_end scan bytes ≡ None) × (aft
 -- so many bytes of the rest were scanned, and no end is among them; if there are any, the rest begins with no blank
 pub record IsScanned (rest : List ℕ) (scanned : ℕ) (scan : Scan) : Type 0 where
   pub within : scanned ≤ length rest
-  pub short : scanned < 65536
+  pub short : scanned < MOST_RECORD_BYTES
   pub endless : length_to_end Outside (take scanned rest) ≡ None
   pub scan_is : scan ≡ scan_after Outside (take scanned rest)
   pub begun : 0 < scanned → is_blank (slice_index rest 0) ≡ false
@@ -59,14 +60,14 @@ pub record IsWholeAt (bytes : List ℕ) (from begin end : ℕ) : Type 0 where
   pub begins : BeginsAt bytes from begin
   pub ends : end ≡ begin + n
   pub within : end ≤ length bytes
-  pub short : n ≤ 65536
+  pub short : n ≤ MOST_RECORD_BYTES
 
 -- what begins behind the blanks at a place: a whole record, one that is too long, or one that is not whole, with the
 -- place of the scan at the end
 abbrev pub FindsFront : List ℕ → (from : ℕ) → Front → Type 0
 FindsFront bytes from (fronts.Whole begin end) = IsWholeAt bytes from begin end
 FindsFront bytes from fronts.TooLong =
-    (record_length (behind_blanks (drop from bytes)) ≡ None) × (65536 ≤ length (behind_blanks (drop from bytes)))
+    (record_length (behind_blanks (drop from bytes)) ≡ None) × (MOST_RECORD_BYTES ≤ length (behind_blanks (drop from bytes)))
 FindsFront bytes from (fronts.Pending begin scan) =
     IsPending (drop from bytes) × BeginsAt bytes from begin
     × (scan ≡ scan_after Outside (behind_blanks (drop from bytes)))

@@ -18,6 +18,7 @@ use Rattle.log_stream.specs.Judgement.{IsAnswer, clash, event_of, event_refusal,
 use Rattle.log_stream.specs.Judgement.{put, values_of}
 use Rattle.log_stream.specs.Tokens.{Token, Mark, Time, Name, Argument, StandsAt, Leads}
 use Rattle.log_stream.specs.Written.{WrittenArgument, WrittenEvent, Written, Line, TickLine, row_tokens, event_tokens}
+use Rattle.log_stream.specs.declared.limits.TheConstants.{MOST_EVENTS}
 
 -- what has come of a record
 pub data State : Type 0 where
@@ -55,7 +56,7 @@ next mode (Marked kind) (Time time) = Some (Events kind time [])
 next mode Ticking (Time time) = Some (Ticked time)
 next mode (Ticked time) (Mark byte) = if byte == 59 then Some (Done (TickLine time)) else None
 next mode (Events kind time events) (Name place name) =
-    if nat_lt (length events) 2048 then Some (Named kind time events place name) else None
+    if nat_lt (length events) MOST_EVENTS then Some (Named kind time events place name) else None
 next mode (Events kind time events) (Mark byte) = if byte == 59 then Some (Done (Line kind time events)) else None
 next mode (Named kind time events place name) (Mark byte) =
     if byte == 40 then Some (Opened kind time events place name) else None
@@ -126,7 +127,7 @@ JudgesAll entries written (Err refusal) = first_refusal entries written ≡ Some
 pub record ReadsEvents (entries : List NameEntry) (bytes : List ℕ) (from : ℕ)
     (events : Result (List Event) LogRefusal) (to : ℕ) : Type 0 where
   pub written : List WrittenEvent
-  pub few : length written ≤ 2048
+  pub few : length written ≤ MOST_EVENTS
   pub leads : Leads bytes from (flat_map event_tokens written ++ Mark 59 ∷ []) to
   pub judged : JudgesAll entries written events
 

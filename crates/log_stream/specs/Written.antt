@@ -7,6 +7,7 @@ use Rattle.trace_meaning.specs.declared.kinds.StepKind.TheVariants.{System, Inse
 use Rattle.log_stream.specs.declared.items.LogMode.{LogMode}
 use Rattle.log_stream.specs.declared.items.LogMode.TheVariants.{Input, TraceLog}
 use Rattle.log_stream.specs.Tokens.{Token, Mark, Time, Name, Argument, StandsAt, Leads}
+use Rattle.log_stream.specs.declared.limits.TheConstants.{MOST_EVENTS}
 
 -- an argument as it is written, and where it begins
 pub record WrittenArgument : Type 0 where
@@ -54,7 +55,7 @@ IsRead TraceLog kind = Unit {0}
 
 -- at most 2,048 events, repeats included
 abbrev pub IsForm : LogMode → Written → Type 0
-IsForm mode (Line kind time events) = IsRead mode kind × (length events ≤ 2048)
+IsForm mode (Line kind time events) = IsRead mode kind × (length events ≤ MOST_EVENTS)
 IsForm mode (TickLine time) = Unit {0}
 
 -- the tokens are those of a record

@@ -3,7 +3,7 @@ ghost use Rattle.std.specs.Prelude.{◌≤◌, drop, length};
 ghost use Rattle.log_stream.specs.Scanning.{FindsFront, IsScanned};
 
 use crate::cursor::skip_blanks;
-use crate::records::MOST_RECORD_BYTES;
+use crate::limits::MOST_RECORD_BYTES;
 use crate::scanning::{Scan, Scanned, scan_from};
 
 // What begins behind the blanks at a place: a record and where it ends, one that is too long, or one that is not

@@ -7,6 +7,7 @@ mod cursor;
 mod fronts;
 pub mod items;
 pub mod laws;
+pub mod limits;
 pub mod lines;
 pub mod reader;
 mod records;
@@ -14,6 +15,6 @@ mod scanning;
 pub mod worked_cases;
 
 pub use items::{Found, LogItem, LogMode, LogRefusal};
+pub use limits::{MOST_EVENTS, MOST_RECORD_BYTES};
 pub use lines::write_step;
 pub use reader::LogReader;
-pub use records::{MOST_EVENTS, MOST_RECORD_BYTES};

@@ -5,7 +5,8 @@ ghost use Rattle.signature.specs.Grammar.{number_of};
 ghost use Rattle.signature.specs.declared.entries.NameEntry.{NameEntry as AnyEntry};
 ghost use Rattle.trace_meaning.specs.declared.kinds.StepKind.{StepKind as AnyKind};
 ghost use Rattle.log_stream.specs.declared.items.LogMode.{LogMode as AnyMode};
-ghost use Rattle.log_stream.specs.Judgement.{entry_with, has_sort, most_time};
+ghost use Rattle.log_stream.specs.Judgement.{entry_with, has_sort};
+ghost use Rattle.trace_meaning.specs.Records.{most_time};
 ghost use Rattle.log_stream.specs.States.{Events, Fails, GivesAnswer, JudgesEvent, Opened, PutsEvent};
 ghost use Rattle.log_stream.specs.States.{ReadsEvent, ReadsEvents, ReadsRow, clash_at};
 ghost use Rattle.log_stream.specs.Tokens.{Leads, Mark, StandsAt};
@@ -13,16 +14,11 @@ ghost use Rattle.log_stream.specs.Written.{IsRead, WrittenEvent, mark_of};
 
 use crate::cursor::{behind_mark, name_at, time_at, value_at};
 use crate::items::{LogItem, LogMode, LogRefusal};
+use crate::limits::{MOST_EVENTS, MOST_RECORD_BYTES};
 use enf_value::{Event, EventSet, NameId, NoMemory, Place, Row, Value};
 use signature::{NameEntry, Signature, Sort};
 use std::alloc::Global;
 use trace_meaning::StepKind;
-
-/// The greatest number of bytes of a record.
-pub const MOST_RECORD_BYTES: usize = 65_536;
-
-/// The greatest number of events of a record, repeats included.
-pub const MOST_EVENTS: usize = 2048;
 
 // What is written, under the signature: what it says, or its refusal.
 type Judged<T> = Result<T, LogRefusal>;

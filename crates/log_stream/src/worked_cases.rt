@@ -10,6 +10,13 @@ ghost use Rattle.log_stream.specs.Written.{IsBad, IsSpelled, Line, TickLine};
 ghost use Rattle.log_stream.specs.declared.items.LogItem.TheVariants.{Step, Tick};
 ghost use Rattle.log_stream.specs.declared.items.LogMode.TheVariants.{Input};
 ghost use Rattle.log_stream.specs.declared.items.LogRefusal.TheVariants.{Arity, SortClash, TimeTooLarge, UnknownName};
+ghost use Rattle.log_stream.specs.declared.limits.TheConstants.{MOST_EVENTS, MOST_RECORD_BYTES};
+
+/// The limits, as numbers.
+pub fn limits()
+    ensures record_bytes { MOST_RECORD_BYTES ≡ 65536 }
+    ensures events { MOST_EVENTS ≡ 2048 }
+{}
 
 /// Where records begin and end.
 pub fn ends()

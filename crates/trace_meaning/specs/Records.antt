@@ -1,11 +1,18 @@
 -- What a log has: records, at times that never fall from a clock.
 use Rattle.std.specs.Prelude.{ℕ, ◌≤◌, List, [], ◌∷◌}
 use Rattle.enf_value.specs.declared.steps.Step.{Step}
+use Rattle.trace_meaning.specs.declared.kinds.StepKind.{StepKind}
+use Rattle.trace_meaning.specs.declared.kinds.StepKind.TheVariants.{System, Inserted}
 
 -- a step record, its repeats left out, or a tick, which says that all times below its own are over
 pub data Record : Type 0 where
   StepRecord : (step : Step) → Record
   Tick : (time : ℕ) → Record
+
+-- the greatest time of a step that is read; that of a tick is a system step's
+abbrev pub most_time : StepKind → ℕ
+most_time System = 1000000000000000
+most_time Inserted = 2000000000000000
 
 abbrev pub time_of : Record → ℕ
 time_of (StepRecord step) = step.time
