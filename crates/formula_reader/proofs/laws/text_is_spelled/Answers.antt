@@ -1,0 +1,5 @@
+use Rattle.formula_reader.proofs.Printed.{printed-rule}
+use Rattle.formula_reader.proofs.laws.text_is_spelled.Goals as goal
+
+pub returns : goal.returns
+returns c = λ entries rule. printed-rule entries rule

@@ -1,0 +1,8 @@
+use Rattle.std.proofs.Common.{◌≡◌, ◌++◌, codes, take}
+use Rattle.std.specs.List.{flat_map}
+use Rattle.formula_reader.specs.Canonical.{variable_text}
+use Rattle.formula_reader.proofs.printing.Printer.print_variables.Given as goal
+
+abbrev pub invariant-loop-variable : goal.invariant-loop-variable
+invariant-loop-variable l =
+    l.out.items ≡ l.initial.out.items ++ flat_map (λ item. codes ", " ++ variable_text l.self.vars.now item) (take l.variable-index l.rest)

@@ -1,0 +1,10 @@
+use Rattle.formula_reader.specs.Answers.{answer_of}
+use Rattle.formula_reader.proofs.TextAnswers.{refusal_passed, text_gives}
+use Rattle.formula_reader.proofs.reading.read_policy.Goals as goal
+
+pub returns-in_err-syntax-clause-answer : goal.returns-in_err-syntax-clause-answer
+returns-in_err-syntax-clause-answer c =
+    refusal_passed _ _ c.in_err-syntax.field-0.0 c.from_residual.result c.from_residual.ensures.1 c.in_err-syntax.ensures.answer
+
+pub returns-clause-answer : goal.returns-clause-answer
+returns-clause-answer c = text_gives _ _ _ (answer_of c.resolve.result) c.in_ok-syntax.ensures.answer c.resolve.ensures.answer

@@ -1,0 +1,14 @@
+pub mod Points
+pub mod Sorts
+pub mod Resolution
+pub mod Answers
+pub mod Passing
+pub mod Canonical
+pub mod Printing
+pub mod Standing
+pub mod Cases
+pub mod Pieces
+pub mod Written
+pub mod Places
+pub mod Reading
+pub mod RoundTrip

@@ -1,0 +1,31 @@
+//! The reader of policies: the first pass over the whole text, then the second over its tree.
+ghost use Rattle.std.specs.Prelude.{◌≤◌, List, Result, length};
+ghost use Rattle.formula_reader.specs.Answers.{Gives, answer_of};
+ghost use Rattle.formula_reader.specs.Reading.{GivesTextAnswer, IsTextAnswer};
+ghost use Rattle.formula_reader.specs.Resolution.{Rule as PureRule};
+ghost use Rattle.formula_reader.specs.declared.policies.PolicyRefusal.{PolicyRefusal as RefusalOfPolicy};
+
+use crate::policies::{Policy, PolicyRefusal};
+use crate::resolving::resolve;
+use enf_value::MOST_FILE_BYTES;
+use policy_syntax::read_syntax;
+use signature::Signature;
+use std::alloc::Global;
+
+/// The policy that a text spells under a signature, or the first refusal: those of the first pass, Syntax and Limit,
+/// come before the others.
+pub fn read_policy(
+    alloc: Global,
+    signature: &Signature,
+    bytes: &[u8],
+) -> Result<Policy, PolicyRefusal>
+    requires { length bytes.now ≤ MOST_FILE_BYTES }
+    // The text's answer, unless there is no memory.
+    ensures answer { GivesTextAnswer signature.now bytes.now (answer_of result) }
+    // No other answer than the text's.
+    ensures only { (answer : Result (List PureRule) RefusalOfPolicy) → IsTextAnswer signature.now bytes.now answer
+        → Gives (answer_of result) answer }
+{
+    let syntax = read_syntax(alloc, bytes)?;
+    resolve(alloc, signature, &syntax)
+}

@@ -1,0 +1,11 @@
+pub mod Trees
+pub mod Lexemes
+pub mod Grammar
+pub mod Limits
+pub mod Reading
+pub mod Refusals
+pub mod Automaton
+pub mod Following
+pub mod Cases
+pub mod Places
+pub mod Writing

@@ -1,0 +1,16 @@
+//! The limits of policies, each once.
+
+/// The greatest number of rules.
+pub const MOST_RULES: usize = 64;
+
+/// The greatest number of nodes of a rule.
+pub const MOST_NODES: u32 = 400;
+
+/// The greatest level of a token.
+pub const MOST_LEVEL: u32 = 40;
+
+/// The greatest number of variables in scope.
+pub const MOST_VARIABLES: u32 = 16;
+
+/// The greatest end of an interval.
+pub const MOST_INTERVAL_END: u64 = 1_000_000_000;
