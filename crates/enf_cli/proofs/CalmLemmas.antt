@@ -24,12 +24,12 @@ module _ {Gate : Type 0} (call : Call Gate) (x : CalmContents) (files : call.bef
 
   module _ (signature policy : List ℕ) (form : IsEnforce call.words signature policy) (held : contents_under x signature ≢ Missing) (also : contents_under x policy ≢ Missing) where
     misses_none : MissesFile call → ⊥
-    misses_none m = by (one_form call.words signature policy m.signature m.policy form m.form) m.failed
+    misses_none m = by (one_form call.words signature policy m.signature_file m.policy_file form m.form) m.failed
       where
-        by : (signature ≡ m.signature) × (policy ≡ m.policy)
-            → FailsToRead m.signature call.before.files call.after.files ⊎ (((entries : List NameEntry) × HoldsSignature call.before.files.contents m.signature entries) × FailsToRead m.policy call.before.files call.after.files) → ⊥
-        by names (inl failed) = reads_held m.signature (subst (λ (n : List ℕ). contents_under x n ≢ Missing) names.0 held) failed
-        by names (inr (holds, failed)) = reads_held m.policy (subst (λ (n : List ℕ). contents_under x n ≢ Missing) names.1 also) failed
+        by : (signature ≡ m.signature_file) × (policy ≡ m.policy_file)
+            → FailsToRead m.signature_file call.before.files call.after.files ⊎ (((entries : List NameEntry) × HoldsSignature call.before.files.contents m.signature_file entries) × FailsToRead m.policy_file call.before.files call.after.files) → ⊥
+        by names (inl failed) = reads_held m.signature_file (subst (λ (n : List ℕ). contents_under x n ≢ Missing) names.0 held) failed
+        by names (inr (holds, failed)) = reads_held m.policy_file (subst (λ (n : List ℕ). contents_under x n ≢ Missing) names.1 also) failed
 
     -- no read fault comes
     pub no_read_fault : call.before.gate.read_faults ≡ 0 → call.after.gate.read_faults ≡ 0 → Outcome call statuses.ReadFault → ⊥
@@ -41,4 +41,5 @@ module _ {Gate : Type 0} (call : Call Gate) (x : CalmContents) (files : call.bef
 
   -- no write fault comes
   pub no_write_fault : call.before.gate.write_faults ≡ 0 → call.after.gate.write_faults ≡ 0 → Outcome call statuses.WriteFault → ⊥
-  no_write_fault before after o = none_more call.before.gate.write_faults call.after.gate.write_faults before after o.0.cut.2
+  no_write_fault before after (inl o, same) = none_more call.before.gate.write_faults call.after.gate.write_faults before after o.cut.2
+  no_write_fault before after (inr o, same) = none_more call.before.gate.write_faults call.after.gate.write_faults before after o.writes

@@ -1,49 +1,49 @@
--- Output that is cut short, from the start of a call.
-use Rattle.std.proofs.Common.{◌≡◌, ℕ, List, [], ◌++◌, refl, sym, ap, ◌∙◌, append_assoc, take, drop, Option, Result, Ok, Err, OnErr}
-use Rattle.std.proofs.lemmas.List.{append-nil, take-append-drop}
+-- Lines that are cut short, from the start of a call.
+use Rattle.std.proofs.Common.{◌≡◌, ℕ, ◌+◌, ◌<◌, List, [], ◌∷◌, ◌++◌, refl, sym, ap, ◌∙◌, append_assoc, length, take, drop, arith, length-drop, Option, get_or}
+use Rattle.std.proofs.lemmas.List.{map-append, take-append-drop, take_more}
 use Rattle.enf_io.specs.Exchange.{Exchange, Gave}
-use Rattle.enf_cli.specs.Endings.{GaveFront}
-use Rattle.enf_cli.proofs.ExchangeLemmas.{gave_none, gave_more}
+use Rattle.enforcer_core.specs.Enforcers.{out_step, out_steps}
+use Rattle.enforcer_core.specs.declared.steps.OutStep as made
+use Rattle.log_stream.specs.Lines.{line_of, text_of}
+use Rattle.trace_meaning.specs.OutSteps.{OutStep}
+use Rattle.enf_cli.specs.Endings.{GaveLines, IsPart}
+use Rattle.enf_cli.proofs.ExchangeLemmas.{gave_more}
 
--- nothing is given
-pub front_none : (text : List ℕ) (told : Option Exchange) → GaveFront text told told
-front_none text told = record { front = []; rest = text; split = refl; gave = gave_none told }
+-- of a text with something in it, nothing is a part
+pub part_none : (text : List ℕ) → 0 < length text → IsPart [] text
+part_none text some = record { rest = text; some = λ none. omega (arith, some, ap length none); split = refl }
 
--- all is given
-pub front_all : (text : List ℕ) (a b : Option Exchange) → Gave text a b → GaveFront text a b
-front_all text a b given = record { front = text; rest = []; split = sym (append-nil text); gave = given }
+-- and the first bytes are one, where they are not all
+pub part_take : (text : List ℕ) (count : ℕ) → count < length text → IsPart (take count text) text
+part_take text count less =
+    record { rest = drop count text; some = λ none. omega (arith, less, length-drop count text, ap length none); split = sym (take-append-drop count text) }
 
--- a text, and then another up to somewhere in it
-pub front_more : (text more : List ℕ) (a b c : Option Exchange) → Gave text a b → GaveFront more b c → GaveFront (text ++ more) a c
-front_more text more a b c given f =
+-- a line has something in it
+pub line_some : (names : List (List ℕ)) (out : OutStep) → 0 < length (line_of names out)
+line_some names out = omega arith
+
+-- steps, the one at a place, and those behind it
+split_at : (steps : List made.OutStep) (i : ℕ) (step : made.OutStep) → i < length steps → step ≡ get_or steps i step → out_steps steps ≡ out_steps (take i steps) ++ out_step step ∷ out_steps (drop (i + 1) steps)
+split_at steps i step within is =
+    let next : take (i + 1) steps ≡ take i steps ++ step ∷ [] = take_more steps i step within ∙ ap (λ (s : made.OutStep). take i steps ++ s ∷ []) (sym is) in
+    let first : out_steps (take (i + 1) steps) ≡ out_steps (take i steps) ++ out_step step ∷ [] = ap out_steps next ∙ map-append out_step (take i steps) (step ∷ []) in
+    ap out_steps (sym (take-append-drop (i + 1) steps)) ∙ map-append out_step (take (i + 1) steps) (drop (i + 1) steps) ∙ ap (λ (os : List OutStep). os ++ out_steps (drop (i + 1) steps)) first
+    ∙ append_assoc (out_steps (take i steps)) (out_step step ∷ []) (out_steps (drop (i + 1) steps))
+
+-- the lines of the first steps were given, and of the next one's a part
+pub gave_part : (names : List (List ℕ)) (steps : List made.OutStep) (i : ℕ) (step : made.OutStep) → i < length steps → step ≡ get_or steps i step → (front : List ℕ) (a b c : Option Exchange)
+    → IsPart front (line_of names (out_step step)) → Gave (text_of names (out_steps (take i steps))) a b → Gave front b c → GaveLines names (out_steps steps) a c
+gave_part names steps i step within is front a b c part first given =
     record {
-      front = text ++ f.front;
-      rest = f.rest;
-      split = ap (λ xs. text ++ xs) f.split ∙ sym (append_assoc text f.front f.rest);
-      gave = gave_more text f.front a b c given f.gave;
+      whole = out_steps (take i steps);
+      next = out_step step;
+      behind = out_steps (drop (i + 1) steps);
+      split = split_at steps i step within is;
+      front = front;
+      line = part;
+      gave = gave_more (text_of names (out_steps (take i steps))) front a b c first given;
     }
 
--- a text up to somewhere in it, and then nothing of another
-pub front_before : (text more : List ℕ) (a b : Option Exchange) → GaveFront text a b → GaveFront (text ++ more) a b
-front_before text more a b f =
-    record {
-      front = f.front;
-      rest = f.rest ++ more;
-      split = ap (λ xs. xs ++ more) f.split ∙ append_assoc f.front f.rest more;
-      gave = f.gave;
-    }
-
--- the front of a line is given, which was printed by itself
-pub front_of_line : (text old new line : List ℕ) (count : ℕ) (a b : Option Exchange) → old ≡ [] → new ≡ old ++ text → line ≡ new → Gave (take count line) a b → GaveFront text a b
-front_of_line text old new line count a b e f h given =
-    record {
-      front = take count line;
-      rest = drop count line;
-      split = sym (h ∙ f ∙ ap (λ xs. xs ++ text) e) ∙ sym (take-append-drop count line);
-      gave = given;
-    }
-
--- what holds anyway holds at an error
-pub on_err : {T E P : Type 0} (r : Result T E) → P → OnErr r P
-on_err (Ok x) p = tt
-on_err (Err e) p = p
+-- a line that was printed by itself
+pub printed_alone : (text old new line : List ℕ) → old ≡ [] → new ≡ old ++ text → line ≡ new → line ≡ text
+printed_alone text old new line e f h = h ∙ f ∙ ap (λ xs. xs ++ text) e

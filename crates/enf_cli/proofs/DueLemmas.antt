@@ -1,5 +1,5 @@
 -- Where each status must come: what holds at the other statuses leaves no room for it.
-use Rattle.std.proofs.Common.{◌≡◌, ℕ, ◌-◌, ◌<◌, ◌≤◌, List, [], ◌∷◌, ◌++◌, Option, Some, None, Result, Err, Ok, length, take, drop, codes, refl, sym, ap, subst, ◌∙◌, inl, inr, arith, length-take}
+use Rattle.std.proofs.Common.{All, ◌≡◌, ℕ, ◌-◌, ◌<◌, ◌≤◌, List, [], ◌∷◌, ◌++◌, Option, Some, None, Result, Err, Ok, length, take, drop, codes, refl, sym, ap, subst, ◌∙◌, inl, inr, arith, length-take}
 use Rattle.std.specs.Prelude.{◌⊎◌}
 use Rattle.std.proofs.lemmas.List.{append-nil, take-append-drop}
 use Rattle.enf_io.specs.Contents.{Contents}
@@ -8,7 +8,11 @@ use Rattle.enf_io.specs.FileCalls.{FileView}
 use Rattle.enf_io.specs.Since.{Grew, GrewWhereTold, OfCalls}
 use Rattle.enf_io.specs.SinceLaws.{left-since}
 use Rattle.enf_io.specs.Streams.{Stream}
-use Rattle.enforcer_core.specs.declared.enforcer.CauseRule.{CauseRule}
+use Rattle.enf_formula.specs.Formulas.{Formula}
+use Rattle.formula_reader.specs.Reading.{IsTextAnswer}
+use Rattle.formula_reader.specs.Resolution.{Rule}
+use Rattle.formula_reader.specs.declared.policies.PolicyRefusal.{PolicyRefusal as PolicyTextRefusal}
+use Rattle.formula_reader.specs.declared.policies.PolicyRefusal.TheVariants as read
 use Rattle.log_stream.specs.Judgement.{IsAnswer}
 use Rattle.log_stream.specs.LogLaws.{BeginsWith-append, Refuses-append, Spells-append}
 use Rattle.log_stream.specs.Logs.{BeginsWith, HasRecord, IsLog, IsPending, Refuses as RefusesText, Spells, behind_blanks, record_bytes, record_length}
@@ -23,17 +27,17 @@ use Rattle.signature.specs.declared.entries.NameEntry.{NameEntry}
 use Rattle.signature.specs.declared.refusals.SignatureRefusal.{SignatureRefusal as TextRefusal}
 use Rattle.signature.specs.declared.refusals.SignatureRefusal.TheVariants as answers
 use Rattle.trace_meaning.specs.Records.{NeverFall, clock_after, time_of}
-use Rattle.enf_cli.specs.Accepted.{Accepts, UpToDate, record_of, records_of}
+use Rattle.enf_cli.specs.Accepted.{UpToDate, record_of, records_of}
 use Rattle.enf_cli.specs.Calls.{Call, LeavesFiles, LeavesGate}
-use Rattle.enf_cli.specs.Dues.{AsksRefusedPolicy, AsksRefusedSignature, AsksSignature, AsksTold, BreaksOff, IsDue, MeetsReadFault, MeetsRefusal, TellBytes, taken_between}
+use Rattle.enf_cli.specs.Dues.{AsksRefusedPolicy, AsksRefusedSignature, AsksSignature, AsksToGenerate, AsksTold, BreaksOff, Dues, IsAcceptable, MeetsReadFault, MeetsRefusal, TellBytes, taken_between}
 use Rattle.enf_cli.specs.Exchanges.{Exchanged, IsExchange}
 use Rattle.enf_cli.specs.Files.{AreHeld, AreUnder, HoldsSignature, IsRefusedPolicy, IsRefusedSignature}
+use Rattle.enf_cli.specs.Limits.{most_log_bytes}
 use Rattle.enf_cli.specs.Logs.{IsFalling, IsRefusedAs, RunsLog}
-use Rattle.enf_cli.specs.Outcomes.{Asks, IsDone, MatchNoForm, Outcome, Refuses, RefusesPolicy, RefusesRecord, RefusesSignature, RefusesWords}
-use Rattle.enf_cli.specs.Rules.{IsPolicy}
+use Rattle.enf_cli.specs.Outcomes.{Asks, GeneratesLog, IsDone, Outcome, Refuses, RefusesPolicy, RefusesRecord, RefusesSignature, RefusesWords}
+use Rattle.enf_cli.specs.Policies.{CanBeBuilt, SpellsPolicy, formulas}
 use Rattle.enf_cli.specs.Signatures.{SpellsSignature}
-use Rattle.enf_cli.specs.Words.{IsEnforce}
-use Rattle.enf_cli.specs.declared.log.TheConstants.{MOST_LOG_BYTES}
+use Rattle.enf_cli.specs.Words.{IsEnforce, IsGenerate, MatchNoForm}
 use Rattle.enf_cli.specs.declared.log.Verdict.{Verdict}
 use Rattle.enf_cli.specs.declared.log.Verdict.TheVariants as verdicts
 use Rattle.enf_cli.specs.declared.refusals.PolicyRefusal.{PolicyRefusal}
@@ -59,13 +63,29 @@ one_form words signature policy signature' policy' e f =
     let both : codes "enforce" ∷ signature ∷ policy ∷ [] ≡ codes "enforce" ∷ signature' ∷ policy' ∷ [] = sym e ∙ f in
     (cc, cc)
 
+-- and they do not ask to generate
+two_forms : (words : List (List ℕ)) (signature policy : List ℕ) (start steps : ℕ) → IsEnforce words signature policy → IsGenerate words start steps → ⊥
+two_forms words signature policy start steps e g =
+    let both : codes "enforce" ∷ signature ∷ policy ∷ [] ≡ codes "gen" ∷ g.start_word ∷ g.steps_word ∷ [] = sym e ∙ g.form in
+    let command : codes "enforce" ≡ codes "gen" = cc in
+    omega (arith, ap length command)
+
 -- where files tell a file's bytes, no others are under its name
 told_bytes : (files : Option (List ℕ → Contents)) (name other all bytes : List ℕ) → name ≡ other → TellBytes files name all → AreUnder files other bytes → bytes ≡ all
 told_bytes None name other all bytes e told under = absurd told
 told_bytes (Some files) name other all bytes e told under = subst (AreHeld bytes) (ap files (sym e) ∙ told) under
 
--- each text of a signature has one answer
-module _ (one : OneAnswer) where
+-- each text of a policy has exactly one answer
+abbrev pub OneTextAnswer : Type 0
+OneTextAnswer = (entries : List NameEntry) (bytes : List ℕ)
+    → (answer : Result (List Rule) PolicyTextRefusal) × IsTextAnswer entries bytes answer × ((other : Result (List Rule) PolicyTextRefusal) → IsTextAnswer entries bytes other → other ≡ answer)
+
+-- so two answers to a text are the same
+same_text_answer : OneTextAnswer → (entries : List NameEntry) (bytes : List ℕ) (answer other : Result (List Rule) PolicyTextRefusal) → IsTextAnswer entries bytes answer → IsTextAnswer entries bytes other → answer ≡ other
+same_text_answer one entries bytes answer other is also = let all = one entries bytes in all.2 answer is ∙ sym (all.2 other also)
+
+-- each text of a signature has one answer, and each of a policy
+module _ (one : OneAnswer) (one_text : OneTextAnswer) where
   -- bytes are one signature at most
   same_signature : (bytes : List ℕ) (entries others : List NameEntry) → SpellsSignature bytes entries → SpellsSignature bytes others → entries ≡ others
   same_signature bytes entries others p q =
@@ -84,69 +104,89 @@ module _ (one : OneAnswer) where
   signature_not_refused (signatures.Repeated name place) bytes entries is refused = spelled_not_refused bytes entries (answers.Repeated refused.2 place) is refused.3
   signature_not_refused (signatures.Limit place) bytes entries is refused = spelled_not_refused bytes entries (answers.Limit refused.1 place) is refused.2
 
-  policy_not_refused : (entries : List NameEntry) (why : PolicyRefusal) (bytes : List ℕ) (rules : List CauseRule) → IsPolicy entries bytes rules → IsRefusedPolicy entries why bytes → ⊥
-  policy_not_refused entries policies.TooLong bytes rules is refused = omega (arith, is.short, refused)
-  policy_not_refused entries policies.NotBuilt bytes rules is refused = refused.1 rules is
+  -- nor has one that spells a policy
+  read_not_refused : (entries : List NameEntry) (bytes : List ℕ) (policy : List Rule) (refusal : PolicyTextRefusal) → SpellsPolicy entries bytes policy → IsTextAnswer entries bytes (Err refusal) → ⊥
+  read_not_refused entries bytes policy refusal is refused =
+      let same : ◌≡◌ {A = Result (List Rule) PolicyTextRefusal} (Ok policy) (Err refusal) = same_text_answer one_text entries bytes (Ok policy) (Err refusal) is.answer refused in
+      absurd cc
+
+  policy_not_refused : (entries : List NameEntry) (why : PolicyRefusal) (bytes : List ℕ) (policy : List Rule) → SpellsPolicy entries bytes policy → IsRefusedPolicy entries why bytes → ⊥
+  policy_not_refused entries policies.TooLong bytes policy is refused = omega (arith, is.short, refused)
+  policy_not_refused entries (policies.Syntax place) bytes policy is refused = read_not_refused entries bytes policy (read.Syntax place) is refused.1
+  policy_not_refused entries (policies.UnknownName place) bytes policy is refused = read_not_refused entries bytes policy (read.UnknownName place) is refused.1
+  policy_not_refused entries (policies.Arity place) bytes policy is refused = read_not_refused entries bytes policy (read.Arity place) is refused.1
+  policy_not_refused entries (policies.Sort place) bytes policy is refused = read_not_refused entries bytes policy (read.SortClash place) is refused.1
+  policy_not_refused entries (policies.FreeVariable place) bytes policy is refused = read_not_refused entries bytes policy (read.FreeVariable place) is refused.1
+  policy_not_refused entries (policies.Rebound place) bytes policy is refused = read_not_refused entries bytes policy (read.Rebound place) is refused.1
+  policy_not_refused entries (policies.Limit place) bytes policy is refused = read_not_refused entries bytes policy (read.Limit place) is refused.1
+  policy_not_refused entries policies.NotBuilt bytes policy is refused =
+      let other = refused.1 in
+      let same : ◌≡◌ {A = Result (List Rule) PolicyTextRefusal} (Ok policy) (Ok other.policy) = same_text_answer one_text entries bytes (Ok policy) (Ok other.policy) is.answer other.answer in
+      let is_same : policy ≡ other.policy = cc in
+      let none = other.unbuilt in
+      let there = none.of_policy in
+      let all = subst (λ (rules : List Rule). All (CanBeBuilt entries) (formulas rules)) is_same is.can_be_built in
+      none.not_built (subst (CanBeBuilt entries) there.2 (all there.0 none.formula there.1))
 
   module _ {Gate : Type 0} (call : Call Gate) (entries : List NameEntry) (t : AsksSignature call entries) where
     -- the words match a form
     some_form : MatchNoForm call.words → ⊥
-    some_form none = none t.signature t.policy t.form
+    some_form none = none.enforce t.signature_file t.policy_file t.form
 
     -- files have no other signature under the name
     one_signature : (signature policy : List ℕ) (others : List NameEntry) → IsEnforce call.words signature policy → HoldsSignature call.before.files.contents signature others → entries ≡ others
     one_signature signature policy others form holds =
-        let names = one_form call.words t.signature t.policy signature policy t.form form in
-        let all = told_bytes call.before.files.contents t.signature signature t.bytes holds.bytes names.0 t.told holds.under in
+        let names = one_form call.words t.signature_file t.policy_file signature policy t.form form in
+        let all = told_bytes call.before.files.contents t.signature_file signature t.bytes holds.bytes names.0 t.told holds.under in
         same_signature t.bytes entries others t.is_signature (subst (λ (b : List ℕ). SpellsSignature b others) all holds.is_signature)
 
     -- the signature is not refused
     no_signature_refusal : (why : SignatureRefusal) → RefusesSignature call why → ⊥
     no_signature_refusal why r =
-        let names = one_form call.words t.signature t.policy r.signature r.policy t.form r.form in
-        let all = told_bytes call.before.files.contents t.signature r.signature t.bytes r.refused.bytes names.0 t.told r.refused.under in
+        let names = one_form call.words t.signature_file t.policy_file r.signature_file r.policy_file t.form r.form in
+        let all = told_bytes call.before.files.contents t.signature_file r.signature_file t.bytes r.refused.bytes names.0 t.told r.refused.under in
         signature_not_refused why t.bytes entries t.is_signature (subst (IsRefusedSignature why) all r.refused.refused)
 
   module _ {Gate : Type 0} (call : Call Gate) where
     -- a signature that is refused is under no name of a run
-    refused_signature_not_asked : (t : AsksRefusedSignature call) (entries : List NameEntry) (rules : List CauseRule) → Asks call entries rules → ⊥
-    refused_signature_not_asked t entries rules a =
-        let names = one_form call.words t.signature t.policy a.signature a.policy t.form a.form in
-        let all = told_bytes call.before.files.contents t.signature a.signature t.bytes a.holds_signature.bytes names.0 t.told a.holds_signature.under in
+    refused_signature_not_asked : (t : AsksRefusedSignature call) (entries : List NameEntry) (policy : List Rule) → Asks call entries policy → ⊥
+    refused_signature_not_asked t entries policy a =
+        let names = one_form call.words t.signature_file t.policy_file a.signature_file a.policy_file t.form a.form in
+        let all = told_bytes call.before.files.contents t.signature_file a.signature_file t.bytes a.holds_signature.bytes names.0 t.told a.holds_signature.under in
         signature_not_refused t.why t.bytes entries (subst (λ (b : List ℕ). SpellsSignature b entries) all a.holds_signature.is_signature) t.refused
 
     -- nor is a policy that is refused
-    refused_policy_not_asked : (t : AsksRefusedPolicy call) (others : List NameEntry) (rules : List CauseRule) → Asks call others rules → ⊥
-    refused_policy_not_asked t others rules a =
-        let same = one_signature call t.entries t.asks a.signature a.policy others a.form a.holds_signature in
-        let names = one_form call.words t.asks.signature t.asks.policy a.signature a.policy t.asks.form a.form in
-        let all = told_bytes call.before.files.contents t.asks.policy a.policy t.bytes a.holds_policy.bytes names.1 t.told a.holds_policy.under in
-        let here = subst (λ (es : List NameEntry). IsPolicy es a.holds_policy.bytes rules) (sym same) a.holds_policy.is_policy in
-        policy_not_refused t.entries t.why t.bytes rules (subst (λ (b : List ℕ). IsPolicy t.entries b rules) all here) t.refused
+    refused_policy_not_asked : (t : AsksRefusedPolicy call) (others : List NameEntry) (policy : List Rule) → Asks call others policy → ⊥
+    refused_policy_not_asked t others policy a =
+        let same = one_signature call t.entries t.asks a.signature_file a.policy_file others a.form a.holds_signature in
+        let names = one_form call.words t.asks.signature_file t.asks.policy_file a.signature_file a.policy_file t.asks.form a.form in
+        let all = told_bytes call.before.files.contents t.asks.policy_file a.policy_file t.bytes a.holds_policy.bytes names.1 t.told a.holds_policy.under in
+        let here = subst (λ (es : List NameEntry). SpellsPolicy es a.holds_policy.bytes policy) (sym same) a.holds_policy.is_policy in
+        policy_not_refused t.entries t.why t.bytes policy (subst (λ (b : List ℕ). SpellsPolicy t.entries b policy) all here) t.refused
 
-    not_asked : AsksRefusedSignature call ⊎ AsksRefusedPolicy call → (entries : List NameEntry) (rules : List CauseRule) → Asks call entries rules → ⊥
-    not_asked (inl t) entries rules a = refused_signature_not_asked t entries rules a
-    not_asked (inr t) entries rules a = refused_policy_not_asked t entries rules a
+    not_asked : AsksRefusedSignature call ⊎ AsksRefusedPolicy call → (entries : List NameEntry) (policy : List Rule) → Asks call entries policy → ⊥
+    not_asked (inl t) entries policy a = refused_signature_not_asked t entries policy a
+    not_asked (inr t) entries policy a = refused_policy_not_asked t entries policy a
 
     -- words that match no form ask for nothing
     files_some_form : AsksRefusedSignature call ⊎ AsksRefusedPolicy call → MatchNoForm call.words → ⊥
-    files_some_form (inl t) none = none t.signature t.policy t.form
+    files_some_form (inl t) none = none.enforce t.signature_file t.policy_file t.form
     files_some_form (inr t) none = some_form call t.entries t.asks none
 
-  module _ {Gate : Type 0} (call : Call Gate) (entries : List NameEntry) (rules : List CauseRule) (t : AsksTold call entries rules) where
+  module _ {Gate : Type 0} (call : Call Gate) (entries : List NameEntry) (policy : List Rule) (t : AsksTold call entries policy) where
     -- what is asked for has these entries
-    asked_same : (others : List NameEntry) (rules' : List CauseRule) → Asks call others rules' → entries ≡ others
-    asked_same others rules' a = one_signature call entries t.asks a.signature a.policy others a.form a.holds_signature
+    asked_same : (others : List NameEntry) (policy' : List Rule) → Asks call others policy' → entries ≡ others
+    asked_same others policy' a = one_signature call entries t.asks a.signature_file a.policy_file others a.form a.holds_signature
 
-    -- a policy that has rules is not refused
+    -- a policy that can be built is not refused
     no_policy_refusal : (why : PolicyRefusal) → RefusesPolicy call why → ⊥
     no_policy_refusal why r =
         let w = r.refused in
-        let same = one_signature call entries t.asks r.signature r.policy r.entries r.form r.holds_signature in
-        let names = one_form call.words t.asks.signature t.asks.policy r.signature r.policy t.asks.form r.form in
-        let all = told_bytes call.before.files.contents t.asks.policy r.policy t.bytes w.bytes names.1 t.told w.under in
+        let same = one_signature call entries t.asks r.signature_file r.policy_file r.entries r.form r.holds_signature in
+        let names = one_form call.words t.asks.signature_file t.asks.policy_file r.signature_file r.policy_file t.asks.form r.form in
+        let all = told_bytes call.before.files.contents t.asks.policy_file r.policy_file t.bytes w.bytes names.1 t.told w.under in
         let here = subst (λ (es : List NameEntry). IsRefusedPolicy es why w.bytes) (sym same) w.refused in
-        policy_not_refused entries why t.bytes rules t.is_policy (subst (IsRefusedPolicy entries why) all here)
+        policy_not_refused entries why t.bytes policy t.is_policy (subst (IsRefusedPolicy entries why) all here)
 
     -- neither file is refused
     no_refusal_of_files : ((why : SignatureRefusal) × Refuses call (refusals.Signature why)) ⊎ ((why : PolicyRefusal) × Refuses call (refusals.Policy why)) → ⊥
@@ -154,8 +194,8 @@ module _ (one : OneAnswer) where
     no_refusal_of_files (inr (why, r)) = no_policy_refusal why r.meets
 
     -- the log is run under the entries that are told
-    ran_told : (others : List NameEntry) (rules' : List CauseRule) (verdict : Verdict) → Asks call others rules' → RunsLog others rules' verdict call.before.gate call.after.gate → RunsLog entries rules' verdict call.before.gate call.after.gate
-    ran_told others rules' verdict asks ran = subst (λ (es : List NameEntry). RunsLog es rules' verdict call.before.gate call.after.gate) (sym (asked_same others rules' asks)) ran
+    ran_told : (others : List NameEntry) (policy' : List Rule) (verdict : Verdict) → Asks call others policy' → RunsLog others (formulas policy') verdict call.before.gate call.after.gate → RunsLog entries (formulas policy') verdict call.before.gate call.after.gate
+    ran_told others policy' verdict asks ran = subst (λ (es : List NameEntry). RunsLog es (formulas policy') verdict call.before.gate call.after.gate) (sym (asked_same others policy' asks)) ran
 
   -- ---- a log is read in one way
 
@@ -289,25 +329,25 @@ module _ (one : OneAnswer) where
 
     -- a run that is done meets no refusal
     done_meets_none : {Gate : Type 0} (call : Call Gate) → IsDone call → MeetsRefusal call → ⊥
-    done_meets_none call d m = by m.why m.refused (read_same m.entries 0 bytes m.read m.rest d.read d.log.0 (refusal_stops m.entries (clock_after 0 (records_of m.read)) (length bytes) m.rest call.after.gate m.why m.refused)
-        (blank_stops m.entries (clock_after 0 (records_of d.read)) d.log.0 d.log.2) m.accepts.spelled m.accepts.rising mine d.rising)
+    done_meets_none call d m = by m.why m.refused (read_same m.entries 0 bytes m.read m.rest d.answers.read d.rest (refusal_stops m.entries (clock_after 0 (records_of m.read)) (length bytes) m.rest call.after.gate m.why m.refused)
+        (blank_stops m.entries (clock_after 0 (records_of d.answers.read)) d.rest d.nothing_left) m.accepts.spelled m.accepts.rising mine d.answers.accepts.rising)
       where
         bytes : List ℕ
         bytes = taken_between m.x m.y
 
         taken : d.taken ≡ taken_between m.x m.y
-        taken = taken_at (UpToDate d.entries d.rules) d.taken d.given call.before.gate.told call.after.gate.told m.x m.y m.told m.told' d.exchanged
+        taken = taken_at (UpToDate d.entries (formulas d.policy)) d.taken d.given call.before.gate.told call.after.gate.told m.x m.y m.told m.told' d.exchanged
 
-        mine : Spells m.entries Input (taken_between m.x m.y) d.read d.log.0
-        mine = subst (λ (b : List ℕ). Spells m.entries Input b d.read d.log.0) taken (subst (λ (es : List NameEntry). Spells es Input d.taken d.read d.log.0) (sym (asked_same call m.entries m.rules m.asks d.entries d.rules d.asks)) d.log.1)
+        mine : Spells m.entries Input (taken_between m.x m.y) d.answers.read d.rest
+        mine = subst (λ (b : List ℕ). Spells m.entries Input b d.answers.read d.rest) taken (subst (λ (es : List NameEntry). Spells es Input d.taken d.answers.read d.rest) (sym (asked_same call m.entries m.policy m.asks d.entries d.policy d.asks)) d.answers.accepts.spelled)
 
-        blank : (m.read ≡ d.read) × (behind_blanks m.rest ≡ behind_blanks d.log.0) → behind_blanks m.rest ≡ []
-        blank same = same.1 ∙ d.log.2
+        blank : (m.read ≡ d.answers.read) × (behind_blanks m.rest ≡ behind_blanks d.rest) → behind_blanks m.rest ≡ []
+        blank same = same.1 ∙ d.nothing_left
 
         no_record : behind_blanks m.rest ≡ [] → (n : ℕ) → HasRecord m.rest n → ⊥
         no_record empty n whole = none_some n (sym (ap record_length empty) ∙ whole)
 
-        by : (why : RecordRefusal) → IsRefusedAs m.entries (clock_after 0 (records_of m.read)) (length (taken_between m.x m.y)) m.rest call.after.gate why → (m.read ≡ d.read) × (behind_blanks m.rest ≡ behind_blanks d.log.0) → ⊥
+        by : (why : RecordRefusal) → IsRefusedAs m.entries (clock_after 0 (records_of m.read)) (length (taken_between m.x m.y)) m.rest call.after.gate why → (m.read ≡ d.answers.read) × (behind_blanks m.rest ≡ behind_blanks d.rest) → ⊥
         by (records.Bad place) h same = no_record (blank same) h.0 h.1
         by (records.UnknownName place) h same = no_record (blank same) h.0 h.1
         by (records.Arity place) h same = no_record (blank same) h.0 h.1
@@ -318,28 +358,8 @@ module _ (one : OneAnswer) where
         by (records.Falling given at) h same = no_record (blank same) h.1.begins.0 h.1.begins.1
         by records.InputLimit h same = omega (arith, h.1, d.whole.0, ap length taken)
 
-    module _ {Gate : Type 0} (call : Call Gate) (entries : List NameEntry) (rules : List CauseRule) (why : RecordRefusal)
-        (ran : RunsLog entries rules (verdicts.Refused why) call.before.gate call.after.gate) (x : Exchange) (told : call.before.gate.told ≡ Some x) where
-      -- a refused log meets a refusal
-      meets_refusal : (others : List CauseRule) → AsksTold call entries others → MeetsRefusal call
-      meets_refusal others t =
-          let y = tells_still call.before.gate.told call.after.gate.told x told ran.exchanged.grew in
-          let taken = taken_at (UpToDate entries rules) ran.taken ran.given call.before.gate.told call.after.gate.told x y.0 told y.1 ran.exchanged in
-          record {
-            entries = entries;
-            rules = others;
-            asks = t;
-            x = x;
-            told = told;
-            y = y.0;
-            told' = y.1;
-            read = ran.answers.read;
-            rest = ran.rest;
-            accepts = subst (λ (b : List ℕ). Accepts entries b ran.answers.read ran.rest) taken ran.answers.accepts;
-            why = why;
-            refused = subst (λ (b : List ℕ). IsRefusedAs entries (clock_after 0 (records_of ran.answers.read)) (length b) ran.rest call.after.gate why) taken ran.ends.0;
-          }
-
+    module _ {Gate : Type 0} (call : Call Gate) (entries : List NameEntry) (policy : List Formula) (why : RecordRefusal)
+        (ran : RunsLog entries policy (verdicts.Refused why) call.before.gate call.after.gate) (x : Exchange) (told : call.before.gate.told ≡ Some x) where
       -- a refusal behind the bytes taken is one behind a whole log, whose records end there
       module _ (read : List LogItem) (is_log : IsLog entries Input (left x) read None) (rising : NeverFall 0 (records_of read)) (y : Exchange) (told' : call.after.gate.told ≡ Some y) (grew : Grew x y) where
         more : List ℕ
@@ -347,7 +367,7 @@ module _ (one : OneAnswer) where
 
         whole : ran.taken ++ drop (y.taken - x.taken) (left x) ≡ left x
         whole =
-            ap (λ (t : List ℕ). t ++ drop (y.taken - x.taken) (left x)) (taken_at (UpToDate entries rules) ran.taken ran.given call.before.gate.told call.after.gate.told x y told told' ran.exchanged)
+            ap (λ (t : List ℕ). t ++ drop (y.taken - x.taken) (left x)) (taken_at (UpToDate entries policy) ran.taken ran.given call.before.gate.told call.after.gate.told x y told told' ran.exchanged)
             ∙ take-append-drop (y.taken - x.taken) (left x)
 
         -- what is left of it is all of it
@@ -365,7 +385,7 @@ module _ (one : OneAnswer) where
             let r = Refuses-append entries Input ran.rest (drop (y.taken - x.taken) (left x)) refusal h in
             blank_not_refused entries (ran.rest ++ drop (y.taken - x.taken) (left x)) refusal (nothing_more (ran.rest ++ drop (y.taken - x.taken) (left x)) (refused_stops entries (clock_after 0 (records_of ran.answers.read)) (ran.rest ++ drop (y.taken - x.taken) (left x)) refusal r) longer) r
 
-        not_acceptable : length (left x) < MOST_LOG_BYTES → ⊥
+        not_acceptable : length (left x) < most_log_bytes → ⊥
         not_acceptable below = by why ran.ends.0
           where
             by : (why : RecordRefusal) → IsRefusedAs entries (clock_after 0 (records_of ran.answers.read)) (length ran.taken) ran.rest call.after.gate why → ⊥
@@ -377,7 +397,7 @@ module _ (one : OneAnswer) where
             by records.TimeTooLarge h = not_refused log.TimeTooLarge h
             by records.Truncated h =
                 let ended = subst IsAtEnd told' h.1.1 in
-                let all = taken_at (UpToDate entries rules) ran.taken ran.given call.before.gate.told call.after.gate.told x y told told' ran.exchanged ∙ all_between x y grew ended in
+                let all = taken_at (UpToDate entries policy) ran.taken ran.given call.before.gate.told call.after.gate.told x y told told' ran.exchanged ∙ all_between x y grew ended in
                 let spelled = subst (λ (b : List ℕ). Spells entries Input b ran.answers.read ran.rest) all ran.answers.accepts.spelled in
                 omega (arith, h.0.1, ap length (nothing_more ran.rest (pending_stops entries (clock_after 0 (records_of ran.answers.read)) ran.rest h.0.0) spelled))
             by (records.Falling given at) h =
@@ -388,7 +408,7 @@ module _ (one : OneAnswer) where
                 let blank = nothing_more (ran.rest ++ drop (y.taken - x.taken) (left x)) (falling_stops entries (clock_after 0 (records_of ran.answers.read)) (ran.rest ++ drop (y.taken - x.taken) (left x)) given still) longer in
                 none_some begins.0 (sym (ap record_length blank) ∙ begins.1)
             by records.InputLimit h =
-                let all = taken_at (UpToDate entries rules) ran.taken ran.given call.before.gate.told call.after.gate.told x y told told' ran.exchanged in
+                let all = taken_at (UpToDate entries policy) ran.taken ran.given call.before.gate.told call.after.gate.told x y told told' ran.exchanged in
                 omega (arith, h.1, ap length all, between_le x y, below)
 
     -- ---- where each status must come
@@ -397,25 +417,48 @@ module _ (one : OneAnswer) where
       -- no read failed
       no_read_fault : LeavesFiles call → call.after.gate.read_faults ≡ call.before.gate.read_faults → MeetsReadFault call → ⊥
       no_read_fault files gate (inl (name, moved)) = moved (ap (λ (v : FileView). v.read_faults name) files)
-      no_read_fault files gate (inr lost) = lost.failed gate
+      no_read_fault files gate (inr moved) = moved gate
 
-      by_done : (status : Status) → IsDone call → IsDue call status → (statuses.Done ≡ status) ⊎ BreaksOff statuses.Done
-      by_done statuses.Done o due = inl refl
-      by_done statuses.Words o due = absurd (due o.asks.signature o.asks.policy o.asks.form)
-      by_done statuses.Files o due = absurd (not_asked call due o.entries o.rules o.asks)
-      by_done statuses.Record o due = absurd (done_meets_none call o due)
-      by_done statuses.ReadFault o due = absurd (no_read_fault o.files o.reads due)
-      by_done statuses.WriteFault o due = absurd (due o.writes)
-      by_done statuses.NoMemory o due = absurd due
+      dues_done : IsDone call → Dues call statuses.Done
+      dues_done o =
+          record {
+            done = λ due. inl refl;
+            words = λ due. absurd (due.enforce o.asks.signature_file o.asks.policy_file o.asks.form);
+            files = λ due. absurd (not_asked call due o.entries o.policy o.asks);
+            refused_record = λ due. absurd (done_meets_none call o due);
+            read_fault = λ due. absurd (no_read_fault o.files o.reads due);
+            write_fault = λ due. absurd (due o.writes);
+          }
 
-      by_words : (status : Status) → RefusesWords call → IsDue call status → (statuses.Words ≡ status) ⊎ BreaksOff statuses.Words
-      by_words statuses.Done o due = absurd (some_form call due.entries due.asks.asks o.words)
-      by_words statuses.Words o due = inl refl
-      by_words statuses.Files o due = absurd (files_some_form call due o.words)
-      by_words statuses.Record o due = absurd (some_form call due.entries due.asks.asks o.words)
-      by_words statuses.ReadFault o due = absurd (no_read_fault o.files (ap (λ (s : Stream). s.read_faults) o.gate.1) due)
-      by_words statuses.WriteFault o due = absurd (due (ap (λ (s : Stream). s.write_faults) o.gate.1))
-      by_words statuses.NoMemory o due = absurd due
+      files_not_generated : AsksRefusedSignature call ⊎ AsksRefusedPolicy call → (start steps : ℕ) → IsGenerate call.words start steps → ⊥
+      files_not_generated (inl due) start steps form = two_forms call.words due.signature_file due.policy_file start steps due.form form
+      files_not_generated (inr due) start steps form = two_forms call.words due.asks.signature_file due.asks.policy_file start steps due.asks.form form
+
+      dues_generated : GeneratesLog call → Dues call statuses.Done
+      dues_generated o =
+          record {
+            done = λ due. inl refl;
+            words = λ due. absurd (due.generate o.log.start o.log.steps o.log.form);
+            files = λ due. absurd (files_not_generated due o.log.start o.log.steps o.log.form);
+            refused_record = λ due. absurd (two_forms call.words due.asks.asks.signature_file due.asks.asks.policy_file o.log.start o.log.steps due.asks.asks.form o.log.form);
+            read_fault = λ due. absurd (no_read_fault o.log.files o.log.reads due);
+            write_fault = λ due. absurd (due o.writes);
+          }
+
+      words_not_done : RefusesWords call → IsAcceptable call ⊎ AsksToGenerate call → ⊥
+      words_not_done o (inl due) = some_form call due.entries due.asks.asks o.words
+      words_not_done o (inr due) = o.words.generate due.0 due.1 due.2
+
+      dues_words : RefusesWords call → Dues call statuses.Words
+      dues_words o =
+          record {
+            done = λ due. absurd (words_not_done o due);
+            words = λ due. inl refl;
+            files = λ due. absurd (files_some_form call due o.words);
+            refused_record = λ due. absurd (some_form call due.entries due.asks.asks o.words);
+            read_fault = λ due. absurd (no_read_fault o.files (ap (λ (s : Stream). s.read_faults) o.gate.1) due);
+            write_fault = λ due. absurd (due (ap (λ (s : Stream). s.write_faults) o.gate.1));
+          }
 
       -- what a refused file leaves
       abbrev FilesRefused : Type 0
@@ -430,39 +473,58 @@ module _ (one : OneAnswer) where
       refused_files (inr (why, r)) = r.meets.files
 
       refused_form : FilesRefused → MatchNoForm call.words → ⊥
-      refused_form (inl (why, r)) none = none r.meets.signature r.meets.policy r.meets.form
-      refused_form (inr (why, r)) none = none r.meets.signature r.meets.policy r.meets.form
+      refused_form (inl (why, r)) none = none.enforce r.meets.signature_file r.meets.policy_file r.meets.form
+      refused_form (inr (why, r)) none = none.enforce r.meets.signature_file r.meets.policy_file r.meets.form
 
-      by_files : (status : Status) → FilesRefused → IsDue call status → (statuses.Files ≡ status) ⊎ BreaksOff statuses.Files
-      by_files statuses.Done o due = absurd (no_refusal_of_files call due.entries due.rules due.asks o)
-      by_files statuses.Words o due = absurd (refused_form o due)
-      by_files statuses.Files o due = inl refl
-      by_files statuses.Record o due = absurd (no_refusal_of_files call due.entries due.rules due.asks o)
-      by_files statuses.ReadFault o due = absurd (no_read_fault (refused_files o) (ap (λ (s : Stream). s.read_faults) (refused_gate o).1) due)
-      by_files statuses.WriteFault o due = absurd (due (ap (λ (s : Stream). s.write_faults) (refused_gate o).1))
-      by_files statuses.NoMemory o due = absurd due
+      refused_not_generates : FilesRefused → AsksToGenerate call → ⊥
+      refused_not_generates (inl (why, r)) g = two_forms call.words r.meets.signature_file r.meets.policy_file g.0 g.1 r.meets.form g.2
+      refused_not_generates (inr (why, r)) g = two_forms call.words r.meets.signature_file r.meets.policy_file g.0 g.1 r.meets.form g.2
 
-      by_record : (status : Status) (number : ℕ) (why : RecordRefusal) → RefusesRecord call number why → IsDue call status → (statuses.Record ≡ status) ⊎ BreaksOff statuses.Record
-      by_record statuses.Done number why o due =
-          let ran = ran_told call due.entries due.rules due.asks o.entries o.rules (verdicts.Refused why) o.asks o.ran in
-          let y = tells_still call.before.gate.told call.after.gate.told due.gate due.told ran.exchanged.grew in
-          absurd (not_acceptable call due.entries o.rules why ran due.gate due.told due.read due.log due.rising y.0 y.1 y.2 due.below)
-      by_record statuses.Words number why o due = absurd (due o.asks.signature o.asks.policy o.asks.form)
-      by_record statuses.Files number why o due = absurd (not_asked call due o.entries o.rules o.asks)
-      by_record statuses.Record number why o due = inl refl
-      by_record statuses.ReadFault number why o (inl (name, moved)) = absurd (moved (ap (λ (v : FileView). v.read_faults name) o.files))
-      by_record statuses.ReadFault number why o (inr lost) =
-          let ran = ran_told call lost.entries lost.rules lost.asks o.entries o.rules (verdicts.Refused why) o.asks o.ran in
-          absurd (lost.none (meets_refusal call lost.entries o.rules why ran lost.x lost.told lost.rules lost.asks))
-      by_record statuses.WriteFault number why o due = absurd (due o.ran.writes)
-      by_record statuses.NoMemory number why o due = absurd due
+      refused_not_done : FilesRefused → IsAcceptable call ⊎ AsksToGenerate call → ⊥
+      refused_not_done o (inl due) = no_refusal_of_files call due.entries due.policy due.asks o
+      refused_not_done o (inr due) = refused_not_generates o due
+
+      dues_files : FilesRefused → Dues call statuses.Files
+      dues_files o =
+          record {
+            done = λ due. absurd (refused_not_done o due);
+            words = λ due. absurd (refused_form o due);
+            files = λ due. inl refl;
+            refused_record = λ due. absurd (no_refusal_of_files call due.entries due.policy due.asks o);
+            read_fault = λ due. absurd (no_read_fault (refused_files o) (ap (λ (s : Stream). s.read_faults) (refused_gate o).1) due);
+            write_fault = λ due. absurd (due (ap (λ (s : Stream). s.write_faults) (refused_gate o).1));
+          }
+
+      module _ (number : ℕ) (why : RecordRefusal) (o : RefusesRecord call number why) where
+        record_not_done : IsAcceptable call ⊎ AsksToGenerate call → ⊥
+        record_not_done (inr due) = two_forms call.words o.asks.signature_file o.asks.policy_file due.0 due.1 o.asks.form due.2
+        record_not_done (inl due) =
+            let ran = ran_told call due.entries due.policy due.asks o.entries o.policy (verdicts.Refused why) o.asks o.ran in
+            let y = tells_still call.before.gate.told call.after.gate.told due.gate due.told ran.exchanged.grew in
+            not_acceptable call due.entries (formulas o.policy) why ran due.gate due.told due.read due.log due.rising y.0 y.1 y.2 due.below
+
+        dues_record : Dues call statuses.Record
+        dues_record =
+            record {
+              done = λ due. absurd (record_not_done due);
+              words = λ due. absurd (due.enforce o.asks.signature_file o.asks.policy_file o.asks.form);
+              files = λ due. absurd (not_asked call due o.entries o.policy o.asks);
+              refused_record = λ due. inl refl;
+              read_fault = λ due. absurd (no_read_fault o.files o.ran.ends.1 due);
+              write_fault = λ due. absurd (due o.ran.writes);
+            }
+
+      dues_broken : (result : Status) → BreaksOff result → Dues call result
+      dues_broken result b =
+          record { done = λ due. inr b; words = λ due. inr b; files = λ due. inr b; refused_record = λ due. inr b; read_fault = λ due. inr b; write_fault = λ due. inr b }
 
       -- what holds at a status leaves no room for another that is due
-      pub due_of : (result status : Status) → Outcome call result → IsDue call status → (result ≡ status) ⊎ BreaksOff result
-      due_of statuses.Done status o due = by_done status o.0 due
-      due_of statuses.Words status o due = by_words status o.meets due
-      due_of statuses.Files status o due = by_files status o due
-      due_of statuses.Record status o due = by_record status o.0 o.1 o.2.meets due
-      due_of statuses.ReadFault status o due = inr (inl refl)
-      due_of statuses.WriteFault status o due = inr (inr (inl refl))
-      due_of statuses.NoMemory status o due = inr (inr (inr refl))
+      pub dues_of : (result : Status) → Outcome call result → Dues call result
+      dues_of statuses.Done (inl o, same) = dues_done o
+      dues_of statuses.Done (inr o, same) = dues_generated o
+      dues_of statuses.Words o = dues_words o.meets
+      dues_of statuses.Files o = dues_files o
+      dues_of statuses.Record o = dues_record o.0 o.1 o.2.meets
+      dues_of statuses.ReadFault o = dues_broken statuses.ReadFault (inl refl)
+      dues_of statuses.WriteFault o = dues_broken statuses.WriteFault (inr (inl refl))
+      dues_of statuses.NoMemory o = dues_broken statuses.NoMemory (inr (inr refl))

@@ -1,8 +1,6 @@
 -- What a read of a file tells, where it asks for one byte more than a file may have.
-use Rattle.std.proofs.Common.{◌≡◌, ℕ, ◌<◌, ◌≤◌, List, [], ◌∷◌, length, refl, ap, ◌∙◌, arith, length-take, Option, None, Some, IfSome, IsTrue, Result, Ok, Err}
+use Rattle.std.proofs.Common.{◌≡◌, ℕ, ◌<◌, ◌≤◌, List, length, refl, ap, ◌∙◌, arith, length-take, Option, None, Some, IfSome, Result, Err}
 use Rattle.std.proofs.lemmas.List.{take_all}
-use Rattle.std.specs.List.{All, AllByRecursion, AllZip}
-use Rattle.std.proofs.lemmas.List.Elements.{All-from_recursion}
 use Rattle.std.specs.declared.vec.Vec.{Vec}
 use Rattle.std.specs.declared.alloc.Global.{Global}
 use Rattle.enf_io.specs.Contents.{Contents, Missing, Holds, Gives}
@@ -10,11 +8,7 @@ use Rattle.enf_io.specs.Counts.{faults_after}
 use Rattle.enf_io.specs.FileCalls.{CountsFor, FileView, ReadsFile}
 use Rattle.enf_io.specs.declared.devices.IoRefusal.{IoRefusal}
 use Rattle.enf_io.specs.declared.devices.IoRefusal.TheVariants.{Failed, NoMemory}
-use Rattle.enforcer_core.specs.declared.enforcer.CauseRule.{CauseRule}
-use Rattle.enf_cli.specs.Enforcement.{is_causable, is_causable_declared}
 use Rattle.enf_cli.specs.Files.{AreHeld, IsLong, IsNotRead, IsShort}
-use Rattle.enf_cli.specs.Rules.{IsPolicy, Resolves, WrittenRule}
-use Rattle.signature.specs.declared.entries.NameEntry.{NameEntry}
 
 long_of : (c : Contents) (bytes : List ℕ) → Gives c 1048577 bytes → 1048576 < length bytes → (all : List ℕ) × AreHeld all c × (1048576 < length all)
 long_of Missing bytes g l = absurd g
@@ -46,20 +40,6 @@ same_files name most result before after r none =
     let reads = same_counts name result before.read_faults after.read_faults r.reads none in
     λ i. record { contents = r.contents i; is_calm = r.calm i; read_faults = λ other. reads other i; write_faults = λ other. r.writes other i }
 
-pub read_same_files : (name : List ℕ) (most : ℕ) (bytes : Vec ℕ Global) (before after : FileView) → ReadsFile name most (Ok bytes) before after → after ≡ before
-read_same_files name most bytes before after r = same_files name most (Ok bytes) before after r (λ n. refl)
-
 pub is_not_read : (name : List ℕ) (refusal : IoRefusal) (before after : FileView) → ReadsFile name 1048577 (Err refusal) before after → IsNotRead name before after refusal
 is_not_read name Failed before after r = r
 is_not_read name NoMemory before after r = same_files name 1048577 (Err NoMemory) before after r (λ n. refl)
-
-resolved_causable : (entries : List NameEntry) (written : List WrittenRule) (rules : List CauseRule) → AllZip (Resolves entries) written rules → AllByRecursion (λ rule. IsTrue (is_causable entries rule.cause)) rules
-resolved_causable entries [] [] a = tt
-resolved_causable entries [] (rule ∷ rules) a = absurd a
-resolved_causable entries (w ∷ written) [] a = absurd a
-resolved_causable entries (w ∷ written) (rule ∷ rules) a =
-    (ap is_causable_declared a.0.cause ∙ a.0.cause_causable, resolved_causable entries written rules a.1)
-
--- what the rules of a policy cause may be caused
-pub causes_are_causable : (entries : List NameEntry) (bytes : List ℕ) (rules : List CauseRule) → IsPolicy entries bytes rules → All (λ rule. IsTrue (is_causable entries rule.cause)) rules
-causes_are_causable entries bytes rules p = All-from_recursion (λ rule. IsTrue (is_causable entries rule.cause)) rules (resolved_causable entries p.written rules p.resolved)

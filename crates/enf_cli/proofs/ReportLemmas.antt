@@ -17,7 +17,7 @@ cut_counts T S (writes.WriteFault written) count = refl
 cut_counts T S (writes.NoMemory written) count = refl
 
 -- of a list with something in it
-not_empty : (xs : List ℕ) → 0 < length xs → xs ≢ []
+pub not_empty : (xs : List ℕ) → 0 < length xs → xs ≢ []
 not_empty xs some none = omega (arith, ap length none)
 
 -- the first pieces are added, and of the next one a part
@@ -36,8 +36,10 @@ pieces_part {X = X} f xs i count d a b c within less first next =
     ∙ append_assoc (before ++ take count piece) (drop count piece) behind in
     record {
       front = before ++ take count piece;
-      rest = drop count piece ++ behind;
-      some = not_empty (drop count piece ++ behind) (omega (arith, length-append (drop count piece) behind, length-drop count piece, less));
-      split = whole ∙ parts;
+      part = record {
+        rest = drop count piece ++ behind;
+        some = not_empty (drop count piece ++ behind) (omega (arith, length-append (drop count piece) behind, length-drop count piece, less));
+        split = whole ∙ parts;
+      };
       gave = gave_more before (take count piece) a b c first next;
     }

@@ -1,13 +1,15 @@
 -- What one turn of the run of a log does, from what its calls do.
-use Rattle.std.proofs.Common.{◌≡◌, ℕ, ◌+◌, ◌<◌, ◌≤◌, List, [], length, refl, sym, ap, subst, ◌∙◌, inl, inr, Option, None, Some, Ok, Err, arith}
+use Rattle.std.proofs.Common.{◌≡◌, ℕ, ◌+◌, ◌-◌, ◌<◌, List, [], length, refl, sym, ap, subst, ◌∙◌, inl, inr, Option, None, Some, Ok, Err, arith}
 use Rattle.std.specs.Prelude.{◌⊎◌}
+use Rattle.std.specs.declared.alloc.Global.{Global}
+use Rattle.std.specs.declared.vec.Vec.{Vec}
 use Rattle.enf_io.specs.Exchange.{Exchange, Took}
 use Rattle.enf_io.specs.Streams.{Stream}
 use Rattle.enforcer_core.specs.Enforcers.{Enforcing}
 use Rattle.log_stream.specs.LogLaws.{IsPending-blanks, Spells-blanks}
 use Rattle.log_stream.specs.Logs.{BeginsWith, IsPending, IsTruncated, Refuses, behind_blanks}
 use Rattle.log_stream.specs.Readers.{Answers, Reader, ReadsNext, fed}
-use Rattle.log_stream.specs.declared.items.Found.TheVariants.{Item, Pending}
+use Rattle.log_stream.specs.declared.items.Found.TheVariants.{Item}
 use Rattle.log_stream.specs.declared.items.LogItem.{LogItem}
 use Rattle.log_stream.specs.declared.items.LogMode.{LogMode}
 use Rattle.log_stream.specs.declared.items.LogMode.TheVariants.{Input}
@@ -15,11 +17,11 @@ use Rattle.log_stream.specs.declared.items.LogRefusal.{LogRefusal}
 use Rattle.log_stream.specs.declared.items.LogRefusal.TheVariants as log
 use Rattle.signature.specs.declared.entries.NameEntry.{NameEntry}
 use Rattle.enf_cli.specs.Accepted.{record_of}
-use Rattle.enf_cli.specs.Progress.{CutsItem, CutsNext, EndsTurn, JudgesEnd, LeavesItem, MeetsEnd, RefusesNext, TakesMore, TakesPiece, TakesTurn, WaitsForMore, reads_on, refusal_for}
+use Rattle.enf_cli.specs.Limits.{most_log_bytes}
+use Rattle.enf_cli.specs.Progress.{CutsItem, CutsNext, EndsTurn, JudgesEnd, LeavesItem, MeetsEnd, RefusesNext, TakesBytes, TakesMore, TakesPiece, TakesTurn, WaitsForMore, reads_on, refusal_for}
 use Rattle.enf_cli.specs.declared.endings.Cut.{Cut}
 use Rattle.enf_cli.specs.declared.endings.Cut.TheVariants as cuts
 use Rattle.enf_cli.specs.declared.log.Enforcement.{Enforcement}
-use Rattle.enf_cli.specs.declared.log.TheConstants.{MOST_LOG_BYTES}
 use Rattle.enf_cli.specs.declared.log.Turn.TheVariants as turns
 use Rattle.enf_cli.specs.declared.log.Verdict.{Verdict}
 use Rattle.enf_cli.specs.declared.log.Verdict.TheVariants as verdicts
@@ -42,10 +44,6 @@ module _ (entries : List NameEntry) (before after : Reader) (going : before ≡ 
     subst (λ (es : List NameEntry). BeginsWith es Input before.rest item after.rest) same_entries (subst (λ (m : LogMode). BeginsWith before.entries m before.rest item after.rest) same_mode begins),
     is ∙ (λ i. record { entries = same_entries i; mode = same_mode i; rest = after.rest; refused = same_refused i }),
   )
-
-  pub reads_pending : ReadsNext before (Ok Pending) after → IsPending before.rest × (after ≡ reads_on entries (behind_blanks before.rest))
-  reads_pending (none, pending, is) =
-      (pending, is ∙ (λ i. record { entries = same_entries i; mode = same_mode i; rest = behind_blanks before.rest; refused = same_refused i }))
 
   -- a refusal that was not answered before has its cause
   first_cause : (refusal : LogRefusal) → Answers before refusal (Refuses before.entries before.mode before.rest refusal) after → Refuses entries Input before.rest refusal
@@ -78,20 +76,23 @@ cuts_next entries rest more item now told told' cuts.NoMemory begins (inr c) = i
 
 module _ (entries : List NameEntry) (old : Enforcement) (middle reader : Reader) (now : Enforcing) (a b c : Stream)
     (waits : WaitsForMore entries old.reader middle old.enforcer now a.told b.told) (same_reads : b.read_faults ≡ a.read_faults) where
+  -- what a read took
+  takes_bytes : (bytes : List ℕ) → TakesBytes (most_log_bytes - old.taken) bytes b.told c.told → TakesBytes (most_log_bytes - old.taken) bytes a.told c.told
+  takes_bytes bytes t = record { took = subst (λ (o : Option Exchange). Took bytes o c.told) waits.given t.took; piece = t.piece; within = t.within }
+
   -- a piece was taken
-  pub takes_more : (count left : ℕ) → left + old.taken ≤ MOST_LOG_BYTES → TakesPiece count left middle reader b c
-      → TakesMore entries old (record { reader = reader; enforcer = now; accepted = old.accepted; taken = old.taken + count }) a c
-  takes_more count left room t =
+  pub takes_more : (count : ℕ) (piece : Vec ℕ Global) → TakesPiece count (most_log_bytes - old.taken) middle reader b c
+      → TakesMore entries old (record { reader = reader; enforcer = now; piece = piece; accepted = old.accepted; taken = old.taken + count }) a c
+  takes_more count piece t =
       record {
         pending = waits.pending;
         bytes = t.bytes;
-        took = subst (λ (o : Option Exchange). Took t.bytes o c.told) waits.given t.took;
+        takes = takes_bytes t.bytes t.takes;
         some = omega (arith, t.some, t.count_is);
         reader = t.fed_is ∙ ap (λ (r : Reader). fed r t.bytes) waits.reader_is;
         enforcer = waits.enforcer;
         accepted = refl;
         taken = ap (λ (n : ℕ). old.taken + n) (sym t.count_is);
-        within = omega (arith, t.within, room);
         reads = t.reads ∙ same_reads;
       }
 
@@ -102,8 +103,8 @@ module _ (entries : List NameEntry) (old : Enforcement) (middle reader : Reader)
       (subst (λ (r : Reader). IsPending r.rest) (sym is) (IsPending-blanks old.reader.rest waits.pending), ap (λ (r : Reader). r.refused) is)
 
   -- the end was met
-  pub ends_turn : (left : ℕ) (verdict : Verdict) → left + old.taken ≤ MOST_LOG_BYTES → TakesTurn turns.Ended left middle reader b c → JudgesEnd reader.rest verdict → EndsTurn entries old a c verdict
-  ends_turn left verdict room t judged = by judged
+  pub ends_turn : (verdict : Verdict) → TakesTurn turns.Ended (most_log_bytes - old.taken) middle reader b c → JudgesEnd reader.rest verdict → EndsTurn entries old a c verdict
+  ends_turn verdict t judged = by judged
     where
       meets : MeetsEnd old a c
       meets =
@@ -111,7 +112,7 @@ module _ (entries : List NameEntry) (old : Enforcement) (middle reader : Reader)
             pending = waits.pending;
             took = subst (λ (o : Option Exchange). Took [] o c.told) waits.given t.2;
             at_end = t.3;
-            below = omega (arith, t.0, room);
+            below = omega (arith, t.0);
             reads = t.4 ∙ same_reads;
           }
 

@@ -1,8 +1,7 @@
 -- Which records of a log are accepted, and what is given for them.
 use Rattle.std.specs.Prelude.{ℕ, List, map}
-use Rattle.enforcer_core.specs.Follows.{Follows}
-use Rattle.enforcer_core.specs.Rules.{policy_of}
-use Rattle.enforcer_core.specs.declared.enforcer.CauseRule.{CauseRule}
+use Rattle.enf_formula.specs.Formulas.{Formula}
+use Rattle.enforcer_core.specs.Follows.{FollowsPolicy}
 use Rattle.log_stream.specs.Logs.{IsPending, Spells}
 use Rattle.log_stream.specs.declared.items.LogItem.{LogItem}
 use Rattle.log_stream.specs.declared.items.LogItem.TheVariants as items
@@ -26,18 +25,18 @@ pub record Accepts (entries : List NameEntry) (bytes : List ℕ) (read : List Lo
   pub spelled : Spells entries Input bytes read rest
   pub rising : NeverFall 0 (records_of read)
 
--- the records of the bytes taken, up to a rest, are accepted; the bytes given are what is owed to them, as the rules
--- decide it, and the steps can be continued well from the clock on
-pub record Answers (entries : List NameEntry) (rules : List CauseRule) (taken given rest : List ℕ) : Type 0 where
+-- the records of the bytes taken, up to a rest, are accepted; the bytes given are what is owed to them, as the rules of
+-- the policy decide it, and the steps can be continued well from the clock on
+pub record AnswersBytes (entries : List NameEntry) (policy : List Formula) (taken given rest : List ℕ) : Type 0 where
   pub read : List LogItem
   pub accepts : Accepts entries taken read rest
-  pub enforced : IsEnforced entries (policy_of rules) (records_of read) given
-  pub decided : Follows rules (records_of read) enforced.out
+  pub enforced : IsEnforced entries policy (records_of read) given
+  pub decided : FollowsPolicy policy (records_of read) enforced.out
   pub within : IsWithin 0 (clock_after 0 (records_of read)) enforced.out
-  pub good : Good (policy_of rules) (trace_of enforced.out) (clock_after 0 (records_of read))
+  pub good : Good policy (trace_of enforced.out) (clock_after 0 (records_of read))
 
 -- so it is of all whole records of the bytes taken, and none behind them is refused
-pub record UpToDate (entries : List NameEntry) (rules : List CauseRule) (taken given : List ℕ) : Type 0 where
+pub record UpToDate (entries : List NameEntry) (policy : List Formula) (taken given : List ℕ) : Type 0 where
   pub rest : List ℕ
-  pub answers : Answers entries rules taken given rest
+  pub answers : AnswersBytes entries policy taken given rest
   pub pending : IsPending rest

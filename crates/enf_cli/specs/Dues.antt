@@ -2,7 +2,7 @@
 use Rattle.std.specs.Prelude.{◌≡◌, ◌≢◌, ℕ, ◌-◌, ◌<◌, List, length, take, Option, None, Some, ◌⊎◌}
 use Rattle.enf_io.specs.Contents.{Contents, Holds}
 use Rattle.enf_io.specs.Exchange.{Exchange, left}
-use Rattle.enforcer_core.specs.declared.enforcer.CauseRule.{CauseRule}
+use Rattle.formula_reader.specs.Resolution.{Rule}
 use Rattle.signature.specs.declared.entries.NameEntry.{NameEntry}
 use Rattle.log_stream.specs.Logs.{IsLog}
 use Rattle.log_stream.specs.declared.items.LogItem.{LogItem}
@@ -10,13 +10,12 @@ use Rattle.log_stream.specs.declared.items.LogMode.TheVariants.{Input}
 use Rattle.trace_meaning.specs.Records.{NeverFall, clock_after}
 use Rattle.enf_cli.specs.Accepted.{Accepts, records_of}
 use Rattle.enf_cli.specs.Calls.{Call}
+use Rattle.enf_cli.specs.Limits.{most_log_bytes}
 use Rattle.enf_cli.specs.Files.{IsRefusedPolicy, IsRefusedSignature}
 use Rattle.enf_cli.specs.Logs.{IsRefusedAs}
-use Rattle.enf_cli.specs.declared.log.TheConstants.{MOST_LOG_BYTES}
-use Rattle.enf_cli.specs.Outcomes.{MatchNoForm}
-use Rattle.enf_cli.specs.Rules.{IsPolicy}
+use Rattle.enf_cli.specs.Policies.{SpellsPolicy}
 use Rattle.enf_cli.specs.Signatures.{SpellsSignature}
-use Rattle.enf_cli.specs.Words.{IsEnforce}
+use Rattle.enf_cli.specs.Words.{IsEnforce, IsGenerate, MatchNoForm}
 use Rattle.enf_cli.specs.declared.refusals.PolicyRefusal.{PolicyRefusal}
 use Rattle.enf_cli.specs.declared.refusals.RecordRefusal.{RecordRefusal}
 use Rattle.enf_cli.specs.declared.refusals.SignatureRefusal.{SignatureRefusal}
@@ -30,28 +29,28 @@ TellBytes (Some files) name bytes = files name ≡ Holds bytes
 
 -- the words ask to enforce, under a signature that files tell
 pub record AsksSignature {Gate : Type 0} (call : Call Gate) (entries : List NameEntry) : Type 0 where
-  pub signature : List ℕ
-  pub policy : List ℕ
-  pub form : IsEnforce call.words signature policy
+  pub signature_file : List ℕ
+  pub policy_file : List ℕ
+  pub form : IsEnforce call.words signature_file policy_file
   pub bytes : List ℕ
-  pub told : TellBytes call.before.files.contents signature bytes
+  pub told : TellBytes call.before.files.contents signature_file bytes
   pub is_signature : SpellsSignature bytes entries
 
 -- the words ask to enforce, under a signature and a policy that files tell
 pub record AsksTold {Gate : Type 0} (call : Call Gate) (entries : List NameEntry)
-    (rules : List CauseRule) : Type 0 where
+    (policy : List Rule) : Type 0 where
   pub asks : AsksSignature call entries
   pub bytes : List ℕ
-  pub told : TellBytes call.before.files.contents asks.policy bytes
-  pub is_policy : IsPolicy entries bytes rules
+  pub told : TellBytes call.before.files.contents asks.policy_file bytes
+  pub is_policy : SpellsPolicy entries bytes policy
 
 -- the words ask to enforce, under a signature that files tell and that is refused
 pub record AsksRefusedSignature {Gate : Type 0} (call : Call Gate) : Type 0 where
-  pub signature : List ℕ
-  pub policy : List ℕ
-  pub form : IsEnforce call.words signature policy
+  pub signature_file : List ℕ
+  pub policy_file : List ℕ
+  pub form : IsEnforce call.words signature_file policy_file
   pub bytes : List ℕ
-  pub told : TellBytes call.before.files.contents signature bytes
+  pub told : TellBytes call.before.files.contents signature_file bytes
   pub why : SignatureRefusal
   pub refused : IsRefusedSignature why bytes
 
@@ -60,7 +59,7 @@ pub record AsksRefusedPolicy {Gate : Type 0} (call : Call Gate) : Type 0 where
   pub entries : List NameEntry
   pub asks : AsksSignature call entries
   pub bytes : List ℕ
-  pub told : TellBytes call.before.files.contents asks.policy bytes
+  pub told : TellBytes call.before.files.contents asks.policy_file bytes
   pub why : PolicyRefusal
   pub refused : IsRefusedPolicy entries why bytes
 
@@ -71,20 +70,24 @@ taken_between x y = take (y.taken - x.taken) (left x)
 -- the gate tells, and the words, the files and its whole input are such as can be enforced
 pub record IsAcceptable {Gate : Type 0} (call : Call Gate) : Type 0 where
   pub entries : List NameEntry
-  pub rules : List CauseRule
-  pub asks : AsksTold call entries rules
+  pub policy : List Rule
+  pub asks : AsksTold call entries policy
   pub gate : Exchange
   pub told : call.before.gate.told ≡ Some gate
   pub read : List LogItem
   pub log : IsLog entries Input (left gate) read None
   pub rising : NeverFall 0 (records_of read)
-  pub below : length (left gate) < MOST_LOG_BYTES
+  pub below : length (left gate) < most_log_bytes
+
+-- the words ask to generate a log
+abbrev pub AsksToGenerate : {Gate : Type 0} → Call Gate → Type 0
+AsksToGenerate call = (start steps : ℕ) × IsGenerate call.words start steps
 
 -- the accepted records of the bytes taken are followed by a refusal
 pub record MeetsRefusal {Gate : Type 0} (call : Call Gate) : Type 0 where
   pub entries : List NameEntry
-  pub rules : List CauseRule
-  pub asks : AsksTold call entries rules
+  pub policy : List Rule
+  pub asks : AsksTold call entries policy
   pub x : Exchange
   pub told : call.before.gate.told ≡ Some x
   pub y : Exchange
@@ -96,31 +99,25 @@ pub record MeetsRefusal {Gate : Type 0} (call : Call Gate) : Type 0 where
   pub refused :
       IsRefusedAs entries (clock_after 0 (records_of read)) (length (taken_between x y)) rest call.after.gate why
 
--- a read of the log failed, and its accepted records are followed by no refusal
-pub record LosesLog {Gate : Type 0} (call : Call Gate) : Type 0 where
-  pub entries : List NameEntry
-  pub rules : List CauseRule
-  pub asks : AsksTold call entries rules
-  pub x : Exchange
-  pub told : call.before.gate.told ≡ Some x
-  pub failed : call.after.gate.read_faults ≢ call.before.gate.read_faults
-  pub none : MeetsRefusal call → ⊥
-
--- a read of a file failed, or one of the log
+-- a read of a file failed, or one of the gate
 abbrev pub MeetsReadFault : {Gate : Type 0} → Call Gate → Type 0
 MeetsReadFault call =
-    ((name : List ℕ) × (call.after.files.read_faults name ≢ call.before.files.read_faults name)) ⊎ LosesLog call
-
--- where each status must come; for want of memory there is no such place
-abbrev pub IsDue : {Gate : Type 0} → Call Gate → Status → Type 0
-IsDue call statuses.Done = IsAcceptable call
-IsDue call statuses.Words = MatchNoForm call.words
-IsDue call statuses.Files = AsksRefusedSignature call ⊎ AsksRefusedPolicy call
-IsDue call statuses.Record = MeetsRefusal call
-IsDue call statuses.ReadFault = MeetsReadFault call
-IsDue call statuses.WriteFault = call.after.gate.write_faults ≢ call.before.gate.write_faults
-IsDue call statuses.NoMemory = ⊥
+    ((name : List ℕ) × (call.after.files.read_faults name ≢ call.before.files.read_faults name))
+    ⊎ (call.after.gate.read_faults ≢ call.before.gate.read_faults)
 
 -- a run may break off by a fault or want of memory
 abbrev pub BreaksOff : Status → Type 0
 BreaksOff status = (status ≡ statuses.ReadFault) ⊎ ((status ≡ statuses.WriteFault) ⊎ (status ≡ statuses.NoMemory))
+
+-- a run ends with this status, unless it breaks off
+abbrev pub Comes : Status → Status → Type 0
+Comes status result = (result ≡ status) ⊎ BreaksOff result
+
+-- where each status must come; want of memory may come anywhere
+pub record Dues {Gate : Type 0} (call : Call Gate) (result : Status) : Type 0 where
+  pub done : IsAcceptable call ⊎ AsksToGenerate call → Comes statuses.Done result
+  pub words : MatchNoForm call.words → Comes statuses.Words result
+  pub files : AsksRefusedSignature call ⊎ AsksRefusedPolicy call → Comes statuses.Files result
+  pub refused_record : MeetsRefusal call → Comes statuses.Record result
+  pub read_fault : MeetsReadFault call → Comes statuses.ReadFault result
+  pub write_fault : call.after.gate.write_faults ≢ call.before.gate.write_faults → Comes statuses.WriteFault result

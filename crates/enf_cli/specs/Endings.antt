@@ -1,11 +1,13 @@
 -- Why the parts of a run end before they are done, and how one becomes another.
-use Rattle.std.specs.Prelude.{◌≡◌, ℕ, List, ◌++◌, Option, Result, Ok, Err}
+use Rattle.std.specs.Prelude.{◌≡◌, ◌≢◌, ℕ, List, [], ◌∷◌, ◌++◌, Option, Result, Ok, Err}
 use Rattle.enf_io.specs.Counts.{one_more}
 use Rattle.enf_io.specs.Exchange.{Exchange, Gave}
 use Rattle.enf_io.specs.declared.devices.IoRefusal.{IoRefusal}
 use Rattle.enf_io.specs.declared.devices.IoRefusal.TheVariants as io
 use Rattle.enf_io.specs.declared.writing.WriteRefusal.{WriteRefusal}
 use Rattle.enf_io.specs.declared.writing.WriteRefusal.TheVariants as writes
+use Rattle.log_stream.specs.Lines.{line_of, text_of}
+use Rattle.trace_meaning.specs.OutSteps.{OutStep}
 use Rattle.enf_cli.specs.declared.endings.Cut.{Cut}
 use Rattle.enf_cli.specs.declared.endings.Cut.TheVariants as cuts
 use Rattle.enf_cli.specs.declared.endings.Ending.{Ending}
@@ -37,9 +39,18 @@ write_faults_behind (Ok value) count = count
 write_faults_behind (Err cuts.WriteFault) count = one_more count
 write_faults_behind (Err cuts.NoMemory) count = count
 
--- a device that tells was given the text up to somewhere in it
-pub record GaveFront (text : List ℕ) (before after : Option Exchange) : Type 0 where
-  pub front : List ℕ
+-- a front of a text, and not the whole of it
+pub record IsPart (front text : List ℕ) : Type 0 where
   pub rest : List ℕ
+  pub some : rest ≢ []
   pub split : text ≡ front ++ rest
-  pub gave : Gave front before after
+
+-- a device that tells was given the whole lines of the first steps, and of the next one's a part
+pub record GaveLines (names : List (List ℕ)) (steps : List OutStep) (before after : Option Exchange) : Type 0 where
+  pub whole : List OutStep
+  pub next : OutStep
+  pub behind : List OutStep
+  pub split : steps ≡ whole ++ next ∷ behind
+  pub front : List ℕ
+  pub line : IsPart front (line_of names next)
+  pub gave : Gave (text_of names whole ++ front) before after

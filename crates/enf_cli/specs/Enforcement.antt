@@ -11,11 +11,11 @@ use Rattle.trace_meaning.specs.Records.{Record}
 
 abbrev pub is_causable_declared : Option NameEntry → Bool
 is_causable_declared None = false
-is_causable_declared (Some d) = d.causable
+is_causable_declared (Some entry) = entry.causable
 
 abbrev pub is_suppressible_declared : Option NameEntry → Bool
 is_suppressible_declared None = false
-is_suppressible_declared (Some d) = d.suppressible
+is_suppressible_declared (Some entry) = entry.suppressible
 
 -- whether the signature lets events of the name be added
 abbrev pub is_causable : List NameEntry → NameId → Bool

@@ -1,18 +1,23 @@
 -- The files that the words name: what they hold, what is refused of it, and reads of them that give nothing.
-use Rattle.std.specs.Prelude.{◌≡◌, ℕ, ◌+◌, ◌<◌, ◌≤◌, List, length, drop, take_while, Option, IfSome, Err}
+use Rattle.std.specs.Prelude.{◌≡◌, ℕ, ◌+◌, ◌<◌, ◌≤◌, List, length, drop, take_while, Option, None, Some, IfSome, Err}
 use Rattle.enf_io.specs.Contents.{Contents, Missing, Holds}
 use Rattle.enf_io.specs.FileCalls.{FileView, ReadsFile}
 use Rattle.enf_io.specs.declared.devices.IoRefusal.{IoRefusal}
 use Rattle.enf_io.specs.declared.devices.IoRefusal.TheVariants.{Failed, NoMemory}
 use Rattle.enf_value.specs.declared.events.NameId.{NameId}
+use Rattle.enforcer_core.specs.Rules.{AreBuilt}
 use Rattle.enforcer_core.specs.declared.enforcer.CauseRule.{CauseRule}
+use Rattle.formula_reader.specs.Reading.{IsTextAnswer}
+use Rattle.formula_reader.specs.Resolution.{Rule}
+use Rattle.formula_reader.specs.declared.policies.PolicyRefusal.{PolicyRefusal as TextRefusal}
+use Rattle.formula_reader.specs.declared.policies.PolicyRefusal.TheVariants as read
 use Rattle.signature.specs.Refusals.{IsAnswer}
 use Rattle.enf_value.specs.Names.{is_word_byte}
 use Rattle.signature.specs.declared.entries.NameEntry.{NameEntry}
 use Rattle.signature.specs.declared.refusals.SignatureLimit.{SignatureLimit}
 use Rattle.signature.specs.declared.refusals.SignatureRefusal.TheVariants as answers
 use Rattle.enf_value.specs.declared.limits.TheConstants.{MOST_FILE_BYTES}
-use Rattle.enf_cli.specs.Rules.{IsPolicy}
+use Rattle.enf_cli.specs.Policies.{formulas, SpellsPolicy, SpellsUnbuilt}
 use Rattle.enf_cli.specs.Signatures.{SpellsSignature}
 use Rattle.enf_cli.specs.declared.endings.FileEnding.{FileEnding}
 use Rattle.enf_cli.specs.declared.endings.FileEnding.TheVariants as endings
@@ -36,12 +41,12 @@ pub record HoldsSignature (told : Option (List ℕ → Contents)) (name : List �
   pub under : AreUnder told name bytes
   pub is_signature : SpellsSignature bytes entries
 
--- the file holds a policy of these rules under this signature
+-- the file holds a policy of these rules under this signature, each of which can be built
 pub record HoldsPolicy (told : Option (List ℕ → Contents)) (name : List ℕ) (entries : List NameEntry)
-    (rules : List CauseRule) : Type 0 where
+    (policy : List Rule) : Type 0 where
   pub bytes : List ℕ
   pub under : AreUnder told name bytes
-  pub is_policy : IsPolicy entries bytes rules
+  pub is_policy : SpellsPolicy entries bytes policy
 
 -- the word that begins at a place: the letters, digits and `_` from there on
 abbrev pub word_from : ℕ → List ℕ → List ℕ
@@ -58,11 +63,42 @@ IsRefusedSignature (signatures.Repeated name place) bytes =
 IsRefusedSignature (signatures.Limit place) bytes =
     (length bytes ≤ MOST_FILE_BYTES) × (which : SignatureLimit) × IsAnswer bytes (Err (answers.Limit which place))
 
--- the bytes are more than a file may have, or no policy of the built form
+-- what a refusal of the reader of policies says; for want of memory nothing
+abbrev pub policy_refusal_for : TextRefusal → Option PolicyRefusal
+policy_refusal_for (read.Syntax place) = Some (policies.Syntax place)
+policy_refusal_for (read.UnknownName place) = Some (policies.UnknownName place)
+policy_refusal_for (read.Arity place) = Some (policies.Arity place)
+policy_refusal_for (read.SortClash place) = Some (policies.Sort place)
+policy_refusal_for (read.FreeVariable place) = Some (policies.FreeVariable place)
+policy_refusal_for (read.Rebound place) = Some (policies.Rebound place)
+policy_refusal_for (read.Limit place) = Some (policies.Limit place)
+policy_refusal_for read.NoMemory = None
+
+-- the bytes are more than a file may have, or their first refusal is one at a place, or a rule of theirs is not built
 abbrev pub IsRefusedPolicy : List NameEntry → PolicyRefusal → List ℕ → Type 0
 IsRefusedPolicy entries policies.TooLong bytes = MOST_FILE_BYTES < length bytes
-IsRefusedPolicy entries policies.NotBuilt bytes =
-    (length bytes ≤ MOST_FILE_BYTES) × ((rules : List CauseRule) → IsPolicy entries bytes rules → ⊥)
+IsRefusedPolicy entries (policies.Syntax place) bytes =
+    (length bytes ≤ MOST_FILE_BYTES) × IsTextAnswer entries bytes (Err (read.Syntax place))
+IsRefusedPolicy entries (policies.UnknownName place) bytes =
+    (length bytes ≤ MOST_FILE_BYTES) × IsTextAnswer entries bytes (Err (read.UnknownName place))
+IsRefusedPolicy entries (policies.Arity place) bytes =
+    (length bytes ≤ MOST_FILE_BYTES) × IsTextAnswer entries bytes (Err (read.Arity place))
+IsRefusedPolicy entries (policies.Sort place) bytes =
+    (length bytes ≤ MOST_FILE_BYTES) × IsTextAnswer entries bytes (Err (read.SortClash place))
+IsRefusedPolicy entries (policies.FreeVariable place) bytes =
+    (length bytes ≤ MOST_FILE_BYTES) × IsTextAnswer entries bytes (Err (read.FreeVariable place))
+IsRefusedPolicy entries (policies.Rebound place) bytes =
+    (length bytes ≤ MOST_FILE_BYTES) × IsTextAnswer entries bytes (Err (read.Rebound place))
+IsRefusedPolicy entries (policies.Limit place) bytes =
+    (length bytes ≤ MOST_FILE_BYTES) × IsTextAnswer entries bytes (Err (read.Limit place))
+IsRefusedPolicy entries policies.NotBuilt bytes = (length bytes ≤ MOST_FILE_BYTES) × SpellsUnbuilt entries bytes
+
+-- the file holds a policy, and these are the cause rules that it is
+pub record HoldsBuilt (told : Option (List ℕ → Contents)) (name : List ℕ) (entries : List NameEntry)
+    (rules : List CauseRule) : Type 0 where
+  pub policy : List Rule
+  pub holds : HoldsPolicy told name entries policy
+  pub built : AreBuilt (formulas policy) rules
 
 -- the file holds what is refused so as a signature
 pub record HoldsRefusedSignature (told : Option (List ℕ → Contents)) (name : List ℕ)

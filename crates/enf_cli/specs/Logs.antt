@@ -1,23 +1,27 @@
 -- What a run of the log takes from the gate and gives to it, by how it ends.
-use Rattle.std.specs.Prelude.{◌≡◌, ℕ, ◌+◌, ◌<◌, List, [], ◌++◌, length, Result, Ok, Err}
+use Rattle.std.specs.Prelude.{◌≡◌, ◌≢◌, ℕ, ◌+◌, ◌<◌, List, [], ◌∷◌, ◌++◌, length, Result, Ok, Err}
 use Rattle.enf_io.specs.Counts.{one_more}
 use Rattle.enf_io.specs.Exchange.{IsAtEnd}
 use Rattle.enf_io.specs.Streams.{Stream}
-use Rattle.enforcer_core.specs.Follows.{Follows}
-use Rattle.enforcer_core.specs.Rules.{policy_of}
-use Rattle.enforcer_core.specs.declared.enforcer.CauseRule.{CauseRule}
+use Rattle.enf_formula.specs.Formulas.{Formula}
+use Rattle.enforcer_core.specs.Follows.{FollowsPolicy}
+use Rattle.log_stream.specs.Lines.{line_of, text_of}
 use Rattle.log_stream.specs.Logs.{BeginsWith, IsPending, IsTruncated, Refuses, behind_blanks}
 use Rattle.log_stream.specs.declared.items.LogItem.{LogItem}
 use Rattle.log_stream.specs.declared.items.LogMode.TheVariants.{Input}
 use Rattle.log_stream.specs.declared.items.LogRefusal.TheVariants as log
+use Rattle.signature.specs.Grammar.{names as names_of}
 use Rattle.signature.specs.declared.entries.NameEntry.{NameEntry}
+use Rattle.trace_meaning.specs.Good.{GoodPrefix}
+use Rattle.trace_meaning.specs.OutSteps.{OutStep, trace_of}
 use Rattle.trace_meaning.specs.Records.{clock_after, time_of}
-use Rattle.enf_cli.specs.Accepted.{Accepts, Answers, UpToDate, record_of, records_of}
+use Rattle.enf_cli.specs.Accepted.{Accepts, AnswersBytes, UpToDate, record_of, records_of}
 use Rattle.enf_cli.specs.Enforcement.{IsEnforced}
+use Rattle.enf_cli.specs.Endings.{IsPart}
 use Rattle.enf_cli.specs.Exchanges.{Exchanged, IsBegun}
 use Rattle.enf_cli.specs.declared.endings.Cut.{Cut}
 use Rattle.enf_cli.specs.declared.endings.Cut.TheVariants as cuts
-use Rattle.enf_cli.specs.declared.log.TheConstants.{MOST_LOG_BYTES}
+use Rattle.enf_cli.specs.Limits.{most_log_bytes}
 use Rattle.enf_cli.specs.declared.log.Judged.{Judged}
 use Rattle.enf_cli.specs.declared.log.Verdict.{Verdict}
 use Rattle.enf_cli.specs.declared.log.Verdict.TheVariants as verdicts
@@ -36,7 +40,7 @@ pub record IsFalling (entries : List NameEntry) (clock : ℕ) (rest : List ℕ) 
 
 -- the input was taken to its end, where that is told
 abbrev pub MetEnd : ℕ → Stream → Type 0
-MetEnd count after = (count < MOST_LOG_BYTES) × IsAtEnd after.told
+MetEnd count after = (count < most_log_bytes) × IsAtEnd after.told
 
 -- why the rest behind the accepted records is refused, after so many bytes were taken, at this clock
 abbrev pub IsRefusedAs : List NameEntry → ℕ → ℕ → List ℕ → Stream → RecordRefusal → Type 0
@@ -50,7 +54,7 @@ IsRefusedAs entries clock count rest after records.TimeTooLarge = Refuses entrie
 IsRefusedAs entries clock count rest after records.Truncated = IsTruncated rest × MetEnd count after
 IsRefusedAs entries clock count rest after (records.Falling given at) =
     (at ≡ clock) × IsFalling entries clock rest given
-IsRefusedAs entries clock count rest after records.InputLimit = IsPending rest × (count ≡ MOST_LOG_BYTES)
+IsRefusedAs entries clock count rest after records.InputLimit = IsPending rest × (count ≡ most_log_bytes)
 
 -- how the log ends behind the accepted records: nothing is left of it, a read failed, or a record is refused
 abbrev pub EndsAs : List NameEntry → ℕ → ℕ → List ℕ → Stream → Stream → Verdict → Type 0
@@ -62,45 +66,56 @@ EndsAs entries clock count rest before after (verdicts.Refused why) =
     IsRefusedAs entries clock count rest after why × (after.read_faults ≡ before.read_faults)
 
 -- the log was begun and ended so, and what was given is what is owed to its accepted records
-pub record RunsLog (entries : List NameEntry) (rules : List CauseRule) (verdict : Verdict)
+pub record RunsLog (entries : List NameEntry) (policy : List Formula) (verdict : Verdict)
     (before after : Stream) : Type 0 where
   pub taken : List ℕ
   pub given : List ℕ
-  pub exchanged : Exchanged (UpToDate entries rules) taken given before.told after.told
+  pub exchanged : Exchanged (UpToDate entries policy) taken given before.told after.told
   pub rest : List ℕ
-  pub answers : Answers entries rules taken given rest
+  pub answers : AnswersBytes entries policy taken given rest
   pub ends : EndsAs entries (clock_after 0 (records_of answers.read)) (length taken) rest before after verdict
   pub writes : after.write_faults ≡ before.write_faults
 
 -- the run of the log ended as it was judged, behind so many accepted records
-pub record RanAsJudged (entries : List NameEntry) (rules : List CauseRule) (judged : Judged)
+pub record RanAsJudged (entries : List NameEntry) (policy : List Formula) (judged : Judged)
     (before after : Stream) : Type 0 where
-  pub ran : RunsLog entries rules judged.verdict before after
+  pub ran : RunsLog entries policy judged.verdict before after
   pub count : judged.accepted ≡ length ran.answers.read
 
--- some of the log was taken, and of what is owed to its first accepted records a front was given: whole lines, and at
--- most one that is cut
-pub record RunsShort (entries : List NameEntry) (rules : List CauseRule) (before after : Stream) : Type 0 where
+-- of a line that is cut, a part; where no step is left there is no such line
+abbrev pub IsCutLine : List (List ℕ) → List OutStep → List ℕ → Type 0
+IsCutLine names [] front = front ≡ []
+IsCutLine names (next ∷ behind) front = IsPart front (line_of names next)
+
+-- some of the log was taken; of the steps that are owed to its first accepted records the first were given, in
+-- whole lines, and of the next one's line at most a part; those that were given whole can be continued well
+pub record RunsShort (entries : List NameEntry) (policy : List Formula) (before after : Stream) : Type 0 where
   pub taken : List ℕ
   pub given : List ℕ
-  pub exchanged : Exchanged (UpToDate entries rules) taken given before.told after.told
+  pub exchanged : Exchanged (UpToDate entries policy) taken given before.told after.told
   pub read : List LogItem
   pub rest : List ℕ
   pub accepts : Accepts entries taken read rest
   pub text : List ℕ
-  pub enforced : IsEnforced entries (policy_of rules) (records_of read) text
-  pub decided : Follows rules (records_of read) enforced.out
-  pub missing : List ℕ
-  pub front : text ≡ given ++ missing
+  pub enforced : IsEnforced entries policy (records_of read) text
+  pub decided : FollowsPolicy policy (records_of read) enforced.out
+  pub whole : List OutStep
+  pub behind : List OutStep
+  pub split : enforced.out ≡ whole ++ behind
+  pub cut : List ℕ
+  pub line : IsCutLine (names_of entries) behind cut
+  pub lines : given ≡ text_of (names_of entries) whole ++ cut
+  pub good : GoodPrefix policy (trace_of whole)
   pub reads : after.read_faults ≡ before.read_faults
 
--- the run of the log was cut: by a write that failed, behind a read at least, or by want of memory
-abbrev pub CutsRun : List NameEntry → List CauseRule → Stream → Stream → Cut → Type 0
-CutsRun entries rules before after cuts.WriteFault =
-    RunsShort entries rules before after × IsBegun before.told after.told
+-- the run of the log was cut: by a write that failed, behind a read at least and with a line still to give, or by want
+-- of memory
+abbrev pub CutsRun : List NameEntry → List Formula → Stream → Stream → Cut → Type 0
+CutsRun entries policy before after cuts.WriteFault =
+    ((short : RunsShort entries policy before after) × (short.behind ≢ [])) × IsBegun before.told after.told
     × (after.write_faults ≡ one_more before.write_faults)
-CutsRun entries rules before after cuts.NoMemory =
-    RunsShort entries rules before after × (after.write_faults ≡ before.write_faults)
+CutsRun entries policy before after cuts.NoMemory =
+    RunsShort entries policy before after × (after.write_faults ≡ before.write_faults)
 
 -- what the judgement of the log makes of a run; the number is that of the record behind the accepted ones
 abbrev pub conclusion_of : ℕ → Verdict → Result (Unit {0}) Refusal

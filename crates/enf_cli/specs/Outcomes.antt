@@ -1,23 +1,21 @@
 -- What holds of a run at each status.
-use Rattle.std.specs.Prelude.{◌≡◌, ℕ, ◌+◌, List, length, ◌⊎◌, None, Result, Ok, Err}
+use Rattle.std.specs.Prelude.{◌≡◌, ℕ, ◌+◌, List, [], length, ◌⊎◌, Option, Result, Ok, Err}
 use Rattle.enf_io.specs.Counts.{one_more}
-use Rattle.enforcer_core.specs.Follows.{Follows}
-use Rattle.enforcer_core.specs.Rules.{policy_of}
-use Rattle.enforcer_core.specs.declared.enforcer.CauseRule.{CauseRule}
+use Rattle.enf_io.specs.Exchange.{Exchange, Gave}
+use Rattle.formula_reader.specs.Resolution.{Rule}
 use Rattle.signature.specs.declared.entries.NameEntry.{NameEntry}
-use Rattle.log_stream.specs.Logs.{IsLog}
-use Rattle.log_stream.specs.declared.items.LogItem.{LogItem}
-use Rattle.log_stream.specs.declared.items.LogMode.TheVariants.{Input}
-use Rattle.trace_meaning.specs.Records.{NeverFall}
-use Rattle.enf_cli.specs.Accepted.{UpToDate, records_of}
+use Rattle.log_gen.specs.Generated.{generated_text}
+use Rattle.log_stream.specs.Logs.{behind_blanks}
+use Rattle.enf_cli.specs.Accepted.{AnswersBytes, UpToDate}
 use Rattle.enf_cli.specs.Calls.{Call, LeavesFiles, LeavesGate, LeavesReport}
-use Rattle.enf_cli.specs.Enforcement.{IsEnforced}
 use Rattle.enf_cli.specs.Files.{FailsToRead, HoldsPolicy, HoldsRefusedPolicy, HoldsRefusedSignature, HoldsSignature}
 use Rattle.enf_cli.specs.Exchanges.{Exchanged}
+use Rattle.enf_cli.specs.Generating.{AddsPartOrNothing}
+use Rattle.enf_cli.specs.Policies.{formulas}
 use Rattle.enf_cli.specs.Logs.{CutsRun, MetEnd, RunsLog}
 use Rattle.enf_cli.specs.Refusals.{text_of_refusal}
-use Rattle.enf_cli.specs.Reports.{IsReported, IsReportedInPart, SaysNoMemory}
-use Rattle.enf_cli.specs.Words.{IsEnforce}
+use Rattle.enf_cli.specs.Reports.{AddsPart, IsReported, IsReportedInPart, SaysNoMemory}
+use Rattle.enf_cli.specs.Words.{IsEnforce, IsGenerate, MatchNoForm}
 use Rattle.enf_cli.specs.declared.endings.Cut.{Cut}
 use Rattle.enf_cli.specs.declared.endings.Cut.TheVariants as cuts
 use Rattle.enf_cli.specs.declared.endings.Ending.{Ending}
@@ -31,17 +29,13 @@ use Rattle.enf_cli.specs.declared.refusals.SignatureRefusal.{SignatureRefusal}
 use Rattle.enf_cli.specs.declared.refusals.Status.{Status}
 use Rattle.enf_cli.specs.declared.refusals.Status.TheVariants as statuses
 
--- the words match no form
-abbrev pub MatchNoForm : List (List ℕ) → Type 0
-MatchNoForm words = (signature policy : List ℕ) → IsEnforce words signature policy → ⊥
-
--- the words ask to enforce a policy of these rules under a signature of these entries, as the files hold them
-pub record Asks {Gate : Type 0} (call : Call Gate) (entries : List NameEntry) (rules : List CauseRule) : Type 0 where
-  pub signature : List ℕ
-  pub policy : List ℕ
-  pub form : IsEnforce call.words signature policy
-  pub holds_signature : HoldsSignature call.before.files.contents signature entries
-  pub holds_policy : HoldsPolicy call.before.files.contents policy entries rules
+-- the words ask to enforce this policy under a signature of these entries, as the files hold them
+pub record Asks {Gate : Type 0} (call : Call Gate) (entries : List NameEntry) (policy : List Rule) : Type 0 where
+  pub signature_file : List ℕ
+  pub policy_file : List ℕ
+  pub form : IsEnforce call.words signature_file policy_file
+  pub holds_signature : HoldsSignature call.before.files.contents signature_file entries
+  pub holds_policy : HoldsPolicy call.before.files.contents policy_file entries policy
 
 -- the words match no form, and nothing was touched
 pub record RefusesWords {Gate : Type 0} (call : Call Gate) : Type 0 where
@@ -51,49 +45,49 @@ pub record RefusesWords {Gate : Type 0} (call : Call Gate) : Type 0 where
 
 -- the signature is refused, and the gate was not touched
 pub record RefusesSignature {Gate : Type 0} (call : Call Gate) (why : SignatureRefusal) : Type 0 where
-  pub signature : List ℕ
-  pub policy : List ℕ
-  pub form : IsEnforce call.words signature policy
-  pub refused : HoldsRefusedSignature call.before.files.contents signature why
+  pub signature_file : List ℕ
+  pub policy_file : List ℕ
+  pub form : IsEnforce call.words signature_file policy_file
+  pub refused : HoldsRefusedSignature call.before.files.contents signature_file why
   pub gate : LeavesGate call
   pub files : LeavesFiles call
 
 -- there is a signature, the policy is refused under it, and the gate was not touched
 pub record RefusesPolicy {Gate : Type 0} (call : Call Gate) (why : PolicyRefusal) : Type 0 where
-  pub signature : List ℕ
-  pub policy : List ℕ
-  pub form : IsEnforce call.words signature policy
+  pub signature_file : List ℕ
+  pub policy_file : List ℕ
+  pub form : IsEnforce call.words signature_file policy_file
   pub entries : List NameEntry
-  pub holds_signature : HoldsSignature call.before.files.contents signature entries
-  pub refused : HoldsRefusedPolicy call.before.files.contents policy entries why
+  pub holds_signature : HoldsSignature call.before.files.contents signature_file entries
+  pub refused : HoldsRefusedPolicy call.before.files.contents policy_file entries why
   pub gate : LeavesGate call
   pub files : LeavesFiles call
 
 -- the record of this number is refused, behind those that were enforced
 pub record RefusesRecord {Gate : Type 0} (call : Call Gate) (number : ℕ) (why : RecordRefusal) : Type 0 where
   pub entries : List NameEntry
-  pub rules : List CauseRule
-  pub asks : Asks call entries rules
-  pub ran : RunsLog entries rules (verdicts.Refused why) call.before.gate call.after.gate
+  pub policy : List Rule
+  pub asks : Asks call entries policy
+  pub ran : RunsLog entries (formulas policy) (verdicts.Refused why) call.before.gate call.after.gate
   pub number_is : number ≡ length ran.answers.read + 1
   pub files : LeavesFiles call
 
 -- the signature was not read, or the policy behind a signature, and the gate was not touched
 pub record MissesFile {Gate : Type 0} (call : Call Gate) : Type 0 where
-  pub signature : List ℕ
-  pub policy : List ℕ
-  pub form : IsEnforce call.words signature policy
-  pub failed : FailsToRead signature call.before.files call.after.files
-      ⊎ (((entries : List NameEntry) × HoldsSignature call.before.files.contents signature entries)
-      × FailsToRead policy call.before.files call.after.files)
+  pub signature_file : List ℕ
+  pub policy_file : List ℕ
+  pub form : IsEnforce call.words signature_file policy_file
+  pub failed : FailsToRead signature_file call.before.files call.after.files
+      ⊎ (((entries : List NameEntry) × HoldsSignature call.before.files.contents signature_file entries)
+      × FailsToRead policy_file call.before.files call.after.files)
   pub gate : LeavesGate call
 
 -- a read of the log failed, behind the records that were enforced
 pub record BreaksOffLog {Gate : Type 0} (call : Call Gate) : Type 0 where
   pub entries : List NameEntry
-  pub rules : List CauseRule
-  pub asks : Asks call entries rules
-  pub ran : RunsLog entries rules verdicts.Fault call.before.gate call.after.gate
+  pub policy : List Rule
+  pub asks : Asks call entries policy
+  pub ran : RunsLog entries (formulas policy) verdicts.Fault call.before.gate call.after.gate
   pub failed : call.after.gate.read_faults ≡ one_more call.before.gate.read_faults
   pub files : LeavesFiles call
 
@@ -105,21 +99,19 @@ Meets call (refusals.Policy why) = RefusesPolicy call why
 Meets call (refusals.Record number why) = RefusesRecord call number why
 Meets call refusals.ReadFault = MissesFile call ⊎ BreaksOffLog call
 
--- the run is done: the whole log was taken, it is a log of these records, whose times never fall, and what was given is
--- the text of steps that are a lawful change of them and a trace that satisfies the policy
+-- the run is done: the whole log was taken, nothing is left behind its accepted records, and what was given is what is
+-- owed to them: the text of steps that are a lawful change of them and a trace that satisfies the policy
 pub record IsDone {Gate : Type 0} (call : Call Gate) : Type 0 where
   pub entries : List NameEntry
-  pub rules : List CauseRule
-  pub asks : Asks call entries rules
+  pub policy : List Rule
+  pub asks : Asks call entries policy
   pub taken : List ℕ
   pub given : List ℕ
-  pub exchanged : Exchanged (UpToDate entries rules) taken given call.before.gate.told call.after.gate.told
+  pub rest : List ℕ
+  pub answers : AnswersBytes entries (formulas policy) taken given rest
+  pub nothing_left : behind_blanks rest ≡ []
   pub whole : MetEnd (length taken) call.after.gate
-  pub read : List LogItem
-  pub log : IsLog entries Input taken read None
-  pub rising : NeverFall 0 (records_of read)
-  pub enforced : IsEnforced entries (policy_of rules) (records_of read) given
-  pub decided : Follows rules (records_of read) enforced.out
+  pub exchanged : Exchanged (UpToDate entries (formulas policy)) taken given call.before.gate.told call.after.gate.told
   pub reads : call.after.gate.read_faults ≡ call.before.gate.read_faults
   pub writes : call.after.gate.write_faults ≡ call.before.gate.write_faults
   pub files : LeavesFiles call
@@ -127,35 +119,61 @@ pub record IsDone {Gate : Type 0} (call : Call Gate) : Type 0 where
 -- a write to the gate failed, behind a front of what the log lets out
 pub record FailsToWrite {Gate : Type 0} (call : Call Gate) : Type 0 where
   pub entries : List NameEntry
-  pub rules : List CauseRule
-  pub asks : Asks call entries rules
-  pub cut : CutsRun entries rules call.before.gate call.after.gate cuts.WriteFault
+  pub policy : List Rule
+  pub asks : Asks call entries policy
+  pub cut : CutsRun entries (formulas policy) call.before.gate call.after.gate cuts.WriteFault
   pub files : LeavesFiles call
 
 -- memory ran out before the log was begun
 pub record RunsOutBefore {Gate : Type 0} (call : Call Gate) : Type 0 where
-  pub signature : List ℕ
-  pub policy : List ℕ
-  pub form : IsEnforce call.words signature policy
+  pub signature_file : List ℕ
+  pub policy_file : List ℕ
+  pub form : IsEnforce call.words signature_file policy_file
   pub gate : LeavesGate call
   pub files : LeavesFiles call
 
 -- memory ran out within the log, behind a front of what it lets out
 pub record RunsOutWithin {Gate : Type 0} (call : Call Gate) : Type 0 where
   pub entries : List NameEntry
-  pub rules : List CauseRule
-  pub asks : Asks call entries rules
-  pub cut : CutsRun entries rules call.before.gate call.after.gate cuts.NoMemory
+  pub policy : List Rule
+  pub asks : Asks call entries policy
+  pub cut : CutsRun entries (formulas policy) call.before.gate call.after.gate cuts.NoMemory
   pub files : LeavesFiles call
+
+-- the words ask to generate a log, and what was given to the gate is so of its text; nothing was taken from the gate,
+-- no read of it was made, and the files were not touched
+pub record Generates {Gate : Type 0} (call : Call Gate)
+    (IsGiven : List ℕ → Option Exchange → Option Exchange → Type 0) : Type 0 where
+  pub start : ℕ
+  pub steps : ℕ
+  pub form : IsGenerate call.words start steps
+  pub given : IsGiven (generated_text start steps) call.before.gate.told call.after.gate.told
+  pub reads : call.after.gate.read_faults ≡ call.before.gate.read_faults
+  pub files : LeavesFiles call
+
+-- the log was given whole
+pub record GeneratesLog {Gate : Type 0} (call : Call Gate) : Type 0 where
+  pub log : Generates call Gave
+  pub writes : call.after.gate.write_faults ≡ call.before.gate.write_faults
+
+-- a write to the gate failed behind a front of the log, which is not the whole
+pub record GeneratesInPart {Gate : Type 0} (call : Call Gate) : Type 0 where
+  pub log : Generates call AddsPart
+  pub writes : call.after.gate.write_faults ≡ one_more call.before.gate.write_faults
+
+-- memory ran out behind a front of the log, which is not the whole, or at once
+pub record RunsOutGenerating {Gate : Type 0} (call : Call Gate) : Type 0 where
+  pub log : Generates call AddsPartOrNothing
+  pub writes : call.after.gate.write_faults ≡ call.before.gate.write_faults
 
 -- what holds where a run is cut, but for the report
 abbrev pub IsCut : {Gate : Type 0} → Call Gate → Cut → Type 0
-IsCut call cuts.WriteFault = FailsToWrite call
-IsCut call cuts.NoMemory = RunsOutBefore call ⊎ RunsOutWithin call
+IsCut call cuts.WriteFault = FailsToWrite call ⊎ GeneratesInPart call
+IsCut call cuts.NoMemory = (RunsOutBefore call ⊎ RunsOutWithin call) ⊎ RunsOutGenerating call
 
 -- how the work of a run ends, but for the report
 abbrev pub Performs : {Gate : Type 0} → Call Gate → Result (Unit {0}) Ending → Type 0
-Performs call (Ok done) = IsDone call
+Performs call (Ok done) = IsDone call ⊎ GeneratesLog call
 Performs call (Err (endings.Refused why)) = Meets call why
 Performs call (Err (endings.Cut cut)) = IsCut call cut
 
@@ -177,12 +195,12 @@ pub record RunsOut {Gate : Type 0} (call : Call Gate) : Type 0 where
 
 -- what holds at each status
 abbrev pub Outcome : {Gate : Type 0} → Call Gate → Status → Type 0
-Outcome call statuses.Done = IsDone call × LeavesReport call
+Outcome call statuses.Done = (IsDone call ⊎ GeneratesLog call) × LeavesReport call
 Outcome call statuses.Words = Refuses call refusals.Words
 Outcome call statuses.Files =
     ((why : SignatureRefusal) × Refuses call (refusals.Signature why))
     ⊎ ((why : PolicyRefusal) × Refuses call (refusals.Policy why))
 Outcome call statuses.Record = (number : ℕ) × (why : RecordRefusal) × Refuses call (refusals.Record number why)
 Outcome call statuses.ReadFault = Refuses call refusals.ReadFault
-Outcome call statuses.WriteFault = FailsToWrite call × LeavesReport call
+Outcome call statuses.WriteFault = (FailsToWrite call ⊎ GeneratesInPart call) × LeavesReport call
 Outcome call statuses.NoMemory = RunsOut call ⊎ RunsOutInLine call

@@ -1,5 +1,6 @@
 -- What one turn of the run of a log does.
-use Rattle.std.specs.Prelude.{◌≡◌, ℕ, ◌+◌, ◌<◌, ◌≤◌, List, [], ◌∷◌, ◌++◌, length, Option, None, Some, ◌⊎◌, Ok}
+use Rattle.std.specs.Prelude.{◌≡◌, ℕ, ◌+◌, ◌-◌, ◌<◌, ◌≤◌, List, [], ◌∷◌, ◌++◌, length}
+use Rattle.std.specs.Prelude.{Option, None, Some, ◌⊎◌, Ok, false}
 use Rattle.enf_io.specs.Counts.{one_more}
 use Rattle.enf_io.specs.Exchange.{Exchange, Gave, IsAtEnd, Marked, Took}
 use Rattle.enf_io.specs.Streams.{Stream}
@@ -19,7 +20,8 @@ use Rattle.signature.specs.Grammar.{names as names_of}
 use Rattle.signature.specs.declared.entries.NameEntry.{NameEntry}
 use Rattle.trace_meaning.specs.Records.{Record, time_of}
 use Rattle.enf_cli.specs.Accepted.{record_of}
-use Rattle.enf_cli.specs.Endings.{GaveFront}
+use Rattle.enf_cli.specs.Limits.{most_log_bytes, most_read_bytes}
+use Rattle.enf_cli.specs.Endings.{GaveLines}
 use Rattle.enf_cli.specs.declared.endings.Cut.{Cut}
 use Rattle.enf_cli.specs.declared.endings.Cut.TheVariants as cuts
 use Rattle.enf_cli.specs.declared.log.Enforcement.{Enforcement}
@@ -27,7 +29,6 @@ use Rattle.enf_cli.specs.declared.log.Next.{Next}
 use Rattle.enf_cli.specs.declared.log.Next.TheVariants as nexts
 use Rattle.enf_cli.specs.declared.log.Turn.{Turn}
 use Rattle.enf_cli.specs.declared.log.Turn.TheVariants as turns
-use Rattle.enf_cli.specs.declared.log.TheConstants.{MOST_LOG_BYTES}
 use Rattle.enf_cli.specs.declared.log.Verdict.{Verdict}
 use Rattle.enf_cli.specs.declared.log.Verdict.TheVariants as verdicts
 use Rattle.enf_cli.specs.declared.refusals.RecordRefusal.{RecordRefusal}
@@ -36,6 +37,15 @@ use Rattle.enf_cli.specs.declared.refusals.RecordRefusal.TheVariants as records
 -- the reader of a log under these entries, which has refused nothing, with a rest
 abbrev pub reads_on : List NameEntry → List ℕ → Reader
 reads_on entries rest = record { entries = entries; mode = Input; rest = rest; refused = None }
+
+-- a log of which nothing was taken yet, under these entries
+pub record IsNew (entries : List NameEntry) (log : Enforcement) : Type 0 where
+  pub reader : log.reader ≡ reads_on entries []
+  pub clock : log.enforcer.clock ≡ 0
+  pub going : log.enforcer.stopped ≡ false
+  pub accepted : log.accepted ≡ 0
+  pub taken : log.taken ≡ 0
+  pub room : length log.piece.items ≡ most_read_bytes
 
 -- the enforcer took the record, and this is what it lets out for it
 pub record TakesRecord (before : Enforcing) (next : Record) (made : StepOut) (after : Enforcing) : Type 0 where
@@ -66,13 +76,13 @@ abbrev pub AnswersItem : List NameEntry → Record → Option RecordRefusal → 
 AnswersItem entries next None before after told told' = TakesItem entries next before after told told'
 AnswersItem entries next (Some why) before after told told' = LeavesItem next why before told told'
 
--- the record was taken, and its lines given up to somewhere in them
+-- the record was taken, and its lines were not all given
 pub record CutsLines (entries : List NameEntry) (next : Record) (before : Enforcing)
     (told told' : Option Exchange) : Type 0 where
   pub made : StepOut
   pub after : Enforcing
   pub takes : TakesRecord before next made after
-  pub given : GaveFront (lines_of entries made) told told'
+  pub given : GaveLines (names_of entries) (out_steps made.steps) told told'
 
 abbrev pub CutsItem : List NameEntry → Record → Enforcing → Option Exchange → Option Exchange → Cut → Type 0
 CutsItem entries next before told told' cuts.WriteFault = CutsLines entries next before told told'
@@ -134,13 +144,18 @@ CutsNext entries rest before told told' cuts.WriteFault = CutsTaken entries rest
 CutsNext entries rest before told told' cuts.NoMemory =
     (told' ≡ told) ⊎ CutsTaken entries rest before told told'
 
+-- a read took these bytes, no more than one read may take, and no more than may still be taken
+pub record TakesBytes (left : ℕ) (bytes : List ℕ) (told told' : Option Exchange) : Type 0 where
+  pub took : Took bytes told told'
+  pub piece : length bytes ≤ most_read_bytes
+  pub within : length bytes ≤ left
+
 -- a piece was taken and fed
 pub record TakesPiece (count left : ℕ) (reader reader' : Reader) (before after : Stream) : Type 0 where
   pub bytes : List ℕ
-  pub took : Took bytes before.told after.told
+  pub takes : TakesBytes left bytes before.told after.told
   pub count_is : length bytes ≡ count
   pub some : 0 < count
-  pub within : count ≤ left
   pub fed_is : reader' ≡ fed reader bytes
   pub reads : after.read_faults ≡ before.read_faults
 
@@ -155,9 +170,9 @@ TakesTurn turns.Fault left reader reader' before after =
 TakesTurn turns.Limit left reader reader' before after = (left ≡ 0) × (reader' ≡ reader) × (after ≡ before)
 
 -- memory ran out at a read, or behind one
-abbrev pub LosesPiece : Stream → Stream → Type 0
-LosesPiece before after =
-    ((after.told ≡ before.told) ⊎ ((bytes : List ℕ) × Took bytes before.told after.told))
+abbrev pub LosesPiece : ℕ → Stream → Stream → Type 0
+LosesPiece left before after =
+    ((after.told ≡ before.told) ⊎ ((bytes : List ℕ) × TakesBytes left bytes before.told after.told))
     × (after.read_faults ≡ before.read_faults)
 
 -- what a refusal of the log's reader says; for want of memory nothing
@@ -188,13 +203,12 @@ pub record EnforcesOne (entries : List NameEntry) (log log' : Enforcement) (befo
 pub record TakesMore (entries : List NameEntry) (log log' : Enforcement) (before after : Stream) : Type 0 where
   pub pending : IsPending log.reader.rest
   pub bytes : List ℕ
-  pub took : Took bytes before.told after.told
+  pub takes : TakesBytes (most_log_bytes - log.taken) bytes before.told after.told
   pub some : 0 < length bytes
   pub reader : log'.reader ≡ reads_on entries (behind_blanks log.reader.rest ++ bytes)
   pub enforcer : log'.enforcer ≡ log.enforcer
   pub accepted : log'.accepted ≡ log.accepted
   pub taken : log'.taken ≡ log.taken + length bytes
-  pub within : log'.taken ≤ MOST_LOG_BYTES
   pub reads : after.read_faults ≡ before.read_faults
 
 -- a read met the end of the input
@@ -202,7 +216,7 @@ pub record MeetsEnd (log : Enforcement) (before after : Stream) : Type 0 where
   pub pending : IsPending log.reader.rest
   pub took : Took [] before.told after.told
   pub at_end : IsAtEnd after.told
-  pub below : log.taken < MOST_LOG_BYTES
+  pub below : log.taken < most_log_bytes
   pub reads : after.read_faults ≡ before.read_faults
 
 -- the device is as it was
@@ -212,7 +226,7 @@ IsLeft before after = (after.told ≡ before.told) × (after.read_faults ≡ bef
 abbrev pub EndsByRefusal : List NameEntry → Enforcement → Stream → Stream → RecordRefusal → Type 0
 EndsByRefusal entries log before after records.Truncated = IsTruncated log.reader.rest × MeetsEnd log before after
 EndsByRefusal entries log before after records.InputLimit =
-    IsPending log.reader.rest × (log.taken ≡ MOST_LOG_BYTES) × IsLeft before after
+    IsPending log.reader.rest × (log.taken ≡ most_log_bytes) × IsLeft before after
 EndsByRefusal entries log before after why =
     RefusesNext entries log.reader.rest log.enforcer.clock why × IsLeft before after
 
@@ -229,11 +243,19 @@ AnswersTurn entries None log log' before after =
 AnswersTurn entries (Some verdict) log log' before after =
     (log'.accepted ≡ log.accepted) × EndsTurn entries log before after verdict
 
--- the turn was cut: nothing was given, or a front of the lines for the record at the front
-abbrev pub CutsTurn : List NameEntry → List ℕ → Enforcing → Stream → Stream → Cut → Type 0
-CutsTurn entries rest now before after cuts.WriteFault =
-    CutsTaken entries rest now before.told after.told × (after.read_faults ≡ before.read_faults)
-CutsTurn entries rest now before after cuts.NoMemory =
+-- a piece was taken, and lost for want of memory
+pub record LosesBytes (log : Enforcement) (told told' : Option Exchange) : Type 0 where
+  pub pending : IsPending log.reader.rest
+  pub bytes : List ℕ
+  pub takes : TakesBytes (most_log_bytes - log.taken) bytes told told'
+
+-- the turn was cut: nothing was done, a piece was lost, or the lines for the record at the front were not all given
+abbrev pub CutsTurn : List NameEntry → Enforcement → Stream → Stream → Cut → Type 0
+CutsTurn entries log before after cuts.WriteFault =
+    CutsTaken entries log.reader.rest log.enforcer before.told after.told
+    × (after.read_faults ≡ before.read_faults)
+CutsTurn entries log before after cuts.NoMemory =
     ((after.told ≡ before.told)
-    ⊎ (((bytes : List ℕ) × Took bytes before.told after.told × IsPending rest)
-    ⊎ CutsTaken entries rest now before.told after.told)) × (after.read_faults ≡ before.read_faults)
+    ⊎ (LosesBytes log before.told after.told
+    ⊎ CutsTaken entries log.reader.rest log.enforcer before.told after.told))
+    × (after.read_faults ≡ before.read_faults)

@@ -25,6 +25,15 @@ text_of_signature_refusal (signatures.Limit place) = codes "signature: limit at 
 
 abbrev pub text_of_policy_refusal : PolicyRefusal → List ℕ
 text_of_policy_refusal policies.TooLong = codes "policy: too long\n"
+text_of_policy_refusal (policies.Syntax place) = codes "policy: syntax at " ++ decimal place ++ codes "\n"
+text_of_policy_refusal (policies.UnknownName place) =
+    codes "policy: unknown name at " ++ decimal place ++ codes "\n"
+text_of_policy_refusal (policies.Arity place) = codes "policy: arity at " ++ decimal place ++ codes "\n"
+text_of_policy_refusal (policies.Sort place) = codes "policy: sort at " ++ decimal place ++ codes "\n"
+text_of_policy_refusal (policies.FreeVariable place) =
+    codes "policy: free variable at " ++ decimal place ++ codes "\n"
+text_of_policy_refusal (policies.Rebound place) = codes "policy: rebound at " ++ decimal place ++ codes "\n"
+text_of_policy_refusal (policies.Limit place) = codes "policy: limit at " ++ decimal place ++ codes "\n"
 text_of_policy_refusal policies.NotBuilt = codes "policy: not built\n"
 
 -- what is said of a record

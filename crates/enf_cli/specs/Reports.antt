@@ -1,9 +1,9 @@
 -- What a refusal leaves on the report.
-use Rattle.std.specs.Prelude.{◌≡◌, ◌≢◌, ℕ, List, [], ◌++◌, ◌⊎◌, Option, Result, Ok, Err}
+use Rattle.std.specs.Prelude.{◌≡◌, ℕ, List, ◌⊎◌, Option, Result, Ok, Err}
 use Rattle.enf_io.specs.Counts.{one_more}
 use Rattle.enf_io.specs.Exchange.{Exchange, Gave}
 use Rattle.enf_io.specs.Streams.{Stream}
-use Rattle.enf_cli.specs.Endings.{write_faults_behind}
+use Rattle.enf_cli.specs.Endings.{IsPart, write_faults_behind}
 use Rattle.enf_cli.specs.Refusals.{no_memory_line, status_of, text_of_refusal}
 use Rattle.enf_cli.specs.declared.endings.Cut.{Cut}
 use Rattle.enf_cli.specs.declared.endings.Cut.TheVariants as cuts
@@ -16,9 +16,7 @@ use Rattle.enf_cli.specs.declared.refusals.Status.TheVariants as statuses
 -- the report has a front of the text more at its end, and not the whole of it
 pub record AddsPart (text : List ℕ) (before after : Option Exchange) : Type 0 where
   pub front : List ℕ
-  pub rest : List ℕ
-  pub some : rest ≢ []
-  pub split : text ≡ front ++ rest
+  pub part : IsPart front text
   pub gave : Gave front before after
 
 -- the text is whole at the end of the report, or a part of it where the writing was cut

@@ -1,11 +1,40 @@
 -- The words of the command line.
-use Rattle.std.specs.Prelude.{◌≡◌, ℕ, List, [], ◌∷◌, codes, map, String, string_bytes}
+use Rattle.std.specs.Prelude.{◌≡◌, ℕ, ◌≤◌, List, [], ◌∷◌, length, codes, map, String, string_bytes}
+use Rattle.std.specs.Str.Parse.{IsNumeral, digits_value}
 use Rattle.std.specs.declared.alloc.Global.{Global}
+use Rattle.enf_cli.specs.Limits.{most_start, most_steps}
+use Rattle.enf_cli.specs.declared.words.Form.{Form}
+use Rattle.enf_cli.specs.declared.words.Form.TheVariants as forms
 
 -- the bytes of each word
 abbrev pub texts : List (String Global) → List (List ℕ)
 texts words = map string_bytes words
 
+-- one to ten decimal digits that write the number, which is at most a limit; leading zeros count for nothing
+pub record IsNumber (most : ℕ) (word : List ℕ) (number : ℕ) : Type 0 where
+  pub numeral : IsNumeral 10 word
+  pub short : length word ≤ 10
+  pub value : number ≡ digits_value 10 word
+  pub within : number ≤ most
+
 -- `enforce SIG POLICY`
 abbrev pub IsEnforce : List (List ℕ) → List ℕ → List ℕ → Type 0
 IsEnforce words signature policy = words ≡ codes "enforce" ∷ signature ∷ policy ∷ []
+
+-- `gen START N`
+pub record IsGenerate (words : List (List ℕ)) (start steps : ℕ) : Type 0 where
+  pub start_word : List ℕ
+  pub steps_word : List ℕ
+  pub form : words ≡ codes "gen" ∷ start_word ∷ steps_word ∷ []
+  pub is_start : IsNumber most_start start_word start
+  pub are_steps : IsNumber most_steps steps_word steps
+
+-- the words match the form, with what stands in its places
+abbrev pub Matches : List (List ℕ) → Form → Type 0
+Matches words (forms.Enforce signature policy) = IsEnforce words signature.now policy.now
+Matches words (forms.Generate start steps) = IsGenerate words start steps
+
+-- the words match no form
+pub record MatchNoForm (words : List (List ℕ)) : Type 0 where
+  pub enforce : (signature policy : List ℕ) → IsEnforce words signature policy → ⊥
+  pub generate : (start steps : ℕ) → IsGenerate words start steps → ⊥

@@ -1,12 +1,12 @@
 //! The signature and the policy, as the files give them.
-ghost use Rattle.std.specs.Prelude.{◌≡◌, ◌≤◌, Err, IfOk, IfErr, IsTrue, All, MatchOption, OnOk, length};
+ghost use Rattle.std.specs.Prelude.{◌≡◌, ◌≤◌, Err, IfOk, IfErr, IsTrue, All, MatchOption, OnOk, Some, length};
 ghost use Rattle.enf_cli.specs.Enforcement.{is_causable};
-ghost use Rattle.enf_cli.specs.Files.{EndsFile, HoldsPolicy, HoldsRefusedPolicy, HoldsRefusedSignature, HoldsSignature, IsLong, IsNotRead, IsRefusedSignature, IsShort, word_from};
+ghost use Rattle.enf_cli.specs.Files.{EndsFile, HoldsBuilt, HoldsRefusedPolicy, HoldsRefusedSignature, HoldsSignature, IsLong, IsNotRead, IsRefusedSignature, IsShort, policy_refusal_for, word_from};
 ghost use Rattle.signature.specs.Refusals.{GivesAnswer};
 
+use crate::building::build_rules;
 use crate::endings::FileEnding;
 use crate::refusals::{PolicyRefusal, SignatureRefusal};
-use crate::rules::read_rules;
 use enf_io::devices::{Files, IoRefusal};
 use enf_value::{ByteKind, MOST_FILE_BYTES, NoMemory};
 use enforcer_core::enforcer::CauseRule;
@@ -33,7 +33,7 @@ pub fn read_signature<F: Files>(
     }
 }
 
-/// Reads the policy under a signature.
+/// Reads the policy under a signature, and gives the cause rules that it is.
 pub fn read_policy<F: Files>(
     alloc: Global,
     files: &mut F,
@@ -41,7 +41,7 @@ pub fn read_policy<F: Files>(
     signature: &Signature,
 ) -> Result<Vec<CauseRule>, FileEnding<PolicyRefusal>>
     ensures held { IfOk result
-        (λ rules. HoldsPolicy (F.seen files.old).contents name.now signature.now rules.items) }
+        (λ rules. HoldsBuilt (F.seen files.old).contents name.now signature.now rules.items) }
     ensures causable { IfOk result
         (λ rules. All (λ rule. IsTrue (is_causable signature.now rule.cause)) rules.items) }
     ensures same { OnOk result (F.seen files.new ≡ F.seen files.old) }
@@ -52,7 +52,11 @@ pub fn read_policy<F: Files>(
     let Some(bytes) = read_file(files, name)? else {
         return Err(FileEnding::Refused(PolicyRefusal::TooLong));
     };
-    match read_rules(alloc, signature, &bytes)? {
+    let policy = match formula_reader::read_policy(alloc, signature, &bytes) {
+        Ok(policy) => policy,
+        Err(refusal) => return Err(FileEnding::Refused(policy_refusal_of(refusal)?)),
+    };
+    match build_rules(alloc, signature, policy.rules.as_slice())? {
         Some(rules) => Ok(rules),
         None => Err(FileEnding::Refused(PolicyRefusal::NotBuilt)),
     }
@@ -76,6 +80,26 @@ fn refusal_of(
         }),
         signature::SignatureRefusal::Limit { place, .. } => Ok(SignatureRefusal::Limit { place }),
         signature::SignatureRefusal::NoMemory => Err(NoMemory),
+    }
+}
+
+// What a refusal of the reader of policies says.
+fn policy_refusal_of(refusal: formula_reader::PolicyRefusal) -> Result<PolicyRefusal, NoMemory>
+    ensures { IfOk result (λ why. policy_refusal_for refusal ≡ Some why) }
+{
+    match refusal {
+        formula_reader::PolicyRefusal::Syntax { place } => Ok(PolicyRefusal::Syntax { place }),
+        formula_reader::PolicyRefusal::UnknownName { place } => {
+            Ok(PolicyRefusal::UnknownName { place })
+        }
+        formula_reader::PolicyRefusal::Arity { place } => Ok(PolicyRefusal::Arity { place }),
+        formula_reader::PolicyRefusal::SortClash { place } => Ok(PolicyRefusal::Sort { place }),
+        formula_reader::PolicyRefusal::FreeVariable { place } => {
+            Ok(PolicyRefusal::FreeVariable { place })
+        }
+        formula_reader::PolicyRefusal::Rebound { place } => Ok(PolicyRefusal::Rebound { place }),
+        formula_reader::PolicyRefusal::Limit { place } => Ok(PolicyRefusal::Limit { place }),
+        formula_reader::PolicyRefusal::NoMemory => Err(NoMemory),
     }
 }
 

@@ -4,7 +4,7 @@ ghost use Rattle.enf_io.specs.Exchange.{Gave};
 ghost use Rattle.enforcer_core.specs.Enforcers.{out_steps};
 ghost use Rattle.log_stream.specs.Lines.{text_of};
 ghost use Rattle.signature.specs.Grammar.{names as names_of};
-ghost use Rattle.enf_cli.specs.Endings.{GaveFront, write_faults_behind};
+ghost use Rattle.enf_cli.specs.Endings.{GaveLines, write_faults_behind};
 
 use crate::endings::Cut;
 use enf_io::devices::Sink;
@@ -25,8 +25,7 @@ pub fn write_steps<S: Sink>(
         (Gave (text_of (names_of signature.now) (out_steps steps.now))
         (S.seen sink.old).told (S.seen sink.new).told) }
     ensures cut { OnErr result
-        (GaveFront (text_of (names_of signature.now) (out_steps steps.now))
-        (S.seen sink.old).told (S.seen sink.new).told) }
+        (GaveLines (names_of signature.now) (out_steps steps.now) (S.seen sink.old).told (S.seen sink.new).told) }
     ensures writes { (S.seen sink.new).write_faults ≡
         write_faults_behind result (S.seen sink.old).write_faults }
     ensures reads { (S.seen sink.new).read_faults ≡ (S.seen sink.old).read_faults }

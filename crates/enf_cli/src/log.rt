@@ -1,13 +1,17 @@
 //! The log: it is taken from the gate piece by piece, and all records that a piece completes are
 //! enforced, and their lines given, before the next read.
-ghost use Rattle.std.specs.Prelude.{◌≡◌, ◌<◌, ◌≤◌, ◌^◌, IfOk, IfErr, IsTrue, All, OnErr, None, Some, length};
+ghost use Rattle.std.specs.Prelude.{◌≡◌, ◌<◌, ◌≤◌, ◌^◌, IfOk, IfErr, IsTrue, List, All, OnErr, None, Some, length};
+ghost use Rattle.enf_formula.specs.Formulas.{Formula as Tree};
+ghost use Rattle.enforcer_core.specs.Rules.{AreBuilt};
+ghost use Rattle.enf_cli.specs.Limits.{most_log_bytes, most_read_bytes};
 ghost use Rattle.enf_cli.specs.Accepted.{record_of};
 ghost use Rattle.enf_cli.specs.Endings.{write_faults_behind};
 ghost use Rattle.enf_cli.specs.Enforcement.{is_causable};
 ghost use Rattle.enf_cli.specs.Logs.{CutsRun, RanAsJudged};
-ghost use Rattle.enf_cli.specs.Progress.{AnswersItem, AnswersNext, AnswersTurn, CutsItem, CutsNext, CutsTurn, JudgesEnd, LosesPiece, TakesTurn, reads_on, refusal_for};
+ghost use Rattle.enf_cli.specs.Progress.{AnswersItem, AnswersNext, AnswersTurn, CutsItem, CutsNext, CutsTurn, IsNew, JudgesEnd, LosesPiece, TakesTurn, reads_on, refusal_for};
 ghost use Rattle.log_stream.specs.Logs.{IsPending};
-ghost use Rattle.trace_meaning.specs.Records.{time_of};
+ghost use Rattle.trace_meaning.specs.Records.{most_time, time_of};
+ghost use Rattle.trace_meaning.specs.declared.kinds.StepKind.TheVariants.{System};
 
 use crate::endings::Cut;
 use crate::lines::write_steps;
@@ -24,8 +28,8 @@ use std::alloc::Global;
 /// The greatest number of bytes that are taken of a log.
 pub const MOST_LOG_BYTES: usize = 1_099_511_627_776;
 
-// The greatest number of bytes that one read asks for.
-const MOST_READ_BYTES: usize = 65_536;
+/// The greatest number of bytes that one read asks for.
+pub const MOST_READ_BYTES: usize = 65_536;
 
 /// What becomes of a log.
 #[derive(Clone, Copy, Debug, PartialEq, Eq)]
@@ -59,40 +63,57 @@ enum Turn {
     Limit,
 }
 
-// A log that is being enforced: how many of its records were accepted, and how many bytes taken.
+/// A log that is enforced: how many of its records were accepted, and how many bytes taken.
 #[derive(Drop)]
-struct Enforcement {
+pub struct Enforcement {
     reader: LogReader,
     enforcer: Enforcer,
+    // Where a read puts what it takes.
+    piece: Vec<u8>,
     accepted: u64,
     taken: usize,
+}
+
+impl Enforcement {
+    /// A log of which nothing was taken yet, to be enforced by these rules.
+    pub fn new(
+        alloc: Global,
+        signature: &Signature,
+        rules: Vec<CauseRule>,
+    ) -> Result<Enforcement, NoMemory>
+        ensures new { IfOk result (IsNew signature.now) }
+        ensures rules { IfOk result (λ log. log.enforcer.rules ≡ rules.items) }
+    {
+        Ok(Enforcement {
+            reader: LogReader::new(alloc, signature.duplicate(alloc)?, LogMode::Input),
+            enforcer: Enforcer::new(rules)?,
+            piece: vec![in alloc; 0; MOST_READ_BYTES]?,
+            accepted: 0,
+            taken: 0,
+        })
+    }
 }
 
 /// Takes the log from the gate, enforces its whole records and gives their lines.
 pub fn enforce_log<G: Gate>(
     alloc: Global,
     signature: &Signature,
-    rules: Vec<CauseRule>,
+    mut log: Enforcement,
     gate: &mut G,
 ) -> Result<Judged, Cut>
-    requires { All (λ rule. IsTrue (is_causable signature.now rule.cause)) rules.items }
-    ensures ran { IfOk result
-        (λ judged. RanAsJudged signature.now rules.items judged (G.seen gate.old) (G.seen gate.new)) }
+    requires new { IsNew signature.now log }
+    requires causable { All (λ rule. IsTrue (is_causable signature.now rule.cause)) log.enforcer.rules }
+    ensures ran { (policy : List Tree) → AreBuilt policy log.enforcer.rules → IfOk result
+        (λ judged. RanAsJudged signature.now policy judged (G.seen gate.old) (G.seen gate.new)) }
     ensures few { IfOk result (λ judged. judged.accepted < 2 ^ 63) }
-    ensures cut { IfErr result
-        (CutsRun signature.now rules.items (G.seen gate.old) (G.seen gate.new)) }
+    ensures cut { (policy : List Tree) → AreBuilt policy log.enforcer.rules → IfErr result
+        (CutsRun signature.now policy (G.seen gate.old) (G.seen gate.new)) }
 {
     laws::course();
     laws::stands_for_good();
-    let mut log = Enforcement {
-        reader: LogReader::new(alloc, signature.duplicate(alloc)?, LogMode::Input),
-        enforcer: Enforcer::new(rules)?,
-        accepted: 0,
-        taken: 0,
-    };
-    let mut piece = vec![in alloc; 0; MOST_READ_BYTES]?;
+    laws::built();
     loop {
-        if let Some(verdict) = go_on(alloc, signature, &mut log, &mut piece, gate)? {
+        if let Some(verdict) = go_on(alloc, signature, &mut log, gate)? {
             return Ok(Judged {
                 accepted: log.accepted,
                 verdict,
@@ -107,17 +128,17 @@ fn go_on<G: Gate>(
     alloc: Global,
     signature: &Signature,
     log: &mut Enforcement,
-    piece: &mut [u8],
     gate: &mut G,
 ) -> Result<Option<Verdict>, Cut>
     requires going { log.old.reader ≡ reads_on signature.now log.old.reader.rest }
-    requires room { log.old.taken ≤ MOST_LOG_BYTES }
+    requires taken { log.old.taken ≤ most_log_bytes }
     requires count { log.old.accepted < 2 ^ 63 }
-    requires piece { 0 < length piece.old }
+    requires room { length log.old.piece.items ≡ most_read_bytes }
+    ensures room { length log.new.piece.items ≡ most_read_bytes }
     ensures turn { IfOk result (λ verdict. AnswersTurn signature.now verdict log.old log.new
         (G.seen gate.old) (G.seen gate.new)) }
-    ensures cut { IfErr result (λ cut. CutsTurn signature.now log.old.reader.rest log.old.enforcer
-        (G.seen gate.old) (G.seen gate.new) cut) }
+    ensures cut { IfErr result (λ cut. CutsTurn signature.now log.old (G.seen gate.old)
+        (G.seen gate.new) cut) }
     ensures writes { (G.seen gate.new).write_faults ≡
         write_faults_behind result (G.seen gate.old).write_faults }
 {
@@ -128,7 +149,8 @@ fn go_on<G: Gate>(
         }
         Next::Refused(why) => Ok(Some(Verdict::Refused(why))),
         Next::Pending => {
-            match take_piece(gate, piece, MOST_LOG_BYTES - log.taken, &mut log.reader)? {
+            let left = MOST_LOG_BYTES - log.taken;
+            match take_piece(gate, &mut log.piece, left, &mut log.reader)? {
                 Turn::More { count } => {
                     log.taken += count;
                     Ok(None)
@@ -148,10 +170,10 @@ fn take_piece<G: Gate>(
     left: usize,
     reader: &mut LogReader,
 ) -> Result<Turn, NoMemory>
-    requires { 0 < length piece.old }
+    requires { length piece.old ≡ most_read_bytes }
     ensures turn { IfOk result
         (λ turn. TakesTurn turn left reader.old reader.new (G.seen gate.old) (G.seen gate.new)) }
-    ensures lost { OnErr result (LosesPiece (G.seen gate.old) (G.seen gate.new)) }
+    ensures lost { OnErr result (LosesPiece left (G.seen gate.old) (G.seen gate.new)) }
     ensures writes { (G.seen gate.new).write_faults ≡ (G.seen gate.old).write_faults }
 {
     if left == 0 {
@@ -217,7 +239,7 @@ fn enforce_item<S: Sink>(
     item: LogItem,
     sink: &mut S,
 ) -> Result<Option<RecordRefusal>, Cut>
-    requires { time_of (record_of item) ≤ 1000000000000000 }
+    requires { time_of (record_of item) ≤ most_time System }
     ensures answer { IfOk result
         (λ refused. AnswersItem signature.now (record_of item) refused enforcer.old enforcer.new
         (S.seen sink.old).told (S.seen sink.new).told) }

@@ -3,19 +3,19 @@
 //! `main` makes the standard streams and the files and ends with the status that it answers.
 #![tactic(auto)]
 
+mod building;
 mod endings;
 mod files;
+mod generating;
 mod lines;
 mod log;
-mod names;
 mod refusals;
 mod reporting;
-mod rules;
 mod run;
-mod scanning;
 #[cfg(test)]
 mod tests;
 mod words;
+mod worked_cases;
 
 use enf_io::adapters::{StdFiles, StdGate, StdSink};
 use reporting::report_ending;

@@ -34,10 +34,18 @@ pub enum SignatureRefusal {
     Limit { place: u32 },
 }
 
-/// Why the policy is refused.
+/// Why the policy is refused. A place is a byte offset, counted from 0.
 #[derive(Clone, Copy, Debug, PartialEq, Eq)]
 pub enum PolicyRefusal {
     TooLong,
+    Syntax { place: u32 },
+    UnknownName { place: u32 },
+    Arity { place: u32 },
+    Sort { place: u32 },
+    FreeVariable { place: u32 },
+    Rebound { place: u32 },
+    Limit { place: u32 },
+    /// A rule is not `forall x. guard(x) -> cause()` with a causable cause.
     NotBuilt,
 }
 

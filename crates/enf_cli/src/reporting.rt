@@ -88,6 +88,17 @@ fn write_policy_refusal<R: Sink>(why: PolicyRefusal, report: &mut R) -> Result<(
 {
     match why {
         PolicyRefusal::TooLong => write_pieces(&[b"policy: too long\n"], report),
+        PolicyRefusal::Syntax { place } => write_at(b"policy: syntax at ", place, report),
+        PolicyRefusal::UnknownName { place } => {
+            write_at(b"policy: unknown name at ", place, report)
+        }
+        PolicyRefusal::Arity { place } => write_at(b"policy: arity at ", place, report),
+        PolicyRefusal::Sort { place } => write_at(b"policy: sort at ", place, report),
+        PolicyRefusal::FreeVariable { place } => {
+            write_at(b"policy: free variable at ", place, report)
+        }
+        PolicyRefusal::Rebound { place } => write_at(b"policy: rebound at ", place, report),
+        PolicyRefusal::Limit { place } => write_at(b"policy: limit at ", place, report),
         PolicyRefusal::NotBuilt => write_pieces(&[b"policy: not built\n"], report),
     }
 }

@@ -1,23 +1,24 @@
 //! The top call: all that the program does.
-ghost use Rattle.std.specs.Prelude.{◌≡◌, ◌<◌, ◌^◌, ◌⊎◌};
+ghost use Rattle.std.specs.Prelude.{◌≡◌, ◌<◌, ◌^◌, ℕ, List};
 ghost use Rattle.enf_io.specs.Streams.{Stream};
 ghost use Rattle.enf_cli.specs.Calls.{call_of, devices};
-ghost use Rattle.enf_cli.specs.Dues.{BreaksOff, IsDue};
+ghost use Rattle.enf_cli.specs.Dues.{Dues};
 ghost use Rattle.enf_cli.specs.Logs.{conclusion_of};
 ghost use Rattle.enf_cli.specs.Outcomes.{Outcome, Performs};
-ghost use Rattle.enf_cli.specs.declared.refusals.Status.{Status as AnyStatus};
+ghost use Rattle.enf_cli.specs.Words.{IsEnforce};
 
 use crate::endings::Ending;
 use crate::files::{read_policy, read_signature};
-use crate::log::{Judged, Verdict, enforce_log};
+use crate::generating::give_log;
+use crate::log::{Enforcement, Judged, Verdict, enforce_log};
 use crate::refusals::{Refusal, Status};
 use crate::reporting::report_ending;
-use crate::words::enforce_words;
+use crate::words::{Form, form_of};
 use enf_io::devices::{Files, Gate, Sink};
 use std::alloc::Global;
 
-/// Does what the words ask for: `enforce SIG POLICY` takes the log from the gate, gives the
-/// enforced log to it, and says on the report why a run ends early.
+/// Does what the words ask for: `enforce SIG POLICY` takes the log from the gate and gives the
+/// enforced log to it, `gen START N` gives a generated log. The report says why a run ends early.
 pub fn run<G: Gate, F: Files, R: Sink>(
     alloc: Global,
     words: &[String],
@@ -31,12 +32,12 @@ pub fn run<G: Gate, F: Files, R: Sink>(
         (devices gate.new (G.seen gate.new) (F.seen files.new) (R.seen report.new))) result }
 
     // Where each status must come, unless the run breaks off by a fault or want of memory.
-    ensures due { (status : AnyStatus) → IsDue (call_of words.now
+    ensures due { Dues (call_of words.now
         (devices gate.old (G.seen gate.old) (F.seen files.old) (R.seen report.old))
-        (devices gate.new (G.seen gate.new) (F.seen files.new) (R.seen report.new))) status →
-        (result ≡ status) ⊎ BreaksOff result }
+        (devices gate.new (G.seen gate.new) (F.seen files.new) (R.seen report.new))) result }
 {
     signature::laws::one_answer();
+    formula_reader::laws::one_text_answer();
     log_stream::laws::one_answer();
     match perform(alloc, words, gate, files) {
         Ok(()) => Status::Done,
@@ -55,12 +56,35 @@ fn perform<G: Gate, F: Files>(
         (devices gate.old (G.seen gate.old) (F.seen files.old) report)
         (devices gate.new (G.seen gate.new) (F.seen files.new) report')) result }
 {
-    let Some((signature_file, policy_file)) = enforce_words(words) else {
-        return Err(Ending::Refused(Refusal::Words));
-    };
+    match form_of(words) {
+        Some(Form::Enforce { signature, policy }) => {
+            enforce(alloc, signature, policy, gate, files)
+        }
+        Some(Form::Generate { start, steps }) => Ok(give_log(alloc, start, steps, gate)?),
+        None => Err(Ending::Refused(Refusal::Words)),
+    }
+}
+
+// Enforces the policy on the log that the gate gives.
+fn enforce<G: Gate, F: Files>(
+    alloc: Global,
+    signature_file: &str,
+    policy_file: &str,
+    gate: &mut G,
+    files: &mut F,
+) -> Result<(), Ending>
+    ensures { (words : List (List ℕ)) (report report' : Stream) →
+        IsEnforce words signature_file.now policy_file.now →
+        Performs (record {
+          words = words;
+          before = devices gate.old (G.seen gate.old) (F.seen files.old) report;
+          after = devices gate.new (G.seen gate.new) (F.seen files.new) report';
+        }) result }
+{
     let signature = read_signature(alloc, files, signature_file)?;
     let rules = read_policy(alloc, files, policy_file, &signature)?;
-    let judged = enforce_log(alloc, &signature, rules, gate)?;
+    let log = Enforcement::new(alloc, &signature, rules)?;
+    let judged = enforce_log(alloc, &signature, log, gate)?;
     conclude(judged)?;
     Ok(())
 }

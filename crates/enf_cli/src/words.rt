@@ -1,14 +1,32 @@
 //! The words of the command line.
-ghost use Rattle.std.specs.Prelude.{◌≡◌, ℕ, List, IfSome, IfNone};
-ghost use Rattle.enf_cli.specs.Words.{IsEnforce, texts};
+ghost use Rattle.std.specs.Prelude.{◌≡◌, ◌==◌, ℕ, ◌⊎◌, IfErr, IfSome, IfNone, slice_index};
+ghost use Rattle.enf_cli.specs.Words.{IsNumber, MatchNoForm, Matches, texts};
+ghost use Rattle.enf_cli.specs.declared.endings.Cut.TheVariants.{NoMemory as OutOfMemory};
+ghost use Rattle.enf_cli.specs.declared.endings.Ending.TheVariants as ending;
+ghost use Rattle.enf_cli.specs.declared.refusals.Refusal.TheVariants.{Words};
 
 use crate::endings::Ending;
 use crate::refusals::Refusal;
 use enf_value::memory::NoMemory;
+use log_gen::{MOST_START, MOST_STEPS};
 use std::env::{Env, FillError};
 
+// The greatest number of digits that a number is written with.
+const MOST_DIGITS: usize = 10;
+
+/// What the words ask for.
+#[derive(Clone, Copy, Debug)]
+pub enum Form<'a> {
+    /// `enforce SIG POLICY`
+    Enforce { signature: &'a str, policy: &'a str },
+    /// `gen START N`
+    Generate { start: u32, steps: u32 },
+}
+
 /// The words behind the program's name, which need not be UTF-8. A word that is not matches no form.
-pub fn command_words(rt: &HostRuntime) -> Result<Vec<String>, Ending> {
+pub fn command_words(rt: &HostRuntime) -> Result<Vec<String>, Ending>
+    ensures { IfErr result (λ why. (why ≡ ending.Refused Words) ⊎ (why ≡ ending.Cut OutOfMemory)) }
+{
     let mut words = Vec::new(rt.alloc());
     for place in 1..usize::MAX {
         let Some(bytes) = command_word(rt, place)? else {
@@ -41,16 +59,39 @@ fn command_word(rt: &HostRuntime, place: usize) -> Result<Option<Vec<u8>>, NoMem
     Err(NoMemory)
 }
 
-/// The names of the signature and the policy, where the words are `enforce SIG POLICY`.
-pub fn enforce_words(words: &[String]) -> Option<(&str, &str)>
-    ensures found { IfSome result (λ names. IsEnforce (texts words.now) names.0.now names.1.now) }
-    ensures none { IfNone result
-        ((signature policy : List ℕ) → IsEnforce (texts words.now) signature policy → ⊥) }
+/// The form that the words match.
+pub fn form_of(words: &[String]) -> Option<Form<'_>>
+    ensures some { IfSome result (λ form. Matches (texts words.now) form) }
+    ensures none { IfNone result (MatchNoForm (texts words.now)) }
 {
     match words {
-        [command, signature, policy] if command.as_str() == "enforce" => {
-            Some((signature.as_str(), policy.as_str()))
-        }
+        [command, signature, policy] if command.as_str() == "enforce" => Some(Form::Enforce {
+            signature: signature.as_str(),
+            policy: policy.as_str(),
+        }),
+        [command, start, steps] if command.as_str() == "gen" => Some(Form::Generate {
+            start: read_number(start.as_str(), MOST_START)?,
+            steps: read_number(steps.as_str(), MOST_STEPS)?,
+        }),
         _ => None,
     }
+}
+
+// The number that one to ten digits write, where it is within the limit.
+fn read_number(word: &str, most: u32) -> Option<u32>
+    ensures some { IfSome result (λ number. IsNumber most word.now number) }
+    ensures none { IfNone result ((number : ℕ) → IsNumber most word.now number → ⊥) }
+{
+    if word.len() > MOST_DIGITS || begins_with_plus(word.as_bytes()) {
+        return None;
+    }
+    let number = word.parse().ok()?;
+    (number <= most).then_some(number)
+}
+
+// `parse` takes a plus in front of a number.
+fn begins_with_plus(bytes: &[u8]) -> bool
+    ensures { result ≡ (slice_index bytes.now 0 == 43) }
+{
+    bytes.first() == Some(&b'+')
 }

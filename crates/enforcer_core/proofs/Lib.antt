@@ -4,3 +4,4 @@ pub mod KeptRules
 pub mod LawfulReactions
 pub mod OneStep
 pub mod Courses
+pub mod Built

@@ -8,6 +8,8 @@ use Rattle.enforcer_core.specs.Enforcers.{Enforcing}
 use Rattle.enforcer_core.specs.declared.enforcer.CauseRule.{CauseRule}
 use Rattle.enforcer_core.specs.declared.steps.StepRefusal.{StepRefusal}
 use Rattle.enforcer_core.specs.declared.steps.StepRefusal.TheVariants.{Falling, Stopped, NoMemory}
+use Rattle.enforcer_core.specs.declared.steps.Untaken.{Untaken}
+use Rattle.enforcer_core.specs.declared.steps.Untaken.TheVariants as untaken
 
 -- it goes on, and the time is not over
 pub record IsInTime (enforcer : Enforcing) (time : ℕ) : Type 0 where
@@ -21,11 +23,15 @@ Refuses enforcer time (Falling clock given) =
     (enforcer.stopped ≡ false) × (time < enforcer.clock) × (clock ≡ enforcer.clock) × (given ≡ time)
 Refuses enforcer time NoMemory = IsInTime enforcer time
 
--- whether a call is taken, and else why it is not: that takes no memory
-abbrev pub Admits : {X : Type 0} → Enforcing → ℕ → Result X StepRefusal → Type 0
+-- the refusal of a call that is not taken
+abbrev pub refused_as : Untaken → StepRefusal
+refused_as (untaken.Falling clock given) = Falling clock given
+refused_as untaken.Stopped = Stopped
+
+-- whether a call is taken, and else why it is not
+abbrev pub Admits : Enforcing → ℕ → Result (Unit {0}) Untaken → Type 0
 Admits enforcer time (Ok taken) = IsInTime enforcer time
-Admits enforcer time (Err NoMemory) = ⊥
-Admits enforcer time (Err refusal) = Refuses enforcer time refusal
+Admits enforcer time (Err untaken) = Refuses enforcer time (refused_as untaken)
 
 -- what a refusal leaves: want of memory stops the enforcer, the others change nothing
 abbrev pub left_by : StepRefusal → Enforcing → Enforcing

@@ -1,16 +1,18 @@
 -- The statements of the laws of what an enforcer has done, and of that for which it stands.
 use Rattle.std.specs.Prelude.{◌≡◌, Bool, IsTrue, List, [], ◌∷◌, ◌++◌, All, Ok}
+use Rattle.enf_formula.specs.Formulas.{Formula}
 use Rattle.enf_value.specs.declared.events.NameId.{NameId}
 use Rattle.enf_value.specs.declared.steps.Step.{Step}
 use Rattle.trace_meaning.specs.Enforced.{Enforced}
 use Rattle.trace_meaning.specs.Good.{Good}
 use Rattle.trace_meaning.specs.OutSteps.{OutStep}
 use Rattle.trace_meaning.specs.Records.{Record, time_of}
+use Rattle.trace_meaning.specs.Satisfies.{Satisfies}
 use Rattle.enforcer_core.specs.Answered.{Answered, ChangesLawfully}
 use Rattle.enforcer_core.specs.Course.{Course}
 use Rattle.enforcer_core.specs.Enforcers.{Enforcing, out_steps}
 use Rattle.enforcer_core.specs.Follows.{Follows}
-use Rattle.enforcer_core.specs.Rules.{policy_of}
+use Rattle.enforcer_core.specs.Rules.{AreBuilt, IsBuilt, policy_of}
 use Rattle.enforcer_core.specs.Stands.{Stands, KeepsStanding}
 use Rattle.enforcer_core.specs.declared.enforcer.CauseRule.{CauseRule}
 use Rattle.enforcer_core.specs.declared.steps.StepOut.{StepOut}
@@ -50,3 +52,12 @@ SomeDecision = (rules : List CauseRule) (records : List Record) → (out : List 
 abbrev pub OneDecision : Type 0
 OneDecision = (rules : List CauseRule) (records : List Record) (out other : List OutStep)
     → Follows rules records out → Follows rules records other → out ≡ other
+
+-- a trace that satisfies the policy of rules satisfies each policy that they are built from
+abbrev pub BuiltAreSatisfied : Type 0
+BuiltAreSatisfied = (policy : List Formula) (rules : List CauseRule) (trace : List Step) → AreBuilt policy rules
+    → Satisfies trace (policy_of rules) → Satisfies trace policy
+
+-- a formula is that of one rule at most
+abbrev pub OneRule : Type 0
+OneRule = (formula : Formula) (rule other : CauseRule) → IsBuilt formula rule → IsBuilt formula other → rule ≡ other

@@ -1,19 +1,28 @@
 //! Cause rules, and the enforcer that keeps them.
 ghost use Rattle.std.specs.Prelude.{◌≡◌, ◌≢◌, ℕ, ◌≤◌, [], ◌∷◌, ◌++◌, ◌↔◌, false, IsTrue, Contains};
-ghost use Rattle.std.specs.Prelude.{IfOk, OnOk, Err};
+ghost use Rattle.std.specs.Prelude.{IfOk, IfNone, IfSome, OnOk, Err};
+ghost use Rattle.enf_formula.specs.Formulas.{tree_of};
+ghost use Rattle.enf_value.specs.declared.events.NameId.{NameId as Name};
+ghost use Rattle.enf_value.specs.declared.terms.Term.TheVariants.{Var as Variable};
+ghost use Rattle.enf_value.specs.declared.terms.VarId.{VarId as VariableNumber};
 ghost use Rattle.enf_value.specs.declared.events.Event.{Event};
-ghost use Rattle.trace_meaning.specs.Records.{StepRecord, Tick};
+ghost use Rattle.trace_meaning.specs.Records.{StepRecord, Tick, most_time};
+ghost use Rattle.trace_meaning.specs.declared.kinds.StepKind.TheVariants.{System};
 ghost use Rattle.enforcer_core.specs.Answered.{Admits, Answered, ChangesLawfully};
 ghost use Rattle.enforcer_core.specs.Enforcers.{out_step, out_steps};
 ghost use Rattle.enforcer_core.specs.Follows.{Follows};
 ghost use Rattle.enforcer_core.specs.Reactions.{AddsReaction, Decides, IsTriggered, ReactAll};
+ghost use Rattle.enforcer_core.specs.Rules.{IsAtom, IsBuilt};
 ghost use Rattle.enforcer_core.specs.Stands.{KeepsRules, KeepsStanding, Stands};
+ghost use Rattle.enforcer_core.specs.declared.enforcer.CauseRule.{CauseRule as Rule};
 
-use crate::steps::{OutStep, OutSteps, StepOut, StepRefusal};
+use crate::steps::{OutStep, OutSteps, StepOut, StepRefusal, Untaken};
+use enf_formula::Formula;
 use enf_value::event_sets::EventSet;
 use enf_value::events::{Event, NameId};
 use enf_value::memory::NoMemory;
 use enf_value::rows::Row;
+use enf_value::terms::{Term, VarId};
 use std::alloc::Global;
 use std::marker::Model;
 use trace_meaning::kinds::StepKind;
@@ -28,6 +37,23 @@ pub struct CauseRule {
 
 impl CauseRule {
     ghost use Rattle.enforcer_core.specs.Reactions.{caused, is_guard};
+
+    /// The rule that a formula is, where it is `forall x. guard(x) -> cause()`, whatever its places.
+    pub fn of(formula: &Formula) -> Option<CauseRule>
+        ensures built { IfSome result (IsBuilt (tree_of formula.now)) }
+        ensures none { IfNone result ((rule : Rule) → IsBuilt (tree_of formula.now) rule → ⊥) }
+    {
+        let Formula::Forall(_, variables, body) = formula else {
+            return None;
+        };
+        let Formula::Implies(_, left, right) = &**body else {
+            return None;
+        };
+        let variable = only_variable(variables.as_slice())?;
+        let guard = guard_of(left, variable)?;
+        let cause = cause_of(right)?;
+        Some(CauseRule { guard, cause })
+    }
 
     /// The event that the rule causes.
     pub fn caused(&self, alloc: Global) -> Event
@@ -106,7 +132,7 @@ impl Enforcer {
         time: u64,
         events: EventSet,
     ) -> Result<StepOut, StepRefusal>
-        requires { time ≤ 1000000000000000 }
+        requires { time ≤ most_time System }
         ensures answered { Answered self.old time result self.new }
         ensures stands { IfOk result
             (λ out. KeepsStanding self.old self.new (out_steps out.steps)) }
@@ -133,7 +159,7 @@ impl Enforcer {
     /// Takes a tick at a time up to 10^15, which says that all below it is over. It takes no
     /// memory.
     pub fn tick(&mut self, alloc: Global, time: u64) -> Result<StepOut, StepRefusal>
-        requires { time ≤ 1000000000000000 }
+        requires { time ≤ most_time System }
         ensures answered { Answered self.old time result self.new }
         ensures no_step { IfOk result (λ out. out_steps out.steps ≡ []) }
         ensures no_memory { result ≢ Err StepRefusal.NoMemory }
@@ -153,19 +179,54 @@ impl Enforcer {
     }
 
     // Whether a call at this time is taken.
-    fn admit(&self, time: u64) -> Result<(), StepRefusal>
+    fn admit(&self, time: u64) -> Result<(), Untaken>
         ensures { Admits self.now time result }
     {
         if self.stopped {
-            return Err(StepRefusal::Stopped);
+            return Err(Untaken::Stopped);
         }
         if time < self.clock {
-            return Err(StepRefusal::Falling {
+            return Err(Untaken::Falling {
                 clock: self.clock,
                 given: time,
             });
         }
         Ok(())
+    }
+}
+
+// The one variable, where there is no other.
+fn only_variable(variables: &[VarId]) -> Option<VarId>
+    ensures some { IfSome result (λ x. variables.now ≡ x ∷ []) }
+    ensures none { IfNone result ((x : VariableNumber) → variables.now ≡ x ∷ [] → ⊥) }
+{
+    match variables {
+        [variable] => Some(*variable),
+        _ => None,
+    }
+}
+
+// The name of an atom that has the variable alone.
+fn guard_of(formula: &Formula, variable: VarId) -> Option<NameId>
+    ensures some { IfSome result (λ name. IsAtom (tree_of formula.now) name (Variable variable ∷ [])) }
+    ensures none { IfNone result
+        ((name : Name) → IsAtom (tree_of formula.now) name (Variable variable ∷ []) → ⊥) }
+{
+    match formula {
+        Formula::Atom(_, name, terms)
+            if matches!(terms.as_slice(), [Term::Var(x)] if *x == variable) => { Some(*name) }
+        _ => None,
+    }
+}
+
+// The name of an atom that has no term.
+fn cause_of(formula: &Formula) -> Option<NameId>
+    ensures some { IfSome result (λ name. IsAtom (tree_of formula.now) name []) }
+    ensures none { IfNone result ((name : Name) → IsAtom (tree_of formula.now) name [] → ⊥) }
+{
+    match formula {
+        Formula::Atom(_, name, terms) if terms.is_empty() => Some(*name),
+        _ => None,
     }
 }
 

@@ -1,6 +1,6 @@
 //! Laws of enforcers, each the contract of a function that does nothing.
 ghost use Rattle.enforcer_core.specs.Laws.{CourseBegins, CourseGoesOn, CourseEnforces};
-ghost use Rattle.enforcer_core.specs.Laws.{StandsForGood, SomeDecision, OneDecision};
+ghost use Rattle.enforcer_core.specs.Laws.{StandsForGood, SomeDecision, OneDecision, BuiltAreSatisfied, OneRule};
 
 use trace_meaning::laws;
 
@@ -25,4 +25,10 @@ pub fn stands_for_good()
 pub fn one_decision()
     ensures some { SomeDecision }
     ensures one { OneDecision }
+{}
+
+/// Policies, and the rules that are built from them.
+pub fn built()
+    ensures satisfied { BuiltAreSatisfied }
+    ensures one { OneRule }
 {}

@@ -1,5 +1,6 @@
 //! The steps that an enforcer gives, and its refusals.
 ghost use Rattle.enforcer_core.specs.declared.steps.StepRefusal.TheVariants.{NoMemory as OutOfMemory};
+ghost use Rattle.enforcer_core.specs.Answered.{refused_as};
 ghost use Rattle.std.specs.Prelude.{◌≡◌};
 
 use enf_value::event_sets::EventSet;
@@ -33,6 +34,24 @@ pub enum StepRefusal {
     /// An earlier call wanted memory.
     Stopped,
     NoMemory,
+}
+
+// Why a call is not taken.
+#[derive(Clone, Copy, Debug, PartialEq, Eq)]
+pub(crate) enum Untaken {
+    Falling { clock: u64, given: u64 },
+    Stopped,
+}
+
+impl From<Untaken> for StepRefusal {
+    ghost from_gives = { λ untaken refusal. refusal ≡ refused_as untaken };
+
+    fn from(untaken: Untaken) -> StepRefusal {
+        match untaken {
+            Untaken::Falling { clock, given } => StepRefusal::Falling { clock, given },
+            Untaken::Stopped => StepRefusal::Stopped,
+        }
+    }
 }
 
 impl From<NoMemory> for StepRefusal {

@@ -1,3 +1,4 @@
 pub mod Draws
 pub mod Samples
 pub mod Generated
+pub mod TextLaws

@@ -54,6 +54,15 @@ pub fn enforce_words(alloc: Global) -> Result<[String; 3], NoMemory>
     ])
 }
 
+/// The words of a line, with a blank between them.
+pub fn words_of(alloc: Global, line: &str) -> Result<Vec<String>, NoMemory> {
+    let mut words = Vec::new(alloc);
+    for word in line.split(' ') {
+        words.push(String::from_str(alloc, word)?)?;
+    }
+    Ok(words)
+}
+
 /// The files that those words name.
 pub fn files_of(alloc: Global, signature: &[u8], policy: &[u8]) -> Result<CalmFiles, NoMemory>
     ensures signature { IfOk result (λ files. contents_under files (codes "sig") ≢ Missing) }

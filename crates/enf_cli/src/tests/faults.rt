@@ -1,7 +1,10 @@
 //! Runs over a gate or a report that takes only pieces, or fails.
 use super::calm::{Outcome, RAISE, SIGNATURE, enforce_words, files_of};
+use crate::endings::{Cut, Ending};
 use crate::refusals::Status;
+use crate::reporting::report_ending;
 use crate::run::run;
+use enf_io::calm_sink::CalmSink;
 use enf_io::devices::NoMemory;
 use enf_io::mem_gate::MemGate;
 use enf_io::mem_sink::MemSink;
@@ -32,6 +35,57 @@ fn enforced_in_turns(
     })
 }
 
+// Two records, of 16 and 4 bytes, and what is to be given for them.
+const LOG: &[u8] = b"@1 request(\"a\");\n@2;\n";
+
+const ANSWER: &[u8] = b"@1 request(\"a\") alarm();\n@2;\n";
+
+// What is given once so many bytes of the log were taken.
+fn answer_to(taken: usize) -> &'static [u8] {
+    if taken < 16 {
+        b""
+    } else if taken < 20 {
+        b"@1 request(\"a\") alarm();\n"
+    } else {
+        ANSWER
+    }
+}
+
+// Enforces `raise` on the log, where the first read takes so many bytes, and looks at the marks.
+fn answers_before_each_read(alloc: Global, cut: usize) -> Result<bool, NoMemory> {
+    let words = enforce_words(alloc)?;
+    let mut files = files_of(alloc, SIGNATURE, RAISE)?;
+    let log = Vec::from_slice(alloc, LOG)?;
+    let reads = Vec::from_slice(alloc, &[Turn::Take(cut)])?;
+    let mut gate = MemGate::new(alloc, log, reads, Vec::new(alloc));
+    let mut report = MemSink::new(alloc, Vec::new(alloc));
+    let status = run(alloc, &words, &mut gate, &mut files, &mut report);
+    let marks = [(0, 0), (cut as u64, answer_to(cut).len() as u64), (21, 29)];
+    Ok(status == Status::Done && gate.given() == ANSWER && gate.marks() == marks.as_slice())
+}
+
+#[test]
+fn each_record_is_answered_before_the_next_read(rt: HostRuntime) -> Result<(), Fail> {
+    for cut in 1..LOG.len() {
+        assert!(rt;
+            answers_before_each_read(rt.alloc(), cut)?,
+            "cut after {cut}"
+        );
+    }
+    Ok(())
+}
+
+#[test]
+fn a_read_that_fails_after_each_byte(rt: HostRuntime) -> Result<(), Fail> {
+    for cut in 1..LOG.len() {
+        let reads = [Turn::Take(cut), Turn::Fail];
+        let outcome = enforced_in_turns(rt.alloc(), LOG, &reads, &[], &[])?;
+        let answer = answer_to(cut);
+        outcome.assert_is(&rt, "a cut", Status::ReadFault, answer, b"read fault\n");
+    }
+    Ok(())
+}
+
 #[test]
 fn a_read_fault_keeps_the_whole_records(rt: HostRuntime) -> Result<(), Fail> {
     let alloc = rt.alloc();
@@ -48,13 +102,6 @@ fn a_read_fault_keeps_the_whole_records(rt: HostRuntime) -> Result<(), Fail> {
             "within the second",
             &[Turn::Take(10), Turn::Take(12), Turn::Fail],
             b"@5 request(\"a\") alarm();\n",
-            Status::ReadFault,
-            b"read fault\n",
-        ),
-        (
-            "within the first",
-            &[Turn::Take(9), Turn::Fail],
-            b"",
             Status::ReadFault,
             b"read fault\n",
         ),
@@ -128,5 +175,14 @@ fn a_write_fault_ends_the_run(rt: HostRuntime) -> Result<(), Fail> {
         let outcome = enforced_in_turns(alloc, log, &[], writes, report_writes)?;
         outcome.assert_is(&rt, name, status, output, report);
     }
+    Ok(())
+}
+
+// No clause says that the line is there: a sink that has no memory takes nothing of it.
+#[test]
+fn want_of_memory_has_its_line(rt: HostRuntime) -> Result<(), Fail> {
+    let mut report = CalmSink::new(rt.alloc());
+    let status = report_ending(&Ending::Cut(Cut::NoMemory), &mut report);
+    assert!(rt; status == Status::NoMemory && report.given() == b"no memory\n".as_slice());
     Ok(())
 }

@@ -31,7 +31,7 @@ fn files_have_their_limit(rt: HostRuntime) -> Result<(), Fail> {
             "a policy of the limit",
             SIGNATURE,
             most.as_slice(),
-            b"policy: not built\n",
+            b"policy: syntax at 0\n",
         ),
         (
             "a longer policy",
@@ -66,7 +66,13 @@ fn a_policy_has_at_most_64_rules(rt: HostRuntime) -> Result<(), Fail> {
     let most = enforced(alloc, SIGNATURE, &rules(alloc, 64)?, log, Vec::new(alloc))?;
     most.assert_is(&rt, "64 rules", Status::Done, alarm, b"");
     let more = enforced(alloc, SIGNATURE, &rules(alloc, 65)?, log, Vec::new(alloc))?;
-    more.assert_is(&rt, "65 rules", Status::Files, b"", b"policy: not built\n");
+    more.assert_is(
+        &rt,
+        "65 rules",
+        Status::Files,
+        b"",
+        b"policy: limit at 2688\n",
+    );
     Ok(())
 }
 

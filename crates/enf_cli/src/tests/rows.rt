@@ -62,6 +62,11 @@ fn rules_act_in_the_order_of_the_policy(rt: HostRuntime) -> Result<(), Fail> {
             b"rule b: forall u. lock(u) -> ping();\nrule a: forall u. request(u) -> alarm();",
             b"@1 lock(\"x\") request(\"a\") ping() alarm();\n",
         ),
+        (
+            "written otherwise",
+            b"# why\nrule a:forall every_one.((request(every_one))->(alarm( )));",
+            b"@1 lock(\"x\") request(\"a\") alarm();\n",
+        ),
     ] {
         let outcome = enforced(alloc, SIGNATURE, policy, log, Vec::new(alloc))?;
         outcome.assert_is(&rt, name, Status::Done, want, b"");
@@ -70,49 +75,65 @@ fn rules_act_in_the_order_of_the_policy(rt: HostRuntime) -> Result<(), Fail> {
 }
 
 #[test]
+fn a_guard_may_have_a_column_of_numbers(rt: HostRuntime) -> Result<(), Fail> {
+    let alloc = rt.alloc();
+    let signature = b"request(int); alarm() +;";
+    let outcome = enforced(alloc, signature, RAISE, b"@1 request(5);", Vec::new(alloc))?;
+    let want = b"@1 request(5) alarm();\n";
+    outcome.assert_is(&rt, "numbers", Status::Done, want, b"");
+    Ok(())
+}
+
+#[test]
 fn a_refused_file_leaves_the_gate_alone(rt: HostRuntime) -> Result<(), Fail> {
     let alloc = rt.alloc();
-    let consents = b"rule r: forall u. request(u) -> consent(u);".as_slice();
-    for (name, signature, policy, report) in [
+    for (signature, policy, report) in [
         (
-            "a mark is wanted",
             b"request(text) alarm();".as_slice(),
             RAISE,
             b"signature: syntax at 14\n".as_slice(),
         ),
         (
-            "a name twice",
             b"request(text); request(int);",
             RAISE,
             b"signature: repeated request at 15\n",
         ),
         (
-            "a ninth sort",
             b"a(int,int,int,int,int,int,int,int,int);",
             RAISE,
             b"signature: limit at 34\n",
         ),
+        (SIGNATURE, b"rule r alarm();", b"policy: syntax at 7\n"),
         (
-            "a column of numbers",
-            b"request(int); alarm() +;",
-            RAISE,
-            b"policy: not built\n",
-        ),
-        (
-            "no mark",
-            b"request(text); alarm();",
-            RAISE,
-            b"policy: not built\n",
-        ),
-        (
-            "a cause with a column",
             SIGNATURE,
-            consents,
+            b"rule r: forall u. foo(u) -> alarm();",
+            b"policy: unknown name at 18\n",
+        ),
+        (SIGNATURE, b"rule r: alarm(1);", b"policy: arity at 8\n"),
+        (
+            SIGNATURE,
+            b"rule r: request(5) -> alarm();",
+            b"policy: sort at 16\n",
+        ),
+        (
+            SIGNATURE,
+            b"rule r: forall u. request(u) -> delete(v);",
+            b"policy: free variable at 39\n",
+        ),
+        (
+            SIGNATURE,
+            b"rule r: forall u. exists u. request(u);",
+            b"policy: rebound at 25\n",
+        ),
+        (
+            SIGNATURE,
+            b"rule r: forall u. request(u) -> consent(u);",
             b"policy: not built\n",
         ),
+        (b"request(text); alarm();", RAISE, b"policy: not built\n"),
     ] {
         let outcome = enforced(alloc, signature, policy, b"@1;", Vec::new(alloc))?;
-        outcome.assert_is(&rt, name, Status::Files, b"", report);
+        outcome.assert_is(&rt, "a refused file", Status::Files, b"", report);
     }
     Ok(())
 }
@@ -127,16 +148,16 @@ fn a_refused_record_keeps_those_before_it(rt: HostRuntime) -> Result<(), Fail> {
             b"".as_slice(),
             b"record 1: unknown name at 3\n".as_slice(),
         ),
-        ("a mark", b"@x;", b"", b"record 1: bad at 1\n"),
+        ("no event", b"@1 x y;", b"", b"record 1: bad at 5\n"),
         (
-            "no argument",
-            b"@1 request();",
+            "two arguments",
+            b"@1 request(\"a\",\"b\");",
             b"",
             b"record 1: arity at 3\n",
         ),
         (
             "a number",
-            b"@1 request(1);",
+            b"@1 request(5);",
             b"",
             b"record 1: sort at 11\n",
         ),

@@ -1,5 +1,5 @@
 //! Words that match no form, and files that are not there.
-use super::calm::{RAISE, SIGNATURE, files_of};
+use super::calm::{RAISE, SIGNATURE, files_of, words_of};
 use crate::refusals::Status;
 use crate::run::run;
 use enf_io::calm_gate::CalmGate;
@@ -17,13 +17,21 @@ fn words_and_missing_files_are_told(rt: HostRuntime) -> Result<(), Fail> {
         ("enforce sig pol --save state", Status::Words, USAGE),
         ("check sig pol", Status::Words, USAGE),
         ("--help", Status::Words, USAGE),
+        ("gen 1", Status::Words, USAGE),
+        ("gen 1 2 3", Status::Words, USAGE),
+        ("gen  2", Status::Words, USAGE),
+        ("gen 1 +2", Status::Words, USAGE),
+        ("gen -1 2", Status::Words, USAGE),
+        ("gen 0x1 2", Status::Words, USAGE),
+        ("gen 1 ２", Status::Words, USAGE),
+        ("gen 2147483648 1", Status::Words, USAGE),
+        ("gen 4294967297 1", Status::Words, USAGE),
+        ("gen 1 1000001", Status::Words, USAGE),
+        ("gen 00000000001 2", Status::Words, USAGE),
         ("enforce missing pol", Status::ReadFault, b"read fault\n"),
         ("enforce sig missing", Status::ReadFault, b"read fault\n"),
     ] {
-        let mut words = Vec::new(alloc);
-        for word in line.split(' ') {
-            words.push(String::from_str(alloc, word)?)?;
-        }
+        let words = words_of(alloc, line)?;
         let mut files = files_of(alloc, SIGNATURE, RAISE)?;
         let log = Vec::from_slice(alloc, b"@1;")?;
         let mut gate = CalmGate::new(alloc, log, Vec::new(alloc));

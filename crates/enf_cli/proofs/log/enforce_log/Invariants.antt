@@ -1,19 +1,20 @@
-use Rattle.std.proofs.Common.{◌≡◌, ◌+◌, ◌*◌, ◌-◌, ◌≤◌, List, ℕ, length, vec_len}
+use Rattle.std.proofs.Common.{◌≡◌, ◌+◌, ◌*◌, ◌-◌, ◌≤◌, List, ℕ, length}
+use Rattle.enf_cli.specs.Limits.{most_log_bytes, most_read_bytes}
 use Rattle.enf_cli.specs.Progress.{reads_on}
-use Rattle.enf_cli.proofs.LogProgress.{Progress}
+use Rattle.enf_cli.proofs.RunLemmas.{Done}
 use Rattle.enf_cli.proofs.log.enforce_log.Given as goal
 
-abbrev pub invariant-loop-piece : goal.invariant-loop-piece
-invariant-loop-piece g l =
+abbrev pub invariant-loop-log : goal.invariant-loop-log
+invariant-loop-log g l =
     let seen = g.G.Sink.seen in
     record {
       bytes : List ℕ;
       count : l.log.taken ≡ length bytes;
-      most : l.log.taken ≤ 1099511627776;
+      most : l.log.taken ≤ most_log_bytes;
       reader : l.log.reader ≡ reads_on l.signature l.log.reader.rest;
-      piece : vec_len l.piece ≡ 65536;
-      progress : Progress l.signature l.fn.rules.items (seen l.fn.gate) bytes l.log.reader.rest l.log.accepted l.log.enforcer (seen l.gate);
+      room : length l.log.piece.items ≡ most_read_bytes;
+      done : Done l.signature l.fn.log.enforcer.rules (seen l.fn.gate) bytes l.log (seen l.gate);
     }
 
-abbrev pub decreases-loop-piece : goal.decreases-loop-piece
-decreases-loop-piece g l = 2 * (1099511627776 - l.log.taken) + length l.log.reader.rest
+abbrev pub decreases-loop-log : goal.decreases-loop-log
+decreases-loop-log g l = 2 * (most_log_bytes - l.log.taken) + length l.log.reader.rest

@@ -1,4 +1,4 @@
-use Rattle.std.proofs.Common.{refl, inl, inr, arith}
+use Rattle.std.proofs.Common.{refl, inl, inr}
 use Rattle.enf_cli.proofs.TurnLemmas.{ends_turn, still_pending, takes_more}
 use Rattle.enf_cli.proofs.log.go_on.Goals as goal
 
@@ -15,10 +15,10 @@ pub returns-in-More-clause-turn : goal.returns-in-More-clause-turn
 returns-in-More-clause-turn g c =
     let waits = rw c.in-Pending.is at c.in_ok-enforce_next.ensures.next in
     let t = rw c.in-More.is at c.in_ok-count-in-Pending.ensures.turn in
-    inr (takes_more c.args.signature.now c.args.log.now _ c.take_piece.new.reader c.enforce_next.new.enforcer (g.G.Sink.seen c.args.gate.now) (g.G.Sink.seen c.enforce_next.new.sink) (g.G.Sink.seen c.take_piece.new.gate) waits c.in_ok-enforce_next.ensures.reads c.in-More.count _ (omega arith) t)
+    inr (takes_more c.args.signature.now c.args.log.now _ c.take_piece.new.reader c.enforce_next.new.enforcer (g.G.Sink.seen c.args.gate.now) (g.G.Sink.seen c.enforce_next.new.sink) (g.G.Sink.seen c.take_piece.new.gate) waits c.in_ok-enforce_next.ensures.reads c.in-More.count _ t)
 
 pub returns-in-Ended-clause-turn : goal.returns-in-Ended-clause-turn
 returns-in-Ended-clause-turn g c =
     let waits = rw c.in-Pending.is at c.in_ok-enforce_next.ensures.next in
     let t = rw c.in-Ended.is at c.in_ok-count-in-Pending.ensures.turn in
-    (refl, ends_turn c.args.signature.now c.args.log.now _ c.take_piece.new.reader _ (g.G.Sink.seen c.args.gate.now) (g.G.Sink.seen c.enforce_next.new.sink) (g.G.Sink.seen c.take_piece.new.gate) waits c.in_ok-enforce_next.ensures.reads _ c.judge_end.result (omega arith) t c.judge_end.ensures)
+    (refl, ends_turn c.args.signature.now c.args.log.now _ c.take_piece.new.reader _ (g.G.Sink.seen c.args.gate.now) (g.G.Sink.seen c.enforce_next.new.sink) (g.G.Sink.seen c.take_piece.new.gate) waits c.in_ok-enforce_next.ensures.reads c.judge_end.result t c.judge_end.ensures)

@@ -1,6 +1,6 @@
 use Rattle.std.proofs.Common.{refl}
 use Rattle.enf_cli.specs.declared.refusals.Status.TheVariants as statuses
-use Rattle.enf_cli.proofs.DueLemmas.{due_of}
+use Rattle.enf_cli.proofs.DueLemmas.{dues_of}
 use Rattle.enf_cli.proofs.RunLemmas.{outcome_of}
 use Rattle.enf_cli.proofs.run.run.Goals as goal
 
@@ -9,10 +9,10 @@ returns-in-Err-clause-outcome g c =
     outcome_of _ c.in-Err.ending c.report_ending.result (c.in-Err.ensures (g.R.Sink.seen c.args.report.now) (g.R.Sink.seen c.report_ending.new.report)) c.report_ending.ensures
 
 pub returns-in-Err-clause-due : goal.returns-in-Err-clause-due
-returns-in-Err-clause-due g c status due =
-    due_of c.one_answer.ensures c.one_answer-2.ensures _ c.report_ending.result status
-    (outcome_of _ c.in-Err.ending c.report_ending.result (c.in-Err.ensures (g.R.Sink.seen c.args.report.now) (g.R.Sink.seen c.report_ending.new.report)) c.report_ending.ensures) due
+returns-in-Err-clause-due g c =
+    dues_of c.one_answer.ensures c.one_text_answer.ensures c.one_answer-2.ensures _ c.report_ending.result
+    (outcome_of _ c.in-Err.ending c.report_ending.result (c.in-Err.ensures (g.R.Sink.seen c.args.report.now) (g.R.Sink.seen c.report_ending.new.report)) c.report_ending.ensures)
 
 pub returns-in-Ok-clause-due : goal.returns-in-Ok-clause-due
-returns-in-Ok-clause-due g c status due =
-    due_of c.one_answer.ensures c.one_answer-2.ensures _ statuses.Done status (c.in-Ok.ensures (g.R.Sink.seen c.args.report.now) (g.R.Sink.seen c.args.report.now), refl) due
+returns-in-Ok-clause-due g c =
+    dues_of c.one_answer.ensures c.one_text_answer.ensures c.one_answer-2.ensures _ statuses.Done (c.in-Ok.ensures (g.R.Sink.seen c.args.report.now) (g.R.Sink.seen c.args.report.now), refl)

@@ -1,0 +1,48 @@
+//! The examples: these are the bytes of the files in examples/.
+use super::calm::{SIGNATURE, enforced};
+use crate::refusals::Status;
+use std::test::Fail;
+
+const ACCESS_SIGNATURE: &[u8] =
+    b"request(text);\ndenied(text);\nforced(text);\nalarm() +;\nlock() +;\n";
+
+const ACCESS_POLICY: &[u8] =
+    b"rule raise: forall user. denied(user) -> alarm();\nrule shut: forall door. forced(door) -> lock();\n";
+
+#[test]
+fn the_examples_are_enforced(rt: HostRuntime) -> Result<(), Fail> {
+    let alloc = rt.alloc();
+    for (name, signature, policy, log, status, output, report) in [
+        (
+            "access",
+            ACCESS_SIGNATURE,
+            ACCESS_POLICY,
+            b"@1 request(\"ada\");\n@4 request(\"bob\") denied(\"bob\");\n@4 denied(\"eve\") alarm();\n@9 forced(\"north\");\n@12 denied(\"ada\") forced(\"south\") lock();\n".as_slice(),
+            Status::Done,
+            b"@1 request(\"ada\");\n@4 request(\"bob\") denied(\"bob\") alarm();\n@4 denied(\"eve\") alarm();\n@9 forced(\"north\") lock();\n@12 denied(\"ada\") forced(\"south\") lock() alarm();\n".as_slice(),
+            b"".as_slice(),
+        ),
+        (
+            "falling",
+            ACCESS_SIGNATURE,
+            ACCESS_POLICY,
+            b"@7 denied(\"eve\");\n@5 request(\"ada\");\n@8 request(\"bob\");\n",
+            Status::Record,
+            b"@7 denied(\"eve\") alarm();\n",
+            b"record 2: time 5 is below 7\n",
+        ),
+        (
+            "generated",
+            SIGNATURE,
+            b"rule raise: forall user. lock(user) -> alarm();\n",
+            b"@6 delete(\"u11\") consent(\"u11\");\n@8 use(\"u6\") lock(\"u15\") lock(\"u12\");\n@9 lock(\"u15\") use(\"u14\") consent(\"u2\");\n@16 use(\"u6\") consent(\"u9\") use(\"u8\");\n@20 lock(\"u6\");\n@23 lock(\"u5\") consent(\"u8\") delete(\"u4\");\n@28 use(\"u14\") request(\"u11\") use(\"u2\");\n@29;\n",
+            Status::Done,
+            b"@6 delete(\"u11\") consent(\"u11\");\n@8 use(\"u6\") lock(\"u15\") lock(\"u12\") alarm();\n@9 lock(\"u15\") use(\"u14\") consent(\"u2\") alarm();\n@16 use(\"u6\") consent(\"u9\") use(\"u8\");\n@20 lock(\"u6\") alarm();\n@23 lock(\"u5\") consent(\"u8\") delete(\"u4\") alarm();\n@28 use(\"u14\") request(\"u11\") use(\"u2\");\n@29;\n",
+            b"",
+        ),
+    ] {
+        let outcome = enforced(alloc, signature, policy, log, Vec::new(alloc))?;
+        outcome.assert_is(&rt, name, status, output, report);
+    }
+    Ok(())
+}

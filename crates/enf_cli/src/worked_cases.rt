@@ -1,0 +1,30 @@
+//! The limits of the definitions, which are those of the code.
+ghost use Rattle.std.specs.Prelude.{◌≡◌};
+ghost use Rattle.enf_cli.specs.Limits.{most_log_bytes, most_read_bytes};
+ghost use Rattle.enf_cli.specs.declared.log.TheConstants.{MOST_LOG_BYTES, MOST_READ_BYTES};
+ghost use Rattle.enf_value.specs.declared.limits.TheConstants.{MOST_COLUMNS, MOST_FILE_BYTES, MOST_NAME_BYTES, MOST_NAMES, MOST_TEXT_BYTES};
+ghost use Rattle.policy_syntax.specs.declared.limits.TheConstants.{MOST_INTERVAL_END, MOST_LEVEL, MOST_NODES, MOST_RULES, MOST_VARIABLES};
+
+/// The limits of logs.
+pub fn limits()
+    ensures log { MOST_LOG_BYTES ≡ most_log_bytes }
+    ensures read { MOST_READ_BYTES ≡ most_read_bytes }
+{}
+
+/// The limits of signatures.
+pub fn limits_of_signatures()
+    ensures file_bytes { MOST_FILE_BYTES ≡ 1048576 }
+    ensures name_bytes { MOST_NAME_BYTES ≡ 64 }
+    ensures names { MOST_NAMES ≡ 256 }
+    ensures columns { MOST_COLUMNS ≡ 8 }
+    ensures text_bytes { MOST_TEXT_BYTES ≡ 1024 }
+{}
+
+/// The limits of policies.
+pub fn limits_of_policies()
+    ensures rules { MOST_RULES ≡ 64 }
+    ensures nodes { MOST_NODES ≡ 400 }
+    ensures level { MOST_LEVEL ≡ 40 }
+    ensures variables { MOST_VARIABLES ≡ 16 }
+    ensures interval_end { MOST_INTERVAL_END ≡ 1000000000 }
+{}
