@@ -1,11 +1,10 @@
 -- The values under which a safe formula holds come from known places.
-use Rattle.std.proofs.Common.{◌≡◌, ℕ, ◌-◌, ◌⊎◌, inl, inr, ⊎_elim, List, [], ◌∷◌, ◌++◌, Option, None, Some, Contains, refl, sym, ap, subst, ◌∙◌, arith}
+use Rattle.std.proofs.Common.{◌≡◌, ℕ, ◌-◌, ◌⊎◌, inl, inr, ⊎_elim, List, [], ◌∷◌, Option, None, Some, Contains, refl, sym, ap, subst, ◌∙◌, arith}
 use Rattle.std.proofs.lemmas.Option.{same_Some, none-some}
 use Rattle.enf_value.specs.Data.{step_at}
 use Rattle.enf_value.specs.Valuations.{Valuation, value_at, value_of, values_of, onto_values, with_values}
 use Rattle.enf_value.specs.declared.events.Event.{Event}
 use Rattle.enf_value.specs.declared.events.NameId.{NameId}
-use Rattle.enf_value.specs.declared.intervals.Interval.{Interval}
 use Rattle.enf_value.specs.declared.steps.Step.{Step}
 use Rattle.enf_value.specs.declared.terms.Term.{Term}
 use Rattle.enf_value.specs.declared.terms.Term.TheVariants.{Var, Const}
@@ -15,9 +14,10 @@ use Rattle.enf_formula.specs.Formulas.{Formula, True, False, Atom, Equal, Less, 
 use Rattle.enf_formula.specs.Formulas.{Exists, Forall, Prev, Next, Once, Historically, Since, Eventually, Always, Until}
 use Rattle.enf_formula.specs.FreeVariables.{IsFree}
 use Rattle.enf_formula.specs.Satisfaction.{Sat, IsAmong, AreSame, Classically}
-use Rattle.valuations.specs.Columns.{later, first_or_later, none_in_nil, among_or_not, Contains-append}
+use Rattle.valuations.specs.Columns.{later, first_or_later, none_in_nil, among_or_not}
 use Rattle.valuations.specs.RowLaws.{value_at-with_outside}
-use Rattle.monitorable_guard.specs.Safety.{Safe, SafeBelow, BindsFresh, FreeWithin, FreeUnder, With, Nothing, Assigns}
+use Rattle.monitorable_guard.specs.Safety.{Safe, BindsFresh, With, Nothing, Assigns}
+use Rattle.monitorable_guard.proofs.SafetyLemmas.{below_within, historically_within}
 use Rattle.monitorable_guard.specs.Sources.{IsArgument, IsArgumentUpTo, IsConstant}
 
 -- where a condition that holds wherever its denial is false is shown from one of two cases
@@ -26,7 +26,7 @@ module _ (S : Value → Type 0) (stable : (value : Value) → Classically (S val
   abbrev pub From : Valuation → VarId → Type 0
   From v x = (value : Value) → value_at v x ≡ Some value → S value
 
-  from_stable : (v : Valuation) (x : VarId) → Classically (From v x) → From v x
+  pub from_stable : (v : Valuation) (x : VarId) → Classically (From v x) → From v x
   from_stable v x h value is = stable value (λ n. h (λ f. n (f value is)))
 
   argument_by : (first : Option Value) (rest : Option (List Value)) (args : List Value) (value : Value) → onto_values first rest ≡ Some args → (first ≡ Some value) ⊎ ((behind : List Value) → rest ≡ Some behind → Contains behind value) → Contains args value
@@ -43,7 +43,7 @@ module _ (S : Value → Type 0) (stable : (value : Value) → Classically (S val
       argument_by (value_of v term) (values_of v terms) args value is
       (⊎_elim (λ same. inl (ap (value_of v) same ∙ at)) (λ behind. inr (λ rest e. argument_there v terms rest x value e behind at)) (first_or_later (Var x) term terms there))
 
-  among_arguments : (v : Valuation) (terms : List Term) (events : List Event) (name : NameId) (got : Option (List Value)) (x : VarId) (value : Value) → values_of v terms ≡ got → IsAmong events name got → Contains terms (Var x) → value_at v x ≡ Some value → IsArgument events value
+  pub among_arguments : (v : Valuation) (terms : List Term) (events : List Event) (name : NameId) (got : Option (List Value)) (x : VarId) (value : Value) → values_of v terms ≡ got → IsAmong events name got → Contains terms (Var x) → value_at v x ≡ Some value → IsArgument events value
   among_arguments v terms events name None x value e holds there at = absurd holds
   among_arguments v terms events name (Some args) x value e holds there at = (record { name = name; args = args }, holds, argument_there v terms args x value e there at)
 
@@ -52,7 +52,7 @@ module _ (S : Value → Type 0) (stable : (value : Value) → Classically (S val
   same_other (Some a) None value same is = absurd same
   same_other (Some a) (Some b) value same is = ap Some (sym same) ∙ is
 
-  turned : (a b : Option Value) → AreSame a b → AreSame b a
+  pub turned : (a b : Option Value) → AreSame a b → AreSame b a
   turned None b same = absurd same
   turned (Some a) None same = absurd same
   turned (Some a) (Some b) same = sym same
@@ -60,7 +60,7 @@ module _ (S : Value → Type 0) (stable : (value : Value) → Classically (S val
   variable_is : (x y : VarId) → Var x ≡ Var y → x ≡ y
   variable_is x y e = cc
 
-  assigned : (B : VarId → Type 0) (v : Valuation) (s t : Term) → ((value : Value) → t ≡ Const value → S value) → ((x : VarId) → B x → From v x) → Assigns B s t → AreSame (value_of v s) (value_of v t) → (x : VarId) → (s ≡ Var x) ⊎ (t ≡ Var x) → From v x
+  pub assigned : (B : VarId → Type 0) (v : Valuation) (s t : Term) → ((value : Value) → t ≡ Const value → S value) → ((x : VarId) → B x → From v x) → Assigns B s t → AreSame (value_of v s) (value_of v t) → (x : VarId) → (s ≡ Var x) ⊎ (t ≡ Var x) → From v x
   assigned B v (Var y) (Var z) constant bound opens same x free value is = ⊎_elim
       (λ first. bound z opens.1 value (same_other (value_at v y) (value_at v z) value same (ap (value_at v) (variable_is y x first) ∙ is)))
       (λ second. bound z opens.1 value (ap (value_at v) (variable_is z x second) ∙ is))
@@ -70,17 +70,6 @@ module _ (S : Value → Type 0) (stable : (value : Value) → Classically (S val
       (λ second. absurd (cc))
       free
   assigned B v (Const c) t constant bound opens same x free value is = absurd opens
-
-  below_within : (xs : List VarId) (g : Formula) (B : VarId → Type 0) → SafeBelow (Some xs) g B → FreeUnder xs g B
-  below_within xs (Forall place ys g) B safe = λ x free absent. below_within (xs ++ ys) g B safe x free.0 (λ there. ⊎_elim absent free.1 (Contains-append xs ys x there))
-  below_within xs (Implies place g h) B safe = safe.0
-  below_within xs (Not place g) B safe = safe.0
-  below_within xs g B safe = absurd safe
-
-  historically_within : (place : ℕ) (interval : Interval) (g : Formula) (B : VarId → Type 0) → Safe (Historically place interval g) B → FreeWithin g B
-  historically_within place interval (Not p h) B safe = safe.0
-  historically_within place interval (Implies p a b) B safe = λ x free. ⊎_elim (safe.0 x) (safe.1 x) free
-  historically_within place interval g B safe = safe.0
 
   module _ (trace : List Step) where
     pub known : (i : ℕ) (v : Valuation) (f : Formula) (B scope : VarId → Type 0) → Safe f B → BindsFresh f scope → ((x : VarId) → B x → scope x) → ((x : VarId) → IsFree x f → scope x) → ((value : Value) → IsArgumentUpTo trace i value → S value) → ((value : Value) → IsConstant value f → S value) → ((x : VarId) → B x → From v x) → Sat trace i v f → (x : VarId) → IsFree x f → From v x

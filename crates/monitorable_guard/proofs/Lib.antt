@@ -4,3 +4,16 @@ pub mod ScopeLemmas
 pub mod DecisionLemmas
 pub mod PresentLemmas
 pub mod CaseLemmas
+pub mod MatchLemmas
+pub mod AgreementLemmas
+pub mod AskLemmas
+pub mod RowsLemmas
+pub mod EvaluationLemmas
+pub mod EventLemmas
+pub mod LeastLemmas
+pub mod CycleLemmas
+pub mod KindLemmas
+pub mod PastLemmas
+pub mod PairLemmas
+pub mod GuardLemmas
+pub mod KnownNow

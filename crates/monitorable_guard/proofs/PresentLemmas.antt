@@ -20,7 +20,7 @@ use Rattle.valuations.specs.Tables.{Relation}
 use Rattle.monitorable_guard.specs.Present.{HoldsNow, FirstHas, outermost, behind, StandFor, Tabled}
 
 -- with values for some variables, those and the ones that had a value have one
-bound_with : (xs : List VarId) (values : List Value) (v : Valuation) (x : VarId) → length values ≡ length xs → Contains xs x ⊎ IsSome (value_at v x) → IsSome (value_at (with_values xs values v) x)
+pub bound_with : (xs : List VarId) (values : List Value) (v : Valuation) (x : VarId) → length values ≡ length xs → Contains xs x ⊎ IsSome (value_at v x) → IsSome (value_at (with_values xs values v) x)
 bound_with [] values v x long either = ⊎_elim (λ there. absurd (none_in_nil x there)) (λ some. some) either
 bound_with (y ∷ xs) [] v x long either = absurd (omega (arith, long))
 bound_with (y ∷ xs) (value ∷ values) v x long either =

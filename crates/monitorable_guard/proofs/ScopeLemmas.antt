@@ -8,7 +8,7 @@ use Rattle.enf_formula.specs.FreeVariables.{IsFree, AreFreeVariables}
 use Rattle.valuations.specs.Columns.{among_or_not, Contains-append}
 use Rattle.monitorable_guard.specs.Safety.{FreeWithin, FreeUnder, FreeAlike, With}
 
-all_from : {X : Type 0} (xs : List X) (P : X → Type 0) → ((x : X) → Contains xs x → P x) → All P xs
+pub all_from : {X : Type 0} (xs : List X) (P : X → Type 0) → ((x : X) → Contains xs x → P x) → All P xs
 all_from xs P holds k d within = holds (get_or xs k d) (Contains-get_or xs k d within)
 
 pub within_decided : (f : Formula) (free these bound : List VarId) (b : Bool) → AreFreeVariables f free → these ≡ free → IsTrue b ↔ All (Contains bound) these → IsTrue b ↔ FreeWithin f (Contains bound)

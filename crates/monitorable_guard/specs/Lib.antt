@@ -5,3 +5,7 @@ pub mod Refusals
 pub mod Present
 pub mod Asking
 pub mod SafetyCases
+pub mod Matching
+pub mod Evaluation
+pub mod Answers
+pub mod Events

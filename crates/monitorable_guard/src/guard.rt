@@ -1,18 +1,25 @@
 //! Guards: formulas that can be evaluated over finite tables, with the variables that are bound.
 ghost use Rattle.std.specs.Prelude.{◌≡◌, ◌↔◌, IfOk, IfErr, OnOk, IsTrue, Contains};
+ghost use Rattle.valuations.specs.Tables.{IsTable};
+ghost use Rattle.monitorable_guard.specs.Evaluation.{AreOpen, CanEvaluate, HasKnownValues, HoldsFor};
 ghost use Rattle.enf_formula.specs.Formulas.{tree_of};
 ghost use Rattle.monitorable_guard.specs.Safety.{Safe, IsTest};
 ghost use Rattle.monitorable_guard.specs.Refusals.{RefusesGuard};
 
+use crate::evaluation::{Present, rows_of};
+use crate::events::StepEvents;
+use crate::past::{Past, PastTables};
 use crate::safety::is_safe;
 use crate::scopes::is_free_within;
 use enf_formula::Formula;
+use enf_value::event_sets::EventSet;
 use enf_value::items::Duplicate;
 use enf_value::memory::NoMemory;
 use enf_value::places::Place;
 use enf_value::terms::Vars;
 use std::alloc::Global;
 use std::marker::Model;
+use valuations::{Scope, Table, Valuation};
 
 /// Why a formula is no guard.
 #[derive(Clone, Copy, Debug, PartialEq, Eq)]
@@ -85,6 +92,54 @@ impl Guard {
         ensures safe { Safe (tree_of self.now.formula) (Contains self.now.bound) }
     {
         &self.bound
+    }
+
+    /// The rows over the free variables that are not bound, under which the formula holds at a step with these events
+    /// and with these tables of its outermost operators on the past, and with the valuation's values of the bound
+    /// variables. The columns are in rising variable number. Each value of a row is one of the events, of the tables,
+    /// of the formula's constants or of the bound variables.
+    pub fn evaluate(
+        &self,
+        alloc: Global,
+        events: &EventSet,
+        past: &[Table],
+        v: &Valuation,
+    ) -> Result<Table, NoMemory>
+        requires { CanEvaluate (tree_of self.now.formula) self.now.bound past.now v.now }
+        ensures table { IfOk result IsTable }
+        ensures columns { IfOk result (λ t. AreOpen (tree_of self.now.formula) self.now.bound
+            t.columns) }
+        ensures rows { IfOk result
+            (HoldsFor events.now past.now (tree_of self.now.formula) self.now.bound v.now) }
+        ensures known { IfOk result
+            (HasKnownValues events.now past.now (tree_of self.now.formula) self.now.bound v.now) }
+    {
+        let events = StepEvents::of(alloc, events)?;
+        self.evaluate_at(alloc, &events, &PastTables { tables: past }, v)
+    }
+
+    /// The same of any past, at events that were put in order once for a step.
+    pub fn evaluate_at<P: Past>(
+        &self,
+        alloc: Global,
+        events: &StepEvents<'_>,
+        past: &P,
+        v: &Valuation,
+    ) -> Result<Table, NoMemory>
+        requires { CanEvaluate (tree_of self.now.formula) self.now.bound (P.tables past.now) v.now }
+        ensures table { IfOk result IsTable }
+        ensures columns { IfOk result (λ t. AreOpen (tree_of self.now.formula) self.now.bound
+            t.columns) }
+        ensures rows { IfOk result (HoldsFor events.now (P.tables past.now)
+            (tree_of self.now.formula) self.now.bound v.now) }
+        ensures known { IfOk result (HasKnownValues events.now (P.tables past.now)
+            (tree_of self.now.formula) self.now.bound v.now) }
+    {
+        // so many that a usize counts them
+        let _tables = past.count();
+        let scope = Scope::of(alloc, v, self.bound().as_slice())?;
+        let present = Present { events, past };
+        rows_of(alloc, &present, self.formula(), scope)
     }
 }
 

@@ -1,4 +1,5 @@
 //! What safety is for: a law over the definitions, the contract of a function with an empty body.
+ghost use Rattle.monitorable_guard.specs.Evaluation.{EvaluatedIsSatisfied};
 ghost use Rattle.monitorable_guard.specs.Present.{PresentIsSatisfied};
 ghost use Rattle.monitorable_guard.specs.Safety.{HistoricallyAsksDenial};
 ghost use Rattle.monitorable_guard.specs.Sources.{SafeValuesAreKnown};
@@ -22,4 +23,11 @@ pub fn present_is_satisfied()
     ensures { PresentIsSatisfied }
 {
     is_classical();
+}
+
+/// Where the tables stand for a position of a trace, a guard's rows there are the valuations that satisfy it.
+pub fn evaluated_is_satisfied()
+    ensures { EvaluatedIsSatisfied }
+{
+    present_is_satisfied();
 }

@@ -2,12 +2,21 @@
 //! they hold. It stands on `valuations` and `enf_formula`.
 #![tactic(auto)]
 
+mod atoms;
+mod evaluation;
+pub mod events;
 pub mod guard;
 pub mod laws;
+mod matching;
+mod operators;
 pub mod past;
+mod pushing;
 mod safety;
 mod scopes;
 pub mod worked_cases;
 
+pub use events::StepEvents;
 pub use guard::{Guard, GuardRefusal, is_test};
 pub use past::{Past, PastTables};
+pub use safety::is_safe;
+pub use scopes::are_free_in;

@@ -1,31 +1,41 @@
 //! How a guard asks for the past.
-ghost use Rattle.std.specs.Prelude.{◌↔◌, ◌<◌, IsTrue, IfOk, List, drop, length};
+ghost use Rattle.std.specs.Prelude.{◌≡◌, ◌↔◌, ◌<◌, IsTrue, IfOk, List, drop, length};
 ghost use Rattle.valuations.specs.Tables.{Relation, IsTable};
 ghost use Rattle.monitorable_guard.specs.Asking.{FirstGivesUnder};
 ghost use Rattle.monitorable_guard.specs.Present.{FirstHas};
 
 use enf_value::memory::NoMemory;
 use std::alloc::Global;
-use valuations::{Table, Valuation};
+use valuations::{Lookup, Table};
 
 /// The tables of a guard's outermost operators on the past, in pre-order; that of a `historically` has the valuations
 /// under which it fails.
 pub trait Past {
     ghost tables: { Self → List Relation };
 
+    /// How many tables there are.
+    fn count(&self) -> usize
+        ensures { result ≡ length (tables self.now) };
+
     /// Whether the valuation is in the operator's table.
-    fn has(&self, operator: usize, v: &Valuation) -> bool
+    fn has<V: Lookup>(&self, operator: usize, v: &V) -> bool
         requires { operator < length (tables self.now) }
-        ensures { IsTrue result ↔ FirstHas (drop operator (tables self.now)) v.now };
+        ensures { IsTrue result ↔ FirstHas (drop operator (tables self.now)) (V.valuation v.now) };
 
     /// The rows of the operator's table that agree with the valuation on each column that it binds.
-    fn rows_under(&self, alloc: Global, operator: usize, v: &Valuation) -> Result<Table, NoMemory>
+    fn rows_under<V: Lookup>(
+        &self,
+        alloc: Global,
+        operator: usize,
+        v: &V,
+    ) -> Result<Table, NoMemory>
         requires { operator < length (tables self.now) }
         ensures table { IfOk result IsTable }
-        ensures rows { IfOk result (FirstGivesUnder (drop operator (tables self.now)) v.now) };
+        ensures rows { IfOk result (FirstGivesUnder (drop operator (tables self.now)) (V.valuation v.now)) };
 }
 
 /// Tables that are there as a list.
+#[derive(Drop)]
 pub struct PastTables<'a> {
     pub tables: &'a [Table],
 }
@@ -33,11 +43,20 @@ pub struct PastTables<'a> {
 impl Past for PastTables<'_> {
     ghost tables = { λ past. past.tables.now };
 
-    fn has(&self, operator: usize, v: &Valuation) -> bool {
+    fn count(&self) -> usize {
+        self.tables.len()
+    }
+
+    fn has<V: Lookup>(&self, operator: usize, v: &V) -> bool {
         self.tables[operator].has_valuation(v)
     }
 
-    fn rows_under(&self, alloc: Global, operator: usize, v: &Valuation) -> Result<Table, NoMemory> {
+    fn rows_under<V: Lookup>(
+        &self,
+        alloc: Global,
+        operator: usize,
+        v: &V,
+    ) -> Result<Table, NoMemory> {
         self.tables[operator].rows_under(alloc, v)
     }
 }

@@ -7,7 +7,7 @@ use Rattle.std.proofs.lemmas.List.Elements.{Contains-append_left, Contains-appen
 use Rattle.enf_value.specs.declared.values.Value.{Value}
 use Rattle.valuations.specs.Cells.{key, part, shown, IsJoined, IsSingle}
 use Rattle.valuations.proofs.CellLemmas.{none_in_nil, here, first_or_later, Contains-append}
-use Rattle.valuations.proofs.SearchLemmas.{Contains-map, Contains-from_map}
+use Rattle.valuations.specs.SearchLaws.{Contains-map, Contains-from_map}
 
 -- the partners of a row
 abbrev pub ArePartners : List ℕ → List ℕ → List (List Value) → List Value → List (List Value) → Type 0

@@ -1,8 +1,8 @@
 pub mod BindingLemmas
 pub mod RowOrder
 pub mod CellLemmas
-pub mod SearchLemmas
 pub mod JoinLemmas
 pub mod TableLemmas
 pub mod ComparisonLemmas
 pub mod LookupLemmas
+pub mod PartLemmas

@@ -1,19 +1,15 @@
 -- The valuations that tables have.
-use Rattle.std.proofs.Common.{◌≡◌, ℕ, ◌+◌, cond, ◌⊎◌, inl, inr, ⊎_elim, List, [], ◌∷◌, ◌++◌, length, map, get_or, Some, All, Contains, ◌↔◌, refl, sym, ap, subst, ◌∙◌, arith, length-append, Result, Ok, Err, IfOk}
-use Rattle.std.specs.FinMap as finite
-use Rattle.std.specs.Cmp.{unsigned_tied}
-use Rattle.std.proofs.lemmas.Bool.{eq-eqb, ne_eqb}
+use Rattle.std.proofs.Common.{◌≡◌, ℕ, ◌+◌, ◌⊎◌, inl, inr, ⊎_elim, List, ◌++◌, length, map, get_or, All, Contains, ◌↔◌, sym, ap, subst, ◌∙◌, length-append, Result, Ok, Err, IfOk}
 use Rattle.std.proofs.lemmas.List.{length-map}
-use Rattle.std.proofs.lemmas.List.Elements.{All-contains, Contains-append_left, Contains-append_right, Contains-get_or}
+use Rattle.std.proofs.lemmas.List.Elements.{Contains-append_left, Contains-append_right, Contains-get_or}
 use Rattle.enf_value.specs.Membership.{HasNoRepeats}
-use Rattle.enf_value.specs.Valuations.{Valuation, no_values, value_at, with_values}
+use Rattle.enf_value.specs.Valuations.{Valuation, value_at}
 use Rattle.enf_value.specs.declared.terms.VarId.{VarId}
 use Rattle.enf_value.specs.declared.values.Value.{Value}
 use Rattle.valuations.specs.Cells.{key, part, ArePlaces, IsJoined, IsSingle}
 use Rattle.valuations.specs.Tables.{Relation, IsTable, Has, Agrees, cell, valuation_of, shared, not_shared, AreSameColumns, AgreeOn}
-use Rattle.valuations.proofs.BindingLemmas.{variable_total}
-use Rattle.valuations.proofs.CellLemmas.{here, later, first_or_later, none_in_nil, same_at, same_lists_at, same_variable, among_or_not, shared_in, in_shared, not_shared_in, in_not_shared, cell_here, cell_later, cell_front, cell_back, key_cells, IsPart, part_cells, Contains-append, HasNoRepeats-append, HasNoRepeats-filter}
-use Rattle.valuations.proofs.SearchLemmas.{Contains-map, Contains-from_map}
+use Rattle.valuations.proofs.CellLemmas.{same_at, same_lists_at, among_or_not, shared_in, in_shared, not_shared_in, in_not_shared, cell_front, cell_back, key_cells, IsPart, part_cells, Contains-append, HasNoRepeats-append, HasNoRepeats-filter}
+use Rattle.valuations.specs.SearchLaws.{Contains-map, Contains-from_map}
 pub use Rattle.valuations.specs.RowLaws.{value_at-bound, value_at-other, value_at-with_outside, value_at-with_inside, agrees_itself, agrees_once, fits, contains_valuation, contains_from_valuation}
 
 -- ---- columns

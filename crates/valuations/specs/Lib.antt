@@ -6,3 +6,6 @@ pub mod Cells
 pub mod Comparisons
 pub mod Terms
 pub mod Just
+pub mod Scopes
+pub mod ScopeLaws
+pub mod SearchLaws

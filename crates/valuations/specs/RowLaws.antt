@@ -1,6 +1,6 @@
 -- Laws of rows: what a row has for a variable, and the valuations that have the values of a row.
-use Rattle.std.specs.Prelude.{◌≡◌, ℕ, zero, suc, ◌==◌, Bool, true, false, cond, ◌⊎◌, List, [], ◌∷◌, ◌++◌, length}
-use Rattle.std.specs.Prelude.{Option, Some, Contains, slice_get}
+use Rattle.std.specs.Prelude.{◌≡◌, ℕ, zero, suc, ◌==◌, Bool, true, false, cond, List, [], ◌∷◌, ◌++◌, length}
+use Rattle.std.specs.Prelude.{Some, Contains, slice_get}
 use Rattle.std.specs.FinMap as finite
 use Rattle.std.specs.Cmp.{unsigned_tied}
 use Rattle.std.proofs.Common.{⊎_elim, refl, sym, ap, subst, ◌∙◌, arith}

@@ -8,8 +8,8 @@ ghost use Rattle.valuations.specs.Tables.{IsTable, Has, AgreesWhereBound};
 ghost use Rattle.valuations.specs.Terms.{IsColumnOf, operand_value, ReadsTerm};
 
 use crate::cells::place_of;
+use crate::scope::Lookup;
 use crate::tables::Table;
-use crate::valuation::Valuation;
 use enf_value::items::Duplicate;
 use enf_value::memory::NoMemory;
 use enf_value::rows::Row;
@@ -61,11 +61,11 @@ impl Table {
     }
 
     /// The rows that agree with the valuation on each column that it binds.
-    pub fn rows_under(&self, alloc: Global, v: &Valuation) -> Result<Table, NoMemory>
+    pub fn rows_under<V: Lookup>(&self, alloc: Global, v: &V) -> Result<Table, NoMemory>
         ensures table { IfOk result IsTable }
         ensures columns { IfOk result (λ t. t.columns ≡ self.now.columns) }
         ensures rows { IfOk result (λ t. (w : Bound) → Has t w
-            ↔ (Has self.now w × AgreesWhereBound self.now.columns v.now w)) }
+            ↔ (Has self.now w × AgreesWhereBound self.now.columns (V.valuation v.now) w)) }
     {
         let bounds = bounds_of(alloc, self.columns().as_slice(), v)?;
         let rows = agreeing_rows(alloc, self.rows(), bounds.as_slice())?;
@@ -125,17 +125,17 @@ fn compared_rows(
     Ok(out)
 }
 
-fn bounds_of<'a>(
+fn bounds_of<'a, V: Lookup>(
     alloc: Global,
     columns: &[VarId],
-    v: &'a Valuation,
+    v: &'a V,
 ) -> Result<Vec<Option<&'a Value>>, NoMemory>
     ensures { IfOk result (λ bounds. map option_copied bounds.items
-        ≡ map (value_at v.now) columns.now) }
+        ≡ map (value_at (V.valuation v.now)) columns.now) }
 {
     let mut bounds = Vec::with_capacity(alloc, columns.len())?;
     for column in columns {
-        bounds.push(v.get(*column))?;
+        bounds.push(v.value(*column))?;
     }
     Ok(bounds)
 }

@@ -7,10 +7,12 @@ pub mod comparing;
 mod joining;
 pub mod laws;
 mod relations;
+pub mod scope;
 mod searching;
 pub mod tables;
 pub mod valuation;
 
 pub use comparing::Compare;
+pub use scope::{Lookup, Scope};
 pub use tables::Table;
 pub use valuation::Valuation;

@@ -6,16 +6,16 @@ ghost use Rattle.enf_value.specs.Valuations.{value_at};
 ghost use Rattle.valuations.specs.Cells.{key_cmp};
 ghost use Rattle.valuations.specs.Tables.{IsTable, Has};
 
+use crate::scope::Lookup;
 use crate::tables::Table;
-use crate::valuation::Valuation;
 use enf_value::terms::VarId;
 use enf_value::values::Value;
 use std::cmp::Ordering;
 
 impl Table {
     /// Whether the valuation has for each column the value of one and the same row; it takes no memory.
-    pub fn has_valuation(&self, v: &Valuation) -> bool
-        ensures has { IsTrue result ↔ Has self.now v.now }
+    pub fn has_valuation<V: Lookup>(&self, v: &V) -> bool
+        ensures has { IsTrue result ↔ Has self.now (V.valuation v.now) }
         ensures table { IsTable self.now }
     {
         let columns = self.columns().as_slice();
@@ -25,11 +25,11 @@ impl Table {
     }
 }
 
-fn compare_to_bound(row: &[Value], columns: &[VarId], v: &Valuation) -> Ordering
-    ensures { result ≡ key_cmp (map Some row.now) (map (value_at v.now) columns.now) }
+fn compare_to_bound<V: Lookup>(row: &[Value], columns: &[VarId], v: &V) -> Ordering
+    ensures { result ≡ key_cmp (map Some row.now) (map (value_at (V.valuation v.now)) columns.now) }
 {
     for (value, column) in row.iter().zip(columns) {
-        match compare_to(value, v.get(*column)) {
+        match compare_to(value, v.value(*column)) {
             Ordering::Equal => {}
             apart => return apart,
         }

@@ -4,6 +4,7 @@ ghost use Rattle.std.specs.Option.{option_copied};
 ghost use Rattle.enf_value.specs.Membership.{HasNoRepeats};
 ghost use Rattle.enf_value.specs.declared.values.Value.{Value as AnyValue};
 
+use enf_value::items::Duplicate;
 use enf_value::memory::NoMemory;
 use enf_value::rows::Row;
 use enf_value::terms::{VarId, Vars};
@@ -109,5 +110,16 @@ impl Table {
         ensures table { IsTable self.now }
     {
         self.rows.as_slice()
+    }
+}
+
+impl Duplicate for Table {
+    fn duplicate(&self, alloc: Global) -> Result<Table, NoMemory> {
+        let mut rows = Vec::with_capacity(alloc, self.rows.len())?;
+        for row in &self.rows {
+            rows.push(row.duplicate(alloc)?)?;
+        }
+        let columns = self.columns.duplicate(alloc)?;
+        Ok(Table { columns, rows })
     }
 }

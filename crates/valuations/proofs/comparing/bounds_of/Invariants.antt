@@ -4,4 +4,4 @@ use Rattle.enf_value.specs.Valuations.{value_at}
 use Rattle.valuations.proofs.comparing.bounds_of.Given as goal
 
 abbrev pub invariant-loop-column : goal.invariant-loop-column
-invariant-loop-column l = map option_copied l.bounds.items ≡ map (value_at l.v) (take l.column-index l.columns)
+invariant-loop-column g l = map option_copied l.bounds.items ≡ map (value_at (g.V.Lookup.valuation l.v)) (take l.column-index l.columns)

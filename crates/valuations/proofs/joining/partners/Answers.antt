@@ -5,7 +5,7 @@ use Rattle.std.proofs.lemmas.List.{take_rest}
 use Rattle.std.proofs.lemmas.List.Sorted.{IsPartitionPoint-from_clause}
 use Rattle.valuations.specs.Cells.{key, key_cmp, shown}
 use Rattle.valuations.proofs.RowOrder.{key_cmp_total, key_cmp_exact}
-use Rattle.valuations.proofs.SearchLemmas.{below_first, up_to_last, tied_between, Contains-map, Contains-from_map}
+use Rattle.valuations.specs.SearchLaws.{below_first, up_to_last, tied_between, Contains-map, Contains-from_map}
 use Rattle.valuations.proofs.joining.partners.Goals as goal
 
 pub returns : goal.returns

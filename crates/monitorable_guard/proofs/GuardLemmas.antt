@@ -1,0 +1,114 @@
+-- What a guard's evaluation gives, from that of its formula under the bound variables.
+use Rattle.std.proofs.Common.{◌⊎◌, inl, inr, ⊎_elim, Bool, true, false, ◌&&◌, List, ◌++◌, Option, None, Some, Result, Ok, Err, IfOk, IsTrue, Contains, refl, sym, ◌∙◌}
+use Rattle.std.proofs.lemmas.Option.{none-some}
+use Rattle.enf_value.specs.Valuations.{Valuation}
+use Rattle.enf_value.specs.declared.events.Event.{Event}
+use Rattle.enf_value.specs.declared.terms.VarId.{VarId}
+use Rattle.enf_formula.specs.Formulas.{Formula, True, False, Atom, Equal, Less, AtMost, Not, And, Or, Implies}
+use Rattle.enf_formula.specs.Formulas.{Exists, Forall, Prev, Next, Once, Historically, Since, Eventually, Always, Until}
+use Rattle.enf_formula.specs.FreeVariables.{IsFree}
+use Rattle.enf_formula.specs.Past.{is_past}
+use Rattle.valuations.specs.Columns.{among_or_not}
+use Rattle.valuations.specs.Just.{Binds}
+use Rattle.valuations.specs.Scopes.{IsPartOf}
+use Rattle.valuations.specs.Tables.{Relation}
+use Rattle.monitorable_guard.specs.Answers.{AreOpenUnder, CanAsk, HasAnswers, IsBoundBy, IsInScope}
+use Rattle.monitorable_guard.specs.Evaluation.{AreOpen, CanEvaluate, FitOperators, HoldsFor}
+use Rattle.monitorable_guard.specs.Present.{outermost}
+use Rattle.monitorable_guard.specs.Safety.{Safe, SafeBelow, With, Nothing}
+use Rattle.monitorable_guard.proofs.AgreementLemmas.{now_agrees}
+use Rattle.monitorable_guard.proofs.AskLemmas.{fresh_within}
+use Rattle.monitorable_guard.proofs.EvaluationLemmas.{value_from, bound_from, bound_as, same_on}
+use Rattle.monitorable_guard.proofs.SafetyLemmas.{Same, safe_same}
+
+module _ (f : Formula) (bound : List VarId) (v scope : Valuation) (part : IsPartOf v bound scope) (binds : Binds v bound) where
+  -- the scope has values for just the bound variables
+  scope_bound : Same (Contains bound) (IsBoundBy scope)
+  scope_bound x = (
+    λ there. bound_as v scope x (sym (part.inside x there)) (binds x there),
+    λ has. ⊎_elim (λ there. there) (λ absent. let known = value_from scope x has in absurd (none-some known.0 (sym (part.outside x absent) ∙ known.1))) (among_or_not bound x),
+  )
+
+  pub can_ask : (tables : List Relation) → Safe f (Contains bound) → CanEvaluate f bound tables v → CanAsk scope tables f
+  can_ask tables safe can = record {
+    safe = safe_same None f (Contains bound) (IsBoundBy scope) scope_bound safe;
+    fresh = fresh_within f (λ x. Contains bound x ⊎ IsFree x f) (IsInScope scope f) (λ x in_scope. ⊎_elim (λ has. inl ((scope_bound x).1 has)) (λ free. inr free) in_scope) can.fresh;
+    tabled = can.tabled;
+  }
+
+  are_open : (columns : List VarId) → AreOpenUnder scope f columns → AreOpen f bound columns
+  are_open columns opens = record {
+    rising = opens.rising;
+    exact = λ x. (
+      λ there. let got = (opens.exact x).0 there in (got.0, λ is_bound. got.1 ((scope_bound x).0 is_bound)),
+      λ both. (opens.exact x).1 (both.0, λ has. both.1 ((scope_bound x).1 has)),
+    );
+  }
+
+  pub ok_columns : {E : Type 0} (r : Result Relation E) → IfOk r (λ t. AreOpenUnder scope f t.columns) → IfOk r (λ t. AreOpen f bound t.columns)
+  ok_columns (Ok t) opens = are_open t.columns opens
+  ok_columns (Err e) opens = tt
+
+  module _ (events : List Event) (tables : List Relation) (fit : FitOperators (outermost f) tables) where
+    holds_for : (t : Relation) → AreOpenUnder scope f t.columns → HasAnswers events tables scope f t → HoldsFor events tables f bound v t
+    holds_for t opens answers w agree columns = (
+      λ has.
+          let found = (answers w).0 has in
+          now_agrees events tables f found.0 w fit (λ x free. ⊎_elim
+          (λ there. sym (same_on scope found.0 x found.1.extends ((scope_bound x).0 there)) ∙ part.inside x there ∙ agree x there)
+          (λ absent. sym (found.2 x ((opens.exact x).1 (free, λ has. absent ((scope_bound x).1 has)))))
+          (among_or_not bound x)) found.1.holds,
+      λ holds. (answers w).1 (
+        w,
+        record {
+          extends = λ x value at.
+              let there = (scope_bound x).1 (bound_from scope x value at) in
+              sym (agree x there) ∙ sym (part.inside x there) ∙ at;
+          binds = λ x free. ⊎_elim
+              (λ there. bound_as v w x (agree x there) (binds x there))
+              (λ absent. columns x ((opens.exact x).1 (free, λ has. absent ((scope_bound x).1 has))))
+              (among_or_not bound x);
+          holds = holds;
+        },
+        λ x there. refl,
+      ),
+    )
+
+    pub ok_rows : {E : Type 0} (r : Result Relation E) → IfOk r (λ t. AreOpenUnder scope f t.columns) → IfOk r (HasAnswers events tables scope f) → IfOk r (HoldsFor events tables f bound v)
+    ok_rows (Ok t) opens answers = holds_for t opens answers
+    ok_rows (Err e) opens answers = tt
+
+-- ---- what is safe does not look ahead
+
+both : (a b : Bool) → IsTrue a → IsTrue b → IsTrue (a && b)
+both true true s t = refl
+both true false s t = t
+both false b s t = s
+
+pub safe_past : (m : Option (List VarId)) (f : Formula) (B : VarId → Type 0) → SafeBelow m f B → IsTrue (is_past f)
+safe_past None (True place) B safe = refl
+safe_past None (False place) B safe = refl
+safe_past None (Atom place name terms) B safe = refl
+safe_past None (Equal place s t) B safe = refl
+safe_past None (Less place s t) B safe = refl
+safe_past None (AtMost place s t) B safe = refl
+safe_past None (Not place g) B safe = safe_past None g B safe.1
+safe_past None (And place g h) B safe = both (is_past g) (is_past h) (safe_past None g B safe.0) (safe_past None h (With B g) safe.1)
+safe_past None (Or place g h) B safe = both (is_past g) (is_past h) (safe_past None g B safe.0) (safe_past None h B safe.1)
+safe_past None (Implies place g h) B safe = both (is_past g) (is_past h) (safe_past None g B safe.2) (safe_past None h B safe.3)
+safe_past None (Exists place xs g) B safe = safe_past None g B safe
+safe_past None (Forall place xs g) B safe = safe_past (Some xs) g B safe
+safe_past None (Prev place interval g) B safe = safe_past None g Nothing safe
+safe_past None (Once place interval g) B safe = safe_past None g Nothing safe
+safe_past None (Historically place interval (Not p h)) B safe = safe_past None h Nothing safe.1
+safe_past None (Historically place interval (Implies p a b)) B safe = both (is_past a) (is_past b) (safe_past None a Nothing safe.2) (safe_past None b (With Nothing a) safe.4)
+safe_past None (Historically place interval g) B safe = safe_past None g Nothing safe.2
+safe_past None (Since place interval g h) B safe = both (is_past g) (is_past h) (safe_past None g (With Nothing h) safe.2) (safe_past None h Nothing safe.0)
+safe_past None (Next place interval g) B safe = absurd safe
+safe_past None (Eventually place interval g) B safe = absurd safe
+safe_past None (Always place interval g) B safe = absurd safe
+safe_past None (Until place interval g h) B safe = absurd safe
+safe_past (Some xs) (Forall place ys g) B safe = safe_past (Some (xs ++ ys)) g B safe
+safe_past (Some xs) (Implies place g h) B safe = both (is_past g) (is_past h) (safe_past None g B safe.2) (safe_past None h (With B g) safe.3)
+safe_past (Some xs) (Not place g) B safe = safe_past None g B safe.1
+safe_past (Some xs) g B safe = absurd safe

@@ -1,0 +1,11 @@
+use Rattle.std.proofs.Common.{sym, subst, Contains}
+use Rattle.monitorable_guard.specs.Events.{shown}
+use Rattle.monitorable_guard.proofs.events.StepEvents.named.Goals as goal
+
+pub returns : goal.returns
+returns c = λ event. (
+  λ there.
+      let found = (c.of_name.ensures event).0 there in
+      (subst (λ l. Contains l event) c.self.view_is ((c.self.invariant.same event).0 (subst (λ l. Contains (shown l) event) c.as_slice.ensures.value found.0)), found.1),
+  λ both. (c.of_name.ensures event).1 (subst (λ l. Contains (shown l) event) (sym c.as_slice.ensures.value) ((c.self.invariant.same event).1 (subst (λ l. Contains l event) (sym c.self.view_is) both.0)), both.1),
+)

@@ -1,0 +1,18 @@
+use Rattle.std.proofs.Common.{◌≡◌, refl, subst, ap, ◌∙◌, All, Option, None, Some, Bor, is_some, true, not, IsSome}
+use Rattle.std.specs.Option.{option_copied}
+use Rattle.std.proofs.lemmas.Bool.{false≢true}
+use Rattle.std.proofs.lemmas.List.{take_all}
+use Rattle.std.proofs.lemmas.List.Elements.{All-more, All-contains}
+use Rattle.enf_value.specs.declared.values.Value.{Value}
+use Rattle.monitorable_guard.specs.Answers.{IsBoundBy}
+use Rattle.monitorable_guard.proofs.operators.are_bound.Goals as goal
+
+got : (o : Option (Bor Value)) (a : Option Value) → option_copied o ≡ a → is_some o ≡ true → IsSome a
+got None a e some = absurd (false≢true some)
+got (Some x) a e some = subst IsSome e refl
+
+pub loop-variable-preserved : goal.loop-variable-preserved
+loop-variable-preserved c = All-more (IsBoundBy c.args.scope.now) c.args.variables.now c.loop-variable.variable-index _ c.loop-variable-test.true c.loop-variable.invariant (got c.get.result _ c.get.ensures (c.is_none.ensures ∙ ap not c.if-is_none.false))
+
+pub returns : goal.returns
+returns c = (λ _ x there. All-contains (IsBoundBy c.args.scope.now) c.args.variables.now x (subst (All (IsBoundBy c.args.scope.now)) (take_all c.loop-variable.variable-index c.args.variables.now c.loop-variable-test.false) c.loop-variable.invariant) there, λ _. refl)

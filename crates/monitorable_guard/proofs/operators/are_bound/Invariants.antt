@@ -1,0 +1,6 @@
+use Rattle.std.proofs.Common.{take, All}
+use Rattle.monitorable_guard.specs.Answers.{IsBoundBy}
+use Rattle.monitorable_guard.proofs.operators.are_bound.Given as goal
+
+abbrev pub invariant-loop-variable : goal.invariant-loop-variable
+invariant-loop-variable l = All (IsBoundBy l.scope) (take l.variable-index l.variables)

@@ -1,0 +1,32 @@
+use Rattle.std.proofs.Common.{◌≡◌, List, Option, None, Some, is_none, IsSome, true, refl, sym, ap, subst, ◌∙◌}
+use Rattle.std.proofs.lemmas.Bool.{false≢true}
+use Rattle.std.proofs.lemmas.List.Kept.{IsStrictlySortedBy-filter}
+use Rattle.std.specs.List.{filter}
+use Rattle.enf_formula.specs.Formulas.{Formula, tree_of}
+use Rattle.enf_formula.specs.FreeVariables.{AreFreeVariables}
+use Rattle.enf_value.specs.Valuations.{Valuation, value_at, variable_cmp}
+use Rattle.enf_value.specs.declared.terms.VarId.{VarId}
+use Rattle.enf_value.specs.declared.values.Value.{Value}
+use Rattle.valuations.specs.Columns.{Contains-filter, Contains-from_filter}
+use Rattle.monitorable_guard.specs.Answers.{AreOpenUnder}
+use Rattle.monitorable_guard.proofs.operators.open_variables.Goals as goal
+
+apart : (o : Option Value) → IsSome o → is_none o ≡ true → ⊥
+apart None some none = false≢true some
+apart (Some value) some none = false≢true none
+
+lacks : (o : Option Value) → (IsSome o → ⊥) → is_none o ≡ true
+lacks None unbound = refl
+lacks (Some value) unbound = absurd (unbound refl)
+
+open_from : (v : Valuation) (f : Formula) (free : List VarId) → AreFreeVariables f free → AreOpenUnder v f (filter (λ x. is_none (value_at v x)) free)
+open_from v f free are = record {
+  rising = IsStrictlySortedBy-filter variable_cmp (λ x. is_none (value_at v x)) free are.rising;
+  exact = λ x. (
+    λ there. let parts = Contains-from_filter (λ y. is_none (value_at v y)) free x there in ((are.exact x).0 parts.0, λ bound. apart (value_at v x) bound parts.1),
+    λ both. Contains-filter (λ y. is_none (value_at v y)) free x ((are.exact x).1 both.0) (lacks (value_at v x) both.1),
+  );
+}
+
+pub returns : goal.returns
+returns c = subst (AreOpenUnder c.args.scope.now (tree_of c.args.formula.now)) (sym (c.from_vec.ensures ∙ c.in_ok-found.ensures ∙ ap (filter (λ x. is_none (value_at c.args.scope.now x))) c.as_slice.ensures)) (open_from c.args.scope.now (tree_of c.args.formula.now) _ c.in_ok-free.ensures)

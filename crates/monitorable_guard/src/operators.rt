@@ -1,0 +1,83 @@
+//! The outermost operators on the past, and the variables that are open.
+ghost use Rattle.std.specs.Prelude.{◌≡◌, ◌<◌, ◌^◌, ◌↔◌, IfOk, IsTrue, Contains, filter, is_none, length};
+ghost use Rattle.enf_value.specs.Valuations.{value_at};
+ghost use Rattle.enf_formula.specs.Formulas.{tree_of};
+ghost use Rattle.enf_value.specs.declared.terms.VarId.{VarId as Variable};
+ghost use Rattle.monitorable_guard.specs.Answers.{AreOpenUnder, IsBoundBy};
+ghost use Rattle.monitorable_guard.specs.Present.{outermost};
+ghost use Rattle.monitorable_guard.specs.Safety.{FreeWithin};
+
+use enf_formula::Formula;
+use enf_value::memory::NoMemory;
+use enf_value::terms::{VarId, Vars};
+use std::alloc::Global;
+use valuations::Scope;
+
+// How many outermost operators on the past there are.
+pub fn operators(formula: &Formula) -> usize
+    requires { length (outermost (tree_of formula.now)) < 2 ^ 64 }
+    ensures { result ≡ length (outermost (tree_of formula.now)) }
+{
+    match formula {
+        Formula::True(_)
+        | Formula::False(_)
+        | Formula::Atom(_, _, _)
+        | Formula::Equal(_, _, _)
+        | Formula::Less(_, _, _)
+        | Formula::AtMost(_, _, _)
+        | Formula::Next(_, _, _)
+        | Formula::Eventually(_, _, _)
+        | Formula::Always(_, _, _)
+        | Formula::Until(_, _, _, _) => 0,
+        Formula::Not(_, g) | Formula::Exists(_, _, g) | Formula::Forall(_, _, g) => operators(g),
+        Formula::And(_, g, h) | Formula::Or(_, g, h) | Formula::Implies(_, g, h) => {
+            operators(g) + operators(h)
+        }
+        Formula::Prev(_, _, _)
+        | Formula::Once(_, _, _)
+        | Formula::Historically(_, _, _)
+        | Formula::Since(_, _, _, _) => 1,
+    }
+}
+
+// The free variables that have no value, in rising order.
+pub fn open_variables(alloc: Global, formula: &Formula, scope: &Scope<'_>) -> Result<Vars, NoMemory>
+    ensures { IfOk result (AreOpenUnder scope.now (tree_of formula.now)) }
+{
+    let free = formula.free_vars(alloc)?;
+    let found = unbound(alloc, free.as_slice(), scope)?;
+    Ok(Vars::from_vec(found))
+}
+
+fn unbound(alloc: Global, variables: &[VarId], scope: &Scope<'_>) -> Result<Vec<VarId>, NoMemory>
+    ensures { IfOk result (λ xs. xs.items
+        ≡ filter (λ x. is_none (value_at scope.now x)) variables.now) }
+{
+    let mut found = Vec::new(alloc);
+    for variable in variables {
+        if scope.get(*variable).is_none() {
+            found.push(*variable)?;
+        }
+    }
+    Ok(found)
+}
+
+// Whether each free variable has a value.
+pub fn is_closed(alloc: Global, formula: &Formula, scope: &Scope<'_>) -> Result<bool, NoMemory>
+    ensures { IfOk result (λ closed. IsTrue closed
+        ↔ FreeWithin (tree_of formula.now) (IsBoundBy scope.now)) }
+{
+    let free = formula.free_vars(alloc)?;
+    Ok(are_bound(free.as_slice(), scope))
+}
+
+fn are_bound(variables: &[VarId], scope: &Scope<'_>) -> bool
+    ensures { IsTrue result ↔ ((x : Variable) → Contains variables.now x → IsBoundBy scope.now x) }
+{
+    for variable in variables {
+        if scope.get(*variable).is_none() {
+            return false;
+        }
+    }
+    true
+}

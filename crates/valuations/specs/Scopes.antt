@@ -1,0 +1,28 @@
+-- Valuations that are built from values that stand elsewhere.
+use Rattle.std.specs.Prelude.{◌≡◌, List, [], ◌∷◌, Option, None, Some, Contains}
+use Rattle.std.specs.Borrow.{Bor}
+use Rattle.std.specs.List.{fold}
+use Rattle.enf_value.specs.Valuations.{Valuation, no_values, value_at}
+use Rattle.enf_value.specs.declared.terms.VarId.{VarId}
+use Rattle.enf_value.specs.declared.values.Value.{Value}
+use Rattle.valuations.specs.Bindings.{with_value}
+
+-- bindings one after another: a later one of a variable hides an earlier one
+abbrev pub bound_by : List (VarId × Bor Value) → Valuation
+bound_by bindings = fold (λ v binding. with_value v binding.0 binding.1.now) no_values bindings
+
+-- v, and the variable bound where v had no value for it
+abbrev pub with_new : Option Value → Valuation → VarId → Value → Valuation
+with_new None v x value = with_value v x value
+with_new (Some known) v x value = v
+
+-- v, and each variable that it does not bind bound to the value at its place
+abbrev pub filled : Valuation → List VarId → List Value → Valuation
+filled v [] row = v
+filled v (x ∷ xs) [] = v
+filled v (x ∷ xs) (value ∷ row) = filled (with_new (value_at v x) v x value) xs row
+
+-- the part of v that binds these variables
+pub record IsPartOf (v : Valuation) (variables : List VarId) (part : Valuation) : Type 0 where
+  pub inside : (x : VarId) → Contains variables x → value_at part x ≡ value_at v x
+  pub outside : (x : VarId) → (Contains variables x → ⊥) → value_at part x ≡ None
