@@ -1,0 +1,4 @@
+pub mod HeldLemmas
+pub mod CarryingLemmas
+pub mod SlotLemmas
+pub mod CaseLemmas

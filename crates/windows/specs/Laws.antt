@@ -1,0 +1,23 @@
+-- The statements of the laws of windows.
+use Rattle.std.specs.Prelude.{ℕ, ◌-◌, ◌↔◌, ◌⊎◌, List, [], ◌∷◌, ◌++◌}
+use Rattle.enf_value.specs.Membership.{IsIn}
+use Rattle.enf_value.specs.Valuations.{Valuation}
+use Rattle.enf_value.specs.declared.intervals.Interval.{Interval}
+use Rattle.valuations.specs.Tables.{Has}
+use Rattle.windows.specs.Answers.{Answers, Lasts}
+use Rattle.windows.specs.declared.steps.CommittedStep.{CommittedStep}
+
+-- no step answers nothing
+abbrev pub NothingAtFirst : Type 0
+NothingAtFirst = (interval : Interval) (time : ℕ) (v : Valuation) → Answers interval time [] v → ⊥
+
+-- with one step more: what is right at it, where its distance is in the interval, and what was held and survives it
+abbrev pub OneStepMore : Type 0
+OneStepMore = (interval : Interval) (time : ℕ) (steps : List CommittedStep) (step : CommittedStep) (v : Valuation)
+    → Answers interval time (steps ++ step ∷ []) v
+    ↔ ((IsIn interval (time - step.time) × Has step.right v) ⊎ (Answers interval time steps v × Has step.surviving v))
+
+-- what is answered after more steps lasted up to them, or has come with them
+abbrev pub LaterAnswersLast : Type 0
+LaterAnswersLast = (interval : Interval) (time : ℕ) (steps more : List CommittedStep) (v : Valuation)
+    → Answers interval time (steps ++ more) v → Lasts steps v ⊎ Lasts more v

@@ -1,0 +1,37 @@
+-- What an operator `prev` has to remember: the rows of the step that was committed last.
+use Rattle.std.specs.Prelude.{◌≡◌, ℕ, ◌-◌, ◌≤◌, List, Option, None, Some}
+use Rattle.enf_value.specs.Membership.{HasNoRepeats, IsIn}
+use Rattle.enf_value.specs.Valuations.{Valuation}
+use Rattle.enf_value.specs.declared.intervals.Interval.{Interval}
+use Rattle.enf_value.specs.declared.terms.VarId.{VarId}
+use Rattle.valuations.specs.Tables.{Has, Relation}
+use Rattle.windows.specs.declared.steps.LastStep.{LastStep}
+
+pub record Slot : Type 0 where
+  pub interval : Interval
+  pub columns : List VarId
+  pub last : Option LastStep
+
+-- a step at this time with these rows
+abbrev pub with_rows : ℕ → Relation → LastStep
+with_rows time rows = record { time = time; rows = rows }
+
+-- the last step is not later than the time
+abbrev pub IsUpToTime : ℕ → Option LastStep → Type 0
+IsUpToTime time None = Unit {0}
+IsUpToTime time (Some last) = last.time ≤ time
+
+-- its rows have these columns, in this order
+abbrev pub LastHasColumns : List VarId → Option LastStep → Type 0
+LastHasColumns columns None = Unit {0}
+LastHasColumns columns (Some last) = last.rows.columns ≡ columns
+
+-- the columns are distinct, and the rows of the last step have them
+pub record IsSlot (slot : Slot) : Type 0 where
+  pub distinct : HasNoRepeats slot.columns
+  pub fits : LastHasColumns slot.columns slot.last
+
+-- the valuation is among the rows of the last step, whose distance from the time is in the interval
+abbrev pub GivesLast : Interval → ℕ → Option LastStep → Valuation → Type 0
+GivesLast interval time None v = ⊥
+GivesLast interval time (Some last) v = IsIn interval (time - last.time) × Has last.rows v
