@@ -1,0 +1,195 @@
+-- What is kept before the first step.
+use Rattle.std.proofs.Common.{◌≡◌, ◌∙◌, ◌⊎◌, inl, inr, ⊎_elim, ℕ, suc, ◌+◌, ◌<◌, ◌≤◌, List, [], ◌∷◌, ◌++◌, length, reverse, get_or, All, Contains, None, refl, sym, ap, subst, arith, append_assoc, append-nil, length-append}
+use Rattle.std.specs.List.Sorted.{IsStrictlySortedBy}
+use Rattle.std.proofs.lemmas.List.{length-reverse, reverse-append}
+use Rattle.std.proofs.lemmas.List.Elements.{All-append, All-nil, All-cons, All-contains, All-head, All-tail, Contains-append_left, Contains-append_right, Contains-get_or}
+use Rattle.std.proofs.lemmas.Map.Keys.{sorted_tail}
+use Rattle.enf_value.specs.Membership.{HasNoRepeats}
+use Rattle.enf_value.specs.Valuations.{variable_cmp}
+use Rattle.enf_value.specs.declared.intervals.Interval.{Interval}
+use Rattle.enf_value.specs.declared.terms.VarId.{VarId}
+use Rattle.enf_formula.specs.Formulas.{Formula, True, False, Atom, Equal, Less, AtMost, Not, And, Or, Implies, Exists, Forall, Prev, Next, Once, Historically, Since, Eventually, Always, Until, tree_of}
+use Rattle.enf_formula.specs.FreeVariables.{IsFree, AreFreeVariables}
+use Rattle.monitorable_guard.specs.Guards.{BoundFormula}
+use Rattle.monitorable_guard.specs.Present.{outermost}
+use Rattle.monitorable_guard.specs.Safety.{BindsFresh, denial}
+use Rattle.windows.specs.Slots.{Slot, IsUpToTime}
+use Rattle.windows.specs.Windows.{Window, AreUpTo}
+use Rattle.past_state.specs.Keeping.{CanKeep, IsBegun, PushesFor}
+use Rattle.past_state.specs.Laws.{WindowBegins, OnceBegins, SlotBegins, OnceStands, SinceStands}
+use Rattle.past_state.specs.Stands.{SlotStands}
+use Rattle.past_state.specs.Memories.{Asks, IsUpToTimeOf}
+use Rattle.past_state.specs.Operators.{operators, inner}
+use Rattle.past_state.specs.Runs.{AreFor, AllStand}
+use Rattle.past_state.specs.declared.memories.Memory.{Memory}
+use Rattle.past_state.specs.declared.memories.Memory.TheVariants as kept
+use Rattle.past_state.specs.declared.operators.Operator.{Operator}
+use Rattle.past_state.proofs.ColumnLemmas.{after}
+
+pub distinct : (xs : List VarId) → IsStrictlySortedBy variable_cmp xs → HasNoRepeats xs
+distinct [] sorted = tt
+distinct (x ∷ xs) sorted = (λ there. let less : x.0 < x.0 = after x xs sorted x there in omega arith, distinct xs (sorted_tail variable_cmp x xs sorted))
+
+pub asks : (f : Formula) (bound : List VarId) (guard : BoundFormula) (given : Formula) → tree_of guard.formula ≡ given → given ≡ f → guard.bound ≡ bound → BindsFresh f (λ x. Contains bound x ⊎ IsFree x f) → Asks f bound guard
+asks f bound guard given is same bound_is fresh = record { formula_is = is ∙ same; bound_is = bound_is; fresh = fresh }
+
+-- ---- fewer variables in scope
+
+pub fresh_fewer : (f : Formula) (S R : VarId → Type 0) → ((x : VarId) → R x → S x) → BindsFresh f S → BindsFresh f R
+fresh_fewer (True place) S R fewer fresh = tt
+fresh_fewer (False place) S R fewer fresh = tt
+fresh_fewer (Atom place name terms) S R fewer fresh = tt
+fresh_fewer (Equal place s t) S R fewer fresh = tt
+fresh_fewer (Less place s t) S R fewer fresh = tt
+fresh_fewer (AtMost place s t) S R fewer fresh = tt
+fresh_fewer (Not place g) S R fewer fresh = fresh_fewer g S R fewer fresh
+fresh_fewer (And place g h) S R fewer fresh = (fresh_fewer g S R fewer fresh.0, fresh_fewer h S R fewer fresh.1)
+fresh_fewer (Or place g h) S R fewer fresh = (fresh_fewer g S R fewer fresh.0, fresh_fewer h S R fewer fresh.1)
+fresh_fewer (Implies place g h) S R fewer fresh = (fresh_fewer g S R fewer fresh.0, fresh_fewer h S R fewer fresh.1)
+fresh_fewer (Exists place xs g) S R fewer fresh = (λ x there in_scope. fresh.0 x there (fewer x in_scope), fresh_fewer g (λ x. S x ⊎ Contains xs x) (λ x. R x ⊎ Contains xs x) (λ x either. ⊎_elim (λ r. inl (fewer x r)) (λ c. inr c) either) fresh.1)
+fresh_fewer (Forall place xs g) S R fewer fresh = (λ x there in_scope. fresh.0 x there (fewer x in_scope), fresh_fewer g (λ x. S x ⊎ Contains xs x) (λ x. R x ⊎ Contains xs x) (λ x either. ⊎_elim (λ r. inl (fewer x r)) (λ c. inr c) either) fresh.1)
+fresh_fewer (Prev place interval g) S R fewer fresh = fresh_fewer g S R fewer fresh
+fresh_fewer (Next place interval g) S R fewer fresh = fresh_fewer g S R fewer fresh
+fresh_fewer (Once place interval g) S R fewer fresh = fresh_fewer g S R fewer fresh
+fresh_fewer (Historically place interval g) S R fewer fresh = fresh_fewer g S R fewer fresh
+fresh_fewer (Since place interval g h) S R fewer fresh = (fresh_fewer g S R fewer fresh.0, fresh_fewer h S R fewer fresh.1)
+fresh_fewer (Eventually place interval g) S R fewer fresh = fresh_fewer g S R fewer fresh
+fresh_fewer (Always place interval g) S R fewer fresh = fresh_fewer g S R fewer fresh
+fresh_fewer (Until place interval g h) S R fewer fresh = (fresh_fewer g S R fewer fresh.0, fresh_fewer h S R fewer fresh.1)
+
+-- ---- what is kept for one operator
+
+pub begun_prev : SlotBegins → (place : ℕ) (interval : Interval) (g : Formula) (slot : Slot) (operand : BoundFormula) (columns : List VarId) → slot ≡ record { interval = interval; columns = columns; last = None }
+    → AreFreeVariables g columns → Asks g [] operand → IsBegun (Prev place interval g) (kept.Prev slot operand)
+begun_prev begins place interval g slot operand columns is free asks = record {
+  is_for = (asks, subst (λ s. AreFreeVariables g s.columns) (sym is) free, ap (λ s. s.interval) is);
+  stands = subst (λ s. SlotStands [] interval g s) (sym is) (begins interval g columns free.exact);
+  up_to = λ time. subst (λ s. IsUpToTime time s.last) (sym is) tt;
+}
+
+pub begun_once : OnceBegins → (place : ℕ) (interval : Interval) (g : Formula) (window : Window) (right : BoundFormula) (columns : List VarId) → window ≡ record { interval = interval; columns = columns; steps = [] }
+    → AreFreeVariables g columns → Asks g [] right → IsBegun (Once place interval g) (kept.Once window right)
+begun_once begins place interval g window right columns is free asks = record {
+  is_for = (asks, subst (λ w. AreFreeVariables g w.columns) (sym is) free, ap (λ w. w.interval) is);
+  stands = subst (λ w. OnceStands [] interval g w) (sym is) (begins interval g columns free.exact);
+  up_to = λ time. subst (λ w. AreUpTo time w.steps) (sym is) (All-nil _);
+}
+
+pub begun_since : WindowBegins → (place : ℕ) (interval : Interval) (g h : Formula) (window : Window) (left : BoundFormula) (left_tables : ℕ) (right : BoundFormula) (columns : List VarId)
+    → window ≡ record { interval = interval; columns = columns; steps = [] } → AreFreeVariables h columns → Asks h [] right → Asks g columns left → left_tables ≡ length (outermost g)
+    → ((x : VarId) → IsFree x g → IsFree x h) → IsBegun (Since place interval g h) (kept.Since window left left_tables right)
+begun_since begins place interval g h window left left_tables right columns is free asks_right asks_left counted within = record {
+  is_for = (asks_right, subst (λ w. AreFreeVariables h w.columns) (sym is) free, ap (λ w. w.interval) is, subst (λ w. Asks g w.columns left) (sym is) asks_left, counted, within);
+  stands = subst (λ w. SinceStands [] interval g h w) (sym is) (begins interval g h columns free.exact);
+  up_to = λ time. subst (λ w. AreUpTo time w.steps) (sym is) (All-nil _);
+}
+
+pub begun_denied : (place : ℕ) (interval : Interval) (g : Formula) (m : Memory) → IsBegun (Once place interval (denial g)) m → IsBegun (Historically place interval g) m
+begun_denied place interval g (kept.Once window right) begun = record { is_for = begun.is_for; stands = begun.stands; up_to = begun.up_to }
+begun_denied place interval g (kept.Prev slot operand) begun = absurd begun.is_for
+begun_denied place interval g (kept.Since window left left_tables right) begun = absurd begun.is_for
+
+-- ---- operators put last
+
+for_append : (fs gs : List Formula) (os ps : List Operator) → AreFor fs os → AreFor gs ps → AreFor (fs ++ gs) (os ++ ps)
+for_append [] gs [] ps a b = b
+for_append [] gs (o ∷ os) ps a b = absurd a
+for_append (f ∷ fs) gs [] ps a b = absurd a
+for_append (f ∷ fs) gs (o ∷ os) ps a b = (a.0, a.1, for_append fs gs os ps a.2 b)
+
+stand_append : (fs gs : List Formula) (os ps : List Operator) → AreFor fs os → AllStand [] fs os → AllStand [] gs ps → AllStand [] (fs ++ gs) (os ++ ps)
+stand_append [] gs [] ps for a b = b
+stand_append [] gs (o ∷ os) ps for a b = absurd for
+stand_append (f ∷ fs) gs [] ps for a b = absurd for
+stand_append (f ∷ fs) gs (o ∷ os) ps for a b = (a.0, stand_append fs gs os ps for.2 a.1 b)
+
+pub pushes_none : (before : List Operator) → PushesFor [] before before
+pushes_none before = record { added = []; grown = sym (append-nil before); are_for = tt; stand = tt; up_to = λ time. All-nil _ }
+
+pub pushes_then : (fs gs : List Formula) (before middle after : List Operator) → PushesFor fs before middle → PushesFor gs middle after → PushesFor (fs ++ gs) before after
+pushes_then fs gs before middle after first second = record {
+  added = first.added ++ second.added;
+  grown = second.grown ∙ ap (λ l. l ++ second.added) first.grown ∙ append_assoc before first.added second.added;
+  are_for = for_append fs gs first.added second.added first.are_for second.are_for;
+  stand = stand_append fs gs first.added second.added first.are_for first.stand second.stand;
+  up_to = λ time. All-append (λ o. IsUpToTimeOf time o.memory) first.added second.added (first.up_to time) (second.up_to time);
+}
+
+pub pushes_one : (f : Formula) (m : Memory) (taken : ℕ) (before after : List Operator) → IsBegun f m → taken ≡ length (inner f) → after ≡ before ++ record { taken = taken; memory = m } ∷ [] → PushesFor (f ∷ []) before after
+pushes_one f m taken before after begun takes grown = record {
+  added = record { taken = taken; memory = m } ∷ [];
+  grown = grown;
+  are_for = (begun.is_for, takes, tt);
+  stand = (begun.stands, tt);
+  up_to = λ time. All-cons (λ o. IsUpToTimeOf time o.memory) (record { taken = taken; memory = m }) [] (begun.up_to time) (All-nil _);
+}
+
+-- of a formula whose operators come behind those of its operands
+pub pushes_up : (f : Formula) (fs : List Formula) (m : Memory) (taken : ℕ) (before middle after : List Operator) → PushesFor (reverse fs) before middle → IsBegun f m → taken ≡ length (inner f)
+    → after ≡ middle ++ record { taken = taken; memory = m } ∷ [] → PushesFor (reverse (f ∷ fs)) before after
+pushes_up f fs m taken before middle after inside begun takes grown =
+    subst (λ l. PushesFor l before after) (sym (reverse-append (f ∷ []) fs)) (pushes_then (reverse fs) (f ∷ []) before middle after inside (pushes_one f m taken middle after begun takes grown))
+
+pub pushes_both : (gs hs : List Formula) (before middle after : List Operator) → PushesFor (reverse hs) before middle → PushesFor (reverse gs) middle after → PushesFor (reverse (gs ++ hs)) before after
+pushes_both gs hs before middle after second first = subst (λ l. PushesFor l before after) (sym (reverse-append gs hs)) (pushes_then (reverse hs) (reverse gs) before middle after second first)
+
+-- ---- no more outermost operators than operators, and no more of these than were put
+
+pub outermost_fewer : (f : Formula) → length (outermost f) ≤ length (operators f)
+outermost_fewer (True place) = omega arith
+outermost_fewer (False place) = omega arith
+outermost_fewer (Atom place name terms) = omega arith
+outermost_fewer (Equal place s t) = omega arith
+outermost_fewer (Less place s t) = omega arith
+outermost_fewer (AtMost place s t) = omega arith
+outermost_fewer (Not place g) = outermost_fewer g
+outermost_fewer (And place g h) = omega (arith, outermost_fewer g, outermost_fewer h, length-append (outermost g) (outermost h), length-append (operators g) (operators h))
+outermost_fewer (Or place g h) = omega (arith, outermost_fewer g, outermost_fewer h, length-append (outermost g) (outermost h), length-append (operators g) (operators h))
+outermost_fewer (Implies place g h) = omega (arith, outermost_fewer g, outermost_fewer h, length-append (outermost g) (outermost h), length-append (operators g) (operators h))
+outermost_fewer (Exists place xs g) = outermost_fewer g
+outermost_fewer (Forall place xs g) = outermost_fewer g
+outermost_fewer (Prev place interval g) = omega arith
+outermost_fewer (Once place interval g) = omega arith
+outermost_fewer (Historically place interval g) = omega arith
+outermost_fewer (Since place interval g h) = omega arith
+outermost_fewer (Next place interval g) = omega arith
+outermost_fewer (Eventually place interval g) = omega arith
+outermost_fewer (Always place interval g) = omega arith
+outermost_fewer (Until place interval g h) = omega arith
+
+for_long : (fs : List Formula) (os : List Operator) → AreFor fs os → length os ≡ length fs
+for_long [] [] for = refl
+for_long [] (o ∷ os) for = absurd for
+for_long (f ∷ fs) [] for = absurd for
+for_long (f ∷ fs) (o ∷ os) for = ap suc (for_long fs os for.2)
+
+pub pushed_long : (fs : List Formula) (before after : List Operator) → PushesFor (reverse fs) before after → length after ≡ length before + length fs
+pushed_long fs before after pushes = ap length pushes.grown ∙ length-append before pushes.added ∙ ap (λ n. length before + n) (for_long (reverse fs) pushes.added pushes.are_for ∙ length-reverse fs)
+
+-- ---- what can be kept of the parts of a formula
+
+all_front : {X : Type 0} (P : X → Type 0) (xs ys : List X) → All P (xs ++ ys) → All P xs
+all_front P xs ys all k d below = All-contains P (xs ++ ys) (get_or xs k d) all (Contains-append_left xs ys (get_or xs k d) (Contains-get_or xs k d below))
+
+all_back : {X : Type 0} (P : X → Type 0) (xs ys : List X) → All P (xs ++ ys) → All P ys
+all_back P xs ys all k d below = All-contains P (xs ++ ys) (get_or ys k d) all (Contains-append_right xs ys (get_or ys k d) (Contains-get_or ys k d below))
+
+pub keep_left : (g h : Formula) → All CanKeep (operators g ++ operators h) → All CanKeep (operators g)
+keep_left g h all = all_front CanKeep (operators g) (operators h) all
+
+pub keep_right : (g h : Formula) → All CanKeep (operators g ++ operators h) → All CanKeep (operators h)
+keep_right g h all = all_back CanKeep (operators g) (operators h) all
+
+pub keep_rest : (f : Formula) (fs : List Formula) → All CanKeep (f ∷ fs) → All CanKeep fs
+keep_rest f fs all = All-tail CanKeep f fs all
+
+pub keep_first : (f : Formula) (fs : List Formula) → All CanKeep (f ∷ fs) → CanKeep f
+keep_first f fs all = All-head CanKeep f fs all
+
+pub both_fewer : (f g : Formula) (before middle after : List Operator) (left right : ℕ) → left ≡ length (outermost f) → right ≡ length (outermost g) → PushesFor (reverse (operators g)) before middle
+    → PushesFor (reverse (operators f)) middle after → left + right ≤ length after
+both_fewer f g before middle after left right l r second first =
+    omega (arith, l, r, outermost_fewer f, outermost_fewer g, pushed_long (operators g) before middle second, pushed_long (operators f) middle after first)
+
+pub sum_counts : (fs gs : List Formula) (left right : ℕ) → left ≡ length fs → right ≡ length gs → left + right ≡ length (fs ++ gs)
+sum_counts fs gs left right l r = omega (arith, l, r, length-append fs gs)

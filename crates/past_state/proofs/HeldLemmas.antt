@@ -1,0 +1,99 @@
+-- What held on a trace, with one step more.
+use Rattle.std.proofs.Common.{◌≡◌, ◌↔◌, ◌⊎◌, inl, inr, ⊎_elim, ℕ, suc, ◌-◌, ◌<◌, List, [], ◌∷◌, ◌++◌, length, refl, sym, subst, arith, length-append}
+use Rattle.std.proofs.lemmas.Bool.{cases_lt}
+use Rattle.std.proofs.lemmas.List.{get_or_append_left, get_or_at}
+use Rattle.enf_value.specs.Data.{step_at, no_step}
+use Rattle.enf_value.specs.Membership.{IsIn}
+use Rattle.enf_value.specs.Valuations.{Valuation}
+use Rattle.enf_value.specs.declared.intervals.Interval.{Interval}
+use Rattle.enf_value.specs.declared.steps.Step.{Step}
+use Rattle.valuations.specs.Tables.{Relation, Has}
+use Rattle.windows.specs.Answers.{Answers, Lasts}
+use Rattle.windows.specs.Laws.{OneStepMore}
+use Rattle.windows.specs.Windows.{at}
+use Rattle.windows.specs.declared.steps.CommittedStep.{CommittedStep}
+use Rattle.past_state.specs.Held.{HeldAt}
+use Rattle.past_state.proofs.Decided.{IsDecided, stable, in_interval, in_table}
+
+pub earlier_at : (trace : List Step) (step : Step) (i : ℕ) → i < length trace → step_at (trace ++ step ∷ []) i ≡ step_at trace i
+earlier_at trace step i below = get_or_append_left trace (step ∷ []) no_step i below
+
+pub new_at : (trace : List Step) (step : Step) → step_at (trace ++ step ∷ []) (length trace) ≡ step
+new_at trace step = get_or_at trace step [] no_step (length trace) refl
+
+-- what holds at each position of the trace, and at the new one
+module _ (trace : List Step) (step : Step) (interval : Interval) (time : ℕ) (F G F' G' : ℕ → Type 0)
+    (same_F : (k : ℕ) → k < length trace → F k ↔ F' k) (same_G : (k : ℕ) → k < length trace → G k ↔ G' k) where
+  longer : length (trace ++ step ∷ []) ≡ suc (length trace)
+  longer = omega (arith, length-append trace (step ∷ []))
+
+  pub held_now : IsIn interval (time - step.time) → G' (length trace) → HeldAt (trace ++ step ∷ []) interval time F' G'
+  held_now within g = λ no. no (
+    length trace,
+    omega (arith, longer),
+    subst (λ s. IsIn interval (time - s.time)) (sym (new_at trace step)) within,
+    g,
+    λ k behind below. absurd (omega (arith, longer)),
+  )
+
+  pub held_on : HeldAt trace interval time F G → F' (length trace) → HeldAt (trace ++ step ∷ []) interval time F' G'
+  held_on held f = λ no. held (λ h. no (
+    h.0,
+    omega (arith, longer, h.1),
+    subst (λ s. IsIn interval (time - s.time)) (sym (earlier_at trace step h.0 h.1)) h.2,
+    (same_G h.0 h.1).0 h.3,
+    λ k behind below. ⊎_elim (λ earlier. (same_F k earlier).0 (h.4 k behind earlier)) (λ from.
+        let is : length trace ≡ k = omega (arith, longer) in subst F' is f) (cases_lt k (length trace)),
+  ))
+
+  pub held_from : HeldAt (trace ++ step ∷ []) interval time F' G'
+      → (((IsIn interval (time - step.time) × G' (length trace)) ⊎ (HeldAt trace interval time F G × F' (length trace))) → ⊥) → ⊥
+  held_from held refused = held (λ h. ⊎_elim
+      (λ earlier. refused (inr (
+        (λ none. none (
+          h.0,
+          earlier,
+          subst (λ s. IsIn interval (time - s.time)) (earlier_at trace step h.0 earlier) h.2,
+          (same_G h.0 earlier).1 h.3,
+          λ k behind below. (same_F k below).1 (h.4 k behind (omega (arith, longer))),
+        )),
+        h.4 (length trace) earlier (omega (arith, longer)),
+      )))
+      (λ from.
+      let is : h.0 ≡ length trace = omega (arith, longer, h.1) in
+      refused (inl (
+        subst (λ s. IsIn interval (time - s.time)) (new_at trace step) (subst (λ j. IsIn interval (time - (step_at (trace ++ step ∷ []) j).time)) is h.2),
+        subst G' is h.3,
+      )))
+      (cases_lt h.0 (length trace)))
+
+-- the answer of the steps with one step more is what held on the longer trace
+pub goes_on : OneStepMore → (trace : List Step) (step : Step) (interval : Interval) (time : ℕ) (F G F' G' : ℕ → Type 0)
+    → ((k : ℕ) → k < length trace → F k ↔ F' k) → ((k : ℕ) → k < length trace → G k ↔ G' k)
+    → (steps : List CommittedStep) (surviving right : Relation) (v : Valuation)
+    → Answers interval time steps v ↔ HeldAt trace interval time F G
+    → Has surviving v ↔ (Lasts steps v × F' (length trace))
+    → Has right v ↔ G' (length trace)
+    → Answers interval time (steps ++ at step.time surviving right ∷ []) v ↔ HeldAt (trace ++ step ∷ []) interval time F' G'
+goes_on more trace step interval time F G F' G' same_F same_G steps surviving right v answers survives is_right =
+    let now : CommittedStep = at step.time surviving right in
+    let unfolded = more interval time steps now v in (
+      λ h. ⊎_elim
+          (λ n. held_now trace step interval time F G F' G' same_F same_G n.0 (is_right.0 n.1))
+          (λ e. held_on trace step interval time F G F' G' same_F same_G (answers.0 e.0) (survives.0 e.1).1)
+          (unfolded.0 h),
+      λ held. unfolded.1 (⊎_elim
+          (λ yes. inl yes)
+          (λ no. inr (
+            answers.1 (λ none. held_from trace step interval time F G F' G' same_F same_G held (λ either. ⊎_elim (λ n. no (n.0, is_right.1 n.1)) (λ e. e.0 none) either)),
+            stable (in_table surviving v) (λ none. held_from trace step interval time F G F' G' same_F same_G held (λ either. ⊎_elim (λ n. no (n.0, is_right.1 n.1)) (λ e.
+                none (survives.1 (lasts (answers.1 e.0), e.1))) either)),
+          ))
+          (decided now)),
+    )
+  where
+    lasts : Answers interval time steps v → Lasts steps v
+    lasts h = record { before = h.before; step = h.step; after = h.after; split = h.split; counts = tt; right = h.right; survives = h.survives }
+
+    decided : (now : CommittedStep) → IsDecided (IsIn interval (time - now.time) × Has now.right v)
+    decided now = ⊎_elim (λ within. ⊎_elim (λ has. inl (within, has)) (λ no. inr (λ h. no h.1)) (in_table now.right v)) (λ no. inr (λ h. no h.0)) (in_interval interval (time - now.time))

@@ -1,0 +1,96 @@
+-- What can be kept of a safe formula in which no quantifier binds a variable in scope.
+use Rattle.std.proofs.Common.{refl, Bool, true, false, ◌&&◌, IsTrue, ◌⊎◌, inl, inr, ⊎_elim, List, [], ◌++◌, All, Contains, Option, None, Some}
+use Rattle.std.proofs.lemmas.List.Elements.{All-append, All-nil, All-cons}
+use Rattle.enf_value.specs.declared.terms.VarId.{VarId}
+use Rattle.enf_formula.specs.Formulas.{Formula, True, False, Atom, Equal, Less, AtMost, Not, And, Or, Implies, Exists, Forall, Prev, Next, Once, Historically, Since, Eventually, Always, Until}
+use Rattle.enf_formula.specs.FreeVariables.{IsFree}
+use Rattle.enf_formula.specs.Past.{is_past}
+use Rattle.monitorable_guard.specs.Safety.{SafeBelow, BindsFresh, Nothing, With, denial}
+use Rattle.valuations.specs.Columns.{none_in_nil, among_or_not}
+use Rattle.past_state.specs.Keeping.{CanKeep, IsFresh}
+use Rattle.past_state.specs.Operators.{operators}
+use Rattle.past_state.proofs.BuildingLemmas.{fresh_fewer}
+
+alone : (g : Formula) (S : VarId → Type 0) → BindsFresh g S → ((x : VarId) → IsFree x g → S x) → IsFresh g
+alone g S fresh within = fresh_fewer g S (λ x. Contains [] x ⊎ IsFree x g) (λ x either. ⊎_elim (λ there. absurd (none_in_nil x there)) (within x) either) fresh
+
+alone_denied : (g : Formula) (S : VarId → Type 0) → BindsFresh g S → ((x : VarId) → IsFree x g → S x) → IsFresh (denial g)
+alone_denied (Not place h) S fresh within = alone h S fresh within
+alone_denied (Implies place a b) S fresh within =
+    fresh_fewer (And place a (Not place b)) S (λ x. Contains [] x ⊎ (IsFree x a ⊎ IsFree x b)) (λ x either. ⊎_elim (λ there. absurd (none_in_nil x there)) (within x) either) fresh
+alone_denied g S fresh within = fresh_fewer g S (λ x. Contains [] x ⊎ IsFree x g) (λ x either. ⊎_elim (λ there. absurd (none_in_nil x there)) (within x) either) fresh
+
+inside : (xs : List VarId) (g : Formula) (S : VarId → Type 0) → ((x : VarId) → IsFree x g × (Contains xs x → ⊥) → S x) → (x : VarId) → IsFree x g → S x ⊎ Contains xs x
+inside xs g S within x free = ⊎_elim (λ there. inr there) (λ absent. inl (within x (free, absent))) (among_or_not xs x)
+
+pub keep_all : (m : Option (List VarId)) (f : Formula) (B S : VarId → Type 0) → SafeBelow m f B → BindsFresh f S → ((x : VarId) → IsFree x f → S x) → All CanKeep (operators f)
+keep_all None (True place) B S safe fresh within = All-nil CanKeep
+keep_all None (False place) B S safe fresh within = All-nil CanKeep
+keep_all None (Atom place name terms) B S safe fresh within = All-nil CanKeep
+keep_all None (Equal place s t) B S safe fresh within = All-nil CanKeep
+keep_all None (Less place s t) B S safe fresh within = All-nil CanKeep
+keep_all None (AtMost place s t) B S safe fresh within = All-nil CanKeep
+keep_all None (Not place g) B S safe fresh within = keep_all None g B S safe.1 fresh within
+keep_all None (And place g h) B S safe fresh within =
+    All-append CanKeep (operators g) (operators h) (keep_all None g B S safe.0 fresh.0 (λ x free. within x (inl free))) (keep_all None h (With B g) S safe.1 fresh.1 (λ x free. within x (inr free)))
+keep_all None (Or place g h) B S safe fresh within =
+    All-append CanKeep (operators g) (operators h) (keep_all None g B S safe.0 fresh.0 (λ x free. within x (inl free))) (keep_all None h B S safe.1 fresh.1 (λ x free. within x (inr free)))
+keep_all None (Implies place g h) B S safe fresh within =
+    All-append CanKeep (operators g) (operators h) (keep_all None g B S safe.2 fresh.0 (λ x free. within x (inl free))) (keep_all None h B S safe.3 fresh.1 (λ x free. within x (inr free)))
+keep_all None (Exists place xs g) B S safe fresh within = keep_all None g B (λ x. S x ⊎ Contains xs x) safe fresh.1 (inside xs g S within)
+keep_all None (Forall place xs g) B S safe fresh within = keep_all (Some xs) g B (λ x. S x ⊎ Contains xs x) safe fresh.1 (inside xs g S within)
+keep_all None (Prev place interval g) B S safe fresh within = All-cons CanKeep (Prev place interval g) (operators g) (alone g S fresh within) (keep_all None g Nothing S safe fresh within)
+keep_all None (Once place interval g) B S safe fresh within = All-cons CanKeep (Once place interval g) (operators g) (alone g S fresh within) (keep_all None g Nothing S safe fresh within)
+keep_all None (Historically place interval (Not p h)) B S safe fresh within =
+    All-cons CanKeep (Historically place interval (Not p h)) (operators h) (alone h S fresh within) (keep_all None h Nothing S safe.1 fresh within)
+keep_all None (Historically place interval (Implies p a b)) B S safe fresh within =
+    All-cons CanKeep (Historically place interval (Implies p a b)) (operators a ++ operators b) (alone_denied (Implies p a b) S fresh within)
+    (All-append CanKeep (operators a) (operators b) (keep_all None a Nothing S safe.2 fresh.0 (λ x free. within x (inl free))) (keep_all None b (With Nothing a) S safe.4 fresh.1 (λ x free. within x (inr free))))
+keep_all None (Historically place interval g) B S safe fresh within =
+    All-cons CanKeep (Historically place interval g) (operators g) (alone_denied g S fresh within) (keep_all None g Nothing S safe.2 fresh within)
+keep_all None (Since place interval g h) B S safe fresh within =
+    All-cons CanKeep (Since place interval g h) (operators g ++ operators h)
+    (alone h S fresh.1 (λ x free. within x (inr free)), fresh_fewer g S (λ x. IsFree x h) (λ x free. within x (inr free)) fresh.0, λ x free. ⊎_elim (λ b. absurd b) (λ is. is) (safe.1 x free))
+    (All-append CanKeep (operators g) (operators h) (keep_all None g (With Nothing h) S safe.2 fresh.0 (λ x free. within x (inl free))) (keep_all None h Nothing S safe.0 fresh.1 (λ x free. within x (inr free))))
+keep_all None (Next place interval g) B S safe fresh within = absurd safe
+keep_all None (Eventually place interval g) B S safe fresh within = absurd safe
+keep_all None (Always place interval g) B S safe fresh within = absurd safe
+keep_all None (Until place interval g h) B S safe fresh within = absurd safe
+keep_all (Some xs) (Forall place ys g) B S safe fresh within = keep_all (Some (xs ++ ys)) g B (λ x. S x ⊎ Contains ys x) safe fresh.1 (inside ys g S within)
+keep_all (Some xs) (Implies place g h) B S safe fresh within =
+    All-append CanKeep (operators g) (operators h) (keep_all None g B S safe.2 fresh.0 (λ x free. within x (inl free))) (keep_all None h (With B g) S safe.3 fresh.1 (λ x free. within x (inr free)))
+keep_all (Some xs) (Not place g) B S safe fresh within = keep_all None g B S safe.1 fresh within
+keep_all (Some xs) g B S safe fresh within = absurd safe
+
+both : (a b : Bool) → IsTrue a → IsTrue b → IsTrue (a && b)
+both true b first second = second
+both false b first second = first
+
+-- a safe formula does not look ahead
+pub safe_past : (m : Option (List VarId)) (f : Formula) (B : VarId → Type 0) → SafeBelow m f B → IsTrue (is_past f)
+safe_past None (True place) B safe = refl
+safe_past None (False place) B safe = refl
+safe_past None (Atom place name terms) B safe = refl
+safe_past None (Equal place s t) B safe = refl
+safe_past None (Less place s t) B safe = refl
+safe_past None (AtMost place s t) B safe = refl
+safe_past None (Not place g) B safe = safe_past None g B safe.1
+safe_past None (And place g h) B safe = both (is_past g) (is_past h) (safe_past None g B safe.0) (safe_past None h (With B g) safe.1)
+safe_past None (Or place g h) B safe = both (is_past g) (is_past h) (safe_past None g B safe.0) (safe_past None h B safe.1)
+safe_past None (Implies place g h) B safe = both (is_past g) (is_past h) (safe_past None g B safe.2) (safe_past None h B safe.3)
+safe_past None (Exists place xs g) B safe = safe_past None g B safe
+safe_past None (Forall place xs g) B safe = safe_past (Some xs) g B safe
+safe_past None (Prev place interval g) B safe = safe_past None g Nothing safe
+safe_past None (Once place interval g) B safe = safe_past None g Nothing safe
+safe_past None (Historically place interval (Not p h)) B safe = safe_past None h Nothing safe.1
+safe_past None (Historically place interval (Implies p a b)) B safe = both (is_past a) (is_past b) (safe_past None a Nothing safe.2) (safe_past None b (With Nothing a) safe.4)
+safe_past None (Historically place interval g) B safe = safe_past None g Nothing safe.2
+safe_past None (Since place interval g h) B safe = both (is_past g) (is_past h) (safe_past None g (With Nothing h) safe.2) (safe_past None h Nothing safe.0)
+safe_past None (Next place interval g) B safe = absurd safe
+safe_past None (Eventually place interval g) B safe = absurd safe
+safe_past None (Always place interval g) B safe = absurd safe
+safe_past None (Until place interval g h) B safe = absurd safe
+safe_past (Some xs) (Forall place ys g) B safe = safe_past (Some (xs ++ ys)) g B safe
+safe_past (Some xs) (Implies place g h) B safe = both (is_past g) (is_past h) (safe_past None g B safe.2) (safe_past None h (With B g) safe.3)
+safe_past (Some xs) (Not place g) B safe = safe_past None g B safe.1
+safe_past (Some xs) g B safe = absurd safe

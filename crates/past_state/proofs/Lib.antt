@@ -1,0 +1,15 @@
+pub mod Decided
+pub mod HeldLemmas
+pub mod StandsLemmas
+pub mod RowLemmas
+pub mod KeptRows
+pub mod StackLemmas
+pub mod ColumnLemmas
+pub mod MemoryLemmas
+pub mod RunLemmas
+pub mod OrderLemmas
+pub mod CommitLemmas
+pub mod PastLemmas
+pub mod BuildingLemmas
+pub mod KeepingLemmas
+pub mod GuardLemmas

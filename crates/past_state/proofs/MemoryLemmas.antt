@@ -1,0 +1,230 @@
+-- What is kept for an operator, with one step more.
+use Rattle.std.proofs.Common.{◌≡◌, ◌↔◌, ◌⊎◌, inr, ℕ, ◌≤◌, IsTrue, List, [], ◌∷◌, ◌++◌, length, drop, Contains, refl, sym, subst, arith}
+use Rattle.std.specs.Prelude.{IsSome}
+use Rattle.std.proofs.lemmas.Bool.{and_parts}
+use Rattle.enf_value.specs.Valuations.{Valuation, value_at}
+use Rattle.enf_value.specs.declared.events.Event.{Event}
+use Rattle.enf_value.specs.declared.intervals.Interval.{Interval}
+use Rattle.enf_value.specs.declared.steps.Step.{Step}
+use Rattle.enf_value.specs.declared.terms.VarId.{VarId}
+use Rattle.enf_formula.specs.Formulas.{Formula, Not, Implies, Prev, Once, Historically, Since, tree_of}
+use Rattle.enf_formula.specs.FreeVariables.{IsFree, AreFreeVariables}
+use Rattle.enf_formula.specs.Past.{is_past}
+use Rattle.enf_formula.specs.Satisfaction.{Sat}
+use Rattle.monitorable_guard.specs.Evaluation.{FitOperators}
+use Rattle.monitorable_guard.specs.Guards.{BoundFormula}
+use Rattle.monitorable_guard.specs.Present.{HoldsNow, StandFor, StandsFor, Tabled, PresentIsSatisfied, outermost}
+use Rattle.monitorable_guard.specs.Safety.{BindsFresh, denial}
+use Rattle.trace_meaning.specs.Continuation.{last_time}
+use Rattle.valuations.specs.Just.{Binds}
+use Rattle.valuations.specs.Tables.{Relation, Has}
+use Rattle.windows.specs.Windows.{Window}
+use Rattle.past_state.specs.Laws.{AreTablesOf, SinceAnswers, SinceGoesOn, OnceAnswers, OnceGoesOn, HistoricallyIsDenied, PrevAnswers, PrevGoesOn, satisfied, everywhere}
+use Rattle.past_state.specs.Memories.{Asks, IsFor, CanAskAll, CanAskUnder, CanStep, AnswersAll, AreLasting, AreSurviving, AreStepTables, FitMemory, GivesNow, MemoryStands, committed}
+use Rattle.past_state.specs.Operators.{inner}
+use Rattle.past_state.specs.declared.memories.Memory.{Memory}
+use Rattle.past_state.specs.declared.memories.Memory.TheVariants as kept
+use Rattle.past_state.specs.declared.memories.StepTables.{StepTables}
+use Rattle.past_state.proofs.HeldLemmas.{new_at}
+
+-- ---- tables of several operators
+
+pub stand_front : (trace : List Step) (i : ℕ) (fs gs : List Formula) (tables : List Relation) → StandFor trace i (fs ++ gs) tables → StandFor trace i fs tables
+stand_front trace i [] gs tables stand = tt
+stand_front trace i (f ∷ fs) gs [] stand = absurd stand
+stand_front trace i (f ∷ fs) gs (t ∷ tables) stand = (stand.0, stand_front trace i fs gs tables stand.1)
+
+pub stand_back : (trace : List Step) (i : ℕ) (fs gs : List Formula) (tables : List Relation) → StandFor trace i (fs ++ gs) tables → StandFor trace i gs (drop (length fs) tables)
+stand_back trace i [] gs tables stand = stand
+stand_back trace i (f ∷ fs) gs [] stand = absurd stand
+stand_back trace i (f ∷ fs) gs (t ∷ tables) stand = stand_back trace i fs gs tables stand.1
+
+pub fit_front : (fs gs : List Formula) (tables : List Relation) → FitOperators (fs ++ gs) tables → FitOperators fs tables
+fit_front [] gs tables fit = tt
+fit_front (f ∷ fs) gs [] fit = absurd fit
+fit_front (f ∷ fs) gs (t ∷ tables) fit = (fit.0, fit_front fs gs tables fit.1)
+
+pub fit_back : (fs gs : List Formula) (tables : List Relation) → FitOperators (fs ++ gs) tables → FitOperators gs (drop (length fs) tables)
+fit_back [] gs tables fit = fit
+fit_back (f ∷ fs) gs [] fit = absurd fit
+fit_back (f ∷ fs) gs (t ∷ tables) fit = fit_back fs gs tables fit.1
+
+pub fit_long : (fs : List Formula) (tables : List Relation) → FitOperators fs tables → length fs ≤ length tables
+fit_long [] tables fit = omega arith
+fit_long (f ∷ fs) [] fit = absurd fit
+fit_long (f ∷ fs) (t ∷ tables) fit = omega (arith, fit_long fs tables fit.1)
+
+-- ---- the denial
+
+pub denial_outermost : (g : Formula) → outermost (denial g) ≡ outermost g
+denial_outermost (Not place h) = refl
+denial_outermost (Implies place a b) = refl
+denial_outermost g = refl
+
+denial_past : (g : Formula) → IsTrue (is_past g) → IsTrue (is_past (denial g))
+denial_past (Not place h) past = past
+denial_past (Implies place a b) past = past
+denial_past g past = past
+
+pub denial_free : (g : Formula) (x : VarId) → IsFree x (denial g) ↔ IsFree x g
+denial_free (Not place h) x = (λ free. free, λ free. free)
+denial_free (Implies place a b) x = (λ free. free, λ free. free)
+denial_free g x = (λ free. free, λ free. free)
+
+-- ---- what a step may ask
+
+can_ask_all : (f : Formula) (columns : List VarId) (guard : BoundFormula) (tables : List Relation) → Asks f [] guard → AreFreeVariables f columns → FitOperators (outermost f) tables
+    → CanAskAll guard columns tables
+can_ask_all f columns guard tables asks free fit = record {
+  bound = asks.bound_is;
+  free = subst (λ h. AreFreeVariables h columns) (sym asks.formula_is) free;
+  fresh = subst (λ h. BindsFresh h (λ x. Contains guard.bound x ⊎ IsFree x h)) (sym asks.formula_is) (subst (λ b. BindsFresh f (λ x. Contains b x ⊎ IsFree x f)) (sym asks.bound_is) asks.fresh);
+  tabled = subst (λ h. FitOperators (outermost h) tables) (sym asks.formula_is) fit;
+}
+
+can_ask_under : (f : Formula) (columns : List VarId) (guard : BoundFormula) (tables : List Relation) → Asks f columns guard → ((x : VarId) → IsFree x f → Contains columns x)
+    → FitOperators (outermost f) tables → CanAskUnder guard columns tables
+can_ask_under f columns guard tables asks free fit = record {
+  bound = asks.bound_is;
+  free = λ x is. free x (subst (IsFree x) asks.formula_is is);
+  fresh = subst (λ h. BindsFresh h (λ x. Contains guard.bound x ⊎ IsFree x h)) (sym asks.formula_is) (subst (λ b. BindsFresh f (λ x. Contains b x ⊎ IsFree x f)) (sym asks.bound_is) asks.fresh);
+  tabled = subst (λ h. FitOperators (outermost h) tables) (sym asks.formula_is) fit;
+}
+
+pub can_step : (f : Formula) (m : Memory) (tables : List Relation) → IsFor f m → FitOperators (inner f) tables → CanStep tables m
+can_step (Prev place interval g) (kept.Prev slot operand) tables for fit = can_ask_all g slot.columns operand tables for.0 for.1 fit
+can_step (Once place interval g) (kept.Once window right) tables for fit = can_ask_all g window.columns right tables for.0 for.1 fit
+can_step (Historically place interval g) (kept.Once window right) tables for fit =
+    can_ask_all (denial g) window.columns right tables for.0 for.1 (subst (λ l. FitOperators l tables) (sym (denial_outermost g)) fit)
+can_step (Since place interval g h) (kept.Since window left left_tables right) tables for fit = (
+  subst (λ n. CanAskAll right window.columns (drop n tables)) (sym for.4)
+      (can_ask_all h window.columns right (drop (length (outermost g)) tables) for.0 for.1 (fit_back (outermost g) (outermost h) tables fit)),
+  can_ask_under g window.columns left tables for.3 (λ x free. (for.1.exact x).1 (for.5 x free)) (fit_front (outermost g) (outermost h) tables fit),
+  subst (λ n. n ≤ length tables) (sym for.4) (fit_long (outermost g) tables (fit_front (outermost g) (outermost h) tables fit)),
+)
+can_step f m tables for fit = absurd for
+
+-- what it brings fits
+pub step_fits : (events : List Event) (tables : List Relation) (m : Memory) (t : StepTables) → AreStepTables events tables m t → FitMemory m t
+step_fits events tables (kept.Prev slot operand) t are = are.columns_are
+step_fits events tables (kept.Once window right) t are = (are.1.columns_are, are.0.columns_are)
+step_fits events tables (kept.Since window left left_tables right) t are = (are.1.columns_are, are.0.columns_are)
+
+-- ---- a step of a trace for which what is kept stands
+
+-- the laws that it takes
+pub record Laws : Type 0 where
+  pub present : PresentIsSatisfied
+  pub since_answers : SinceAnswers
+  pub since_goes_on : SinceGoesOn
+  pub once_answers : OnceAnswers
+  pub once_goes_on : OnceGoesOn
+  pub denied : HistoricallyIsDenied
+  pub prev_answers : PrevAnswers
+  pub prev_goes_on : PrevGoesOn
+
+then : {P Q R : Type 0} → P ↔ Q → Q ↔ R → P ↔ R
+then a b = (λ p. b.0 (a.0 p), λ r. a.1 (b.1 r))
+
+module _ (laws : Laws) (trace : List Step) (step : Step) (later : last_time trace ≤ step.time) where
+  -- what holds by the tables is what is satisfied
+  now_satisfied : (g : Formula) (guard : BoundFormula) (tables : List Relation) → tree_of guard.formula ≡ g → IsTrue (is_past g) → StandFor (trace ++ step ∷ []) (length trace) (outermost g) tables
+      → (v : Valuation) → ((x : VarId) → IsFree x g → IsSome (value_at v x))
+      → HoldsNow step.events tables v (tree_of guard.formula) ↔ Sat (trace ++ step ∷ []) (length trace) v g
+  now_satisfied g guard tables is past stand v binds =
+      subst (λ h. HoldsNow step.events tables v h ↔ Sat (trace ++ step ∷ []) (length trace) v g) (sym is)
+      (subst (λ s. HoldsNow s.events tables v g ↔ Sat (trace ++ step ∷ []) (length trace) v g) (new_at trace step)
+      (laws.present (trace ++ step ∷ []) (length trace) tables v g past stand binds))
+
+  bound_free : (g : Formula) (columns : List VarId) (v : Valuation) → AreFreeVariables g columns → Binds v columns → (x : VarId) → IsFree x g → IsSome (value_at v x)
+  bound_free g columns v free binds x is = binds x ((free.exact x).1 is)
+
+  is_answer : (g : Formula) (guard : BoundFormula) (tables : List Relation) (columns : List VarId) (t : Relation) → Asks g [] guard → AreFreeVariables g columns → IsTrue (is_past g)
+      → StandFor (trace ++ step ∷ []) (length trace) (outermost g) tables → AnswersAll step.events tables guard columns t
+      → (v : Valuation) → Binds v columns → Has t v ↔ Sat (trace ++ step ∷ []) (length trace) v g
+  is_answer g guard tables columns t asks free past stand answers v binds =
+      then (answers.rows v binds) (now_satisfied g guard tables asks.formula_is past stand v (bound_free g columns v free binds))
+
+  once_tables : (g : Formula) (interval : Interval) (window : Window) (right : BoundFormula) (tables : List Relation) (t : StepTables) → Asks g [] right → AreFreeVariables g window.columns → IsTrue (is_past g)
+      → StandFor (trace ++ step ∷ []) (length trace) (outermost g) tables → AnswersAll step.events tables right window.columns t.right → AreLasting window t.surviving
+      → AreTablesOf trace window everywhere (satisfied (trace ++ step ∷ []) g) t.surviving t.right
+  once_tables g interval window right tables t asks free past stand answers lasting = record {
+    surviving_columns = lasting.columns_are;
+    right_columns = answers.columns_are;
+    survives = λ v binds. (λ h. ((lasting.rows v).0 h, tt), λ h. (lasting.rows v).1 h.0);
+    is_right = is_answer g right tables window.columns t.right asks free past stand answers;
+  }
+
+  since_tables : (g h : Formula) (window : Window) (left right : BoundFormula) (left_tables : ℕ) (tables : List Relation) (t : StepTables) → Asks h [] right → AreFreeVariables h window.columns
+      → Asks g window.columns left → left_tables ≡ length (outermost g) → ((x : VarId) → IsFree x g → IsFree x h) → IsTrue (is_past g) → IsTrue (is_past h)
+      → StandFor (trace ++ step ∷ []) (length trace) (outermost g ++ outermost h) tables
+      → AnswersAll step.events (drop left_tables tables) right window.columns t.right → AreSurviving step.events tables left window t.surviving
+      → AreTablesOf trace window (satisfied (trace ++ step ∷ []) g) (satisfied (trace ++ step ∷ []) h) t.surviving t.right
+  since_tables g h window left right left_tables tables t asks_right free asks_left counted within past_g past_h stand answers surviving = record {
+    surviving_columns = surviving.columns_are;
+    right_columns = answers.columns_are;
+    survives = λ v binds.
+        let holds = now_satisfied g left tables asks_left.formula_is past_g (stand_front _ _ (outermost g) (outermost h) tables stand) v (λ x is. bound_free h window.columns v free binds x (within x is)) in (
+          λ has. let both = (surviving.rows v).0 has in (both.0, holds.0 both.1),
+          λ both. (surviving.rows v).1 (both.0, holds.1 both.1),
+        );
+    is_right = is_answer h right (drop left_tables tables) window.columns t.right asks_right free past_h
+        (subst (λ n. StandFor (trace ++ step ∷ []) (length trace) (outermost h) (drop n tables)) (sym counted) (stand_back _ _ (outermost g) (outermost h) tables stand)) answers;
+  }
+
+  -- the table that it gives stands for the operator
+  stands_by : (f : Formula) (columns free_in : List VarId) (given : Relation) → given.columns ≡ columns → ((x : VarId) → Contains columns x → IsFree x f)
+      → ((v : Valuation) → Binds v columns → Has given v ↔ Tabled (trace ++ step ∷ []) (length trace) v f) → StandsFor (trace ++ step ∷ []) (length trace) f given
+  stands_by f columns free_in given same free rows = record {
+    columns = λ x there. free x (subst (λ l. Contains l x) same there);
+    rows = λ v binds. rows v (subst (Binds v) same binds);
+  }
+
+  pub given_stands : (f : Formula) (m : Memory) (tables : List Relation) (t : StepTables) (given : Relation) → IsTrue (is_past f) → IsFor f m → MemoryStands trace f m
+      → StandFor (trace ++ step ∷ []) (length trace) (inner f) tables → AreStepTables step.events tables m t → GivesNow m step.time t given
+      → StandsFor (trace ++ step ∷ []) (length trace) f given
+  given_stands (Prev place interval g) (kept.Prev slot operand) tables t given past for stands inside are gives =
+      stands_by _ slot.columns [] given gives.0 (λ x there. (for.1.exact x).0 there)
+      (λ v binds. then (gives.1 v) (laws.prev_answers trace step place interval g slot past later stands v binds))
+  given_stands (Once place interval g) (kept.Once window right) tables t given past for stands inside are gives =
+      stands_by _ window.columns [] given gives.0 (λ x there. (for.1.exact x).0 there)
+      (λ v binds. then (gives.1 v) (laws.once_answers trace step place interval g window t.surviving t.right past later stands (once_tables g interval window right tables t for.0 for.1 past inside are.0 are.1) v binds))
+  given_stands (Historically place interval g) (kept.Once window right) tables t given past for stands inside are gives =
+      let past' = denial_past g past in
+      stands_by _ window.columns [] given gives.0 (λ x there. (denial_free g x).0 ((for.1.exact x).0 there))
+      (λ v binds. then (gives.1 v) (then
+      (laws.once_answers trace step place interval (denial g) window t.surviving t.right past' later stands (once_tables (denial g) interval window right tables t for.0 for.1 past'
+      (subst (λ l. StandFor (trace ++ step ∷ []) (length trace) l tables) (sym (denial_outermost g)) inside) are.0 are.1) v binds)
+      (let d = laws.denied (trace ++ step ∷ []) (length trace) v place interval g in (d.1, d.0))))
+  given_stands (Since place interval g h) (kept.Since window left left_tables right) tables t given past for stands inside are gives =
+      let pasts = and_parts (is_past g) (is_past h) past in
+      stands_by _ window.columns [] given gives.0 (λ x there. inr ((for.1.exact x).0 there))
+      (λ v binds. then (gives.1 v) (laws.since_answers trace step place interval g h window t.surviving t.right pasts.0 pasts.1 later stands
+      (since_tables g h window left right left_tables tables t for.0 for.1 for.3 for.4 for.5 pasts.0 pasts.1 inside are.0 are.1) v binds))
+  given_stands f m tables t given past for stands inside are gives = absurd for
+
+  -- and with the step committed it stands for the longer trace
+  pub committed_stands : (f : Formula) (m : Memory) (tables : List Relation) (t : StepTables) → IsTrue (is_past f) → IsFor f m → MemoryStands trace f m
+      → StandFor (trace ++ step ∷ []) (length trace) (inner f) tables → AreStepTables step.events tables m t
+      → MemoryStands (trace ++ step ∷ []) f (committed m step.time t)
+  committed_stands (Prev place interval g) (kept.Prev slot operand) tables t past for stands inside are =
+      laws.prev_goes_on trace step interval g slot t.right stands are.columns_are (is_answer g operand tables slot.columns t.right for.0 for.1 past inside are)
+  committed_stands (Once place interval g) (kept.Once window right) tables t past for stands inside are =
+      laws.once_goes_on trace step interval g window t.surviving t.right past later stands (once_tables g interval window right tables t for.0 for.1 past inside are.0 are.1)
+  committed_stands (Historically place interval g) (kept.Once window right) tables t past for stands inside are =
+      let past' = denial_past g past in
+      laws.once_goes_on trace step interval (denial g) window t.surviving t.right past' later stands (once_tables (denial g) interval window right tables t for.0 for.1 past'
+      (subst (λ l. StandFor (trace ++ step ∷ []) (length trace) l tables) (sym (denial_outermost g)) inside) are.0 are.1)
+  committed_stands (Since place interval g h) (kept.Since window left left_tables right) tables t past for stands inside are =
+      let pasts = and_parts (is_past g) (is_past h) past in
+      laws.since_goes_on trace step interval g h window t.surviving t.right pasts.0 pasts.1 later stands
+      (since_tables g h window left right left_tables tables t for.0 for.1 for.3 for.4 for.5 pasts.0 pasts.1 inside are.0 are.1)
+  committed_stands f m tables t past for stands inside are = absurd for
+
+-- what is kept is for the same operator
+pub still_for : (f : Formula) (m : Memory) (time : ℕ) (t : StepTables) → IsFor f m → IsFor f (committed m time t)
+still_for (Prev place interval g) (kept.Prev slot operand) time t for = for
+still_for (Once place interval g) (kept.Once window right) time t for = for
+still_for (Historically place interval g) (kept.Once window right) time t for = for
+still_for (Since place interval g h) (kept.Since window left left_tables right) time t for = for
+still_for f m time t for = absurd for

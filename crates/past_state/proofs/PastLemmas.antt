@@ -1,0 +1,255 @@
+-- Past states step by step.
+use Rattle.std.proofs.Common.{◌≡◌, ◌∙◌, ◌↔◌, ⊎_elim, ℕ, zero, suc, ◌+◌, ◌-◌, ◌<◌, ◌≤◌, IsTrue, List, [], ◌∷◌, ◌++◌, length, take, drop, reverse, get_or, All, Contains, Some, refl, sym, ap, subst, arith, append-nil, append_assoc, length-append}
+use Rattle.std.specs.Prelude.{Bool, IsSome, not, slice_get}
+use Rattle.enf_value.specs.declared.terms.VarId.{VarId}
+use Rattle.std.proofs.lemmas.Option.{same_Some, none-some}
+use Rattle.std.proofs.lemmas.Bool.{and_parts}
+use Rattle.std.proofs.lemmas.List.{length-reverse, reverse-append}
+use Rattle.std.proofs.lemmas.List.Elements.{All-append, All-nil, All-cons, All-head, All-tail}
+use Rattle.enf_value.specs.declared.events.Event.{Event}
+use Rattle.enf_value.specs.declared.steps.Step.{Step}
+use Rattle.enf_formula.specs.Formulas.{Formula, True, False, Atom, Equal, Less, AtMost, Not, And, Or, Implies, Exists, Forall, Prev, Next, Once, Historically, Since, Eventually, Always, Until}
+use Rattle.enf_formula.specs.Past.{is_past}
+use Rattle.enf_formula.specs.Satisfaction.{Sat}
+use Rattle.enf_value.specs.Valuations.{Valuation}
+use Rattle.monitorable_guard.specs.Evaluation.{AreOpen, CanEvaluate, FitOperators, HoldsFor}
+use Rattle.monitorable_guard.specs.Present.{HoldsNow, PresentIsSatisfied, StandFor, outermost}
+use Rattle.valuations.specs.Columns.{among_or_not}
+use Rattle.valuations.specs.Just.{Binds}
+use Rattle.valuations.specs.Tables.{Relation, Has, AgreeOn}
+use Rattle.trace_meaning.specs.Continuation.{last_time}
+use Rattle.past_state.specs.Operators.{operators, all_operators, all_outermost}
+use Rattle.past_state.specs.Past.{Past, PastTables, IsPast, IsSound, TablesStand, AreOf, RunStands, CommitStands, AreEvaluated, AreSatisfied, ArePastTables, BeginAt, BindsBound, IsEvaluated, IsGuard, IsSatisfied, IsTestOf, formulas, formula_of, tables_of, with_committed}
+use Rattle.past_state.specs.Runs.{AllStand, AreInsideOut, AreOrdered, AllFit, Runs, outer_onto, commit_all}
+use Rattle.past_state.specs.declared.guards.PlacedGuard.{PlacedGuard}
+use Rattle.past_state.specs.declared.memories.StepTables.{StepTables}
+use Rattle.past_state.specs.declared.operators.Operator.{Operator}
+use Rattle.past_state.proofs.MemoryLemmas.{Laws, fit_back, fit_front, fit_long, stand_back, stand_front, step_fits}
+use Rattle.past_state.proofs.OrderLemmas.{all_go}
+use Rattle.past_state.proofs.RunLemmas.{fit_run, stand_run, committed_run, still_all_for}
+use Rattle.past_state.proofs.HeldLemmas.{new_at}
+use Rattle.past_state.proofs.StackLemmas.{stack_below}
+use Rattle.past_state.proofs.RowLemmas.{iff_then, some_row}
+
+pub inside_out : (fs : List Formula) → AreInsideOut [] (reverse (all_operators fs))
+inside_out fs = subst (AreInsideOut []) (append-nil (reverse (all_operators fs))) ((all_go fs []).ordered [] tt)
+
+pub outer_are : (fs : List Formula) → outer_onto [] (reverse (all_operators fs)) ≡ all_outermost fs
+outer_are fs = ap (outer_onto []) (sym (append-nil (reverse (all_operators fs)))) ∙ (all_go fs []).leaves [] ∙ append-nil (all_outermost fs)
+
+pub ordered : (past : Past) → IsPast past → AreOrdered past.operators
+ordered past is = record { formulas = reverse (all_operators (formulas past.guards)); are_for = is.kept; inside_out = inside_out (formulas past.guards) }
+
+all_reverse : {X : Type 0} (P : X → Type 0) (xs : List X) → All P xs → All P (reverse xs)
+all_reverse P [] all = All-nil P
+all_reverse P (x ∷ xs) all = subst (All P) (sym (reverse-append (x ∷ []) xs)) (All-append P (reverse xs) (x ∷ []) (all_reverse P xs (All-tail P x xs all)) (All-cons P x [] (All-head P x xs all) (All-nil P)))
+
+abbrev ahead : Formula → Type 0
+ahead f = IsTrue (is_past f)
+
+two : (g h : Formula) → IsTrue (is_past (And 0 g h)) → (IsTrue (is_past g) → All ahead (operators g)) → (IsTrue (is_past h) → All ahead (operators h)) → All ahead (operators g ++ operators h)
+two g h past first second = let parts = and_parts (is_past g) (is_past h) past in All-append ahead (operators g) (operators h) (first parts.0) (second parts.1)
+
+operators_past : (f : Formula) → IsTrue (is_past f) → All ahead (operators f)
+operators_past (True place) past = All-nil ahead
+operators_past (False place) past = All-nil ahead
+operators_past (Atom place name terms) past = All-nil ahead
+operators_past (Equal place s t) past = All-nil ahead
+operators_past (Less place s t) past = All-nil ahead
+operators_past (AtMost place s t) past = All-nil ahead
+operators_past (Not place g) past = operators_past g past
+operators_past (And place g h) past = two g h past (operators_past g) (operators_past h)
+operators_past (Or place g h) past = two g h past (operators_past g) (operators_past h)
+operators_past (Implies place g h) past = two g h past (operators_past g) (operators_past h)
+operators_past (Exists place xs g) past = operators_past g past
+operators_past (Forall place xs g) past = operators_past g past
+operators_past (Prev place interval g) past = All-cons ahead (Prev place interval g) (operators g) past (operators_past g past)
+operators_past (Once place interval g) past = All-cons ahead (Once place interval g) (operators g) past (operators_past g past)
+operators_past (Historically place interval g) past = All-cons ahead (Historically place interval g) (operators g) past (operators_past g past)
+operators_past (Since place interval g h) past = All-cons ahead (Since place interval g h) (operators g ++ operators h) past (two g h past (operators_past g) (operators_past h))
+operators_past (Next place interval g) past = All-nil ahead
+operators_past (Eventually place interval g) past = All-nil ahead
+operators_past (Always place interval g) past = All-nil ahead
+operators_past (Until place interval g h) past = All-nil ahead
+
+all_past : (guards : List PlacedGuard) → All IsSound guards → All ahead (all_operators (formulas guards))
+all_past [] sound = All-nil ahead
+all_past (g ∷ guards) sound = All-append ahead (operators (formula_of g)) (all_operators (formulas guards)) (operators_past (formula_of g) (All-head IsSound g guards sound).0) (all_past guards (All-tail IsSound g guards sound))
+
+pub run_stands : Laws → RunStands
+run_stands laws past time events tables is are trace step same_time same_events later stands =
+    let fs = reverse (all_operators (formulas past.guards)) in
+    let runs : Runs step.events step.time [] past.operators tables.steps tables.stack =
+    subst (λ e. Runs e step.time [] past.operators tables.steps tables.stack) (sym same_events) (subst (λ t. Runs events t [] past.operators tables.steps tables.stack) (sym same_time) are.1) in
+    subst (λ gs. StandFor (trace ++ step ∷ []) (length trace) (all_outermost (formulas gs)) tables.stack) (sym are.0)
+    (subst (λ l. StandFor (trace ++ step ∷ []) (length trace) l tables.stack) (outer_are (formulas past.guards))
+    (stand_run laws trace step (subst (λ t. last_time trace ≤ t) (sym same_time) later) [] [] fs past.operators tables.steps tables.stack is.kept
+    (all_reverse ahead (all_operators (formulas past.guards)) (all_past past.guards is.sound)) (inside_out (formulas past.guards)) stands tt runs))
+
+pub commit_stands : Laws → CommitStands
+commit_stands laws past time events tables is trace step same_time same_events later stands are =
+    let fs = reverse (all_operators (formulas past.guards)) in
+    let runs : Runs step.events step.time [] past.operators tables.steps tables.stack =
+    subst (λ e. Runs e step.time [] past.operators tables.steps tables.stack) (sym same_events) (subst (λ t. Runs events t [] past.operators tables.steps tables.stack) (sym same_time) are.1) in
+    subst (λ t. AllStand (trace ++ step ∷ []) fs (commit_all t past.operators tables.steps)) same_time
+    (committed_run laws trace step (subst (λ t. last_time trace ≤ t) (sym same_time) later) [] [] fs past.operators tables.steps tables.stack is.kept
+    (all_reverse ahead (all_operators (formulas past.guards)) (all_past past.guards is.sound)) (inside_out (formulas past.guards)) stands tt runs)
+
+pub still_past : (past : Past) (time : ℕ) (steps : List StepTables) → IsPast past → IsPast (with_committed past time steps)
+still_past past time steps is = record { sound = is.sound; begin = is.begin; kept = still_all_for time (reverse (all_operators (formulas past.guards))) past.operators steps is.kept }
+
+-- ---- what the tables of a step are
+
+pub tables_are : (past : Past) (time : ℕ) (events : List Event) (tables : PastTables) → IsPast past → AreOf past time events tables → ArePastTables tables
+tables_are past time events tables is are = record {
+  sound = subst (All IsSound) (sym are.0) is.sound;
+  begin = subst (BeginAt 0) (sym are.0) is.begin;
+  fit = subst (λ gs. FitOperators (all_outermost (formulas gs)) tables.stack) (sym are.0)
+      (subst (λ l. FitOperators l tables.stack) (outer_are (formulas past.guards))
+      (fit_run events time [] [] (reverse (all_operators (formulas past.guards))) past.operators tables.steps tables.stack is.kept (inside_out (formulas past.guards)) tt are.1));
+}
+
+pub fits_run : (events : List Event) (time : ℕ) (stack : List Relation) (operators : List Operator) (steps : List StepTables) (final : List Relation) → Runs events time stack operators steps final → AllFit operators steps
+fits_run events time stack [] [] final runs = tt
+fits_run events time stack [] (t ∷ steps) final runs = absurd runs
+fits_run events time stack (o ∷ operators) [] final runs = absurd runs
+fits_run events time stack (o ∷ operators) (t ∷ steps) final runs = (step_fits events stack o.memory t runs.0, fits_run events time (runs.1.0 ∷ drop o.taken stack) operators steps final runs.1.3)
+
+-- ---- the tables of one guard
+
+pub record Placed (g : PlacedGuard) (n : ℕ) (all : List Formula) : Type 0 where
+  pub front : List Formula
+  pub back : List Formula
+  pub split : all ≡ front ++ (outermost (formula_of g) ++ back)
+  pub starts : g.start ≡ n + length front
+
+pub placed : (n : ℕ) (guards : List PlacedGuard) (number : ℕ) (g : PlacedGuard) → BeginAt n guards → IsGuard guards number g → Placed g n (all_outermost (formulas guards))
+placed n [] number g begin is = absurd (none-some g is)
+placed n (h ∷ guards) zero g begin is =
+    let same : h ≡ g = same_Some h g is in
+    subst (λ k. Placed k n (outermost (formula_of h) ++ all_outermost (formulas guards))) same
+    (record { front = []; back = all_outermost (formulas guards); split = refl; starts = begin.0 ∙ omega arith })
+placed n (h ∷ guards) (suc number) g begin is =
+    let rest = placed (n + length (outermost (formula_of h))) guards number g begin.1 is in
+    record {
+      front = outermost (formula_of h) ++ rest.front;
+      back = rest.back;
+      split = ap (λ l. outermost (formula_of h) ++ l) rest.split ∙ sym (append_assoc (outermost (formula_of h)) rest.front (outermost (formula_of g) ++ rest.back));
+      starts = rest.starts ∙ omega (arith, length-append (outermost (formula_of h)) rest.front);
+    }
+
+pub sound_at : (guards : List PlacedGuard) (number : ℕ) (g : PlacedGuard) → All IsSound guards → IsGuard guards number g → IsSound g
+sound_at [] number g sound is = absurd (none-some g is)
+sound_at (h ∷ guards) zero g sound is = subst IsSound (same_Some h g is) (All-head IsSound h guards sound)
+sound_at (h ∷ guards) (suc number) g sound is = sound_at guards number g (All-tail IsSound h guards sound) is
+
+-- what is asked of the tables of one guard
+pub record GuardTables (g : PlacedGuard) (tables : PastTables) : Type 0 where
+  pub enough : g.start ≤ length tables.stack
+  pub sound : IsSound g
+  pub fit : FitOperators (outermost (formula_of g)) (tables_of g tables)
+
+pub guard_tables : (tables : PastTables) (number : ℕ) (g : PlacedGuard) → ArePastTables tables → IsGuard tables.guards number g → GuardTables g tables
+guard_tables tables number g are is =
+    let at = placed 0 tables.guards number g are.begin is in
+    let fit : FitOperators (at.front ++ (outermost (formula_of g) ++ at.back)) tables.stack = subst (λ l. FitOperators l tables.stack) at.split are.fit in
+    let start : length at.front ≡ g.start = omega (arith, at.starts) in
+    record {
+      enough = subst (λ n. n ≤ length tables.stack) start (fit_long at.front tables.stack (fit_front at.front (outermost (formula_of g) ++ at.back) tables.stack fit));
+      sound = sound_at tables.guards number g are.sound is;
+      fit = subst (λ n. FitOperators (outermost (formula_of g)) (drop n tables.stack)) start
+          (fit_front (outermost (formula_of g)) at.back (drop (length at.front) tables.stack) (fit_back at.front (outermost (formula_of g) ++ at.back) tables.stack fit));
+    }
+
+pub guard_stands : (tables : PastTables) (number : ℕ) (g : PlacedGuard) (trace : List Step) (step : Step) → ArePastTables tables → IsGuard tables.guards number g → TablesStand trace step tables
+    → StandFor (trace ++ step ∷ []) (length trace) (outermost (formula_of g)) (tables_of g tables)
+guard_stands tables number g trace step are is stand =
+    let at = placed 0 tables.guards number g are.begin is in
+    let all : StandFor (trace ++ step ∷ []) (length trace) (at.front ++ (outermost (formula_of g) ++ at.back)) tables.stack = subst (λ l. StandFor (trace ++ step ∷ []) (length trace) l tables.stack) at.split stand in
+    let start : length at.front ≡ g.start = omega (arith, at.starts) in
+    subst (λ n. StandFor (trace ++ step ∷ []) (length trace) (outermost (formula_of g)) (drop n tables.stack)) start
+    (stand_front (trace ++ step ∷ []) (length trace) (outermost (formula_of g)) at.back (drop (length at.front) tables.stack)
+    (stand_back (trace ++ step ∷ []) (length trace) at.front (outermost (formula_of g) ++ at.back) tables.stack all))
+
+-- rows that evaluation gives are those that satisfy the guard, where the tables stand
+pub evaluated_satisfied : PresentIsSatisfied → (tables : PastTables) (number : ℕ) (g : PlacedGuard) (events : List Event) (v : Valuation) (t : Relation) → ArePastTables tables → IsGuard tables.guards number g
+    → AreOpen (formula_of g) g.guard.bound t.columns → Binds v g.guard.bound → HoldsFor events (tables_of g tables) (formula_of g) g.guard.bound v t
+    → (trace : List Step) (step : Step) → step.events ≡ events → TablesStand trace step tables → (w : Valuation) → AgreeOn g.guard.bound v w → Binds w t.columns
+    → Has t w ↔ Sat (trace ++ step ∷ []) (length trace) w (formula_of g)
+evaluated_satisfied present tables number g events v t are is opened bound holds trace step same stand w agree binds =
+    let sound = sound_at tables.guards number g are.sound is in
+    iff_then (holds w agree binds)
+    (subst (λ e. HoldsNow e (tables_of g tables) w (formula_of g) ↔ Sat (trace ++ step ∷ []) (length trace) w (formula_of g)) (ap (λ s. s.events) (new_at trace step) ∙ same)
+    (present (trace ++ step ∷ []) (length trace) (tables_of g tables) w (formula_of g) sound.0 (guard_stands tables number g trace step are is stand)
+    (λ x free. ⊎_elim (λ there. subst IsSome (agree x there) (bound x there)) (λ absent. binds x ((opened.exact x).1 (free, absent))) (among_or_not g.guard.bound x))))
+
+pub get_is : {X : Type 0} (xs : List X) (i : ℕ) (x : X) → i < length xs → x ≡ get_or xs i x → slice_get xs i ≡ Some x
+get_is [] i x below is = absurd (omega (arith, below))
+get_is (y ∷ xs) zero x below is = λ j. Some (sym is j)
+get_is (y ∷ xs) (suc i) x below is = get_is xs i x (omega (arith, below)) is
+
+-- the guard at the place, and the part of the stack that is its own
+pub record Asked (tables : PastTables) (number : ℕ) (g : PlacedGuard) (items : List Relation) (count : ℕ) : Type 0 where
+  pub is : IsGuard tables.guards number g
+  pub are : ArePastTables tables
+  pub enough : g.start ≤ count
+  pub part : reverse (take (count - g.start) items) ≡ tables_of g tables
+
+pub asked : (tables : PastTables) (number : ℕ) (g : PlacedGuard) (guards : List PlacedGuard) (items : List Relation) (count : ℕ) → ArePastTables tables → guards ≡ tables.guards → number < length tables.guards
+    → g ≡ get_or guards number g → reverse items ≡ tables.stack → count ≡ length items → Asked tables number g items count
+asked tables number g guards items count are same below is turned counted =
+    let there : IsGuard tables.guards number g = get_is tables.guards number g below (is ∙ ap (λ l. get_or l number g) same) in
+    let enough : g.start ≤ length (reverse items) = subst (λ l. g.start ≤ length l) (sym turned) (guard_tables tables number g are there).enough in
+    record {
+      is = there;
+      are = are;
+      enough = omega (arith, enough, length-reverse items, counted);
+      part = ap (λ n. reverse (take (n - g.start) items)) counted ∙ stack_below items g.start enough ∙ ap (drop g.start) turned;
+    }
+
+pub can_evaluate : (tables : PastTables) (number : ℕ) (g : PlacedGuard) (items : List Relation) (count : ℕ) (v : Valuation) → Asked tables number g items count → BindsBound tables.guards number v
+    → CanEvaluate (formula_of g) g.guard.bound (reverse (take (count - g.start) items)) v
+can_evaluate tables number g items count v asked binds = record {
+  fresh = (guard_tables tables number g asked.are asked.is).sound.1;
+  tabled = subst (FitOperators (outermost (formula_of g))) (sym asked.part) (guard_tables tables number g asked.are asked.is).fit;
+  binds = binds g asked.is;
+}
+
+same_guard : (guards : List PlacedGuard) (number : ℕ) (g h : PlacedGuard) → IsGuard guards number g → IsGuard guards number h → g ≡ h
+same_guard guards number g h a b = same_Some g h (sym a ∙ b)
+
+pub are_evaluated : (tables : PastTables) (number : ℕ) (g : PlacedGuard) (items : List Relation) (count : ℕ) (events : List Event) (v : Valuation) (t : Relation) → Asked tables number g items count
+    → HoldsFor events (reverse (take (count - g.start) items)) (formula_of g) g.guard.bound v t → AreEvaluated tables number events v t
+are_evaluated tables number g items count events v t asked holds h is =
+    subst (λ k. HoldsFor events (tables_of k tables) (formula_of k) k.guard.bound v t) (same_guard tables.guards number g h asked.is is)
+    (subst (λ l. HoldsFor events l (formula_of g) g.guard.bound v t) asked.part holds)
+
+pub are_satisfied : PresentIsSatisfied → (tables : PastTables) (number : ℕ) (g : PlacedGuard) (items : List Relation) (count : ℕ) (events : List Event) (v : Valuation) (t : Relation) → Asked tables number g items count
+    → BindsBound tables.guards number v → AreOpen (formula_of g) g.guard.bound t.columns → HoldsFor events (reverse (take (count - g.start) items)) (formula_of g) g.guard.bound v t
+    → AreSatisfied tables number events v t
+are_satisfied present tables number g items count events v t asked binds opened holds h is trace step same stand w agree bound =
+    evaluated_satisfied present tables number h events v t asked.are is
+    (subst (λ k. AreOpen (formula_of k) k.guard.bound t.columns) (same_guard tables.guards number g h asked.is is) opened) (binds h is)
+    (are_evaluated tables number g items count events v t asked holds h is) trace step same stand w agree bound
+
+-- ---- a test
+
+pub test_evaluated : (tables : PastTables) (number : ℕ) (g : PlacedGuard) (items : List Relation) (count : ℕ) (events : List Event) (v : Valuation) (t : Relation) (empty : Bool) → Asked tables number g items count
+    → IsTestOf tables.guards number → AreOpen (formula_of g) g.guard.bound t.columns → HoldsFor events (reverse (take (count - g.start) items)) (formula_of g) g.guard.bound v t
+    → (IsTrue empty ↔ (t.rows ≡ [])) → IsEvaluated tables number events v (not empty)
+test_evaluated tables number g items count events v t empty asked test opened holds tells h is =
+    let none : (x : VarId) → Contains t.columns x → ⊥ = λ x there. let open_x = (opened.exact x).0 there in open_x.1 (test g asked.is x open_x.0) in
+    subst (λ k. IsTrue (not empty) ↔ HoldsNow events (tables_of k tables) v (formula_of k)) (same_guard tables.guards number g h asked.is is)
+    (iff_then (some_row t v empty tells none)
+    (subst (λ l. HoldsFor events l (formula_of g) g.guard.bound v t) asked.part holds v (λ x there. refl) (λ x there. absurd (none x there))))
+
+pub test_satisfied : PresentIsSatisfied → (tables : PastTables) (number : ℕ) (events : List Event) (v : Valuation) (holds : Bool) → ArePastTables tables → IsTestOf tables.guards number
+    → BindsBound tables.guards number v → IsEvaluated tables number events v holds → IsSatisfied tables number events v holds
+test_satisfied present tables number events v holds are test binds evaluated h is trace step same stand =
+    iff_then (evaluated h is)
+    (subst (λ e. HoldsNow e (tables_of h tables) v (formula_of h) ↔ Sat (trace ++ step ∷ []) (length trace) v (formula_of h)) (ap (λ s. s.events) (new_at trace step) ∙ same)
+    (present (trace ++ step ∷ []) (length trace) (tables_of h tables) v (formula_of h) (sound_at tables.guards number h are.sound is).0 (guard_stands tables number h trace step are is stand)
+    (λ x free. binds h is x (test h is x free))))
+
+pub at_events : (others events : List Event) (tables : List Relation) (f : Formula) (bound : List VarId) (v : Valuation) (t : Relation) → others ≡ events → HoldsFor others tables f bound v t → HoldsFor events tables f bound v t
+at_events others events tables f bound v t same holds = subst (λ e. HoldsFor e tables f bound v t) same holds

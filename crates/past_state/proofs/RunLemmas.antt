@@ -1,0 +1,180 @@
+-- A step over all operators.
+use Rattle.std.proofs.Common.{◌≡◌, ◌∙◌, ◌↔◌, ◌⊎◌, inr, ⊎_elim, ℕ, zero, suc, ◌+◌, ◌-◌, ◌<◌, ◌≤◌, IsTrue, List, [], ◌∷◌, ◌++◌, length, take, drop, reverse, get_or, All, Contains, sym, ap, subst, arith}
+use Rattle.std.proofs.Math.Seq.{drop-append_seam}
+use Rattle.std.proofs.lemmas.List.{take_more, take_all, reverse-append}
+use Rattle.std.proofs.lemmas.List.Elements.{All-head, All-tail}
+use Rattle.enf_value.specs.declared.events.Event.{Event}
+use Rattle.enf_value.specs.declared.steps.Step.{Step}
+use Rattle.enf_value.specs.declared.terms.VarId.{VarId}
+use Rattle.enf_formula.specs.Formulas.{Formula, Prev, Once, Historically, Since}
+use Rattle.enf_formula.specs.FreeVariables.{IsFree}
+use Rattle.enf_formula.specs.Past.{is_past}
+use Rattle.monitorable_guard.specs.Evaluation.{FitOperators}
+use Rattle.monitorable_guard.specs.Present.{StandFor}
+use Rattle.trace_meaning.specs.Continuation.{last_time}
+use Rattle.valuations.specs.Tables.{Relation, IsTable}
+use Rattle.past_state.specs.Memories.{IsFor, AreStepTables, GivesNow, CanStep}
+use Rattle.past_state.specs.Operators.{inner}
+use Rattle.past_state.specs.Runs.{AreFor, AllStand, outer_onto, AreInsideOut, Runs, AreOrdered, commit_all}
+use Rattle.past_state.specs.declared.memories.Memory.{Memory}
+use Rattle.past_state.specs.declared.memories.Memory.TheVariants as kept
+use Rattle.past_state.specs.declared.memories.StepTables.{StepTables}
+use Rattle.past_state.specs.declared.operators.Operator.{Operator}
+use Rattle.past_state.proofs.MemoryLemmas.{Laws, fit_back, fit_front, fit_long, can_step, given_stands, committed_stands, denial_free, stand_front, stand_back, still_for}
+use Rattle.past_state.proofs.StackLemmas.{stack_below}
+
+-- the columns of what is given are the free variables
+given_columns : (f : Formula) (m : Memory) (time : ℕ) (t : StepTables) (given : Relation) → IsFor f m → GivesNow m time t given → (x : VarId) → Contains given.columns x ↔ IsFree x f
+given_columns (Prev place interval g) (kept.Prev slot operand) time t given for gives x = subst (λ l. Contains l x ↔ IsFree x g) (sym gives.0) (for.1.exact x)
+given_columns (Once place interval g) (kept.Once window right) time t given for gives x = subst (λ l. Contains l x ↔ IsFree x g) (sym gives.0) (for.1.exact x)
+given_columns (Historically place interval g) (kept.Once window right) time t given for gives x =
+    subst (λ l. Contains l x ↔ IsFree x g) (sym gives.0) (λ there. (denial_free g x).0 ((for.1.exact x).0 there), λ free. (for.1.exact x).1 ((denial_free g x).1 free))
+given_columns (Since place interval g h) (kept.Since window left left_tables right) time t given for gives x =
+    subst (λ l. Contains l x ↔ (IsFree x g ⊎ IsFree x h)) (sym gives.0) (λ there. inr ((for.1.exact x).0 there), λ either. (for.1.exact x).1 (⊎_elim (λ free. for.5 x free) (λ free. free) either))
+given_columns f m time t given for gives x = absurd for
+
+-- behind the operators of the operands stand the others
+behind_inner : (f : Formula) (before more : List Formula) → before ≡ inner f ++ more → drop (length (inner f)) before ≡ more
+behind_inner f before more e = ap (λ l. drop (length (inner f)) l) e ∙ drop-append_seam (inner f) more
+
+pub fit_run : (events : List Event) (time : ℕ) (before : List Formula) (stack : List Relation) (fs : List Formula) (operators : List Operator) (steps : List StepTables) (final : List Relation)
+    → AreFor fs operators → AreInsideOut before fs → FitOperators before stack → Runs events time stack operators steps final → FitOperators (outer_onto before fs) final
+fit_run events time before stack [] [] [] final for order fit runs = subst (FitOperators before) runs fit
+fit_run events time before stack [] [] (t ∷ steps) final for order fit runs = absurd runs
+fit_run events time before stack [] (o ∷ operators) steps final for order fit runs = absurd for
+fit_run events time before stack (f ∷ fs) [] steps final for order fit runs = absurd for
+fit_run events time before stack (f ∷ fs) (o ∷ operators) [] final for order fit runs = absurd runs
+fit_run events time before stack (f ∷ fs) (o ∷ operators) (t ∷ steps) final for order fit runs =
+    let is : before ≡ inner f ++ order.0.0 = order.0.1 in
+    let rest : FitOperators (drop (length (inner f)) before) (drop o.taken stack) =
+    subst (λ n. FitOperators (drop (length (inner f)) before) (drop n stack)) (sym for.1)
+    (subst (λ l. FitOperators l (drop (length (inner f)) stack)) (sym (behind_inner f before order.0.0 is)) (fit_back (inner f) order.0.0 stack (subst (λ l. FitOperators l stack) is fit))) in
+    fit_run events time (f ∷ drop (length (inner f)) before) (runs.1.0 ∷ drop o.taken stack) fs operators steps final for.2 order.1 (given_columns f o.memory time t runs.1.0 for.0 runs.1.2, rest) runs.1.3
+
+-- one operator more
+pub run_more : (events : List Event) (time : ℕ) (stack : List Relation) (operators : List Operator) (steps : List StepTables) (middle : List Relation) (o : Operator) (t : StepTables) (given : Relation)
+    → Runs events time stack operators steps middle → AreStepTables events middle o.memory t → IsTable given → GivesNow o.memory time t given
+    → Runs events time stack (operators ++ o ∷ []) (steps ++ t ∷ []) (given ∷ drop o.taken middle)
+run_more events time stack [] [] middle o t given runs are table gives =
+    (subst (λ l. AreStepTables events l o.memory t) (sym runs) are, (given, table, gives, ap (λ l. given ∷ drop o.taken l) runs))
+run_more events time stack [] (s ∷ steps) middle o t given runs are table gives = absurd runs
+run_more events time stack (p ∷ operators) [] middle o t given runs are table gives = absurd runs
+run_more events time stack (p ∷ operators) (s ∷ steps) middle o t given runs are table gives =
+    (runs.0, (runs.1.0, runs.1.1, runs.1.2, run_more events time (runs.1.0 ∷ drop p.taken stack) operators steps middle o t given runs.1.3 are table gives))
+
+-- the part at the front
+pub for_front : (fs : List Formula) (operators : List Operator) (i : ℕ) → AreFor fs operators → AreFor (take i fs) (take i operators)
+for_front [] [] zero for = tt
+for_front [] [] (suc i) for = tt
+for_front [] (o ∷ operators) i for = absurd for
+for_front (f ∷ fs) [] i for = absurd for
+for_front (f ∷ fs) (o ∷ operators) zero for = tt
+for_front (f ∷ fs) (o ∷ operators) (suc i) for = (for.0, for.1, for_front fs operators i for.2)
+
+pub order_front : (before fs : List Formula) (i : ℕ) → AreInsideOut before fs → AreInsideOut before (take i fs)
+order_front before [] zero order = tt
+order_front before [] (suc i) order = tt
+order_front before (f ∷ fs) zero order = tt
+order_front before (f ∷ fs) (suc i) order = (order.0, order_front (f ∷ drop (length (inner f)) before) fs i order.1)
+
+-- the operator at a place, and what stands on the stack before it
+pub record At (before fs : List Formula) (o : Operator) (i : ℕ) : Type 0 where
+  pub formula : Formula
+  pub is_for : IsFor formula o.memory
+  pub takes : o.taken ≡ length (inner formula)
+  pub more : List Formula
+  pub stands_on : outer_onto before (take i fs) ≡ inner formula ++ more
+
+pub at : (before fs : List Formula) (operators : List Operator) (i : ℕ) (o : Operator) → AreFor fs operators → AreInsideOut before fs → i < length operators → o ≡ get_or operators i o
+    → At before fs o i
+at before [] [] i o for order below is = absurd (omega (arith, below))
+at before [] (p ∷ operators) i o for order below is = absurd for
+at before (f ∷ fs) [] i o for order below is = absurd for
+at before (f ∷ fs) (p ∷ operators) zero o for order below is = record {
+  formula = f;
+  is_for = subst (λ q. IsFor f q.memory) (sym is) for.0;
+  takes = ap (λ q. q.taken) is ∙ for.1;
+  more = order.0.0;
+  stands_on = order.0.1;
+}
+at before (f ∷ fs) (p ∷ operators) (suc i) o for order below is =
+    let found = at (f ∷ drop (length (inner f)) before) fs operators i o for.2 order.1 (omega (arith, below)) is in
+    record { formula = found.formula; is_for = found.is_for; takes = found.takes; more = found.more; stands_on = found.stands_on }
+
+-- what the loop needs at a place
+pub record Ready (o : Operator) (middle : List Relation) : Type 0 where
+  pub can : CanStep middle o.memory
+  pub enough : o.taken ≤ length middle
+
+pub ready : (events : List Event) (time : ℕ) (operators : List Operator) (i : ℕ) (o : Operator) (steps : List StepTables) (middle : List Relation) → AreOrdered operators → i < length operators
+    → o ≡ get_or operators i o → Runs events time [] (take i operators) steps middle → Ready o middle
+ready events time operators i o steps middle ordered below is runs =
+    let found = at [] ordered.formulas operators i o ordered.are_for ordered.inside_out below is in
+    let fit : FitOperators (outer_onto [] (take i ordered.formulas)) middle =
+    fit_run events time [] [] (take i ordered.formulas) (take i operators) steps middle (for_front ordered.formulas operators i ordered.are_for) (order_front [] ordered.formulas i ordered.inside_out) tt runs in
+    let inside : FitOperators (inner found.formula) middle = fit_front (inner found.formula) found.more middle (subst (λ l. FitOperators l middle) found.stands_on fit) in
+    record {
+      can = can_step found.formula o.memory middle found.is_for inside;
+      enough = subst (λ n. n ≤ length middle) (sym found.takes) (fit_long (inner found.formula) middle inside);
+    }
+
+pub run_at : (events : List Event) (time : ℕ) (operators : List Operator) (i : ℕ) (o : Operator) (steps : List StepTables) (stack after : List Relation) (t : StepTables) (given : Relation) → i < length operators
+    → o ≡ get_or operators i o → o.taken ≤ length (reverse stack) → Runs events time [] (take i operators) steps (reverse stack) → AreStepTables events (reverse stack) o.memory t → IsTable given → GivesNow o.memory time t given
+    → after ≡ take (length stack - o.taken) stack ++ given ∷ [] → Runs events time [] (take (i + 1) operators) (steps ++ t ∷ []) (reverse after)
+run_at events time operators i o steps stack after t given below is enough runs are table gives e =
+    let top : reverse after ≡ given ∷ drop o.taken (reverse stack) = ap reverse e ∙ reverse-append (take (length stack - o.taken) stack) (given ∷ []) ∙ ap (λ l. given ∷ l) (stack_below stack o.taken enough) in
+    subst (λ l. Runs events time [] l (steps ++ t ∷ []) (reverse after)) (ap (λ p. take i operators ++ p ∷ []) is ∙ sym (take_more operators i o below))
+    (subst (λ l. Runs events time [] (take i operators ++ o ∷ []) (steps ++ t ∷ []) l) (sym top) (run_more events time [] (take i operators) steps (reverse stack) o t given runs are table gives))
+
+pub run_all : (events : List Event) (time : ℕ) (operators : List Operator) (i : ℕ) (steps : List StepTables) (final : List Relation) → length operators ≤ i
+    → Runs events time [] (take i operators) steps final → Runs events time [] operators steps final
+run_all events time operators i steps final all runs = subst (λ l. Runs events time [] l steps final) (take_all i operators all) runs
+
+-- ---- a step of a trace for which all operators stand
+
+abbrev pub AllPast : List Formula → Type 0
+AllPast fs = All (λ f. IsTrue (is_past f)) fs
+
+module _ (laws : Laws) (trace : List Step) (step : Step) (later : last_time trace ≤ step.time) where
+  pub stand_run : (before : List Formula) (stack : List Relation) (fs : List Formula) (operators : List Operator) (steps : List StepTables) (final : List Relation)
+      → AreFor fs operators → AllPast fs → AreInsideOut before fs → AllStand trace fs operators → StandFor (trace ++ step ∷ []) (length trace) before stack
+      → Runs step.events step.time stack operators steps final → StandFor (trace ++ step ∷ []) (length trace) (outer_onto before fs) final
+  stand_run before stack [] [] [] final for past order stands stand runs = subst (StandFor (trace ++ step ∷ []) (length trace) before) runs stand
+  stand_run before stack [] [] (t ∷ steps) final for past order stands stand runs = absurd runs
+  stand_run before stack [] (o ∷ operators) steps final for past order stands stand runs = absurd for
+  stand_run before stack (f ∷ fs) [] steps final for past order stands stand runs = absurd for
+  stand_run before stack (f ∷ fs) (o ∷ operators) [] final for past order stands stand runs = absurd runs
+  stand_run before stack (f ∷ fs) (o ∷ operators) (t ∷ steps) final for past order stands stand runs =
+      let is : before ≡ inner f ++ order.0.0 = order.0.1 in
+      let both : StandFor (trace ++ step ∷ []) (length trace) (inner f ++ order.0.0) stack = subst (λ l. StandFor (trace ++ step ∷ []) (length trace) l stack) is stand in
+      let inside : StandFor (trace ++ step ∷ []) (length trace) (inner f) stack = stand_front (trace ++ step ∷ []) (length trace) (inner f) order.0.0 stack both in
+      let rest : StandFor (trace ++ step ∷ []) (length trace) (drop (length (inner f)) before) (drop o.taken stack) =
+      subst (λ n. StandFor (trace ++ step ∷ []) (length trace) (drop (length (inner f)) before) (drop n stack)) (sym for.1)
+      (subst (λ l. StandFor (trace ++ step ∷ []) (length trace) l (drop (length (inner f)) stack)) (sym (behind_inner f before order.0.0 is)) (stand_back (trace ++ step ∷ []) (length trace) (inner f) order.0.0 stack both)) in
+      stand_run (f ∷ drop (length (inner f)) before) (runs.1.0 ∷ drop o.taken stack) fs operators steps final for.2 (All-tail (λ g. IsTrue (is_past g)) f fs past) order.1 stands.1
+      (given_stands laws trace step later f o.memory stack t runs.1.0 (All-head (λ g. IsTrue (is_past g)) f fs past) for.0 stands.0 inside runs.0 runs.1.2, rest) runs.1.3
+
+  pub committed_run : (before : List Formula) (stack : List Relation) (fs : List Formula) (operators : List Operator) (steps : List StepTables) (final : List Relation)
+      → AreFor fs operators → AllPast fs → AreInsideOut before fs → AllStand trace fs operators → StandFor (trace ++ step ∷ []) (length trace) before stack
+      → Runs step.events step.time stack operators steps final → AllStand (trace ++ step ∷ []) fs (commit_all step.time operators steps)
+  committed_run before stack [] operators steps final for past order stands stand runs = tt
+  committed_run before stack (f ∷ fs) [] steps final for past order stands stand runs = absurd for
+  committed_run before stack (f ∷ fs) (o ∷ operators) [] final for past order stands stand runs = absurd runs
+  committed_run before stack (f ∷ fs) (o ∷ operators) (t ∷ steps) final for past order stands stand runs =
+      let is : before ≡ inner f ++ order.0.0 = order.0.1 in
+      let both : StandFor (trace ++ step ∷ []) (length trace) (inner f ++ order.0.0) stack = subst (λ l. StandFor (trace ++ step ∷ []) (length trace) l stack) is stand in
+      let inside : StandFor (trace ++ step ∷ []) (length trace) (inner f) stack = stand_front (trace ++ step ∷ []) (length trace) (inner f) order.0.0 stack both in
+      let rest : StandFor (trace ++ step ∷ []) (length trace) (drop (length (inner f)) before) (drop o.taken stack) =
+      subst (λ n. StandFor (trace ++ step ∷ []) (length trace) (drop (length (inner f)) before) (drop n stack)) (sym for.1)
+      (subst (λ l. StandFor (trace ++ step ∷ []) (length trace) l (drop (length (inner f)) stack)) (sym (behind_inner f before order.0.0 is)) (stand_back (trace ++ step ∷ []) (length trace) (inner f) order.0.0 stack both)) in (
+        committed_stands laws trace step later f o.memory stack t (All-head (λ g. IsTrue (is_past g)) f fs past) for.0 stands.0 inside runs.0,
+        committed_run (f ∷ drop (length (inner f)) before) (runs.1.0 ∷ drop o.taken stack) fs operators steps final for.2 (All-tail (λ g. IsTrue (is_past g)) f fs past) order.1 stands.1
+            (given_stands laws trace step later f o.memory stack t runs.1.0 (All-head (λ g. IsTrue (is_past g)) f fs past) for.0 stands.0 inside runs.0 runs.1.2, rest) runs.1.3,
+      )
+
+pub still_all_for : (time : ℕ) (fs : List Formula) (operators : List Operator) (steps : List StepTables) → AreFor fs operators → AreFor fs (commit_all time operators steps)
+still_all_for time [] [] steps for = tt
+still_all_for time [] (o ∷ operators) steps for = absurd for
+still_all_for time (f ∷ fs) [] steps for = absurd for
+still_all_for time (f ∷ fs) (o ∷ operators) [] for = for
+still_all_for time (f ∷ fs) (o ∷ operators) (t ∷ steps) for = (still_for f o.memory time t for.0, for.1, still_all_for time fs operators steps for.2)

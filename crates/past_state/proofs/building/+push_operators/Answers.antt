@@ -1,0 +1,139 @@
+use Rattle.std.proofs.Common.{rules, ◌∙◌, ◌+◌, ◌++◌, All, length, reverse, sym, subst, ap, arith}
+use Rattle.std.proofs.lemmas.Result.{IfOk-weaker}
+use Rattle.enf_formula.specs.Formulas.{tree_of}
+use Rattle.enf_formula.specs.Formulas.{Prev, Once, Historically, Since}
+use Rattle.enf_formula.specs.FreeVariables.{IsFree}
+use Rattle.enf_value.specs.declared.terms.VarId.{VarId}
+use Rattle.monitorable_guard.specs.Present.{outermost}
+use Rattle.monitorable_guard.specs.Safety.{BindsFresh}
+use Rattle.past_state.specs.Keeping.{CanKeep, IsBegun, IsFresh, PushesFor}
+use Rattle.past_state.specs.Operators.{operators}
+use Rattle.past_state.proofs.BuildingLemmas.{keep_rest, keep_first, keep_left, keep_right, pushes_up, pushes_both, both_fewer, sum_counts}
+use Rattle.past_state.proofs.building.+push_operators.Goals as goal
+
+pub push_operators-requires : goal.push_operators-requires
+push_operators-requires t c = (search rules, subst (λ f. All CanKeep (operators (tree_of f))) (sym c.deref.ensures) (keep_right (tree_of c.in-And.f.value) (tree_of c.in-And.g.value) (subst (λ f. All CanKeep (operators (tree_of f))) c.in-And.is c.requires)))
+
+pub push_operators-requires-in-And : goal.push_operators-requires-in-And
+push_operators-requires-in-And t c = (search rules, subst (λ f. All CanKeep (operators (tree_of f))) (sym c.deref-in-And.ensures) (keep_left (tree_of c.in-And.f.value) (tree_of c.in-And.g.value) (subst (λ f. All CanKeep (operators (tree_of f))) c.in-And.is c.requires)))
+
+pub push_operators-requires-in-Or : goal.push_operators-requires-in-Or
+push_operators-requires-in-Or t c = (search rules, subst (λ f. All CanKeep (operators (tree_of f))) (sym c.deref-in-Or.ensures) (keep_right (tree_of c.in-Or.f.value) (tree_of c.in-Or.g.value) (subst (λ f. All CanKeep (operators (tree_of f))) c.in-Or.is c.requires)))
+
+pub push_operators-requires-in-Or-2 : goal.push_operators-requires-in-Or-2
+push_operators-requires-in-Or-2 t c = (search rules, subst (λ f. All CanKeep (operators (tree_of f))) (sym c.deref-in-Or-2.ensures) (keep_left (tree_of c.in-Or.f.value) (tree_of c.in-Or.g.value) (subst (λ f. All CanKeep (operators (tree_of f))) c.in-Or.is c.requires)))
+
+pub push_operators-requires-in-Implies : goal.push_operators-requires-in-Implies
+push_operators-requires-in-Implies t c = (search rules, subst (λ f. All CanKeep (operators (tree_of f))) (sym c.deref-in-Implies.ensures) (keep_right (tree_of c.in-Implies.f.value) (tree_of c.in-Implies.g.value) (subst (λ f. All CanKeep (operators (tree_of f))) c.in-Implies.is c.requires)))
+
+pub push_operators-requires-in-Implies-2 : goal.push_operators-requires-in-Implies-2
+push_operators-requires-in-Implies-2 t c = (search rules, subst (λ f. All CanKeep (operators (tree_of f))) (sym c.deref-in-Implies-2.ensures) (keep_left (tree_of c.in-Implies.f.value) (tree_of c.in-Implies.g.value) (subst (λ f. All CanKeep (operators (tree_of f))) c.in-Implies.is c.requires)))
+
+pub push_operators-requires-in-Since : goal.push_operators-requires-in-Since
+push_operators-requires-in-Since t c = (search rules, subst (λ f. All CanKeep (operators (tree_of f))) (sym c.deref-in-Since.ensures) (keep_right (tree_of c.in-Since.f.value) (tree_of c.in-Since.g.value) (keep_rest _ _ (subst (λ f. All CanKeep (operators (tree_of f))) c.in-Since.is c.requires))))
+
+pub push_operators-requires-in-Since-2 : goal.push_operators-requires-in-Since-2
+push_operators-requires-in-Since-2 t c = (search rules, subst (λ f. All CanKeep (operators (tree_of f))) (sym c.deref-in-Since-2.ensures) (keep_left (tree_of c.in-Since.f.value) (tree_of c.in-Since.g.value) (keep_rest _ _ (subst (λ f. All CanKeep (operators (tree_of f))) c.in-Since.is c.requires))))
+
+pub push_operators-requires-in-Prev : goal.push_operators-requires-in-Prev
+push_operators-requires-in-Prev t c = (search rules, subst (λ f. All CanKeep (operators (tree_of f))) (sym c.deref-in-Prev.ensures) (keep_rest _ _ (subst (λ f. All CanKeep (operators (tree_of f))) c.in-Prev.is c.requires)))
+
+pub push_operators-requires-in-Once : goal.push_operators-requires-in-Once
+push_operators-requires-in-Once t c = (search rules, subst (λ f. All CanKeep (operators (tree_of f))) (sym c.deref-in-Once.ensures) (keep_rest _ _ (subst (λ f. All CanKeep (operators (tree_of f))) c.in-Once.is c.requires)))
+
+pub push_operators-requires-in-Historically : goal.push_operators-requires-in-Historically
+push_operators-requires-in-Historically t c = (search rules, subst (λ f. All CanKeep (operators (tree_of f))) (sym c.deref-in-Historically.ensures) (keep_rest _ _ (subst (λ f. All CanKeep (operators (tree_of f))) c.in-Historically.is c.requires)))
+
+pub since_memory-requires-clause-fresh_right : goal.since_memory-requires-clause-fresh_right
+since_memory-requires-clause-fresh_right t c = subst (λ g. IsFresh (tree_of g)) (sym c.deref-in-Since-4.ensures) (keep_first _ _ (subst (λ f. All CanKeep (operators (tree_of f))) c.in-Since.is c.requires)).0
+
+pub since_memory-requires-clause-fresh_left : goal.since_memory-requires-clause-fresh_left
+since_memory-requires-clause-fresh_left t c =
+    subst (λ g. BindsFresh (tree_of g) (λ x. IsFree x (tree_of c.deref-in-Since-4.result.now))) (sym c.deref-in-Since-3.ensures)
+    (subst (λ g. BindsFresh (tree_of c.in-Since.f.value) (λ x. IsFree x (tree_of g))) (sym c.deref-in-Since-4.ensures) (keep_first _ _ (subst (λ f. All CanKeep (operators (tree_of f))) c.in-Since.is c.requires)).1)
+
+pub since_memory-requires-clause-within : goal.since_memory-requires-clause-within
+since_memory-requires-clause-within t c =
+    subst (λ g. (x : VarId) → IsFree x (tree_of g) → IsFree x (tree_of c.deref-in-Since-4.result.now)) (sym c.deref-in-Since-3.ensures)
+    (subst (λ g. (x : VarId) → IsFree x (tree_of c.in-Since.f.value) → IsFree x (tree_of g)) (sym c.deref-in-Since-4.ensures) (keep_first _ _ (subst (λ f. All CanKeep (operators (tree_of f))) c.in-Since.is c.requires)).2)
+
+pub overflow_add-result : goal.overflow_add-result
+overflow_add-result t c =
+    let small = c.push_operators-in-And.new.out.small in
+    let fine = c.push_operators-in-And.new.out.ok in
+    omega (arith, both_fewer (tree_of c.deref-in-And.result.now) (tree_of c.deref.result.now) c.args.out.now.items c.push_operators.new.out.items c.push_operators-in-And.new.out.items c.in_ok-left-in-And.left c.in_ok-right-in-And.right c.in_ok-left-in-And.ensures.count c.in_ok-right-in-And.ensures.count c.in_ok-right-in-And.ensures.pushed c.in_ok-left-in-And.ensures.pushed, fine.0, small)
+
+pub returns-in_ok-left-in-And-clause-pushed : goal.returns-in_ok-left-in-And-clause-pushed
+returns-in_ok-left-in-And-clause-pushed t c =
+    subst (λ f. PushesFor (reverse (operators (tree_of f))) c.args.out.now.items c.push_operators-in-And.new.out.items) (sym c.in-And.is)
+    (pushes_both (operators (tree_of c.in-And.f.value)) (operators (tree_of c.in-And.g.value)) c.args.out.now.items c.push_operators.new.out.items c.push_operators-in-And.new.out.items
+    (subst (λ f. PushesFor (reverse (operators (tree_of f))) c.args.out.now.items c.push_operators.new.out.items) c.deref.ensures c.in_ok-right-in-And.ensures.pushed)
+    (subst (λ f. PushesFor (reverse (operators (tree_of f))) c.push_operators.new.out.items c.push_operators-in-And.new.out.items) c.deref-in-And.ensures c.in_ok-left-in-And.ensures.pushed))
+
+pub overflow_add-result-in-Or : goal.overflow_add-result-in-Or
+overflow_add-result-in-Or t c =
+    let small = c.push_operators-in-Or-2.new.out.small in
+    let fine = c.push_operators-in-Or-2.new.out.ok in
+    omega (arith, both_fewer (tree_of c.deref-in-Or-2.result.now) (tree_of c.deref-in-Or.result.now) c.args.out.now.items c.push_operators-in-Or.new.out.items c.push_operators-in-Or-2.new.out.items c.in_ok-left-in-Or.left c.in_ok-right-in-Or.right c.in_ok-left-in-Or.ensures.count c.in_ok-right-in-Or.ensures.count c.in_ok-right-in-Or.ensures.pushed c.in_ok-left-in-Or.ensures.pushed, fine.0, small)
+
+pub returns-in_ok-left-in-Or-clause-pushed : goal.returns-in_ok-left-in-Or-clause-pushed
+returns-in_ok-left-in-Or-clause-pushed t c =
+    subst (λ f. PushesFor (reverse (operators (tree_of f))) c.args.out.now.items c.push_operators-in-Or-2.new.out.items) (sym c.in-Or.is)
+    (pushes_both (operators (tree_of c.in-Or.f.value)) (operators (tree_of c.in-Or.g.value)) c.args.out.now.items c.push_operators-in-Or.new.out.items c.push_operators-in-Or-2.new.out.items
+    (subst (λ f. PushesFor (reverse (operators (tree_of f))) c.args.out.now.items c.push_operators-in-Or.new.out.items) c.deref-in-Or.ensures c.in_ok-right-in-Or.ensures.pushed)
+    (subst (λ f. PushesFor (reverse (operators (tree_of f))) c.push_operators-in-Or.new.out.items c.push_operators-in-Or-2.new.out.items) c.deref-in-Or-2.ensures c.in_ok-left-in-Or.ensures.pushed))
+
+pub overflow_add-result-in-Implies : goal.overflow_add-result-in-Implies
+overflow_add-result-in-Implies t c =
+    let small = c.push_operators-in-Implies-2.new.out.small in
+    let fine = c.push_operators-in-Implies-2.new.out.ok in
+    omega (arith, both_fewer (tree_of c.deref-in-Implies-2.result.now) (tree_of c.deref-in-Implies.result.now) c.args.out.now.items c.push_operators-in-Implies.new.out.items c.push_operators-in-Implies-2.new.out.items c.in_ok-left-in-Implies.left c.in_ok-right-in-Implies.right c.in_ok-left-in-Implies.ensures.count c.in_ok-right-in-Implies.ensures.count c.in_ok-right-in-Implies.ensures.pushed c.in_ok-left-in-Implies.ensures.pushed, fine.0, small)
+
+pub returns-in_ok-left-in-Implies-clause-pushed : goal.returns-in_ok-left-in-Implies-clause-pushed
+returns-in_ok-left-in-Implies-clause-pushed t c =
+    subst (λ f. PushesFor (reverse (operators (tree_of f))) c.args.out.now.items c.push_operators-in-Implies-2.new.out.items) (sym c.in-Implies.is)
+    (pushes_both (operators (tree_of c.in-Implies.f.value)) (operators (tree_of c.in-Implies.g.value)) c.args.out.now.items c.push_operators-in-Implies.new.out.items c.push_operators-in-Implies-2.new.out.items
+    (subst (λ f. PushesFor (reverse (operators (tree_of f))) c.args.out.now.items c.push_operators-in-Implies.new.out.items) c.deref-in-Implies.ensures c.in_ok-right-in-Implies.ensures.pushed)
+    (subst (λ f. PushesFor (reverse (operators (tree_of f))) c.push_operators-in-Implies.new.out.items c.push_operators-in-Implies-2.new.out.items) c.deref-in-Implies-2.ensures c.in_ok-left-in-Implies.ensures.pushed))
+
+pub overflow_add-left : goal.overflow_add-left
+overflow_add-left t c =
+    let small = c.push_operators-in-Since-2.new.out.small in
+    let fine = c.push_operators-in-Since-2.new.out.ok in
+    omega (arith, both_fewer (tree_of c.deref-in-Since-2.result.now) (tree_of c.deref-in-Since.result.now) c.args.out.now.items c.push_operators-in-Since.new.out.items c.push_operators-in-Since-2.new.out.items c.in_ok-left-in-Since.left c.in_ok-right-in-Since.right c.in_ok-left-in-Since.ensures.count c.in_ok-right-in-Since.ensures.count c.in_ok-right-in-Since.ensures.pushed c.in_ok-left-in-Since.ensures.pushed, fine.0, small)
+
+pub returns-in_ok-prev_memory-in-Prev-clause-pushed : goal.returns-in_ok-prev_memory-in-Prev-clause-pushed
+returns-in_ok-prev_memory-in-Prev-clause-pushed t c = IfOk-weaker c.push_one.result _ (λ _. PushesFor (reverse (operators (tree_of c.args.formula.now))) c.args.out.now.items c.push_one.new.out.items)
+    (λ _ grown. subst (λ f. PushesFor (reverse (operators (tree_of f))) c.args.out.now.items c.push_one.new.out.items) (sym c.in-Prev.is)
+    (pushes_up (Prev c.in-Prev.field-0 c.in-Prev.interval (tree_of c.in-Prev.f.value)) (operators (tree_of c.in-Prev.f.value)) c.in_ok-prev_memory-in-Prev.field-0 c.in_ok-taken-in-Prev.taken c.args.out.now.items c.push_operators-in-Prev.new.out.items c.push_one.new.out.items
+    (subst (λ f. PushesFor (reverse (operators (tree_of f))) c.args.out.now.items c.push_operators-in-Prev.new.out.items) c.deref-in-Prev.ensures c.in_ok-taken-in-Prev.ensures.pushed)
+    (subst (λ f. IsBegun (Prev c.in-Prev.field-0 c.in-Prev.interval (tree_of f)) c.in_ok-prev_memory-in-Prev.field-0) c.deref-in-Prev-2.ensures (c.in_ok-prev_memory-in-Prev.ensures c.in-Prev.field-0))
+    (c.in_ok-taken-in-Prev.ensures.count ∙ ap (λ f. length (outermost (tree_of f))) c.deref-in-Prev.ensures) grown)) c.push_one.ensures.pushed
+
+pub returns-in_ok-once_memory-in-Once-clause-pushed : goal.returns-in_ok-once_memory-in-Once-clause-pushed
+returns-in_ok-once_memory-in-Once-clause-pushed t c = IfOk-weaker c.push_one-in-Once.result _ (λ _. PushesFor (reverse (operators (tree_of c.args.formula.now))) c.args.out.now.items c.push_one-in-Once.new.out.items)
+    (λ _ grown. subst (λ f. PushesFor (reverse (operators (tree_of f))) c.args.out.now.items c.push_one-in-Once.new.out.items) (sym c.in-Once.is)
+    (pushes_up (Once c.in-Once.field-0 c.in-Once.interval (tree_of c.in-Once.f.value)) (operators (tree_of c.in-Once.f.value)) c.in_ok-once_memory-in-Once.field-0 c.in_ok-taken-in-Once.taken c.args.out.now.items c.push_operators-in-Once.new.out.items c.push_one-in-Once.new.out.items
+    (subst (λ f. PushesFor (reverse (operators (tree_of f))) c.args.out.now.items c.push_operators-in-Once.new.out.items) c.deref-in-Once.ensures c.in_ok-taken-in-Once.ensures.pushed)
+    (subst (λ f. IsBegun (Once c.in-Once.field-0 c.in-Once.interval (tree_of f)) c.in_ok-once_memory-in-Once.field-0) c.deref-in-Once-2.ensures (c.in_ok-once_memory-in-Once.ensures c.in-Once.field-0))
+    (c.in_ok-taken-in-Once.ensures.count ∙ ap (λ f. length (outermost (tree_of f))) c.deref-in-Once.ensures) grown)) c.push_one-in-Once.ensures.pushed
+
+pub returns-in_ok-historically_memory-in-Historically-clause-pushed : goal.returns-in_ok-historically_memory-in-Historically-clause-pushed
+returns-in_ok-historically_memory-in-Historically-clause-pushed t c = IfOk-weaker c.push_one-in-Historically.result _ (λ _. PushesFor (reverse (operators (tree_of c.args.formula.now))) c.args.out.now.items c.push_one-in-Historically.new.out.items)
+    (λ _ grown. subst (λ f. PushesFor (reverse (operators (tree_of f))) c.args.out.now.items c.push_one-in-Historically.new.out.items) (sym c.in-Historically.is)
+    (pushes_up (Historically c.in-Historically.field-0 c.in-Historically.interval (tree_of c.in-Historically.f.value)) (operators (tree_of c.in-Historically.f.value)) c.in_ok-historically_memory-in-Historically.field-0 c.in_ok-taken-in-Historically.taken c.args.out.now.items c.push_operators-in-Historically.new.out.items c.push_one-in-Historically.new.out.items
+    (subst (λ f. PushesFor (reverse (operators (tree_of f))) c.args.out.now.items c.push_operators-in-Historically.new.out.items) c.deref-in-Historically.ensures c.in_ok-taken-in-Historically.ensures.pushed)
+    (subst (λ f. IsBegun (Historically c.in-Historically.field-0 c.in-Historically.interval (tree_of f)) c.in_ok-historically_memory-in-Historically.field-0) c.deref-in-Historically-2.ensures (c.in_ok-historically_memory-in-Historically.ensures c.in-Historically.field-0))
+    (c.in_ok-taken-in-Historically.ensures.count ∙ ap (λ f. length (outermost (tree_of f))) c.deref-in-Historically.ensures) grown)) c.push_one-in-Historically.ensures.pushed
+
+pub returns-in_ok-since_memory-in-Since-clause-pushed : goal.returns-in_ok-since_memory-in-Since-clause-pushed
+returns-in_ok-since_memory-in-Since-clause-pushed t c = IfOk-weaker c.push_one-in-Since.result _ (λ _. PushesFor (reverse (operators (tree_of c.args.formula.now))) c.args.out.now.items c.push_one-in-Since.new.out.items)
+    (λ _ grown. subst (λ f. PushesFor (reverse (operators (tree_of f))) c.args.out.now.items c.push_one-in-Since.new.out.items) (sym c.in-Since.is)
+    (pushes_up (Since c.in-Since.field-0 c.in-Since.interval (tree_of c.in-Since.f.value) (tree_of c.in-Since.g.value)) (operators (tree_of c.in-Since.f.value) ++ operators (tree_of c.in-Since.g.value)) c.in_ok-since_memory-in-Since.field-0
+    (c.in_ok-left-in-Since.left + c.in_ok-right-in-Since.right) c.args.out.now.items c.push_operators-in-Since-2.new.out.items c.push_one-in-Since.new.out.items
+    (pushes_both (operators (tree_of c.in-Since.f.value)) (operators (tree_of c.in-Since.g.value)) c.args.out.now.items c.push_operators-in-Since.new.out.items c.push_operators-in-Since-2.new.out.items
+    (subst (λ f. PushesFor (reverse (operators (tree_of f))) c.args.out.now.items c.push_operators-in-Since.new.out.items) c.deref-in-Since.ensures c.in_ok-right-in-Since.ensures.pushed)
+    (subst (λ f. PushesFor (reverse (operators (tree_of f))) c.push_operators-in-Since.new.out.items c.push_operators-in-Since-2.new.out.items) c.deref-in-Since-2.ensures c.in_ok-left-in-Since.ensures.pushed))
+    (subst (λ f. IsBegun (Since c.in-Since.field-0 c.in-Since.interval (tree_of f) (tree_of c.in-Since.g.value)) c.in_ok-since_memory-in-Since.field-0) c.deref-in-Since-3.ensures
+    (subst (λ g. IsBegun (Since c.in-Since.field-0 c.in-Since.interval (tree_of c.deref-in-Since-3.result.now) (tree_of g)) c.in_ok-since_memory-in-Since.field-0) c.deref-in-Since-4.ensures (c.in_ok-since_memory-in-Since.ensures c.in-Since.field-0)))
+    (sum_counts (outermost (tree_of c.in-Since.f.value)) (outermost (tree_of c.in-Since.g.value)) _ _ (c.in_ok-left-in-Since.ensures.count ∙ ap (λ f. length (outermost (tree_of f))) c.deref-in-Since-2.ensures) (c.in_ok-right-in-Since.ensures.count ∙ ap (λ f. length (outermost (tree_of f))) c.deref-in-Since.ensures)) grown)) c.push_one-in-Since.ensures.pushed

@@ -1,0 +1,10 @@
+use Rattle.std.proofs.Common.{◌≡◌, ◌-◌, length, drop, map, reverse}
+use Rattle.past_state.specs.Guarded.{tree_in, count_in}
+use Rattle.past_state.specs.Keeping.{PushesFor}
+use Rattle.past_state.specs.Operators.{all_operators}
+use Rattle.past_state.proofs.guards.push_all.Given as goal
+
+abbrev pub invariant-loop-place : goal.invariant-loop-place
+invariant-loop-place l =
+    (l.counts.items ≡ reverse (map count_in (drop (length l.guards - l.place) l.guards)))
+    × PushesFor (reverse (all_operators (map tree_in (drop (length l.guards - l.place) l.guards)))) l.initial.out.items l.out.items

@@ -1,0 +1,20 @@
+use Rattle.std.proofs.Common.{◌∙◌, [], reverse, sym, subst, ap}
+use Rattle.past_state.specs.Past.{IsPast, AreOf}
+use Rattle.past_state.specs.Runs.{AreOrdered, Runs}
+use Rattle.past_state.proofs.PastLemmas.{ordered, tables_are}
+use Rattle.past_state.proofs.past.PastState.tables.Goals as goal
+
+pub run-requires-clause-ordered : goal.run-requires-clause-ordered
+run-requires-clause-ordered c = subst AreOrdered (sym c.as_slice.ensures.value) (ordered _ c.self.invariant)
+
+are : (c : goal.In_ok-clone) → AreOf c.args.self.now c.args.time c.args.events.now (record { guards = c.in_ok-clone.field-0.value.items; steps = c.in_ok-ran.ran.steps.items; stack = reverse c.in_ok-ran.ran.stack.items })
+are c = (
+  ap (λ v. v.items) c.in_ok-clone.ensures.cases ∙ ap (λ p. p.guards) c.self.view_is,
+  subst (λ l. Runs c.args.events.now c.args.time [] l c.in_ok-ran.ran.steps.items (reverse c.in_ok-ran.ran.stack.items)) (c.as_slice.ensures.value ∙ ap (λ p. p.operators) c.self.view_is) c.in_ok-ran.ensures,
+)
+
+pub invariant_of-result : goal.invariant_of-result
+invariant_of-result c = tables_are c.args.self.now c.args.time c.args.events.now _ (subst IsPast c.self.view_is c.self.invariant) (are c)
+
+pub returns-clause-stand : goal.returns-clause-stand
+returns-clause-stand c = c.steps_stand.ensures.tables c.args.self.now c.args.time c.args.events.now _ (subst IsPast c.self.view_is c.self.invariant) (are c)

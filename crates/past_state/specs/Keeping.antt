@@ -1,0 +1,37 @@
+-- What must hold of an operator on the past so that what it needs can be kept.
+use Rattle.std.specs.Prelude.{◌≡◌, ◌⊎◌, ℕ, List, [], ◌++◌, Contains}
+use Rattle.enf_value.specs.declared.terms.VarId.{VarId}
+use Rattle.enf_formula.specs.Formulas.{Formula, Prev, Once, Historically, Since}
+use Rattle.enf_formula.specs.FreeVariables.{IsFree}
+use Rattle.monitorable_guard.specs.Safety.{BindsFresh, denial}
+use Rattle.past_state.specs.Memories.{IsFor, IsUpToTimeOf, MemoryStands}
+use Rattle.past_state.specs.Runs.{AreFor, AllStand, AreUpToTimeOf}
+use Rattle.past_state.specs.declared.memories.Memory.{Memory}
+use Rattle.past_state.specs.declared.operators.Operator.{Operator}
+
+-- no quantifier in the formula binds one of its free variables
+abbrev pub IsFresh : Formula → Type 0
+IsFresh f = BindsFresh f (λ x. Contains [] x ⊎ IsFree x f)
+
+-- no quantifier in an operand binds a variable in scope, and what is free on the left of `since` is so on the right
+abbrev pub CanKeep : Formula → Type 0
+CanKeep (Prev place interval g) = IsFresh g
+CanKeep (Once place interval g) = IsFresh g
+CanKeep (Historically place interval g) = IsFresh (denial g)
+CanKeep (Since place interval g h) = IsFresh h × BindsFresh g (λ x. IsFree x h) × ((x : VarId) → IsFree x g
+    → IsFree x h)
+CanKeep f = Unit {0}
+
+-- what is kept for the operator before the first step
+pub record IsBegun (f : Formula) (m : Memory) : Type 0 where
+  pub is_for : IsFor f m
+  pub stands : MemoryStands [] f m
+  pub up_to : (time : ℕ) → IsUpToTimeOf time m
+
+-- such were put last, for these operators in order
+pub record PushesFor (fs : List Formula) (before after : List Operator) : Type 0 where
+  pub added : List Operator
+  pub grown : after ≡ before ++ added
+  pub are_for : AreFor fs added
+  pub stand : AllStand [] fs added
+  pub up_to : (time : ℕ) → AreUpToTimeOf time added

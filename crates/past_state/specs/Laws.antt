@@ -1,0 +1,123 @@
+-- The statements of the laws by which windows and slots go on standing for a trace.
+use Rattle.std.specs.Prelude.{◌≡◌, ◌↔◌, ℕ, ◌≤◌, IsTrue, List, [], ◌∷◌, ◌++◌, length, Contains, None, Some}
+use Rattle.enf_value.specs.Valuations.{Valuation}
+use Rattle.enf_value.specs.declared.intervals.Interval.{Interval}
+use Rattle.enf_value.specs.declared.steps.Step.{Step}
+use Rattle.enf_value.specs.declared.terms.VarId.{VarId}
+use Rattle.enf_formula.specs.Formulas.{Formula, Since, Once, Historically, Prev}
+use Rattle.enf_formula.specs.FreeVariables.{IsFree}
+use Rattle.enf_formula.specs.Past.{is_past}
+use Rattle.enf_formula.specs.Satisfaction.{Sat, Anywhere}
+use Rattle.monitorable_guard.specs.Safety.{denial}
+use Rattle.trace_meaning.specs.Continuation.{last_time}
+use Rattle.valuations.specs.Just.{Binds}
+use Rattle.valuations.specs.Tables.{Relation, Has}
+use Rattle.windows.specs.Answers.{Answers, Lasts}
+use Rattle.windows.specs.Slots.{Slot, GivesLast, with_rows}
+use Rattle.windows.specs.Windows.{Window, at}
+use Rattle.past_state.specs.Stands.{WindowStands, SlotStands}
+
+-- a formula at a position
+abbrev pub satisfied : List Step → Formula → Valuation → ℕ → Type 0
+satisfied trace f v i = Sat trace i v f
+
+-- each position
+abbrev pub everywhere : Valuation → ℕ → Type 0
+everywhere v = Anywhere
+
+-- the tables of a window at the step that comes behind the trace: of the rows that last, those for which F holds
+-- there; and those for which G holds there
+pub record AreTablesOf (trace : List Step) (window : Window) (F G : Valuation → ℕ → Type 0) (surviving right : Relation)
+    : Type 0 where
+  pub surviving_columns : surviving.columns ≡ window.columns
+  pub right_columns : right.columns ≡ window.columns
+  pub survives : (v : Valuation) → Binds v window.columns
+      → Has surviving v ↔ (Lasts window.steps v × F v (length trace))
+  pub is_right : (v : Valuation) → Binds v window.columns → Has right v ↔ G v (length trace)
+
+-- the window with the step committed
+abbrev pub with_step : Window → ℕ → Relation → Relation → Window
+with_step window time surviving right = record window { steps = window.steps ++ at time surviving right ∷ [] }
+
+-- what it answers at the step
+abbrev pub AnswersNow : Window → ℕ → Relation → Relation → Valuation → Type 0
+AnswersNow window time surviving right v =
+    Answers window.interval time (window.steps ++ at time surviving right ∷ []) v
+
+-- the slot with the step committed
+abbrev pub with_last : Slot → ℕ → Relation → Slot
+with_last slot time rows = record slot { last = Some (with_rows time rows) }
+
+-- the windows of `since` and of `once`
+abbrev pub SinceStands : List Step → Interval → Formula → Formula → Window → Type 0
+SinceStands trace interval f g = WindowStands trace interval (satisfied trace f) (satisfied trace g) g
+
+abbrev pub OnceStands : List Step → Interval → Formula → Window → Type 0
+OnceStands trace interval g = WindowStands trace interval everywhere (satisfied trace g) g
+
+-- a window without a step stands for no trace yet
+abbrev pub WindowBegins : Type 0
+WindowBegins = (interval : Interval) (f g : Formula) (columns : List VarId) → ((x : VarId) → Contains columns x
+    ↔ IsFree x g) → SinceStands [] interval f g (record { interval = interval; columns = columns; steps = [] })
+
+abbrev pub OnceBegins : Type 0
+OnceBegins = (interval : Interval) (g : Formula) (columns : List VarId) → ((x : VarId) → Contains columns x
+    ↔ IsFree x g) → OnceStands [] interval g (record { interval = interval; columns = columns; steps = [] })
+
+-- with one step more that is not earlier, and its tables, a window answers at the step what is satisfied there, and
+-- then stands for the longer trace
+abbrev pub SinceAnswers : Type 0
+SinceAnswers = (trace : List Step) (step : Step) (place : ℕ) (interval : Interval) (f g : Formula) (window : Window)
+    (surviving right : Relation) → IsTrue (is_past f) → IsTrue (is_past g) → last_time trace ≤ step.time
+    → SinceStands trace interval f g window
+    → AreTablesOf trace window (satisfied (trace ++ step ∷ []) f) (satisfied (trace ++ step ∷ []) g) surviving right
+    → (v : Valuation) → Binds v window.columns
+    → AnswersNow window step.time surviving right v
+    ↔ Sat (trace ++ step ∷ []) (length trace) v (Since place interval f g)
+
+abbrev pub SinceGoesOn : Type 0
+SinceGoesOn = (trace : List Step) (step : Step) (interval : Interval) (f g : Formula) (window : Window)
+    (surviving right : Relation) → IsTrue (is_past f) → IsTrue (is_past g) → last_time trace ≤ step.time
+    → SinceStands trace interval f g window
+    → AreTablesOf trace window (satisfied (trace ++ step ∷ []) f) (satisfied (trace ++ step ∷ []) g) surviving right
+    → SinceStands (trace ++ step ∷ []) interval f g (with_step window step.time surviving right)
+
+-- the same of `once`
+abbrev pub OnceAnswers : Type 0
+OnceAnswers = (trace : List Step) (step : Step) (place : ℕ) (interval : Interval) (g : Formula) (window : Window)
+    (surviving right : Relation) → IsTrue (is_past g) → last_time trace ≤ step.time
+    → OnceStands trace interval g window
+    → AreTablesOf trace window everywhere (satisfied (trace ++ step ∷ []) g) surviving right
+    → (v : Valuation) → Binds v window.columns
+    → AnswersNow window step.time surviving right v
+    ↔ Sat (trace ++ step ∷ []) (length trace) v (Once place interval g)
+
+abbrev pub OnceGoesOn : Type 0
+OnceGoesOn = (trace : List Step) (step : Step) (interval : Interval) (g : Formula) (window : Window)
+    (surviving right : Relation) → IsTrue (is_past g) → last_time trace ≤ step.time
+    → OnceStands trace interval g window
+    → AreTablesOf trace window everywhere (satisfied (trace ++ step ∷ []) g) surviving right
+    → OnceStands (trace ++ step ∷ []) interval g (with_step window step.time surviving right)
+
+-- `historically g` fails where `once` of the denial of g holds, so that it has that window
+abbrev pub HistoricallyIsDenied : Type 0
+HistoricallyIsDenied = (trace : List Step) (i : ℕ) (v : Valuation) (place : ℕ) (interval : Interval) (g : Formula)
+    → (Sat trace i v (Historically place interval g) → ⊥) ↔ Sat trace i v (Once place interval (denial g))
+
+-- and a slot: nothing before the first step, then the rows of the last one
+abbrev pub SlotBegins : Type 0
+SlotBegins = (interval : Interval) (g : Formula) (columns : List VarId) → ((x : VarId) → Contains columns x
+    ↔ IsFree x g) → SlotStands [] interval g (record { interval = interval; columns = columns; last = None })
+
+abbrev pub PrevAnswers : Type 0
+PrevAnswers = (trace : List Step) (step : Step) (place : ℕ) (interval : Interval) (g : Formula) (slot : Slot)
+    → IsTrue (is_past g) → last_time trace ≤ step.time → SlotStands trace interval g slot
+    → (v : Valuation) → Binds v slot.columns
+    → GivesLast slot.interval step.time slot.last v
+    ↔ Sat (trace ++ step ∷ []) (length trace) v (Prev place interval g)
+
+abbrev pub PrevGoesOn : Type 0
+PrevGoesOn = (trace : List Step) (step : Step) (interval : Interval) (g : Formula) (slot : Slot) (rows : Relation)
+    → SlotStands trace interval g slot → rows.columns ≡ slot.columns
+    → ((v : Valuation) → Binds v slot.columns → Has rows v ↔ Sat (trace ++ step ∷ []) (length trace) v g)
+    → SlotStands (trace ++ step ∷ []) interval g (with_last slot step.time rows)

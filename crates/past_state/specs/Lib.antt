@@ -1,0 +1,11 @@
+pub mod Guarded
+pub mod Held
+pub mod Operators
+pub mod Past
+pub mod PastCodes
+pub mod Runs
+pub mod Stacks
+pub mod Stands
+pub mod Keeping
+pub mod Laws
+pub mod Memories

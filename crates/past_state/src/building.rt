@@ -1,0 +1,185 @@
+//! What is kept for the operators on the past of a formula, before the first step.
+ghost use Rattle.std.specs.Prelude.{◌≡◌, [], ◌∷◌, ◌++◌, IfOk, All, ℕ, length, reverse, Contains};
+ghost use Rattle.enf_formula.specs.Formulas as tree;
+ghost use Rattle.enf_formula.specs.Formulas.{tree_of};
+ghost use Rattle.enf_formula.specs.FreeVariables.{IsFree};
+ghost use Rattle.enf_value.specs.declared.terms.VarId.{VarId as Variable};
+ghost use Rattle.monitorable_guard.specs.Present.{outermost};
+ghost use Rattle.monitorable_guard.specs.Safety.{BindsFresh, denial};
+ghost use Rattle.past_state.specs.Keeping.{IsFresh, CanKeep, IsBegun, PushesFor};
+ghost use Rattle.past_state.specs.Operators.{operators};
+
+use crate::laws::{once, prev, since};
+use crate::memories::Memory;
+use crate::operators::Operator;
+use enf_formula::Formula;
+use enf_value::intervals::Interval;
+use enf_value::memory::NoMemory;
+use enf_value::terms::Vars;
+use monitorable_guard::Guard;
+use std::alloc::Global;
+use windows::{PrevSlot, SinceWindow};
+
+// Puts the operators of the formula last, each behind those of its operands, and counts the outermost ones.
+pub fn push_operators(
+    alloc: Global,
+    formula: &Formula,
+    out: &mut Vec<Operator>,
+) -> Result<usize, NoMemory>
+    requires { All CanKeep (operators (tree_of formula.now)) }
+    ensures count { IfOk result (λ count. count ≡ length (outermost (tree_of formula.now))) }
+    ensures pushed { IfOk result (λ _. PushesFor (reverse (operators (tree_of formula.now)))
+        out.old.items out.new.items) }
+{
+    match formula {
+        Formula::True(_)
+        | Formula::False(_)
+        | Formula::Atom(_, _, _)
+        | Formula::Equal(_, _, _)
+        | Formula::Less(_, _, _)
+        | Formula::AtMost(_, _, _)
+        | Formula::Next(_, _, _)
+        | Formula::Eventually(_, _, _)
+        | Formula::Always(_, _, _)
+        | Formula::Until(_, _, _, _) => Ok(0),
+        Formula::Not(_, f) | Formula::Exists(_, _, f) | Formula::Forall(_, _, f) => {
+            push_operators(alloc, f, out)
+        }
+        Formula::And(_, f, g) => {
+            let right = push_operators(alloc, g, out)?;
+            let left = push_operators(alloc, f, out)?;
+            Ok(left + right)
+        }
+        Formula::Or(_, f, g) => {
+            let right = push_operators(alloc, g, out)?;
+            let left = push_operators(alloc, f, out)?;
+            Ok(left + right)
+        }
+        Formula::Implies(_, f, g) => {
+            let right = push_operators(alloc, g, out)?;
+            let left = push_operators(alloc, f, out)?;
+            Ok(left + right)
+        }
+        Formula::Prev(_, interval, f) => {
+            let taken = push_operators(alloc, f, out)?;
+            push_one(taken, prev_memory(alloc, *interval, f)?, out)
+        }
+        Formula::Once(_, interval, f) => {
+            let taken = push_operators(alloc, f, out)?;
+            push_one(taken, once_memory(alloc, *interval, f)?, out)
+        }
+        Formula::Historically(_, interval, f) => {
+            let taken = push_operators(alloc, f, out)?;
+            push_one(taken, historically_memory(alloc, *interval, f)?, out)
+        }
+        Formula::Since(_, interval, f, g) => {
+            let right = push_operators(alloc, g, out)?;
+            let left = push_operators(alloc, f, out)?;
+            push_one(
+                left + right,
+                since_memory(alloc, *interval, f, g, left)?,
+                out,
+            )
+        }
+    }
+}
+
+fn push_one(taken: usize, memory: Memory, out: &mut Vec<Operator>) -> Result<usize, NoMemory>
+    ensures one { IfOk result (λ count. count ≡ 1) }
+    ensures pushed { IfOk result (λ _. out.new.items ≡ out.old.items ++ record { taken = taken; memory = memory } ∷ []) }
+{
+    out.push(Operator { taken, memory })?;
+    Ok(1)
+}
+
+fn prev_memory(alloc: Global, interval: Interval, operand: &Formula) -> Result<Memory, NoMemory>
+    requires { IsFresh (tree_of operand.now) }
+    ensures { IfOk result (λ m. (place : ℕ) → IsBegun (tree.Prev place interval (tree_of operand.now)) m) }
+{
+    prev();
+    let columns = operand.free_vars(alloc)?;
+    let operand = guard_of(alloc, operand, &Vars::new(alloc))?;
+    let slot = PrevSlot::new(interval, columns);
+    Ok(Memory::Prev { slot, operand })
+}
+
+fn once_memory(alloc: Global, interval: Interval, operand: &Formula) -> Result<Memory, NoMemory>
+    requires { IsFresh (tree_of operand.now) }
+    ensures { IfOk result (λ m. (place : ℕ) → IsBegun (tree.Once place interval (tree_of operand.now)) m) }
+{
+    once();
+    let columns = operand.free_vars(alloc)?;
+    let right = guard_of(alloc, operand, &Vars::new(alloc))?;
+    let window = SinceWindow::new(alloc, interval, columns);
+    Ok(Memory::Once { window, right })
+}
+
+fn historically_memory(
+    alloc: Global,
+    interval: Interval,
+    operand: &Formula,
+) -> Result<Memory, NoMemory>
+    requires { IsFresh (denial (tree_of operand.now)) }
+    ensures { IfOk result (λ m. (place : ℕ) → IsBegun (tree.Historically place interval (tree_of operand.now)) m) }
+{
+    once_memory(alloc, interval, &denial_of(alloc, operand)?)
+}
+
+fn since_memory(
+    alloc: Global,
+    interval: Interval,
+    left: &Formula,
+    right: &Formula,
+    left_tables: usize,
+) -> Result<Memory, NoMemory>
+    requires counted { left_tables ≡ length (outermost (tree_of left.now)) }
+    requires fresh_right { IsFresh (tree_of right.now) }
+    requires fresh_left { BindsFresh (tree_of left.now) (λ x. IsFree x (tree_of right.now)) }
+    requires within { (x : Variable) → IsFree x (tree_of left.now) → IsFree x (tree_of right.now) }
+    ensures { IfOk result (λ m. (place : ℕ)
+        → IsBegun (tree.Since place interval (tree_of left.now) (tree_of right.now)) m) }
+{
+    since();
+    let columns = right.free_vars(alloc)?;
+    let left = guard_of(alloc, left, &columns)?;
+    let right = guard_of(alloc, right, &Vars::new(alloc))?;
+    let window = SinceWindow::new(alloc, interval, columns);
+    Ok(Memory::Since {
+        window,
+        left,
+        left_tables,
+        right,
+    })
+}
+
+// What `once` takes in the place of `historically`.
+fn denial_of(alloc: Global, formula: &Formula) -> Result<Formula, NoMemory>
+    ensures { IfOk result (λ f. tree_of f ≡ denial (tree_of formula.now)) }
+{
+    match formula {
+        Formula::Not(_, h) => h.duplicate(alloc),
+        Formula::Implies(place, a, b) => {
+            let denied = Box::new(
+                alloc,
+                Formula::Not(*place, Box::new(alloc, b.duplicate(alloc)?)?),
+            )?;
+            let a = Box::new(alloc, a.duplicate(alloc)?)?;
+            Ok(Formula::And(*place, a, denied))
+        }
+        _ => {
+            let denied = Box::new(alloc, formula.duplicate(alloc)?)?;
+            Ok(Formula::Not(formula.place(), denied))
+        }
+    }
+}
+
+// A guard's operand is a guard with these variables bound.
+pub fn guard_of(alloc: Global, formula: &Formula, bound: &Vars) -> Result<Guard, NoMemory>
+    ensures formula { IfOk result (λ g. tree_of g.formula ≡ tree_of formula.now) }
+    ensures bound { IfOk result (λ g. g.bound ≡ bound.now) }
+{
+    match Guard::of(alloc, formula.duplicate(alloc)?, bound) {
+        Ok(guard) => Ok(guard),
+        Err(_refusal) => Err(NoMemory),
+    }
+}

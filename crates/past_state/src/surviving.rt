@@ -1,0 +1,85 @@
+//! The rows of a table under which a guard holds.
+ghost use Rattle.std.specs.Prelude.{◌≡◌, ◌↔◌, ◌⊎◌, [], IfOk, IsTrue, Contains, length};
+ghost use Rattle.enf_formula.specs.Formulas.{tree_of};
+ghost use Rattle.enf_formula.specs.FreeVariables.{IsFree};
+ghost use Rattle.enf_value.specs.Membership.{HasNoRepeats};
+ghost use Rattle.enf_value.specs.Valuations.{Valuation as Bound};
+ghost use Rattle.enf_value.specs.declared.terms.VarId.{VarId as Variable};
+ghost use Rattle.monitorable_guard.specs.Evaluation.{FitOperators};
+ghost use Rattle.monitorable_guard.specs.Present.{HoldsNow, outermost};
+ghost use Rattle.monitorable_guard.specs.Safety.{BindsFresh};
+ghost use Rattle.valuations.specs.Tables.{IsTable, Has, AgreeOn, valuation_of};
+
+use enf_value::items::Duplicate;
+use enf_value::memory::NoMemory;
+use enf_value::rows::Row;
+use enf_value::terms::VarId;
+use monitorable_guard::{Guard, Past, StepEvents};
+use std::alloc::Global;
+use valuations::{Table, Valuation};
+
+// Of the rows, whose columns are the guard's bound variables and all that are free in it, those under which it holds.
+pub fn surviving_rows<P: Past>(
+    alloc: Global,
+    rows: &Table,
+    guard: &Guard,
+    events: &StepEvents<'_>,
+    past: &P,
+) -> Result<Table, NoMemory>
+    requires bound { guard.now.bound ≡ rows.now.columns }
+    requires free { (x : Variable) → IsFree x (tree_of guard.now.formula) → Contains rows.now.columns x }
+    requires fresh { BindsFresh (tree_of guard.now.formula)
+        (λ x. Contains guard.now.bound x ⊎ IsFree x (tree_of guard.now.formula)) }
+    requires tabled { FitOperators (outermost (tree_of guard.now.formula)) (P.tables past.now) }
+    ensures table { IfOk result IsTable }
+    ensures columns { IfOk result (λ t. t.columns ≡ rows.now.columns) }
+    ensures rows { IfOk result (λ t. (v : Bound) → Has t v
+        ↔ (Has rows.now v × HoldsNow events.now (P.tables past.now) v (tree_of guard.now.formula))) }
+{
+    let columns = rows.columns();
+    let mut surviving = Vec::new(alloc);
+    for row in rows.rows() {
+        if holds_under(alloc, columns.as_slice(), row, guard, events, past)? {
+            surviving.push(row.duplicate(alloc)?)?;
+        }
+    }
+    Table::from_rows(columns.duplicate(alloc)?, surviving)
+}
+
+// The valuation that a row stands for.
+fn row_valuation(alloc: Global, columns: &[VarId], row: &Row) -> Result<Valuation, NoMemory>
+    requires distinct { HasNoRepeats columns.now }
+    requires fits { length row.now ≡ length columns.now }
+    ensures { IfOk result (λ v. v ≡ valuation_of columns.now row.now) }
+{
+    let mut v = Valuation::empty(alloc);
+    let values = row.as_slice();
+    for (place, column) in columns.iter().enumerate() {
+        v.bind(*column, values[place].duplicate(alloc)?)?;
+    }
+    Ok(v)
+}
+
+// Whether the guard holds under the row.
+fn holds_under<P: Past>(
+    alloc: Global,
+    columns: &[VarId],
+    row: &Row,
+    guard: &Guard,
+    events: &StepEvents<'_>,
+    past: &P,
+) -> Result<bool, NoMemory>
+    requires distinct { HasNoRepeats columns.now }
+    requires fits { length row.now ≡ length columns.now }
+    requires bound { guard.now.bound ≡ columns.now }
+    requires free { (x : Variable) → IsFree x (tree_of guard.now.formula) → Contains columns.now x }
+    requires fresh { BindsFresh (tree_of guard.now.formula)
+        (λ x. Contains guard.now.bound x ⊎ IsFree x (tree_of guard.now.formula)) }
+    requires tabled { FitOperators (outermost (tree_of guard.now.formula)) (P.tables past.now) }
+    ensures { IfOk result (λ holds. (w : Bound) → AgreeOn columns.now (valuation_of columns.now row.now) w
+        → IsTrue holds ↔ HoldsNow events.now (P.tables past.now) w (tree_of guard.now.formula)) }
+{
+    let v = row_valuation(alloc, columns, row)?;
+    let rows = guard.evaluate_at(alloc, events, past, &v)?;
+    Ok(!rows.is_empty())
+}
