@@ -1,0 +1,12 @@
+pub mod Meaning
+pub mod KeptMeaning
+pub mod Decisions
+pub mod OneAnswer
+pub mod SafeGuards
+pub mod CaseLemmas
+pub mod NumberingLemmas
+pub mod PlanSizes
+pub mod JoinLemmas
+pub mod PlanningLemmas
+pub mod PolicyLemmas
+pub mod AcceptedLemmas

@@ -1,0 +1,11 @@
+use Rattle.std.proofs.Common.{◌*◌, ◌≤◌, length, map, take}
+use Rattle.enforce_types.specs.GuardLists.{guards_of}
+use Rattle.enforce_types.specs.PolicyPlans.{ArePlanned, formulas}
+use Rattle.plan_terms.specs.Plans.{plan_of}
+use Rattle.enforce_types.proofs.planning.plan_rules.Given as goal
+
+abbrev pub invariant-loop-rule : goal.invariant-loop-rule
+invariant-loop-rule l = record {
+  planned : ArePlanned l.signature (formulas (take l.rule-index l.rules)) (map plan_of l.made.plans.items) (guards_of l.made.guards.items);
+  few : length l.made.guards.items ≤ 400 * l.rule-index;
+}

@@ -1,0 +1,71 @@
+//! The guards and tests of plans, as they are evaluated.
+ghost use Rattle.std.specs.Prelude.{◌≡◌, ◌++◌, ◌∷◌, [], OnOk, Contains};
+ghost use Rattle.enf_formula.specs.Formulas.{tree_of};
+ghost use Rattle.enforce_types.specs.GuardLists.{guards_in, guards_of};
+ghost use Rattle.enforce_types.specs.Guards.{GuardsAreSafe};
+ghost use Rattle.monitorable_guard.specs.Safety.{Safe};
+ghost use Rattle.plan_terms.specs.Plans.{plan_of};
+
+use crate::joining::extended;
+use enf_formula::Formula;
+use enf_value::memory::NoMemory;
+use enf_value::terms::Vars;
+use monitorable_guard::{Guard, GuardRefusal};
+use plan_terms::Plan;
+use std::alloc::Global;
+
+// Puts the guards and tests of a plan last, in pre-order, each with the variables in scope where it stands.
+pub fn collect(
+    alloc: Global,
+    plan: &Plan,
+    scope: &Vars,
+    guards: &mut Vec<Guard>,
+) -> Result<(), NoMemory>
+    requires { GuardsAreSafe (plan_of plan.now) scope.now }
+    ensures { OnOk result (guards_of guards.new.items
+        ≡ guards_of guards.old.items ++ guards_in (plan_of plan.now) scope.now) }
+{
+    match plan {
+        Plan::Cause { .. } | Plan::Suppress { .. } => Ok(()),
+        Plan::TestOr { test, body, .. } => {
+            collect_one(alloc, test, scope, guards)?;
+            collect(alloc, body, scope, guards)
+        }
+        Plan::Guarded {
+            vars,
+            test,
+            body,
+            ..
+        } => {
+            collect_one(alloc, test, scope, guards)?;
+            let all = extended(alloc, scope, vars)?;
+            collect(alloc, body, &all, guards)
+        }
+        Plan::Eventually { body, .. } | Plan::Always { body, .. } | Plan::Next { body, .. } => {
+            collect(alloc, body, scope, guards)
+        }
+        Plan::Both { left, right, .. }
+        | Plan::Either { left, right, .. }
+        | Plan::Until { left, right, .. } => {
+            collect(alloc, left, scope, guards)?;
+            collect(alloc, right, scope, guards)
+        }
+    }
+}
+
+fn collect_one(
+    alloc: Global,
+    test: &Formula,
+    scope: &Vars,
+    guards: &mut Vec<Guard>,
+) -> Result<(), NoMemory>
+    requires { Safe (tree_of test.now) (Contains scope.now) }
+    ensures { OnOk result (guards_of guards.new.items
+        ≡ guards_of guards.old.items ++ (tree_of test.now, scope.now) ∷ []) }
+{
+    match Guard::of(alloc, test.duplicate(alloc)?, scope) {
+        Ok(guard) => Ok(guards.push(guard)?),
+        Err(GuardRefusal::NoMemory) => Err(NoMemory),
+        Err(GuardRefusal::Unguarded { .. }) => unreachable!(),
+    }
+}

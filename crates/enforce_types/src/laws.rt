@@ -1,0 +1,66 @@
+//! What plans are worth: laws over the definitions, each the contract of a function with an empty body.
+ghost use Rattle.enforce_types.specs.Laws.{UpKeepsMeaning, DownKeepsMeaning, HasOneAnswer};
+ghost use Rattle.enforce_types.specs.Laws.{PlansHaveSafeGuards, SafeLooksBack};
+ghost use Rattle.enforce_types.specs.Numbering.{NodesAreNumbered, GuardsAreNumbered};
+ghost use Rattle.enforce_types.specs.Numbering.{NumbersMeanNothing, NumberingKeepsSafe, PlansAreSmall};
+ghost use Rattle.enforce_types.specs.PolicyLaws.{PolicyKeepsMeaning, PolicyIsNumbered, PolicyGuardsAreSafe};
+ghost use Rattle.enforce_types.specs.PolicyLaws.{IsAnswered, NotBoth, OnePlans, OneRefusal};
+ghost use Rattle.enforce_types.specs.Accepted.{AcceptedIsNotRefused};
+
+use enf_formula::laws::is_classical;
+
+/// A plan's formula holds exactly where the formula does that it makes true, and exactly where the formula does not
+/// that it makes false.
+pub fn plans_keep_meaning()
+    ensures up { UpKeepsMeaning }
+    ensures down { DownKeepsMeaning }
+{
+    is_classical();
+}
+
+/// For each formula that is to be made true or false there is exactly one answer, a plan or the first refusal.
+pub fn has_one_answer()
+    ensures { HasOneAnswer }
+{}
+
+/// The guards and tests of a plan can be evaluated over finite tables where they stand, and look back alone.
+pub fn plans_have_safe_guards()
+    ensures safe { PlansHaveSafeGuards }
+    ensures past { SafeLooksBack }
+{}
+
+/// Numbers of nodes are their places in pre-order, those of guards and tests their places over the policy; no number
+/// has a part in what a plan means.
+pub fn numbers_are_places()
+    ensures nodes { NodesAreNumbered }
+    ensures guards { GuardsAreNumbered }
+    ensures meaning { NumbersMeanNothing }
+    ensures safe { NumberingKeepsSafe }
+{}
+
+/// A plan is not larger than its formula.
+pub fn plans_are_small()
+    ensures { PlansAreSmall }
+{}
+
+/// The plans of a policy mean what its rules mean, keep their places as numbers, and have guards that can be evaluated.
+pub fn policy_plans_keep_meaning()
+    ensures meaning { PolicyKeepsMeaning }
+    ensures numbered { PolicyIsNumbered }
+    ensures safe { PolicyGuardsAreSafe }
+{
+    is_classical();
+}
+
+/// Each policy has plans or a first refusal, exactly one.
+pub fn policy_has_one_answer()
+    ensures answered { IsAnswered }
+    ensures not_both { NotBoth }
+    ensures plans { OnePlans }
+    ensures refusal { OneRefusal }
+{}
+
+/// A policy that is accepted is refused for want of memory alone.
+pub fn accepted_is_not_refused()
+    ensures { AcceptedIsNotRefused }
+{}

@@ -1,0 +1,39 @@
+-- Small plans, on which the definitions can be checked by eye.
+use Rattle.std.specs.Prelude.{ℕ, ◌+◌, List, [], ◌∷◌, Option, map}
+use Rattle.std.specs.List.{find}
+use Rattle.enf_value.specs.declared.terms.Term.TheVariants.{Var}
+use Rattle.enf_formula.specs.Cases.{x, name_p, name_q, formula_p, formula_p_x}
+use Rattle.plan_terms.specs.Nodes.{nodes, has_number, number_of}
+use Rattle.plan_terms.specs.Plans.{Plan, Cause, Suppress, Both, Either, TestOr, Guarded, Eventually, Until}
+
+-- the numbers of the nodes in pre-order
+abbrev pub numbers : Plan → List ℕ
+numbers plan = map number_of (nodes plan)
+
+-- the node with a number
+abbrev pub node_with : ℕ → Plan → Option Plan
+node_with number plan = find (has_number number) (nodes plan)
+
+-- q(x) within 30 for each x with p(x)
+abbrev pub cause_q_x : Plan
+cause_q_x = Cause 2 7 name_q (Var x ∷ [])
+
+abbrev pub soon_q_x : Plan
+soon_q_x = Eventually 1 5 0 30 cause_q_x
+
+abbrev pub each_soon : Plan
+each_soon = Guarded 0 (x ∷ []) 0 formula_p_x soon_q_x
+
+-- no p() until q(), from 1 to 10 later; and p() now, or the test p() and q() now
+abbrev pub wait : (node : ℕ) → Plan
+wait node = Until node 4 1 10 (Suppress (node + 1) 3 name_p []) (Cause (node + 2) 6 name_q [])
+
+abbrev pub choice : (node : ℕ) → Plan
+choice node = Either node (Cause (node + 1) 8 name_p []) (TestOr (node + 2) 1 formula_p (Cause (node + 3) 9 name_q []))
+
+abbrev pub wait_and_choice : Plan
+wait_and_choice = Both 0 (wait 1) (choice 4)
+
+-- both sides have the number 1
+abbrev pub twice_one : Plan
+twice_one = Both 0 (Cause 1 3 name_p []) (Cause 1 5 name_q [])

@@ -1,0 +1,4 @@
+pub mod Plans
+pub mod Nodes
+pub mod PlanFormula
+pub mod Cases

@@ -1,0 +1,57 @@
+-- How long it takes at most until nothing is owed, where no further event triggers anything.
+use Rattle.std.specs.Prelude.{ℕ, ◌+◌, ◌-◌, ◌*◌, max, min, Bool, true, false, List, [], ◌∷◌, length, map, filter}
+use Rattle.std.specs.Prelude.{slice_index_or}
+use Rattle.std.specs.List.{flat_map}
+use Rattle.enf_value.specs.declared.events.NameId.{NameId}
+use Rattle.plan_terms.specs.Nodes.{nodes}
+use Rattle.plan_terms.specs.Plans.{Plan, Eventually}
+use Rattle.plan_terms.specs.Plans.{Until, Next}
+use Rattle.rank_check.specs.Roles.{caused_below}
+
+-- the greatest number of a list, 0 where there is none
+abbrev pub greatest : List ℕ → ℕ
+greatest [] = 0
+greatest (n ∷ ns) = max n (greatest ns)
+
+-- the least number of a list and of one more
+abbrev pub least_with : ℕ → List ℕ → ℕ
+least_with most [] = most
+least_with most (n ∷ ns) = min n (least_with most ns)
+
+-- how many nodes a plan has
+abbrev pub size : Plan → ℕ
+size plan = length (nodes plan)
+
+-- a node with a deadline: the end of its interval
+abbrev pub has_deadline : Plan → Bool
+has_deadline (Eventually node place low high body) = true
+has_deadline (Until node place low high left right) = true
+has_deadline (Next node place high body) = true
+has_deadline plan = false
+
+abbrev pub window_end : Plan → ℕ
+window_end (Eventually node place low high body) = high
+window_end (Until node place low high left right) = high
+window_end (Next node place high body) = high
+window_end plan = 0
+
+-- all of them
+abbrev pub with_deadlines : List Plan → List Plan
+with_deadlines plans = filter has_deadline (flat_map nodes plans)
+
+-- the rank of a name in a list by name
+abbrev pub rank_in : List ℕ → NameId → ℕ
+rank_in ranks name = slice_index_or ranks name.0 0
+
+-- the class of a node: by the least rank of a name that is caused below it, which counts as one above all ranks where
+-- none is caused, and then by its size
+abbrev pub class_of : List ℕ → List Plan → Plan → ℕ
+class_of ranks plans node =
+    (greatest ranks + 1 - least_with (greatest ranks + 1) (map (rank_in ranks) (caused_below node)))
+    * (greatest (map size plans) + 1) + size node
+
+-- one more than the greatest class times the greatest end, over the nodes with deadlines; 0 where there is none
+abbrev pub horizon_of : List ℕ → List Plan → ℕ
+horizon_of ranks plans =
+    (greatest (map (class_of ranks plans) (with_deadlines plans)) + 1)
+    * greatest (map window_end (with_deadlines plans))

@@ -1,0 +1,18 @@
+//! What ranks are: laws over the definitions, each the contract of a function with an empty body.
+ghost use Rattle.rank_check.specs.Laws.{HasOneRank, ZeroHasNoEdge, RankIsOneMore, EdgesRise, CyclesHaveNoRank};
+ghost use Rattle.rank_check.specs.Laws.{TriggersAreMet};
+
+/// The rank of a name is 0 where no edge ends in it, and else one more than the greatest rank of a name from which an
+/// edge comes; a name on a cycle has none.
+pub fn ranks_by_recursion()
+    ensures one { HasOneRank }
+    ensures zero { ZeroHasNoEdge }
+    ensures one_more { RankIsOneMore }
+    ensures rise { EdgesRise }
+    ensures cycles { CyclesHaveNoRank }
+{}
+
+/// Where a guard with triggers holds, the step has an event of one of them.
+pub fn triggers_are_met()
+    ensures { TriggersAreMet }
+{}

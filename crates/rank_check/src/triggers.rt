@@ -1,0 +1,55 @@
+//! The names that trigger a guard.
+ghost use Rattle.std.specs.Prelude.{◌≡◌, IfOk};
+ghost use Rattle.std.specs.Option.{option_map};
+ghost use Rattle.enf_formula.specs.Formulas.{tree_of};
+ghost use Rattle.rank_check.specs.Paths.{triggers as names_of};
+
+use enf_formula::Formula;
+use enf_value::events::NameId;
+use enf_value::memory::NoMemory;
+use std::alloc::Global;
+
+/// The names of which one has an event wherever the formula holds, or none: of `and` those of the first side that has
+/// some, of `or` those of both sides.
+pub fn triggers(alloc: Global, formula: &Formula) -> Result<Option<Vec<NameId>>, NoMemory>
+    ensures { IfOk result (λ names. option_map (λ all. all.items) names ≡ names_of (tree_of formula.now)) }
+{
+    match formula {
+        Formula::Atom(_, name, _) => {
+            let mut names = Vec::new(alloc);
+            names.push(*name)?;
+            Ok(Some(names))
+        }
+        Formula::And(_, g, h) => match triggers(alloc, g)? {
+            Some(names) => Ok(Some(names)),
+            None => triggers(alloc, h),
+        },
+        Formula::Or(_, g, h) => {
+            let Some(mut names) = triggers(alloc, g)? else {
+                return Ok(None);
+            };
+            let Some(others) = triggers(alloc, h)? else {
+                return Ok(None);
+            };
+            names.extend_from_slice(others.as_slice())?;
+            Ok(Some(names))
+        }
+        Formula::Exists(_, _, g) => triggers(alloc, g),
+        Formula::True(_)
+        | Formula::False(_)
+        | Formula::Equal(_, _, _)
+        | Formula::Less(_, _, _)
+        | Formula::AtMost(_, _, _)
+        | Formula::Not(_, _)
+        | Formula::Implies(_, _, _)
+        | Formula::Forall(_, _, _)
+        | Formula::Prev(_, _, _)
+        | Formula::Next(_, _, _)
+        | Formula::Once(_, _, _)
+        | Formula::Historically(_, _, _)
+        | Formula::Since(_, _, _, _)
+        | Formula::Eventually(_, _, _)
+        | Formula::Always(_, _, _)
+        | Formula::Until(_, _, _, _) => Ok(None),
+    }
+}

@@ -1,0 +1,53 @@
+//! Worked cases of roles, triggers, ranks and the mark, each a clause of a function with an empty body.
+ghost use Rattle.std.specs.Prelude.{◌≡◌, [], ◌∷◌, true, false, None, Some};
+ghost use Rattle.enf_formula.specs.Cases.{name_p, name_q, formula_p, formula_q, x};
+ghost use Rattle.enf_formula.specs.Formulas as tree;
+ghost use Rattle.plan_terms.specs.Cases.{each_soon, soon_q_x};
+ghost use Rattle.plan_terms.specs.Plans as plan;
+ghost use Rattle.rank_check.specs.Cases.{q_after_p, p_after_q, then_always_q, no_p_until_q, next_no_p};
+ghost use Rattle.rank_check.specs.Cases.{q_until_p, both_ways};
+ghost use Rattle.rank_check.specs.Chains.{IsOnCycle};
+ghost use Rattle.rank_check.specs.Horizon.{class_of, horizon_of};
+ghost use Rattle.rank_check.specs.Paths.{triggers, Edge, IsUntriggered};
+ghost use Rattle.rank_check.specs.Roles.{Clashes, IsCaused, IsSuppressed};
+ghost use Rattle.rank_check.specs.Transparent.{is_transparent};
+
+/// The names that trigger a guard.
+pub fn guard_triggers()
+    ensures atom { triggers formula_p ≡ Some (name_p ∷ []) }
+    ensures first_side { triggers (tree.And 0 formula_p formula_q) ≡ Some (name_p ∷ []) }
+    ensures second_side { triggers (tree.And 0 (tree.True 0) formula_q) ≡ Some (name_q ∷ []) }
+    ensures either_side { triggers (tree.Or 0 formula_p formula_q) ≡ Some (name_p ∷ name_q ∷ []) }
+    ensures one_side_alone { triggers (tree.Or 0 formula_p (tree.True 0)) ≡ None }
+    ensures some { triggers (tree.Exists 0 (x ∷ []) formula_p) ≡ Some (name_p ∷ []) }
+    ensures denied { triggers (tree.Not 0 formula_p) ≡ None }
+{}
+
+/// Names that clash, nodes without a trigger, and edges.
+pub fn paths()
+    ensures clash { Clashes (both_ways ∷ []) name_q }
+    ensures two_plans { Clashes (plan.Cause 0 1 name_q [] ∷ plan.Suppress 0 1 name_q [] ∷ []) name_q }
+    ensures root { IsUntriggered (plan.Eventually 0 8 1 5 (plan.Cause 1 9 name_q []))
+        (plan.Eventually 0 8 1 5 (plan.Cause 1 9 name_q [])) }
+    ensures below_always { IsUntriggered then_always_q (plan.Cause 2 6 name_q []) }
+    ensures left_of_until { IsUntriggered q_until_p (plan.Cause 1 5 name_q []) }
+    ensures edge { Edge (each_soon ∷ []) name_p name_q }
+    ensures cycle { IsOnCycle (Edge (q_after_p ∷ p_after_q ∷ [])) name_p }
+{}
+
+/// Classes, horizons and the transparent mark.
+pub fn horizons()
+    ensures class { class_of (0 ∷ 1 ∷ []) (each_soon ∷ []) soon_q_x ≡ 6 }
+    ensures eventually { horizon_of (0 ∷ 1 ∷ []) (each_soon ∷ []) ≡ 210 }
+    ensures until { horizon_of (0 ∷ 1 ∷ []) (no_p_until_q ∷ []) ≡ 90 }
+    ensures nothing_caused { horizon_of (0 ∷ 0 ∷ []) (next_no_p ∷ []) ≡ 30 }
+    ensures two_rules { horizon_of (0 ∷ 1 ∷ []) (each_soon ∷ no_p_until_q ∷ []) ≡ 270 }
+    ensures no_deadline { horizon_of (0 ∷ 0 ∷ []) (then_always_q ∷ []) ≡ 0 }
+    ensures marked { is_transparent (each_soon ∷ no_p_until_q ∷ next_no_p ∷ []) ≡ true }
+    ensures one_side_ahead { is_transparent (plan.Either 0 soon_q_x (plan.Cause 3 8 name_q []) ∷ []) ≡ true }
+    ensures two_sides_ahead { is_transparent (plan.Either 0 soon_q_x soon_q_x ∷ []) ≡ false }
+    ensures body_ahead { is_transparent (plan.Eventually 0 1 0 5 soon_q_x ∷ []) ≡ false }
+    ensures right_ahead { is_transparent (plan.Until 0 1 0 5 (plan.Cause 1 2 name_q []) soon_q_x ∷ []) ≡ false }
+    ensures left_ahead { is_transparent (plan.Until 0 1 0 5 soon_q_x (plan.Cause 1 2 name_q []) ∷ []) ≡ true }
+    ensures always_ahead { is_transparent (plan.Always 0 1 0 5 soon_q_x ∷ []) ≡ true }
+{}
