@@ -6,9 +6,12 @@
 mod case;
 mod escapes;
 mod event_sets;
+mod guards;
 mod intervals;
 mod logs;
+mod policies;
 mod signatures;
+mod tables;
 mod values;
 
 use case::CaseError;
@@ -49,6 +52,10 @@ fn answer_line(alloc: Global, line: &[u8], out: &mut Vec<u8>) -> Result<(), Case
         b"compare" => values::answer_compare(alloc, &input, out),
         b"interval" => intervals::answer(&input, out),
         b"events" => event_sets::answer(alloc, &input, out),
+        b"table" => tables::answer(alloc, &input, out),
+        b"tables" => tables::answer_counts(alloc, out),
+        b"guard" => guards::answer(alloc, &input, out),
+        b"policy" => policies::answer(alloc, &input, out),
         b"log" => logs::answer(alloc, LogMode::Input, &input, out),
         b"trace" => logs::answer(alloc, LogMode::TraceLog, &input, out),
         _ => Err(CaseError::UnknownKind),
