@@ -40,6 +40,15 @@ enforce() {
     return "$status"
 }
 
+# generate START STEPS OUTPUT: writes a generated log, and answers the status of the program.
+generate() {
+    if is_proved; then
+        bin/enf gen "$1" "$2" > "$3"
+    else
+        (cd crates/enf_cli && rt try -- gen "$1" "$2") > "$3" 2> /dev/null
+    fi
+}
+
 # A path as seen from every folder.
 absolute() {
     case $2 in
