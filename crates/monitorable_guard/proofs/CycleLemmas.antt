@@ -93,7 +93,7 @@ module _ (events : List Event) (tables : List Relation) (v : Valuation) (f : For
 
 -- ---- places among the operators
 
-fit_short : (fs : List Formula) (tables : List Relation) → FitOperators fs tables → length fs ≤ length tables
+pub fit_short : (fs : List Formula) (tables : List Relation) → FitOperators fs tables → length fs ≤ length tables
 fit_short [] tables fit = omega arith
 fit_short (f ∷ fs) [] fit = absurd fit
 fit_short (f ∷ fs) (t ∷ tables) fit = omega (arith, fit_short fs tables fit.1)

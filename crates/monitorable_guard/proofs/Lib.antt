@@ -17,3 +17,4 @@ pub mod PastLemmas
 pub mod PairLemmas
 pub mod GuardLemmas
 pub mod KnownNow
+pub mod ConditionLemmas

@@ -1,6 +1,7 @@
 pub mod Safety
 pub mod Sources
 pub mod Guards
+pub mod Listed
 pub mod Refusals
 pub mod Present
 pub mod Asking

@@ -1,16 +1,19 @@
 //! Guards: formulas that can be evaluated over finite tables, with the variables that are bound.
-ghost use Rattle.std.specs.Prelude.{◌≡◌, ◌↔◌, IfOk, IfErr, OnOk, IsTrue, Contains};
+ghost use Rattle.std.specs.Prelude.{◌≡◌, ◌↔◌, ◌⊎◌, IfOk, IfErr, OnOk, IsTrue, Contains};
 ghost use Rattle.valuations.specs.Tables.{IsTable};
 ghost use Rattle.monitorable_guard.specs.Evaluation.{AreOpen, CanEvaluate, HasKnownValues, HoldsFor};
 ghost use Rattle.enf_formula.specs.Formulas.{tree_of};
-ghost use Rattle.monitorable_guard.specs.Safety.{Safe, IsTest};
+ghost use Rattle.enf_formula.specs.FreeVariables.{IsFree};
+ghost use Rattle.monitorable_guard.specs.Safety.{BindsFresh, Safe, IsTest};
 ghost use Rattle.monitorable_guard.specs.Refusals.{RefusesGuard};
 
+use crate::conditions::{fits, is_fresh};
 use crate::evaluation::{Present, rows_of};
 use crate::events::StepEvents;
+use crate::operators::are_bound;
 use crate::past::{Past, PastTables};
 use crate::safety::is_safe;
-use crate::scopes::is_free_within;
+use crate::scopes::{is_free_within, with_free};
 use enf_formula::Formula;
 use enf_value::event_sets::EventSet;
 use enf_value::items::Duplicate;
@@ -92,6 +95,32 @@ impl Guard {
         ensures safe { Safe (tree_of self.now.formula) (Contains self.now.bound) }
     {
         &self.bound
+    }
+
+    /// Whether no quantifier of the formula binds a variable that is bound or free in it.
+    pub fn is_fresh(&self, alloc: Global) -> Result<bool, NoMemory>
+        ensures { IfOk result (λ fresh. IsTrue fresh ↔ BindsFresh (tree_of self.now.formula)
+            (λ x. Contains self.now.bound x ⊎ IsFree x (tree_of self.now.formula))) }
+    {
+        let scope = with_free(alloc, self.bound().as_slice(), self.formula())?;
+        is_fresh(alloc, self.formula(), scope.as_slice())
+    }
+
+    /// Whether it can be evaluated with these tables of its outermost operators on the past and this valuation.
+    pub fn can_evaluate(
+        &self,
+        alloc: Global,
+        past: &[Table],
+        v: &Valuation,
+    ) -> Result<bool, NoMemory>
+        ensures { IfOk result (λ can. IsTrue can ↔ CanEvaluate (tree_of self.now.formula)
+            self.now.bound past.now v.now) }
+    {
+        if self.is_fresh(alloc)? && fits(alloc, self.formula(), past)? {
+            Ok(are_bound(self.bound().as_slice(), v))
+        } else {
+            Ok(false)
+        }
     }
 
     /// The rows over the free variables that are not bound, under which the formula holds at a step with these events

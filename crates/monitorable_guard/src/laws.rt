@@ -1,5 +1,6 @@
 //! What safety is for: a law over the definitions, the contract of a function with an empty body.
 ghost use Rattle.monitorable_guard.specs.Evaluation.{EvaluatedIsSatisfied};
+ghost use Rattle.monitorable_guard.specs.Listed.{SafeWithFreeListed, SafeWithNoneListed};
 ghost use Rattle.monitorable_guard.specs.Present.{PresentIsSatisfied};
 ghost use Rattle.monitorable_guard.specs.Safety.{HistoricallyAsksDenial};
 ghost use Rattle.monitorable_guard.specs.Sources.{SafeValuesAreKnown};
@@ -15,6 +16,13 @@ pub fn safe_values_are_known()
 /// `historically g` is as safe as the denial of g that `once` takes in its place.
 pub fn historically_asks_denial()
     ensures { HistoricallyAsksDenial }
+{}
+
+/// What can be evaluated by itself, or with the variables that are free in another formula, can be so with these in a
+/// list.
+pub fn safe_with_listed()
+    ensures none { SafeWithNoneListed }
+    ensures free { SafeWithFreeListed }
 {}
 
 /// Where tables stand for the outermost operators on the past at a position of a trace, a formula holds by them where

@@ -3,6 +3,7 @@
 #![tactic(auto)]
 
 mod atoms;
+mod conditions;
 mod evaluation;
 pub mod events;
 pub mod guard;

@@ -11,7 +11,7 @@ use enf_formula::Formula;
 use enf_value::memory::NoMemory;
 use enf_value::terms::{VarId, Vars};
 use std::alloc::Global;
-use valuations::Scope;
+use valuations::{Lookup, Scope};
 
 // How many outermost operators on the past there are.
 pub fn operators(formula: &Formula) -> usize
@@ -71,11 +71,13 @@ pub fn is_closed(alloc: Global, formula: &Formula, scope: &Scope<'_>) -> Result<
     Ok(are_bound(free.as_slice(), scope))
 }
 
-fn are_bound(variables: &[VarId], scope: &Scope<'_>) -> bool
-    ensures { IsTrue result ↔ ((x : Variable) → Contains variables.now x → IsBoundBy scope.now x) }
+// Whether each of the variables has a value.
+pub fn are_bound<V: Lookup>(variables: &[VarId], v: &V) -> bool
+    ensures { IsTrue result
+        ↔ ((x : Variable) → Contains variables.now x → IsBoundBy (V.valuation v.now) x) }
 {
     for variable in variables {
-        if scope.get(*variable).is_none() {
+        if v.value(*variable).is_none() {
             return false;
         }
     }

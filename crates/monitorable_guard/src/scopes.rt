@@ -73,7 +73,8 @@ pub fn joined(alloc: Global, front: &[VarId], back: &[VarId]) -> Result<Vec<VarI
     Ok(all)
 }
 
-fn are_same(xs: &[VarId], others: &[VarId]) -> bool
+// Whether the same variables are in both.
+pub fn are_same(xs: &[VarId], others: &[VarId]) -> bool
     ensures { IsTrue result
         ↔ (All (Contains others.now) xs.now × All (Contains xs.now) others.now) }
 {

@@ -12,7 +12,7 @@ got None a e some = absurd (false≢true some)
 got (Some x) a e some = subst IsSome e refl
 
 pub loop-variable-preserved : goal.loop-variable-preserved
-loop-variable-preserved c = All-more (IsBoundBy c.args.scope.now) c.args.variables.now c.loop-variable.variable-index _ c.loop-variable-test.true c.loop-variable.invariant (got c.get.result _ c.get.ensures (c.is_none.ensures ∙ ap not c.if-is_none.false))
+loop-variable-preserved g c = All-more (IsBoundBy (g.V.Lookup.valuation c.args.v.now)) c.args.variables.now c.loop-variable.variable-index _ c.loop-variable-test.true c.loop-variable.invariant (got c.value.result _ c.value.ensures (c.is_none.ensures ∙ ap not c.if-is_none.false))
 
 pub returns : goal.returns
-returns c = (λ _ x there. All-contains (IsBoundBy c.args.scope.now) c.args.variables.now x (subst (All (IsBoundBy c.args.scope.now)) (take_all c.loop-variable.variable-index c.args.variables.now c.loop-variable-test.false) c.loop-variable.invariant) there, λ _. refl)
+returns g c = (λ _ x there. All-contains (IsBoundBy (g.V.Lookup.valuation c.args.v.now)) c.args.variables.now x (subst (All (IsBoundBy (g.V.Lookup.valuation c.args.v.now))) (take_all c.loop-variable.variable-index c.args.variables.now c.loop-variable-test.false) c.loop-variable.invariant) there, λ _. refl)
