@@ -1,29 +1,88 @@
--- What is accepted is not refused.
-use Rattle.std.proofs.Common.{◌≡◌, List, refl, subst}
+-- Each policy is accepted or refused, and has one refusal at most.
+use Rattle.std.proofs.Common.{◌≡◌, ◌≢◌, ◌⊎◌, List, inl, inr, refl, sym, ap, subst, ◌∙◌}
+use Rattle.enf_value.specs.declared.terms.VarId.{VarId}
 use Rattle.enf_formula.specs.Formulas.{Formula}
 use Rattle.plan_terms.specs.Plans.{Plan}
-use Rattle.rank_check.specs.Refusals.{RefusesPlans}
+use Rattle.rank_check.specs.Laws.{AcceptedPlansStay, ArePlansAnswered, OneReason}
+use Rattle.rank_check.specs.Refusals.{AreAccepted, RefusesPlans}
+use Rattle.rank_check.specs.declared.answers.RankRefusal.{RankRefusal}
 use Rattle.rank_check.specs.declared.answers.RankRefusal.TheVariants as plans
 use Rattle.signature.specs.declared.entries.NameEntry.{NameEntry}
-use Rattle.enforce_types.specs.Accepted.{IsAccepted, RefusesPolicy, PlansAre}
+use Rattle.enforce_types.specs.Accepted.{IsAccepted, IsRefused, RefusesPolicy, PlansAre, of_plans, of_rule}
+use Rattle.enforce_types.specs.PolicyPlans.{ArePlanned, IsFirstRefusal}
+use Rattle.enforce_types.specs.declared.refusals.Refusal.{Refusal}
+use Rattle.enforce_types.specs.declared.refusals.Refusal.TheVariants as rule
 use Rattle.enforce_types.specs.declared.refusals.TypeRefusal.{TypeRefusal}
 use Rattle.enforce_types.specs.declared.refusals.TypeRefusal.TheVariants.{Unguarded, NotEnforceable, RoleClash, Untriggered, Cyclic, NoMemory}
-use Rattle.enforce_types.proofs.PolicyLemmas.{not_both, one_plans}
+use Rattle.enforce_types.proofs.PolicyLemmas.{answered, not_both, one_plans, one_refusal}
 
--- plans that are accepted are those that are refused
-same_plans : (entries : List NameEntry) (policy : List Formula) (P : List Plan → Type 0) (accepted : IsAccepted entries policy) → PlansAre entries policy P → P accepted.0
-same_plans entries policy P accepted are = subst P (one_plans entries policy are.0 accepted.0 are.1 accepted.1 are.2 accepted.2).0 are.3
+module _ (entries : List NameEntry) (policy : List Formula) where
+  -- where a refusal comes from: a rule, or the plans
+  abbrev FromRule : TypeRefusal → Type 0
+  FromRule refusal = (why : Refusal) × (of_rule why ≡ refusal) × IsFirstRefusal entries policy why
 
-pub not_refused_too : (entries : List NameEntry) (policy : List Formula) (refusal : TypeRefusal) → IsAccepted entries policy → RefusesPolicy entries policy refusal → refusal ≡ NoMemory
-not_refused_too entries policy (Unguarded place) accepted why = absurd (not_both entries policy accepted.0 accepted.1 _ accepted.2 why)
-not_refused_too entries policy (NotEnforceable place) accepted why = absurd (not_both entries policy accepted.0 accepted.1 _ accepted.2 why)
-not_refused_too entries policy (RoleClash name) accepted why =
-    let clash : RefusesPlans accepted.0 (plans.RoleClash name) = same_plans entries policy (λ made. RefusesPlans made (plans.RoleClash name)) accepted why in
-    absurd (accepted.3.roles name clash.has)
-not_refused_too entries policy (Untriggered place) accepted why =
-    let met : RefusesPlans accepted.0 (plans.Untriggered place) = same_plans entries policy (λ made. RefusesPlans made (plans.Untriggered place)) accepted why in
-    absurd (accepted.3.triggered met.1 met.2 met.3 met.4.untriggered)
-not_refused_too entries policy (Cyclic name) accepted why =
-    let cycle : RefusesPlans accepted.0 (plans.Cyclic name) = same_plans entries policy (λ made. RefusesPlans made (plans.Cyclic name)) accepted why in
-    absurd (accepted.3.acyclic name cycle.2.has)
-not_refused_too entries policy NoMemory accepted why = refl
+  abbrev FromPlans : TypeRefusal → Type 0
+  FromPlans refusal = (why : RankRefusal) × (of_plans why ≡ refusal) × (why ≢ plans.NoMemory) × PlansAre entries policy (λ made. RefusesPlans made why)
+
+  source : (refusal : TypeRefusal) → RefusesPolicy entries policy refusal → refusal ≢ NoMemory → FromRule refusal ⊎ FromPlans refusal
+  source (Unguarded place) why n = inl (rule.Unguarded place, refl, why)
+  source (NotEnforceable place) why n = inl (rule.NotEnforceable place, refl, why)
+  source (RoleClash name) why n = inr (plans.RoleClash name, refl, (λ e. cc), why)
+  source (Untriggered place) why n = inr (plans.Untriggered place, refl, (λ e. cc), why)
+  source (Cyclic name) why n = inr (plans.Cyclic name, refl, (λ e. cc), why)
+  source NoMemory why n = absurd (n refl)
+
+  -- the plans of which two things are known are the same
+  same_plans : (P Q : List Plan → Type 0) (one : PlansAre entries policy P) → PlansAre entries policy Q → Q one.0
+  same_plans P Q one other = subst Q (one_plans entries policy other.0 one.0 other.1 one.1 other.2 one.2).0 other.3
+
+  not_source : AcceptedPlansStay → (refusal : TypeRefusal) → IsAccepted entries policy → FromRule refusal ⊎ FromPlans refusal → ⊥
+  not_source stay refusal accepted (inl a) = not_both entries policy accepted.0 accepted.1 a.0 accepted.2 a.2
+  not_source stay refusal accepted (inr a) = a.2 (stay accepted.0 a.0 accepted.3 (same_plans AreAccepted (λ made. RefusesPlans made a.0) accepted a.3))
+
+  one_reason : OneReason → (made : List Plan) (a b : RankRefusal) → RefusesPlans made a → RefusesPlans made b → a ≢ plans.NoMemory → b ≢ plans.NoMemory → a ≡ b
+  one_reason one made a b x y m n = by (one made a b x y)
+    where
+      by : (a ≡ plans.NoMemory) ⊎ ((b ≡ plans.NoMemory) ⊎ (a ≡ b)) → a ≡ b
+      by (inl is) = absurd (m is)
+      by (inr (inl is)) = absurd (n is)
+      by (inr (inr same)) = same
+
+  one_source : OneReason → (refusal other : TypeRefusal) → FromRule refusal ⊎ FromPlans refusal → FromRule other ⊎ FromPlans other → refusal ≡ other
+  one_source one refusal other (inl a) (inl b) = sym a.1 ∙ ap of_rule (one_refusal entries policy a.0 b.0 a.2 b.2) ∙ b.1
+  one_source one refusal other (inl a) (inr b) = absurd (not_both entries policy b.3.0 b.3.1 a.0 b.3.2 a.2)
+  one_source one refusal other (inr a) (inl b) = absurd (not_both entries policy a.3.0 a.3.1 b.0 a.3.2 b.2)
+  one_source one refusal other (inr a) (inr b) =
+      let why : RefusesPlans a.3.0 b.0 = same_plans (λ made. RefusesPlans made a.0) (λ made. RefusesPlans made b.0) a.3 b.3 in
+      sym a.1 ∙ ap of_plans (one_reason one a.3.0 a.0 b.0 a.3.3 why a.2 b.2) ∙ b.1
+
+  refused_by_plans : (why : RankRefusal) → why ≢ plans.NoMemory → PlansAre entries policy (λ made. RefusesPlans made why) → IsRefused entries policy
+  refused_by_plans (plans.RoleClash name) n is = (RoleClash name, (λ e. cc), is)
+  refused_by_plans (plans.Untriggered place) n is = (Untriggered place, (λ e. cc), is)
+  refused_by_plans (plans.Cyclic name) n is = (Cyclic name, (λ e. cc), is)
+  refused_by_plans plans.NoMemory n is = absurd (n refl)
+
+  refused_by_rule : (why : Refusal) → IsFirstRefusal entries policy why → IsRefused entries policy
+  refused_by_rule (rule.Unguarded place) is = (Unguarded place, (λ e. cc), is)
+  refused_by_rule (rule.NotEnforceable place) is = (NotEnforceable place, (λ e. cc), is)
+
+  neither_is : ArePlansAnswered → (IsAccepted entries policy ⊎ IsRefused entries policy → ⊥) → ⊥
+  neither_is answers neither = by (answered entries policy)
+    where
+      by : ((made : List Plan) × (guards : List (Formula × List VarId)) × ArePlanned entries policy made guards) ⊎ ((why : Refusal) × IsFirstRefusal entries policy why) → ⊥
+      by (inl planned) = answers planned.0 (λ either. of_plans_answered either)
+        where
+          of_plans_answered : AreAccepted planned.0 ⊎ ((refusal : RankRefusal) × (refusal ≡ plans.NoMemory → ⊥) × RefusesPlans planned.0 refusal) → ⊥
+          of_plans_answered (inl accepted) = neither (inl (planned.0, planned.1, planned.2, accepted))
+          of_plans_answered (inr refused) = neither (inr (refused_by_plans refused.0 refused.1 (planned.0, planned.1, planned.2, refused.2)))
+      by (inr refused) = neither (inr (refused_by_rule refused.0 refused.1))
+
+pub not_refused_too : AcceptedPlansStay → (entries : List NameEntry) (policy : List Formula) (refusal : TypeRefusal) → IsAccepted entries policy → RefusesPolicy entries policy refusal → refusal ≡ NoMemory
+not_refused_too stay entries policy NoMemory accepted why = refl
+not_refused_too stay entries policy refusal accepted why = absurd (not_source entries policy stay refusal accepted (source entries policy refusal why (λ e. cc)))
+
+pub refused_once : OneReason → (entries : List NameEntry) (policy : List Formula) (refusal other : TypeRefusal) → RefusesPolicy entries policy refusal → RefusesPolicy entries policy other → refusal ≢ NoMemory → other ≢ NoMemory → refusal ≡ other
+refused_once one entries policy refusal other a b m n = one_source entries policy one refusal other (source entries policy refusal a m) (source entries policy other b n)
+
+pub accepted_or_refused : ArePlansAnswered → (entries : List NameEntry) (policy : List Formula) → (IsAccepted entries policy ⊎ IsRefused entries policy → ⊥) → ⊥
+accepted_or_refused answers entries policy neither = neither_is entries policy answers neither

@@ -15,7 +15,8 @@ use Rattle.plan_terms.specs.PlanFormula.{formula_for, from_to}
 use Rattle.plan_terms.specs.Plans as plan
 use Rattle.plan_terms.specs.Plans.{Plan}
 use Rattle.enforce_types.specs.Elab.{Elab, Aim, Up, Down, UpForAll}
-use Rattle.enforce_types.proofs.Meaning.{not_refused, leaf_keeps, one_keeps, two_keep, with_end, from_now, one_of_two_keeps, exclusion_keeps, implication_keeps}
+use Rattle.enforce_types.proofs.Making.{not_refused, with_end, from_now}
+use Rattle.enforce_types.proofs.Meaning.{leaf_keeps, one_keeps, two_keep, one_of_two_keeps, exclusion_keeps, implication_keeps}
 
 -- what a formula is made
 abbrev pub Meant : Aim → Formula → Formula

@@ -10,3 +10,7 @@ pub mod JoinLemmas
 pub mod PlanningLemmas
 pub mod PolicyLemmas
 pub mod AcceptedLemmas
+pub mod Making
+pub mod PlanLimits
+pub mod GuardPlaces
+pub mod TypingLemmas

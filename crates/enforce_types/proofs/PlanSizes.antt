@@ -1,5 +1,5 @@
 -- A plan has at most as many nodes as its formula.
-use Rattle.std.proofs.Common.{◌≡◌, ℕ, ◌+◌, ◌≤◌, Bool, true, false, List, [], ◌++◌, length, Ok, arith, subst}
+use Rattle.std.proofs.Common.{ℕ, ◌+◌, ◌≤◌, Bool, List, [], ◌++◌, length, Ok, arith}
 use Rattle.std.proofs.lemmas.List.{length-append}
 use Rattle.enf_value.specs.declared.events.NameId.{NameId}
 use Rattle.enf_value.specs.declared.terms.VarId.{VarId}
@@ -7,71 +7,50 @@ use Rattle.enf_formula.specs.Formulas.{Formula, Atom, Not, And, Or, Implies, Exi
 use Rattle.enf_formula.specs.Shape.{size_of}
 use Rattle.plan_terms.specs.Nodes.{nodes}
 use Rattle.plan_terms.specs.Plans as plan
-use Rattle.plan_terms.specs.Plans.{Plan, Either, TestOr, Guarded}
+use Rattle.plan_terms.specs.Plans.{Plan}
 use Rattle.enforce_types.specs.Answers.{Answer, LeafWhere, OverOne, OverTwo, OneOfTwo, Implication, Exclusion}
 use Rattle.enforce_types.specs.Elab.{Elab, Aim, Up, Down, UpForAll}
 use Rattle.enforce_types.specs.Numbering.{node_count, guard_count, guard_numbers}
-use Rattle.enforce_types.proofs.Meaning.{made_is, not_refused, with_end, from_now}
-
-small_made : (p q : Plan) (m : ℕ) → ◌≡◌ {A = Answer} (Ok p) (Ok q) → node_count q ≤ m → node_count p ≤ m
-small_made p q m is small = subst (λ (r : Plan). node_count r ≤ m) (made_is p q is) small
+use Rattle.enforce_types.proofs.Making.{by_leaf, by_one, by_two, by_one_of_two, by_exclusion, by_implication, not_refused, with_end, from_now}
 
 small_leaf : (may : Bool) (place : ℕ) (l p : Plan) → LeafWhere may place l (Ok p) → node_count l ≤ 1 → node_count p ≤ 1
-small_leaf true place l p is small = small_made p l 1 is small
-small_leaf false place l p is small = absurd (not_refused p _ is)
+small_leaf may place l p e small = by_leaf (λ (r : Plan). node_count r ≤ 1) p may place l e small
 
 small_over : (one : Answer → Type 0) (node : Plan → Plan) (p : Plan) (m : ℕ) → OverOne one node (Ok p) → ((q : Plan) → one (Ok q) → node_count (node q) ≤ m) → node_count p ≤ m
-small_over one node p m (OverOne.made q h is) each = small_made p (node q) m is (each q h)
-small_over one node p m (OverOne.refused r h is) each = absurd (not_refused p r is)
+small_over one node p m e each = by_one (λ (r : Plan). node_count r ≤ m) p one node e each
 
 small_over_two : (first second : Answer → Type 0) (node : Plan → Plan → Plan) (p : Plan) (m : ℕ) → OverTwo first second node (Ok p) → ((l r : Plan) → first (Ok l) → second (Ok r) → node_count (node l r) ≤ m) → node_count p ≤ m
-small_over_two first second node p m (OverTwo.made l r h k is) each = small_made p (node l r) m is (each l r h k)
-small_over_two first second node p m (OverTwo.first_refused r h is) each = absurd (not_refused p r is)
-small_over_two first second node p m (OverTwo.second_refused l r h k is) each = absurd (not_refused p r is)
+small_over_two first second node p m e each = by_two (λ (r : Plan). node_count r ≤ m) p first second node e each
 
 -- two sides, and a node above them
 small_sides : (l r : Plan) (a b : ℕ) → node_count l ≤ a → node_count r ≤ b → length (nodes l ++ nodes r) + 1 ≤ a + b + 1
 small_sides l r a b x y = omega (arith, length-append (nodes l) (nodes r))
 
+-- one side, and a node above it
+small_left : (q : Plan) (a b : ℕ) → node_count q ≤ a → node_count q + 1 ≤ a + b + 1
+small_left q a b small = omega arith
+
+small_right : (q : Plan) (a b : ℕ) → node_count q ≤ b → node_count q + 1 ≤ a + b + 1
+small_right q a b small = omega arith
+
 small_one_of_two : (scope : List VarId) (l r : Formula) (left right : Answer → Type 0) (p : Plan) (a b : ℕ) → OneOfTwo scope l r left right (Ok p) → ((q : Plan) → left (Ok q) → node_count q ≤ a) → ((q : Plan) → right (Ok q) → node_count q ≤ b) → node_count p ≤ a + b + 1
-small_one_of_two scope l r left right p a b (OneOfTwo.left_test q k t is) ls rs =
-    let small : node_count q ≤ b = rs q k in
-    small_made p (TestOr 0 0 l q) (a + b + 1) is (omega arith)
-small_one_of_two scope l r left right p a b (OneOfTwo.either q o k n h is) ls rs =
-    let small : length (nodes o ++ nodes q) + 1 ≤ a + b + 1 = small_sides o q a b (ls o h) (rs q k) in
-    small_made p (Either 0 o q) (a + b + 1) is (omega arith)
-small_one_of_two scope l r left right p a b (OneOfTwo.left_refused q x k n h is) ls rs = absurd (not_refused p x is)
-small_one_of_two scope l r left right p a b (OneOfTwo.right_refused x k n is) ls rs = absurd (not_refused p x is)
-small_one_of_two scope l r left right p a b (OneOfTwo.right_test x q k t h is) ls rs =
-    let small : node_count q ≤ a = ls q h in
-    small_made p (TestOr 0 0 r q) (a + b + 1) is (omega arith)
-small_one_of_two scope l r left right p a b (OneOfTwo.both_refused x y k t h is) ls rs = absurd (not_refused p y is)
+small_one_of_two scope l r left right p a b e ls rs =
+    by_one_of_two (λ (made : Plan). node_count made ≤ a + b + 1) p scope l r left right e
+    (λ q k t. let small : node_count q + 1 ≤ a + b + 1 = small_right q a b (rs q k) in omega arith)
+    (λ o q h k. let small : length (nodes o ++ nodes q) + 1 ≤ a + b + 1 = small_sides o q a b (ls o h) (rs q k) in omega arith)
+    (λ q h t. let small : node_count q + 1 ≤ a + b + 1 = small_left q a b (ls q h) in omega arith)
 
 small_exclusion : (place : ℕ) (scope xs : List VarId) (g : Formula) (down : List VarId → Answer → Type 0) (p : Plan) (a : ℕ) → Exclusion place scope xs g down (Ok p) → ((W : List VarId) (q : Plan) → down W (Ok q) → node_count q ≤ a) → node_count p ≤ a + 1
-small_exclusion place scope xs g down p a (Exclusion.refused r h is) downs = absurd (not_refused p r is)
-small_exclusion place scope xs g down p a (Exclusion.unguarded q h n is) downs = absurd (not_refused p _ is)
-small_exclusion place scope xs g down p a (Exclusion.guarded q h guards is) downs =
-    let small : node_count q ≤ a = downs (scope ++ xs) q h in
-    small_made p (Guarded 0 xs 0 g q) (a + 1) is (omega arith)
+small_exclusion place scope xs g down p a e downs =
+    by_exclusion (λ (made : Plan). node_count made ≤ a + 1) p place scope xs g down e (λ q h guards. let small : node_count q ≤ a = downs (scope ++ xs) q h in omega arith)
 
 small_implication : (place arrow : ℕ) (scope xs : List VarId) (g h : Formula) (down up : List VarId → Answer → Type 0) (p : Plan) (a b : ℕ) → Implication place arrow scope xs g h down up (Ok p) → ((W : List VarId) (q : Plan) → down W (Ok q) → node_count q ≤ a) → ((W : List VarId) (q : Plan) → up W (Ok q) → node_count q ≤ b) → node_count p ≤ a + b + 1
-small_implication place arrow scope xs g h down up p a b (Implication.guarded q k guards is) downs ups =
-    let small : node_count q ≤ b = ups (scope ++ xs) q k in
-    small_made p (Guarded 0 xs 0 g q) (a + b + 1) is (omega arith)
-small_implication place arrow scope xs g h down up p a b (Implication.unguarded q k n m is) downs ups = absurd (not_refused p _ is)
-small_implication place arrow scope xs g h down up p a b (Implication.either q o k n none i is) downs ups =
-    let small : length (nodes o ++ nodes q) + 1 ≤ a + b + 1 = small_sides o q a b (downs scope o i) (ups (scope ++ xs) q k) in
-    small_made p (Either 0 o q) (a + b + 1) is (omega arith)
-small_implication place arrow scope xs g h down up p a b (Implication.left_refused q x k n none i is) downs ups = absurd (not_refused p x is)
-small_implication place arrow scope xs g h down up p a b (Implication.right_refused r k n is) downs ups = absurd (not_refused p r is)
-small_implication place arrow scope xs g h down up p a b (Implication.both_refused r x k t j is) downs ups = absurd (not_refused p x is)
-small_implication place arrow scope xs g h down up p a b (Implication.test_guarded r q k t j guards is) downs ups =
-    let small : node_count q ≤ a = downs (scope ++ xs) q j in
-    small_made p _ (a + b + 1) is (omega arith)
-small_implication place arrow scope xs g h down up p a b (Implication.test_unguarded r q k t j n m is) downs ups = absurd (not_refused p _ is)
-small_implication place arrow scope xs g h down up p a b (Implication.test r q k t j n none is) downs ups =
-    let small : node_count q ≤ a = downs (scope ++ xs) q j in
-    small_made p (TestOr 0 0 h q) (a + b + 1) is (omega arith)
+small_implication place arrow scope xs g h down up p a b e downs ups =
+    by_implication (λ (made : Plan). node_count made ≤ a + b + 1) p place arrow scope xs g h down up e
+    (λ q k guards. let small : node_count q + 1 ≤ a + b + 1 = small_right q a b (ups (scope ++ xs) q k) in omega arith)
+    (λ o q i k none. let small : length (nodes o ++ nodes q) + 1 ≤ a + b + 1 = small_sides o q a b (downs scope o i) (ups (scope ++ xs) q k) in omega arith)
+    (λ q i guards t. let small : node_count q + 1 ≤ a + b + 1 = small_left q a b (downs (scope ++ xs) q i) in omega arith)
+    (λ q i t none. let small : node_count q + 1 ≤ a + b + 1 = small_left q a b (downs (scope ++ xs) q i) in omega arith)
 
 pub plan_fits : (c s : NameId → Bool) (aim : Aim) (f : Formula) (scope : List VarId) (p : Plan) → Elab c s aim f scope (Ok p) → node_count p ≤ size_of f
 plan_fits c s Up (Atom place name terms) scope p e = small_leaf (c name) place _ p e (omega arith)

@@ -6,10 +6,12 @@ use Rattle.std.proofs.lemmas.List.Elements.{All-get_or}
 use Rattle.enf_value.specs.declared.terms.VarId.{VarId}
 use Rattle.enf_formula.specs.Formulas.{Formula, tree_of}
 use Rattle.enf_formula.specs.Shape.{size_of}
+use Rattle.formula_reader.specs.Resolution.{formulas}
 use Rattle.formula_reader.specs.declared.policies.Rule.{Rule}
 use Rattle.plan_terms.specs.declared.plans.Plan.{Plan as Stored}
 use Rattle.plan_terms.specs.Plans.{plan_of}
 use Rattle.plan_terms.specs.Plans.{Plan, Cause, Suppress, Both, Either, TestOr, Guarded, Eventually, Always, Until, Next}
+use Rattle.policy_syntax.specs.declared.limits.TheConstants.{MOST_NODES}
 use Rattle.signature.specs.declared.entries.NameEntry.{NameEntry}
 use Rattle.monitorable_guard.specs.Guards.{BoundFormula}
 use Rattle.enforce_types.specs.Elab.{Elab, Up}
@@ -19,7 +21,7 @@ use Rattle.enforce_types.specs.Guards.{GuardsAreSafe}
 use Rattle.enforce_types.proofs.PlanSizes.{plan_fits, guards_are_nodes}
 use Rattle.enforce_types.proofs.SafeGuards.{safe_guards}
 use Rattle.enforce_types.specs.Numbering.{node_count, guard_count, numbered, all_numbered}
-use Rattle.enforce_types.specs.PolicyPlans.{formulas, RuleAnswer, HasPlan, ArePlanned, IsFirstRefusal}
+use Rattle.enforce_types.specs.PolicyPlans.{RuleAnswer, HasPlan, ArePlanned, IsFirstRefusal}
 use Rattle.enforce_types.specs.declared.refusals.Refusal.{Refusal}
 
 abbrev Guards' : Type 0
@@ -114,9 +116,9 @@ module _ (rules : List Rule) (i : ℕ) (rule : Rule) (within : i < length rules)
       rw (formulas_more, more_is, d) (planned_push entries (formulas (take i rules)) plans guards (tree_of rule.formula) p are has)
 
   -- the formula is not larger than each may be
-  pub size_at : All (λ f. size_of f ≤ 400) (formulas rules) → size_of (tree_of rule.formula) ≤ 400
+  pub size_at : All (λ f. size_of f ≤ MOST_NODES) (formulas rules) → size_of (tree_of rule.formula) ≤ MOST_NODES
   size_at small =
-      subst (λ (f : Formula). size_of f ≤ 400) (get_or-map (λ r. tree_of r.formula) rules i rule (tree_of rule.formula) within ∙ ap (λ (r : Rule). tree_of r.formula) (sym is)) (All-get_or (λ f. size_of f ≤ 400) (formulas rules) i (tree_of rule.formula) (omega (arith, within, length-map rules (λ r. tree_of r.formula))) small)
+      subst (λ (f : Formula). size_of f ≤ MOST_NODES) (get_or-map (λ r. tree_of r.formula) rules i rule (tree_of rule.formula) within ∙ ap (λ (r : Rule). tree_of r.formula) (sym is)) (All-get_or (λ f. size_of f ≤ MOST_NODES) (formulas rules) i (tree_of rule.formula) (omega (arith, within, length-map rules (λ r. tree_of r.formula))) small)
 
   pub refused_at : (entries : List NameEntry) (plans : List Plan) (guards : Guards') (r : Refusal) → ArePlanned entries (formulas (take i rules)) plans guards → RuleAnswer entries (tree_of rule.formula) (Err r) → IsFirstRefusal entries (formulas rules) r
   refused_at entries plans guards r are refuses =
@@ -138,13 +140,13 @@ has_refusal entries f scope a r none is e =
 pub rule_safe : (entries : List NameEntry) (f : Formula) (p : Plan) → HasPlan entries f p → GuardsAreSafe p []
 rule_safe entries f p has = safe_guards (is_causable entries) (is_suppressible entries) Up f [] p has
 
-pub nodes_few : (entries : List NameEntry) (f : Formula) (p : Plan) → HasPlan entries f p → size_of f ≤ 400 → node_count p ≤ 400
+pub nodes_few : (entries : List NameEntry) (f : Formula) (p : Plan) → HasPlan entries f p → size_of f ≤ MOST_NODES → node_count p ≤ MOST_NODES
 nodes_few entries f p has small = let fits : node_count p ≤ size_of f = plan_fits (is_causable entries) (is_suppressible entries) Up f [] p has in omega arith
 
-pub guards_few : (entries : List NameEntry) (f : Formula) (p : Plan) → HasPlan entries f p → size_of f ≤ 400 → guard_count p ≤ 400
+pub guards_few : (entries : List NameEntry) (f : Formula) (p : Plan) → HasPlan entries f p → size_of f ≤ MOST_NODES → guard_count p ≤ MOST_NODES
 guards_few entries f p has small = omega (arith, nodes_few entries f p has small, guards_are_nodes p)
 
-pub few_more : (old new : List BoundFormula) (p : Plan) (i : ℕ) → guards_of new ≡ guards_of old ++ guards_in p [] → guard_count p ≤ 400 → length old ≤ 400 * i → length new ≤ 400 * (i + 1)
+pub few_more : (old new : List BoundFormula) (p : Plan) (i : ℕ) → guards_of new ≡ guards_of old ++ guards_in p [] → guard_count p ≤ MOST_NODES → length old ≤ MOST_NODES * i → length new ≤ MOST_NODES * (i + 1)
 few_more old new p i is few so_far =
     let e : length (guards_of new) ≡ length (guards_of old ++ guards_in p []) = ap length is in
     omega (arith, length-map new guard_of, length-map old guard_of, length-append (guards_of old) (guards_in p []), guards_counted p [])

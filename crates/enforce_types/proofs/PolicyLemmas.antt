@@ -20,7 +20,7 @@ use Rattle.enforce_types.specs.PolicyLaws.{MeansSame, CanBeEvaluated}
 use Rattle.enforce_types.specs.PolicyPlans.{RuleAnswer, HasPlan, ArePlanned, IsFirstRefusal}
 use Rattle.enforce_types.specs.declared.refusals.Refusal.{Refusal}
 use Rattle.enforce_types.proofs.KeptMeaning.{kept}
-use Rattle.enforce_types.proofs.Meaning.{made_is, not_refused}
+use Rattle.enforce_types.proofs.Making.{made_is, not_refused}
 use Rattle.enforce_types.proofs.NumberingLemmas.{nodes_numbered, guards_numbered, same_formula}
 use Rattle.enforce_types.proofs.OneAnswer.{one}
 use Rattle.enforce_types.proofs.PlanningLemmas.{all_guards, all_same_guards, rule_safe}

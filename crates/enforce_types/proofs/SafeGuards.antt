@@ -10,12 +10,12 @@ use Rattle.enf_formula.specs.Past.{is_past}
 use Rattle.enf_formula.specs.Shape.{place_of}
 use Rattle.valuations.specs.Columns.{among_or_not, Contains-append}
 use Rattle.monitorable_guard.specs.Safety.{Safe, SafeBelow, IsTest, With, Nothing, Assigns}
-use Rattle.plan_terms.specs.Plans.{Plan, Either, TestOr, Guarded}
+use Rattle.plan_terms.specs.Plans.{Plan, Guarded}
 use Rattle.enforce_types.specs.Answers.{Answer, LeafWhere, OverOne, OverTwo, OneOfTwo, Guards, Implication, Exclusion}
 use Rattle.enforce_types.specs.Elab.{Elab, Aim, Up, Down, UpForAll}
 use Rattle.enforce_types.specs.Guards.{GuardsAreSafe}
 use Rattle.enforce_types.proofs.Decisions.{AllDecided, with_decided}
-use Rattle.enforce_types.proofs.Meaning.{made_is, not_refused, with_end, from_now}
+use Rattle.enforce_types.proofs.Making.{by_exclusion, by_implication, by_leaf, by_one, by_one_of_two, by_two, not_refused, with_end, from_now}
 
 and_true : (a b : Bool) → IsTrue a → IsTrue b → IsTrue (a && b)
 and_true true b p q = q
@@ -100,40 +100,28 @@ safe_more (Some xs) (Implies place g h) B C d more s =
 safe_more (Some xs) (Not place g) B C d more s = (λ x free absent. more x (s.0 x free absent), safe_more None g B C d more s.1)
 safe_more (Some xs) g B C d more s = absurd s
 
-safe_made : (p q : Plan) (scope : List VarId) → ◌≡◌ {A = Answer} (Ok p) (Ok q) → GuardsAreSafe q scope → GuardsAreSafe p scope
-safe_made p q scope is safe = subst (λ (r : Plan). GuardsAreSafe r scope) (made_is p q is) safe
-
 safe_leaf : (may : Bool) (place : ℕ) (l p : Plan) (scope : List VarId) → LeafWhere may place l (Ok p) → GuardsAreSafe l scope → GuardsAreSafe p scope
-safe_leaf true place l p scope is safe = safe_made p l scope is safe
-safe_leaf false place l p scope is safe = absurd (not_refused p _ is)
+safe_leaf may place l p scope e safe = by_leaf (λ (r : Plan). GuardsAreSafe r scope) p may place l e safe
 
 safe_over : (one : Answer → Type 0) (node : Plan → Plan) (p : Plan) (scope : List VarId) → OverOne one node (Ok p) → ((q : Plan) → one (Ok q) → GuardsAreSafe (node q) scope) → GuardsAreSafe p scope
-safe_over one node p scope (OverOne.made q h is) each = safe_made p (node q) scope is (each q h)
-safe_over one node p scope (OverOne.refused r h is) each = absurd (not_refused p r is)
+safe_over one node p scope e each = by_one (λ (r : Plan). GuardsAreSafe r scope) p one node e each
 
 safe_over_two : (first second : Answer → Type 0) (node : Plan → Plan → Plan) (p : Plan) (scope : List VarId) → OverTwo first second node (Ok p) → ((l r : Plan) → first (Ok l) → second (Ok r) → GuardsAreSafe (node l r) scope) → GuardsAreSafe p scope
-safe_over_two first second node p scope (OverTwo.made l r h k is) each = safe_made p (node l r) scope is (each l r h k)
-safe_over_two first second node p scope (OverTwo.first_refused r h is) each = absurd (not_refused p r is)
-safe_over_two first second node p scope (OverTwo.second_refused l r h k is) each = absurd (not_refused p r is)
+safe_over_two first second node p scope e each = by_two (λ (r : Plan). GuardsAreSafe r scope) p first second node e each
 
 past_test : (f : Formula) (scope : List VarId) → IsTest f (Contains scope) → IsTrue (is_past f)
 past_test f scope t = safe_past None f (Contains scope) t.0
 
 safe_one_of_two : (scope : List VarId) (l r : Formula) (left right : Answer → Type 0) (p : Plan) → OneOfTwo scope l r left right (Ok p) → ((q : Plan) → left (Ok q) → GuardsAreSafe q scope) → ((q : Plan) → right (Ok q) → GuardsAreSafe q scope) → GuardsAreSafe p scope
-safe_one_of_two scope l r left right p (OneOfTwo.left_test q k t is) ls rs = safe_made p (TestOr 0 0 l q) scope is (t, past_test l scope t, rs q k)
-safe_one_of_two scope l r left right p (OneOfTwo.either q o k n h is) ls rs = safe_made p (Either 0 o q) scope is (ls o h, rs q k)
-safe_one_of_two scope l r left right p (OneOfTwo.left_refused q x k n h is) ls rs = absurd (not_refused p x is)
-safe_one_of_two scope l r left right p (OneOfTwo.right_refused x k n is) ls rs = absurd (not_refused p x is)
-safe_one_of_two scope l r left right p (OneOfTwo.right_test x q k t h is) ls rs = safe_made p (TestOr 0 0 r q) scope is (t, past_test r scope t, ls q h)
-safe_one_of_two scope l r left right p (OneOfTwo.both_refused x y k t h is) ls rs = absurd (not_refused p y is)
+safe_one_of_two scope l r left right p e ls rs =
+    by_one_of_two (λ (made : Plan). GuardsAreSafe made scope) p scope l r left right e (λ q k test. (test, past_test l scope test, rs q k)) (λ o q h k. (ls o h, rs q k)) (λ q h test. (test, past_test r scope test, ls q h))
 
 safe_guarded : (scope xs : List VarId) (g : Formula) (q : Plan) → Guards scope xs g → GuardsAreSafe q (scope ++ xs) → GuardsAreSafe (Guarded 0 xs 0 g q) scope
 safe_guarded scope xs g q guards safe = (guards.safe, guards.tells, safe_past None g (Contains scope) guards.safe, safe)
 
 safe_exclusion : (place : ℕ) (scope xs : List VarId) (g : Formula) (down : List VarId → Answer → Type 0) (p : Plan) → Exclusion place scope xs g down (Ok p) → ((W : List VarId) (q : Plan) → down W (Ok q) → GuardsAreSafe q W) → GuardsAreSafe p scope
-safe_exclusion place scope xs g down p (Exclusion.refused r h is) downs = absurd (not_refused p r is)
-safe_exclusion place scope xs g down p (Exclusion.unguarded q h n is) downs = absurd (not_refused p _ is)
-safe_exclusion place scope xs g down p (Exclusion.guarded q h guards is) downs = safe_made p (Guarded 0 xs 0 g q) scope is (safe_guarded scope xs g q guards (downs (scope ++ xs) q h))
+safe_exclusion place scope xs g down p e downs =
+    by_exclusion (λ (made : Plan). GuardsAreSafe made scope) p place scope xs g down e (λ q h guards. safe_guarded scope xs g q guards (downs (scope ++ xs) q h))
 
 -- a test under the variables in scope and those of a guard is safe behind the guard
 guard_and_test : (arrow place : ℕ) (scope xs : List VarId) (g h : Formula) → Guards scope xs g → IsTest h (Contains (scope ++ xs)) → Guards scope xs (And arrow g (Not place h))
@@ -146,17 +134,12 @@ guard_and_test arrow place scope xs g h guards test =
     }
 
 safe_implication : (place arrow : ℕ) (scope xs : List VarId) (g h : Formula) (down up : List VarId → Answer → Type 0) (p : Plan) → Implication place arrow scope xs g h down up (Ok p) → ((W : List VarId) (q : Plan) → down W (Ok q) → GuardsAreSafe q W) → ((W : List VarId) (q : Plan) → up W (Ok q) → GuardsAreSafe q W) → ((q : Plan) → xs ≡ [] → GuardsAreSafe q (scope ++ xs) → GuardsAreSafe q scope) → (IsTest h (Contains (scope ++ xs)) → xs ≡ [] → IsTest h (Contains scope)) → GuardsAreSafe p scope
-safe_implication place arrow scope xs g h down up p (Implication.guarded q k guards is) downs ups same alike = safe_made p (Guarded 0 xs 0 g q) scope is (safe_guarded scope xs g q guards (ups (scope ++ xs) q k))
-safe_implication place arrow scope xs g h down up p (Implication.unguarded q k n m is) downs ups same alike = absurd (not_refused p _ is)
-safe_implication place arrow scope xs g h down up p (Implication.either q o k n none i is) downs ups same alike = safe_made p (Either 0 o q) scope is (downs scope o i, same q none (ups (scope ++ xs) q k))
-safe_implication place arrow scope xs g h down up p (Implication.left_refused q x k n none i is) downs ups same alike = absurd (not_refused p x is)
-safe_implication place arrow scope xs g h down up p (Implication.right_refused r k n is) downs ups same alike = absurd (not_refused p r is)
-safe_implication place arrow scope xs g h down up p (Implication.both_refused r x k t j is) downs ups same alike = absurd (not_refused p x is)
-safe_implication place arrow scope xs g h down up p (Implication.test_guarded r q k t j guards is) downs ups same alike =
-    safe_made p (Guarded 0 xs 0 (And arrow g (Not (place_of h) h)) q) scope is (safe_guarded scope xs (And arrow g (Not (place_of h) h)) q (guard_and_test arrow (place_of h) scope xs g h guards t) (downs (scope ++ xs) q j))
-safe_implication place arrow scope xs g h down up p (Implication.test_unguarded r q k t j n m is) downs ups same alike = absurd (not_refused p _ is)
-safe_implication place arrow scope xs g h down up p (Implication.test r q k t j n none is) downs ups same alike =
-    safe_made p (TestOr 0 0 h q) scope is (alike t none, past_test h (scope ++ xs) t, same q none (downs (scope ++ xs) q j))
+safe_implication place arrow scope xs g h down up p e downs ups same alike =
+    by_implication (λ (made : Plan). GuardsAreSafe made scope) p place arrow scope xs g h down up e
+    (λ q k guards. safe_guarded scope xs g q guards (ups (scope ++ xs) q k))
+    (λ o q i k none. (downs scope o i, same q none (ups (scope ++ xs) q k)))
+    (λ q j guards test. safe_guarded scope xs (And arrow g (Not (place_of h) h)) q (guard_and_test arrow (place_of h) scope xs g h guards test) (downs (scope ++ xs) q j))
+    (λ q j test none. (alike test none, past_test h (scope ++ xs) test, same q none (downs (scope ++ xs) q j)))
 
 no_more : (scope xs : List VarId) → xs ≡ [] → scope ++ xs ≡ scope
 no_more scope xs none = ap (λ ys. scope ++ ys) none ∙ append-nil scope

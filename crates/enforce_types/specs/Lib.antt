@@ -9,3 +9,4 @@ pub mod Given
 pub mod PolicyPlans
 pub mod PolicyLaws
 pub mod Accepted
+pub mod Typed

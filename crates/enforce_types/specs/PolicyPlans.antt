@@ -1,9 +1,8 @@
 -- The plans of a policy, or the first refusal.
-use Rattle.std.specs.Prelude.{◌≡◌, ◌⊎◌, List, [], ◌∷◌, Ok, Err, map}
+use Rattle.std.specs.Prelude.{◌≡◌, ◌⊎◌, List, [], ◌∷◌, Ok, Err}
 use Rattle.std.specs.List.{AllZip, flat_map}
 use Rattle.enf_value.specs.declared.terms.VarId.{VarId}
-use Rattle.enf_formula.specs.Formulas.{Formula, tree_of}
-use Rattle.formula_reader.specs.declared.policies.Rule.{Rule}
+use Rattle.enf_formula.specs.Formulas.{Formula}
 use Rattle.plan_terms.specs.Plans.{Plan}
 use Rattle.signature.specs.declared.entries.NameEntry.{NameEntry}
 use Rattle.enforce_types.specs.Answers.{Answer}
@@ -12,10 +11,6 @@ use Rattle.enforce_types.specs.Given.{is_causable, is_suppressible}
 use Rattle.enforce_types.specs.GuardLists.{guards_in}
 use Rattle.enforce_types.specs.Numbering.{all_numbered}
 use Rattle.enforce_types.specs.declared.refusals.Refusal.{Refusal}
-
--- the formulas of rules
-abbrev pub formulas : List Rule → List Formula
-formulas rules = map (λ rule. tree_of rule.formula) rules
 
 -- under a signature, what is answered for a rule's formula: no variable is in scope there
 abbrev pub RuleAnswer : List NameEntry → Formula → Answer → Type 0

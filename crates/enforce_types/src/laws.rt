@@ -5,9 +5,12 @@ ghost use Rattle.enforce_types.specs.Numbering.{NodesAreNumbered, GuardsAreNumbe
 ghost use Rattle.enforce_types.specs.Numbering.{NumbersMeanNothing, NumberingKeepsSafe, PlansAreSmall};
 ghost use Rattle.enforce_types.specs.PolicyLaws.{PolicyKeepsMeaning, PolicyIsNumbered, PolicyGuardsAreSafe};
 ghost use Rattle.enforce_types.specs.PolicyLaws.{IsAnswered, NotBoth, OnePlans, OneRefusal};
-ghost use Rattle.enforce_types.specs.Accepted.{AcceptedIsNotRefused};
+ghost use Rattle.enforce_types.specs.PolicyLaws.{GuardsAreAtNumbers, PlansAreWithinLimits};
+ghost use Rattle.enforce_types.specs.GuardLists.{GuardsHaveNumbers};
+ghost use Rattle.enforce_types.specs.Accepted.{AcceptedIsNotRefused, AcceptedOrRefused, RefusedOnce};
 
 use enf_formula::laws::is_classical;
+use rank_check::laws::plans_have_one_answer;
 
 /// A plan's formula holds exactly where the formula does that it makes true, and exactly where the formula does not
 /// that it makes false.
@@ -52,6 +55,18 @@ pub fn policy_plans_keep_meaning()
     is_classical();
 }
 
+/// In the plans of a policy the guard or test with a number stands at this place among the guards.
+pub fn guards_stand_at_their_numbers()
+    ensures listed { GuardsHaveNumbers }
+    ensures places { GuardsAreAtNumbers }
+{}
+
+/// The plans of a policy that keeps to the limits keep to them too, and change and look for no name but the
+/// signature's.
+pub fn plans_are_within_limits()
+    ensures { PlansAreWithinLimits }
+{}
+
 /// Each policy has plans or a first refusal, exactly one.
 pub fn policy_has_one_answer()
     ensures answered { IsAnswered }
@@ -63,4 +78,14 @@ pub fn policy_has_one_answer()
 /// A policy that is accepted is refused for want of memory alone.
 pub fn accepted_is_not_refused()
     ensures { AcceptedIsNotRefused }
-{}
+{
+    plans_have_one_answer();
+}
+
+/// Each policy is accepted or refused, and has one refusal at most but for want of memory.
+pub fn policy_is_accepted_or_refused()
+    ensures answered { AcceptedOrRefused }
+    ensures once { RefusedOnce }
+{
+    plans_have_one_answer();
+}

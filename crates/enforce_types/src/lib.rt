@@ -9,7 +9,9 @@ pub mod laws;
 mod numbering;
 pub mod planning;
 pub mod refusals;
+pub mod typed_policy;
 pub mod worked_cases;
 
 pub use planning::{RulePlans, plan_rules};
 pub use refusals::{Answer, Refusal, TypeRefusal};
+pub use typed_policy::TypedPolicy;

@@ -4,8 +4,10 @@ ghost use Rattle.enf_formula.specs.Shape.{size_of};
 ghost use Rattle.enforce_types.specs.GuardLists.{guards_in, guards_of};
 ghost use Rattle.enforce_types.specs.Guards.{GuardsAreSafe};
 ghost use Rattle.enforce_types.specs.Numbering.{node_count, guard_count, numbered};
-ghost use Rattle.enforce_types.specs.PolicyPlans.{ArePlanned, IsFirstRefusal, formulas};
+ghost use Rattle.enforce_types.specs.PolicyPlans.{ArePlanned, IsFirstRefusal};
+ghost use Rattle.formula_reader.specs.Resolution.{formulas};
 ghost use Rattle.plan_terms.specs.Plans.{plan_of};
+ghost use Rattle.policy_syntax.specs.declared.limits.TheConstants.{MOST_NODES, MOST_RULES};
 
 use crate::elaboration::up;
 use crate::guards::collect;
@@ -61,8 +63,8 @@ pub fn plan_rules(
     signature: &Signature,
     rules: &[Rule],
 ) -> Result<Result<RulePlans, Refusal>, NoMemory>
-    requires few_rules { length rules.now ≤ 64 }
-    requires few_nodes { All (λ f. size_of f ≤ 400) (formulas rules.now) }
+    requires few_rules { length rules.now ≤ MOST_RULES }
+    requires few_nodes { All (λ f. size_of f ≤ MOST_NODES) (formulas rules.now) }
     ensures planned { IfOk result (λ r. IfOk r (λ made. ArePlanned signature.now (formulas rules.now)
         (map plan_of made.plans.items) (guards_of made.guards.items))) }
     ensures refused { IfOk result

@@ -17,3 +17,4 @@ pub mod Respelled
 pub mod Rising
 pub mod RoundTrip
 pub mod LeastInRules
+pub mod Kept

@@ -36,12 +36,12 @@ both_from make None b c e = absurd (cc)
 both_from make (Some x) None c e = absurd (cc)
 both_from make (Some x) (Some y) c e = record { x = x; y = y; left = refl; right = refl; made = cc }
 
-record One {A C : Type 0} (make : A → C) (a : Option A) (c : C) : Type 0 where
-  x : A
-  from : a ≡ Some x
-  made : make x ≡ c
+pub record One {A C : Type 0} (make : A → C) (a : Option A) (c : C) : Type 0 where
+  pub x : A
+  pub from : a ≡ Some x
+  pub made : make x ≡ c
 
-one_from : {A C : Type 0} (make : A → C) (a : Option A) (c : C) → option_map make a ≡ Some c → One make a c
+pub one_from : {A C : Type 0} (make : A → C) (a : Option A) (c : C) → option_map make a ≡ Some c → One make a c
 one_from make None c e = absurd (cc)
 one_from make (Some x) c e = record { x = x; from = refl; made = cc }
 
@@ -91,7 +91,7 @@ terms_written vars names rest scope (term ∷ terms) found v e =
     ∙ ap (λ (ts : List SyntaxTerm). bare_term term ∷ ts) (terms_written vars names rest scope terms h.y v h.right)
 
 -- the name with a name's number is that name
-number_names : (entries : List NameEntry) (name : List ℕ) (number : ℕ) → number_of entries name ≡ Some number → name_at entries number ≡ Some name
+pub number_names : (entries : List NameEntry) (name : List ℕ) (number : ℕ) → number_of entries name ≡ Some number → name_at entries number ≡ Some name
 number_names [] name number e = absurd (cc)
 number_names (entry ∷ entries) name number e =
     by (bytes_eq name entry.text) refl (sym (position-cons (λ y. bytes_eq name y.text) entry entries) ∙ e) (number_names entries name)

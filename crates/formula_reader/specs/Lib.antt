@@ -12,3 +12,4 @@ pub mod Written
 pub mod Places
 pub mod Reading
 pub mod RoundTrip
+pub mod Within

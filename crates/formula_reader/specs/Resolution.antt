@@ -108,3 +108,7 @@ rule_of rule = record { name = rule.name; formula = tree.tree_of rule.formula; v
 -- the pure rules of a policy of the program
 abbrev pub rules_of : Policy → List Rule
 rules_of policy = map rule_of policy.rules
+
+-- the formulas of rules of the program
+abbrev pub formulas : List StoredRule → List tree.Formula
+formulas rules = map (λ rule. tree.tree_of rule.formula) rules

@@ -1,8 +1,9 @@
 //! The reader of policies: the first pass over the whole text, then the second over its tree.
-ghost use Rattle.std.specs.Prelude.{◌≤◌, List, Result, length};
+ghost use Rattle.std.specs.Prelude.{◌≤◌, IfOk, List, Result, length};
 ghost use Rattle.formula_reader.specs.Answers.{Gives, answer_of};
 ghost use Rattle.formula_reader.specs.Reading.{GivesTextAnswer, IsTextAnswer};
-ghost use Rattle.formula_reader.specs.Resolution.{Rule as PureRule};
+ghost use Rattle.formula_reader.specs.Resolution.{Rule as PureRule, formulas};
+ghost use Rattle.formula_reader.specs.Within.{AreWithinLimits};
 ghost use Rattle.formula_reader.specs.declared.policies.PolicyRefusal.{PolicyRefusal as RefusalOfPolicy};
 
 use crate::policies::{Policy, PolicyRefusal};
@@ -25,6 +26,8 @@ pub fn read_policy(
     // No other answer than the text's.
     ensures only { (answer : Result (List PureRule) RefusalOfPolicy) → IsTextAnswer signature.now bytes.now answer
         → Gives (answer_of result) answer }
+    // The formulas keep to the limits and to the names of the signature.
+    ensures within { IfOk result (λ policy. AreWithinLimits signature.now (formulas policy.rules)) }
 {
     let syntax = read_syntax(alloc, bytes)?;
     resolve(alloc, signature, &syntax)

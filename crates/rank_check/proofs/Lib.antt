@@ -1,2 +1,16 @@
 pub mod ChainLemmas
 pub mod TriggerLemmas
+pub mod MatrixLemmas
+pub mod PlanLemmas
+pub mod StartLemmas
+pub mod VisitLemmas
+pub mod BareLemmas
+pub mod SurveyLemmas
+pub mod CauseLemmas
+pub mod RoleLemmas
+pub mod ClosureLemmas
+pub mod RankLemmas
+pub mod CheckLemmas
+pub mod RanksExist
+pub mod AnswerLemmas
+pub mod CaseLemmas

@@ -1,18 +1,39 @@
 -- Small policies, on which the definitions can be checked by eye.
-use Rattle.std.specs.Prelude.{[]}
+use Rattle.std.specs.Prelude.{List, [], ◌∷◌}
+use Rattle.enf_value.specs.declared.events.NameId.{NameId}
 use Rattle.enf_formula.specs.Cases.{name_p, name_q, formula_p, formula_q}
+use Rattle.enf_formula.specs.Formulas as tree
 use Rattle.plan_terms.specs.Plans.{Plan, Cause, Suppress, Both, Guarded, Eventually, Always, Until, Next}
 
--- p() -> eventually[1,5] q(), and the same with p and q exchanged
-abbrev pub q_after_p : Plan
-q_after_p = Guarded 0 [] 0 formula_p (Eventually 1 4 1 5 (Cause 2 6 name_q []))
+-- a third name
+abbrev pub name_r : NameId
+name_r = record { 0 = 2 }
 
-abbrev pub p_after_q : Plan
-p_after_q = Guarded 0 [] 1 formula_q (Eventually 1 4 1 5 (Cause 2 6 name_p []))
+-- where the first name has an event, the second has one from 1 to 5 later, as p() -> eventually[1,5] q()
+abbrev pub soon_after : (first second : NameId) → Plan
+soon_after first second = Guarded 0 [] 0 (tree.Atom 0 first []) (Eventually 1 4 1 5 (Cause 2 6 second []))
+
+-- two names, and three, that cause each other in turn
+abbrev pub two_in_turn : List Plan
+two_in_turn = soon_after name_p name_q ∷ soon_after name_q name_p ∷ []
+
+abbrev pub three_in_turn : List Plan
+three_in_turn = soon_after name_p name_q ∷ soon_after name_q name_r ∷ soon_after name_r name_p ∷ []
+
+-- a second name that follows from the first, and a third from the second
+abbrev pub in_a_row : List Plan
+in_a_row = soon_after name_p name_q ∷ soon_after name_q name_r ∷ []
 
 -- p() -> always[0,9] q()
 abbrev pub then_always_q : Plan
 then_always_q = Guarded 0 [] 0 formula_p (Always 1 4 0 9 (Cause 2 6 name_q []))
+
+-- p() -> (q() -> r()), and with always[0,9] between them
+abbrev pub guarded_twice : Plan
+guarded_twice = Guarded 0 [] 0 formula_p (Guarded 1 [] 1 formula_q (Cause 2 8 name_r []))
+
+abbrev pub then_always_guarded : Plan
+then_always_guarded = Guarded 0 [] 0 formula_p (Always 1 4 0 9 (Guarded 2 [] 1 formula_q (Cause 3 8 name_r [])))
 
 -- p() -> (not p()) until[0,10] q()
 abbrev pub no_p_until_q : Plan

@@ -1,4 +1,4 @@
--- How long it takes at most until nothing is owed, where no further event triggers anything.
+-- The horizon of a policy: to bound how long something is owed, where no further event triggers anything.
 use Rattle.std.specs.Prelude.{ℕ, ◌+◌, ◌-◌, ◌*◌, max, min, Bool, true, false, List, [], ◌∷◌, length, map, filter}
 use Rattle.std.specs.Prelude.{slice_index_or}
 use Rattle.std.specs.List.{flat_map}
@@ -43,12 +43,17 @@ with_deadlines plans = filter has_deadline (flat_map nodes plans)
 abbrev pub rank_in : List ℕ → NameId → ℕ
 rank_in ranks name = slice_index_or ranks name.0 0
 
--- the class of a node: by the least rank of a name that is caused below it, which counts as one above all ranks where
--- none is caused, and then by its size
+-- the least rank of a name that is caused below a node, or `above` where none is
+abbrev pub least_rank : (above : ℕ) → List ℕ → Plan → ℕ
+least_rank above ranks node = least_with above (map (rank_in ranks) (caused_below node))
+
+-- the class of a node, where `above` is one above all ranks and `step` is one above all sizes of plans: by the least
+-- rank below it, and then by its size
+abbrev pub class_in : (above step : ℕ) → List ℕ → Plan → ℕ
+class_in above step ranks node = (above - least_rank above ranks node) * step + size node
+
 abbrev pub class_of : List ℕ → List Plan → Plan → ℕ
-class_of ranks plans node =
-    (greatest ranks + 1 - least_with (greatest ranks + 1) (map (rank_in ranks) (caused_below node)))
-    * (greatest (map size plans) + 1) + size node
+class_of ranks plans = class_in (greatest ranks + 1) (greatest (map size plans) + 1) ranks
 
 -- one more than the greatest class times the greatest end, over the nodes with deadlines; 0 where there is none
 abbrev pub horizon_of : List ℕ → List Plan → ℕ

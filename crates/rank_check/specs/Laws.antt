@@ -1,5 +1,5 @@
--- What ranks are: the recursion over edges that they meet, and that there are none on a cycle.
-use Rattle.std.specs.Prelude.{◌≡◌, ℕ, suc, ◌<◌, List, Some, Contains}
+-- What ranks are: the recursion over edges that they meet, and that there are none on a cycle. Plans have one answer.
+use Rattle.std.specs.Prelude.{◌≡◌, ◌⊎◌, ℕ, suc, ◌<◌, Bool, IsTrue, List, Some, Contains}
 use Rattle.enf_value.specs.Data.{step_at}
 use Rattle.enf_value.specs.Valuations.{Valuation}
 use Rattle.enf_value.specs.declared.events.Event.{Event}
@@ -10,6 +10,9 @@ use Rattle.enf_formula.specs.Satisfaction.{Sat, Classically}
 use Rattle.plan_terms.specs.Plans.{Plan}
 use Rattle.rank_check.specs.Chains.{IsOnCycle, IsRank}
 use Rattle.rank_check.specs.Paths.{Edge, triggers}
+use Rattle.rank_check.specs.Refusals.{AreAccepted, RefusesPlans}
+use Rattle.rank_check.specs.declared.answers.RankRefusal.{RankRefusal}
+use Rattle.rank_check.specs.declared.answers.RankRefusal.TheVariants.{NoMemory}
 
 -- a name has at most one rank
 abbrev pub HasOneRank : Type 0
@@ -33,6 +36,29 @@ EdgesRise = (plans : List Plan) (from to : NameId) (low high : ℕ) → Edge pla
 abbrev pub CyclesHaveNoRank : Type 0
 CyclesHaveNoRank = (plans : List Plan) (name : NameId) (rank : ℕ) → IsRank (Edge plans) name rank
     → IsOnCycle (Edge plans) name → ⊥
+
+-- where a test tells the edges, they are between the first so many names, and no name is on a cycle, each name has a
+-- rank
+abbrev pub AllHaveRanks : Type 0
+AllHaveRanks = (width : ℕ) (test : NameId → NameId → Bool)
+    → ((from to : NameId) → IsTrue (test from to) → (from.0 < width) × (to.0 < width))
+    → ((name : NameId) → IsOnCycle (λ from to. IsTrue (test from to)) name → ⊥)
+    → (name : NameId) → (rank : ℕ) × IsRank (λ from to. IsTrue (test from to)) name rank
+
+-- plans are accepted or refused for a reason, by cases on what is so
+abbrev pub ArePlansAnswered : Type 0
+ArePlansAnswered = (plans : List Plan) → Classically (AreAccepted plans
+    ⊎ ((refusal : RankRefusal) × (refusal ≡ NoMemory → ⊥) × RefusesPlans plans refusal))
+
+-- those that are accepted are refused for want of memory alone
+abbrev pub AcceptedPlansStay : Type 0
+AcceptedPlansStay = (plans : List Plan) (refusal : RankRefusal)
+    → AreAccepted plans → RefusesPlans plans refusal → refusal ≡ NoMemory
+
+-- and there is one reason
+abbrev pub OneReason : Type 0
+OneReason = (plans : List Plan) (refusal other : RankRefusal) → RefusesPlans plans refusal
+    → RefusesPlans plans other → (refusal ≡ NoMemory) ⊎ ((other ≡ NoMemory) ⊎ (refusal ≡ other))
 
 -- where a formula with triggers holds, the step has an event of one of them
 abbrev pub TriggersAreMet : Type 0

@@ -2,7 +2,12 @@ pub mod Roles
 pub mod Paths
 pub mod Chains
 pub mod Horizon
+pub mod Walks
+pub mod Survey
 pub mod Transparent
 pub mod Refusals
+pub mod Ranked
+pub mod Limits
+pub mod Matrix
 pub mod Laws
 pub mod Cases

@@ -1,5 +1,5 @@
 -- Which plans are refused, and why.
-use Rattle.std.specs.Prelude.{◌≡◌, ◌⊎◌, ℕ, ◌<◌, ◌≤◌, List, Option, None, Some, slice_get}
+use Rattle.std.specs.Prelude.{◌≡◌, ◌⊎◌, ℕ, ◌<◌, ◌≤◌, List, Some, slice_get}
 use Rattle.enf_value.specs.declared.events.NameId.{NameId}
 use Rattle.plan_terms.specs.Nodes.{nodes}
 use Rattle.plan_terms.specs.Plans.{Plan, Cause, Eventually}
@@ -36,6 +36,11 @@ IsPlaceOf at (Until node place low high left right) = at ≡ place
 IsPlaceOf at (Next node place high body) = at ≡ place
 IsPlaceOf at plan = ⊥
 
+-- the place of the first node that is met before any trigger
+abbrev pub IsFirstPlace : List Plan → ℕ → Type 0
+IsFirstPlace plans at = (rule : ℕ) × (number : ℕ) × (node : Plan) × IsFirstUntriggered plans rule number node
+    × IsPlaceOf at node
+
 -- no name clashes, nothing is untriggered, no name is on a cycle
 abbrev pub NothingClashes : List Plan → Type 0
 NothingClashes plans = (name : NameId) → Clashes plans name → ⊥
@@ -46,16 +51,10 @@ AllIsTriggered plans = (rule number : ℕ) (node : Plan) → IsUntriggeredAt pla
 abbrev pub IsAcyclic : List Plan → Type 0
 IsAcyclic plans = (name : NameId) → IsOnCycle (Edge plans) name → ⊥
 
--- the first name that clashes, or none does
-abbrev pub IsFirstClash : List Plan → Option NameId → Type 0
-IsFirstClash plans (Some name) = IsFirstName (Clashes plans) name
-IsFirstClash plans None = NothingClashes plans
-
 -- when plans are refused with this answer; each comes where those before it do not. Want of memory refuses any
 abbrev pub RefusesPlans : List Plan → RankRefusal → Type 0
 RefusesPlans plans (RoleClash name) = IsFirstName (Clashes plans) name
-RefusesPlans plans (Untriggered at) = NothingClashes plans
-    × (rule : ℕ) × (number : ℕ) × (node : Plan) × IsFirstUntriggered plans rule number node × IsPlaceOf at node
+RefusesPlans plans (Untriggered at) = NothingClashes plans × IsFirstPlace plans at
 RefusesPlans plans (Cyclic name) = NothingClashes plans × AllIsTriggered plans
     × IsFirstName (IsOnCycle (Edge plans)) name
 RefusesPlans plans NoMemory = Unit {0}

@@ -1,5 +1,6 @@
 -- Which names the plans of a policy cause and suppress.
-use Rattle.std.specs.Prelude.{ℕ, ◌<◌, ◌⊎◌, List, [], ◌∷◌, Contains}
+use Rattle.std.specs.Prelude.{ℕ, ◌<◌, ◌⊎◌, Bool, true, false, IsTrue, List, [], ◌∷◌, Contains, Option, None, Some}
+use Rattle.std.specs.Prelude.{slice_index_or}
 use Rattle.std.specs.List.{flat_map}
 use Rattle.enf_value.specs.declared.events.NameId.{NameId}
 use Rattle.plan_terms.specs.Nodes.{nodes}
@@ -31,13 +32,20 @@ IsCaused plans name = Contains (flat_map caused_below plans) name
 abbrev pub IsSuppressed : List Plan → NameId → Type 0
 IsSuppressed plans name = Contains (flat_map suppressed_below plans) name
 
--- the name is in both lists
-abbrev pub IsInBoth : List NameId → List NameId → NameId → Type 0
-IsInBoth names others name = Contains names name × Contains others name
+-- a name is marked in a list of marks by name
+abbrev pub IsMarked : List Bool → NameId → Type 0
+IsMarked marks name = IsTrue (slice_index_or marks name.0 false)
 
--- it is caused and suppressed
+-- the role of a name that is caused or not, and suppressed or not; none where it is both
+abbrev pub role_for : (caused suppressed : Bool) → Option Role
+role_for true true = None
+role_for true false = Some Caused
+role_for false true = Some Suppressed
+role_for false false = Some Free
+
+-- a name is both
 abbrev pub Clashes : List Plan → NameId → Type 0
-Clashes plans name = IsInBoth (flat_map caused_below plans) (flat_map suppressed_below plans) name
+Clashes plans name = IsCaused plans name × IsSuppressed plans name
 
 -- the names that are caused or suppressed are among the first so many
 abbrev pub AreNamesBelow : ℕ → List Plan → Type 0

@@ -1,17 +1,20 @@
 //! Which names are caused and which suppressed.
-ghost use Rattle.std.specs.Prelude.{◌≡◌, ◌↔◌, ◌<◌, ◌++◌, Contains, IfNone, IfOk, IfSome, IsTrue, OnOk, map};
+ghost use Rattle.std.specs.Prelude.{◌≡◌, ◌↔◌, ◌<◌, ◌++◌, Contains, IfErr, IfOk, OnOk, length, map};
 ghost use Rattle.std.specs.List.{flat_map};
 ghost use Rattle.plan_terms.specs.Plans.{plan_of};
-ghost use Rattle.rank_check.specs.Roles.{caused_below, suppressed_below, IsInBoth, AreNamesBelow};
-ghost use Rattle.rank_check.specs.Refusals.{IsFirstClash, IsFirstName};
+ghost use Rattle.rank_check.specs.Ranked.{role_in};
+ghost use Rattle.rank_check.specs.Refusals.{IsFirstName, NothingClashes};
+ghost use Rattle.rank_check.specs.Roles.{caused_below, suppressed_below, role_for, IsMarked};
+ghost use Rattle.rank_check.specs.Roles.{AreNamesBelow, Clashes, HasRole};
 ghost use Rattle.enf_value.specs.declared.events.NameId.{NameId as Name};
 
+use crate::answers::Role;
 use enf_value::events::NameId;
 use enf_value::memory::NoMemory;
 use plan_terms::Plan;
 use std::alloc::Global;
 
-/// The names that are caused in the plans, in pre-order.
+// The names that are caused in the plans, in pre-order.
 pub fn caused(alloc: Global, plans: &[Plan]) -> Result<Vec<NameId>, NoMemory>
     ensures { IfOk result (λ names. names.items ≡ flat_map caused_below (map plan_of plans.now)) }
 {
@@ -22,7 +25,7 @@ pub fn caused(alloc: Global, plans: &[Plan]) -> Result<Vec<NameId>, NoMemory>
     Ok(names)
 }
 
-/// The names that are suppressed in the plans, in pre-order.
+// The names that are suppressed in the plans, in pre-order.
 pub fn suppressed(alloc: Global, plans: &[Plan]) -> Result<Vec<NameId>, NoMemory>
     ensures { IfOk result (λ names. names.items
         ≡ flat_map suppressed_below (map plan_of plans.now)) }
@@ -78,33 +81,54 @@ fn add_suppressed(plan: &Plan, names: &mut Vec<NameId>) -> Result<(), NoMemory>
     }
 }
 
-/// The first of the names, in the order of declaration, that is both caused and suppressed.
-pub fn first_clash(alloc: Global, plans: &[Plan], names: u32) -> Result<Option<NameId>, NoMemory>
+// The role of each of so many names, or the first that is both caused and suppressed.
+pub fn roles_of(
+    alloc: Global,
+    plans: &[Plan],
+    names: u32,
+) -> Result<Result<Vec<Role>, NameId>, NoMemory>
     requires { AreNamesBelow names (map plan_of plans.now) }
-    ensures { IfOk result (IsFirstClash (map plan_of plans.now)) }
+    ensures clash { IfOk result (λ r. IfErr r (IsFirstName (Clashes (map plan_of plans.now)))) }
+    ensures clear { IfOk result (λ r. OnOk r (NothingClashes (map plan_of plans.now))) }
+    ensures roles { IfOk result (λ r. IfOk r (λ roles. (name : Name)
+        → HasRole (map plan_of plans.now) name (role_in roles.items name))) }
 {
     let causes = caused(alloc, plans)?;
+    let causes = marks_of(alloc, causes.as_slice(), names)?;
     let suppresses = suppressed(alloc, plans)?;
-    Ok(first_in_both(causes.as_slice(), suppresses.as_slice(), names))
-}
-
-// The first of the names that is in both lists.
-fn first_in_both(causes: &[NameId], suppresses: &[NameId], names: u32) -> Option<NameId>
-    ensures found { IfSome result (IsFirstName (IsInBoth causes.now suppresses.now)) }
-    ensures none { IfNone result ((name : Name) → name.0 < names
-        → IsInBoth causes.now suppresses.now name → ⊥) }
-{
+    let suppresses = marks_of(alloc, suppresses.as_slice(), names)?;
+    let mut roles = Vec::new(alloc);
     for number in 0..names {
-        let name = NameId(number);
-        if is_in(name, causes) && is_in(name, suppresses) {
-            return Some(name);
-        }
+        let place = number as usize;
+        let Some(role) = role_at(causes[place], suppresses[place]) else {
+            return Ok(Err(NameId(number)));
+        };
+        roles.push(role)?;
     }
-    None
+    Ok(Ok(roles))
 }
 
-fn is_in(name: NameId, names: &[NameId]) -> bool
-    ensures { IsTrue result ↔ Contains names.now name }
+// Which of so many names are in a list, by name.
+fn marks_of(alloc: Global, listed: &[NameId], names: u32) -> Result<Vec<bool>, NoMemory>
+    requires { (name : Name) → Contains listed.now name → name.0 < names }
+    ensures count { IfOk result (λ marks. length marks.items ≡ names) }
+    ensures marks { IfOk result (λ marks. (name : Name) → IsMarked marks.items name ↔ Contains listed.now name) }
 {
-    names.contains(&name)
+    let mut marks = vec![in alloc; false; names as usize]?;
+    for name in listed {
+        marks[name.0 as usize] = true;
+    }
+    Ok(marks)
+}
+
+// The role of a name, unless it has both.
+fn role_at(is_caused: bool, is_suppressed: bool) -> Option<Role>
+    ensures { result ≡ role_for is_caused is_suppressed }
+{
+    match (is_caused, is_suppressed) {
+        (true, true) => None,
+        (true, false) => Some(Role::Caused),
+        (false, true) => Some(Role::Suppressed),
+        (false, false) => Some(Role::Free),
+    }
 }

@@ -7,8 +7,8 @@ ghost use Rattle.rank_check.specs.Transparent.{is_transparent as are_transparent
 
 use plan_terms::Plan;
 
-/// Whether at each node of each plan of two sides of an `Either` at most one looks ahead, and nothing does in the body
-/// of an `Eventually` or in the right side of an `Until`.
+// Whether at each node of each plan of two sides of an `Either` at most one looks ahead, and nothing does in the body
+// of an `Eventually` or in the right side of an `Until`.
 pub fn is_transparent(plans: &[Plan]) -> bool
     ensures { result ≡ are_transparent (map plan_of plans.now) }
 {

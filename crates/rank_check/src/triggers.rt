@@ -1,5 +1,5 @@
 //! The names that trigger a guard.
-ghost use Rattle.std.specs.Prelude.{◌≡◌, IfOk};
+ghost use Rattle.std.specs.Prelude.{◌≡◌, IfOk, is_some};
 ghost use Rattle.std.specs.Option.{option_map};
 ghost use Rattle.enf_formula.specs.Formulas.{tree_of};
 ghost use Rattle.rank_check.specs.Paths.{triggers as names_of};
@@ -9,8 +9,8 @@ use enf_value::events::NameId;
 use enf_value::memory::NoMemory;
 use std::alloc::Global;
 
-/// The names of which one has an event wherever the formula holds, or none: of `and` those of the first side that has
-/// some, of `or` those of both sides.
+// The names of which one has an event wherever the formula holds, or none: of `and` those of the first side that has
+// some, of `or` those of both sides.
 pub fn triggers(alloc: Global, formula: &Formula) -> Result<Option<Vec<NameId>>, NoMemory>
     ensures { IfOk result (λ names. option_map (λ all. all.items) names ≡ names_of (tree_of formula.now)) }
 {
@@ -51,5 +51,33 @@ pub fn triggers(alloc: Global, formula: &Formula) -> Result<Option<Vec<NameId>>,
         | Formula::Eventually(_, _, _)
         | Formula::Always(_, _, _)
         | Formula::Until(_, _, _, _) => Ok(None),
+    }
+}
+
+// Whether it has triggers.
+pub fn has_triggers(formula: &Formula) -> bool
+    ensures { result ≡ is_some (names_of (tree_of formula.now)) }
+{
+    match formula {
+        Formula::Atom(_, _, _) => true,
+        Formula::And(_, g, h) => has_triggers(g) || has_triggers(h),
+        Formula::Or(_, g, h) => has_triggers(g) && has_triggers(h),
+        Formula::Exists(_, _, g) => has_triggers(g),
+        Formula::True(_)
+        | Formula::False(_)
+        | Formula::Equal(_, _, _)
+        | Formula::Less(_, _, _)
+        | Formula::AtMost(_, _, _)
+        | Formula::Not(_, _)
+        | Formula::Implies(_, _, _)
+        | Formula::Forall(_, _, _)
+        | Formula::Prev(_, _, _)
+        | Formula::Next(_, _, _)
+        | Formula::Once(_, _, _)
+        | Formula::Historically(_, _, _)
+        | Formula::Since(_, _, _, _)
+        | Formula::Eventually(_, _, _)
+        | Formula::Always(_, _, _)
+        | Formula::Until(_, _, _, _) => false,
     }
 }

@@ -4,11 +4,12 @@ ghost use Rattle.enf_formula.specs.Cases.{name_p, name_q, formula_p, formula_q, 
 ghost use Rattle.enf_formula.specs.Formulas as tree;
 ghost use Rattle.plan_terms.specs.Cases.{each_soon, soon_q_x};
 ghost use Rattle.plan_terms.specs.Plans as plan;
-ghost use Rattle.rank_check.specs.Cases.{q_after_p, p_after_q, then_always_q, no_p_until_q, next_no_p};
-ghost use Rattle.rank_check.specs.Cases.{q_until_p, both_ways};
-ghost use Rattle.rank_check.specs.Chains.{IsOnCycle};
+ghost use Rattle.rank_check.specs.Cases.{two_in_turn, three_in_turn, then_always_q, no_p_until_q, next_no_p};
+ghost use Rattle.rank_check.specs.Cases.{in_a_row, q_until_p, both_ways, name_r, guarded_twice, then_always_guarded};
+ghost use Rattle.rank_check.specs.Chains.{IsOnCycle, IsRank};
 ghost use Rattle.rank_check.specs.Horizon.{class_of, horizon_of};
 ghost use Rattle.rank_check.specs.Paths.{triggers, Edge, IsUntriggered};
+ghost use Rattle.rank_check.specs.Refusals.{AllIsTriggered, IsFirstPlace};
 ghost use Rattle.rank_check.specs.Roles.{Clashes, IsCaused, IsSuppressed};
 ghost use Rattle.rank_check.specs.Transparent.{is_transparent};
 
@@ -32,7 +33,29 @@ pub fn paths()
     ensures below_always { IsUntriggered then_always_q (plan.Cause 2 6 name_q []) }
     ensures left_of_until { IsUntriggered q_until_p (plan.Cause 1 5 name_q []) }
     ensures edge { Edge (each_soon ∷ []) name_p name_q }
-    ensures cycle { IsOnCycle (Edge (q_after_p ∷ p_after_q ∷ [])) name_p }
+    ensures cycle_of_two { IsOnCycle (Edge two_in_turn) name_p }
+    ensures cycle_of_three { IsOnCycle (Edge three_in_turn) name_p }
+{}
+
+/// Of two guards on a path the first alone triggers, but each start has its own.
+pub fn guards_on_paths()
+    ensures first_guard { Edge (guarded_twice ∷ []) name_p name_r }
+    ensures not_the_second { Edge (guarded_twice ∷ []) name_q name_r → ⊥ }
+    ensures earlier_start { Edge (then_always_guarded ∷ []) name_p name_r }
+    ensures later_start { Edge (then_always_guarded ∷ []) name_q name_r }
+    ensures not_backwards { Edge (each_soon ∷ []) name_q name_p → ⊥ }
+    ensures triggered { IsUntriggered each_soon soon_q_x → ⊥ }
+    ensures each_is_triggered { AllIsTriggered (then_always_guarded ∷ []) }
+    ensures first_untriggered { IsFirstPlace (then_always_guarded ∷ then_always_q ∷ []) 6 }
+{}
+
+/// Ranks of names that follow from each other, and that a name on a cycle has none.
+pub fn ranks()
+    ensures first { IsRank (Edge in_a_row) name_p 0 }
+    ensures second { IsRank (Edge in_a_row) name_q 1 }
+    ensures third { IsRank (Edge in_a_row) name_r 2 }
+    ensures no_cycle { IsOnCycle (Edge in_a_row) name_r → ⊥ }
+    ensures on_a_cycle { IsRank (Edge two_in_turn) name_p 1 → ⊥ }
 {}
 
 /// Classes, horizons and the transparent mark.

@@ -1,4 +1,5 @@
 use Rattle.formula_reader.specs.Answers.{answer_of}
+use Rattle.formula_reader.proofs.Kept.{read_within}
 use Rattle.formula_reader.proofs.TextAnswers.{refusal_passed, text_gives}
 use Rattle.formula_reader.proofs.reading.read_policy.Goals as goal
 
@@ -8,3 +9,6 @@ returns-in_err-syntax-clause-answer c =
 
 pub returns-clause-answer : goal.returns-clause-answer
 returns-clause-answer c = text_gives _ _ _ (answer_of c.resolve.result) c.in_ok-syntax.ensures.answer c.resolve.ensures.answer
+
+pub returns-clause-within : goal.returns-clause-within
+returns-clause-within c = read_within _ _ _ c.resolve.result c.in_ok-syntax.ensures.answer c.resolve.ensures.answer

@@ -1,9 +1,9 @@
 use Rattle.std.proofs.Common.{[], ◌∷◌, List, Contains, arith, refl, inl, inr}
 use Rattle.enf_formula.specs.Cases.{name_p, name_q}
 use Rattle.plan_terms.specs.Cases.{each_soon, soon_q_x, cause_q_x}
-use Rattle.plan_terms.specs.Plans.{Plan, Cause, Suppress, Eventually, Always}
-use Rattle.rank_check.specs.Cases.{q_after_p, p_after_q, then_always_q, q_until_p}
-use Rattle.rank_check.specs.Paths.{Edge}
+use Rattle.plan_terms.specs.Plans.{Cause, Suppress, Eventually, Always}
+use Rattle.rank_check.specs.Cases.{name_r, three_in_turn, then_always_q, q_until_p}
+use Rattle.rank_check.proofs.CaseLemmas.{edge_of, turn_of_two}
 use Rattle.rank_check.proofs.worked_cases.paths.Goals as goal
 
 first : {X : Type 0} (a : X) (rest : List X) → Contains (a ∷ rest) a
@@ -26,17 +26,19 @@ pub returns-clause-edge : goal.returns-clause-edge
 returns-clause-edge c =
     (each_soon, first each_soon [], each_soon, inl refl, each_soon ∷ soon_q_x ∷ [], cause_q_x, (refl, soon_q_x, first soon_q_x [], (refl, cause_q_x, first cause_q_x [], refl)), refl, name_p ∷ [], refl, first name_p [])
 
-p_to_q : Edge (q_after_p ∷ p_after_q ∷ []) name_p name_q
-p_to_q =
-    let end : Plan = Cause 2 6 name_q [] in
-    let soon : Plan = Eventually 1 4 1 5 end in
-    (q_after_p, first q_after_p (p_after_q ∷ []), q_after_p, inl refl, q_after_p ∷ soon ∷ [], end, (refl, soon, first soon [], (refl, end, first end [], refl)), refl, name_p ∷ [], refl, first name_p [])
+pub returns-clause-cycle_of_two : goal.returns-clause-cycle_of_two
+returns-clause-cycle_of_two c = turn_of_two
 
-q_to_p : Edge (q_after_p ∷ p_after_q ∷ []) name_q name_p
-q_to_p =
-    let end : Plan = Cause 2 6 name_p [] in
-    let soon : Plan = Eventually 1 4 1 5 end in
-    (p_after_q, second q_after_p p_after_q [], p_after_q, inl refl, p_after_q ∷ soon ∷ [], end, (refl, soon, first soon [], (refl, end, first end [], refl)), refl, name_q ∷ [], refl, first name_q [])
-
-pub returns-clause-cycle : goal.returns-clause-cycle
-returns-clause-cycle c = (1, (name_q, (name_p, refl, p_to_q), q_to_p))
+pub returns-clause-cycle_of_three : goal.returns-clause-cycle_of_three
+returns-clause-cycle_of_three c = (
+  2,
+  (
+    name_r,
+    (
+      name_q,
+      (name_p, refl, edge_of three_in_turn name_p name_q (0, omega arith, refl)),
+      edge_of three_in_turn name_q name_r (1, omega arith, refl),
+    ),
+    edge_of three_in_turn name_r name_p (2, omega arith, refl),
+  ),
+)

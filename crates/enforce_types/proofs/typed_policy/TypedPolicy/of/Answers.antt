@@ -1,0 +1,15 @@
+use Rattle.enforce_types.proofs.TypingLemmas.{fits, numbered, refused}
+use Rattle.enforce_types.proofs.typed_policy.TypedPolicy.of.Goals as goal
+
+pub check-requires-clause-fit : goal.check-requires-clause-fit
+check-requires-clause-fit c =
+    fits c.args.signature.now _ _ _ c.in_ok-made.made c.as_slice.ensures c.in_ok-made.was c.in_ok-plan_rules.ensures.planned _ c.deref.ensures.value _ c.len.ensures.length c.len.ensures.signature.few c.requires
+
+pub check-requires-clause-numbered : goal.check-requires-clause-numbered
+check-requires-clause-numbered c =
+    numbered c.args.signature.now _ _ _ c.in_ok-made.made c.as_slice.ensures c.in_ok-made.was c.in_ok-plan_rules.ensures.planned _ c.deref.ensures.value
+
+pub returns-in_err-ranks-clause-refused : goal.returns-in_err-ranks-clause-refused
+returns-in_err-ranks-clause-refused c =
+    refused c.args.signature.now _ _ _ c.in_ok-made.made c.as_slice.ensures c.in_ok-made.was c.in_ok-plan_rules.ensures.planned _ c.deref.ensures.value
+    c.in_err-ranks.field-0.0 c.from_residual-in_err-ranks.result c.in_err-ranks.ensures.refused c.from_residual-in_err-ranks.ensures.1

@@ -1,0 +1,92 @@
+//! Policies whose rules have plans that can work together.
+ghost use Rattle.std.specs.Prelude.{◌≡◌, IfErr, IfOk};
+ghost use Rattle.enforce_types.specs.Accepted.{IsTyped, RefusesPolicy};
+ghost use Rattle.enforce_types.specs.Typed.{typed_of};
+ghost use Rattle.formula_reader.specs.Resolution.{formulas};
+ghost use Rattle.formula_reader.specs.Within.{AreWithinLimits};
+ghost use Rattle.rank_check.specs.Ranked.{role_in};
+
+use crate::planning::{RulePlans, plan_rules};
+use crate::refusals::TypeRefusal;
+use enf_value::events::NameId;
+use formula_reader::Policy;
+use monitorable_guard::Guard;
+use plan_terms::Plan;
+use rank_check::{Ranks, Role, check};
+use signature::Signature;
+use std::alloc::Global;
+use std::marker::Model;
+
+/// A policy that is accepted: its plans with their guards and tests, and what is known of them together.
+#[derive(Debug, Drop)]
+pub struct TypedPolicy {
+    made: RulePlans,
+    ranks: Ranks,
+}
+
+impl Model for TypedPolicy {
+    ghost use Rattle.enforce_types.specs.Typed.{StoredTyped};
+    ghost use Rattle.monitorable_guard.specs.Guards.{bound_formula_code};
+    ghost use Rattle.plan_terms.specs.contracts.plans.Plan as plan;
+    ghost use Rattle.std.specs.Coded.{codes};
+
+    ghost Value = { StoredTyped };
+
+    ghost coded = { Prim.hlevel (codes, plan.the_row.coded, bound_formula_code) };
+
+    ghost view = { λ t. record { plans = t.made.plans.items; guards = t.made.guards.items; ranked = t.ranks } };
+}
+
+impl TypedPolicy {
+    /// The policy with its plans, or the first refusal: of the rules in their order, and then of the plans together.
+    pub fn of(
+        alloc: Global,
+        signature: &Signature,
+        policy: &Policy,
+    ) -> Result<TypedPolicy, TypeRefusal>
+        // So is each policy that was read under the signature.
+        requires { AreWithinLimits signature.now (formulas policy.now.rules) }
+        ensures typed { IfOk result (λ made. IsTyped signature.now (formulas policy.now.rules) (typed_of made)) }
+        ensures refused { IfErr result (RefusesPolicy signature.now (formulas policy.now.rules)) }
+    {
+        let made = plan_rules(alloc, signature, policy.rules.as_slice())??;
+        let ranks = check(alloc, &made.plans, signature.len())?;
+        Ok(TypedPolicy { made, ranks })
+    }
+
+    /// The plans, in rule order.
+    pub fn plans(&self) -> &[Plan]
+        ensures { result.now ≡ self.now.plans }
+    {
+        &self.made.plans
+    }
+
+    /// The guards and tests, at their numbers.
+    pub fn guards(&self) -> &[Guard]
+        ensures { result.now ≡ self.now.guards }
+    {
+        &self.made.guards
+    }
+
+    /// Whether the plans are transparent: of two ways at most one looks ahead, and nothing owed by a deadline does.
+    pub fn is_transparent(&self) -> bool
+        ensures { result ≡ self.now.ranked.transparent }
+    {
+        self.ranks.is_transparent()
+    }
+
+    /// The horizon in units of time: one more than the greatest class of a node with a deadline, times the greatest
+    /// end of such a node's interval.
+    pub fn horizon(&self) -> u64
+        ensures { result ≡ self.now.ranked.horizon }
+    {
+        self.ranks.horizon()
+    }
+
+    /// What the policy does to events of the name.
+    pub fn role(&self, name: NameId) -> Role
+        ensures { result ≡ role_in self.now.ranked.roles name }
+    {
+        self.ranks.role(name)
+    }
+}

@@ -1,0 +1,91 @@
+//! The ranks and roles of names, and how long anything can be owed.
+ghost use Rattle.std.specs.Prelude.{◌≡◌, ◌≤◌, map};
+ghost use Rattle.std.specs.List.{AllByRecursion, flat_map};
+ghost use Rattle.plan_terms.specs.Nodes.{nodes};
+ghost use Rattle.plan_terms.specs.Plans.{plan_of};
+ghost use Rattle.rank_check.specs.Horizon.{greatest, horizon_of, rank_in};
+ghost use Rattle.rank_check.specs.Limits.{EndsInTime, IsSmall};
+ghost use Rattle.rank_check.specs.Ranked.{role_in};
+ghost use Rattle.rank_check.specs.Transparent.{is_transparent as are_transparent};
+
+use crate::answers::Role;
+use crate::horizon::{horizon, rank_of};
+use crate::transparent::is_transparent;
+use enf_value::MOST_NAMES;
+use enf_value::events::NameId;
+use plan_terms::Plan;
+use std::marker::Model;
+
+/// What is known of plans that are accepted.
+#[derive(Debug, Drop)]
+pub struct Ranks {
+    ranks: Vec<u32>,
+    roles: Vec<Role>,
+    horizon: u64,
+    is_transparent: bool,
+}
+
+impl Model for Ranks {
+    ghost use Rattle.rank_check.specs.Ranked.{Ranked};
+
+    ghost Value = { Ranked };
+
+    ghost view = { λ r. record {
+      ranks = r.ranks.items;
+      roles = r.roles.items;
+      horizon = r.horizon;
+      transparent = r.is_transparent;
+    } };
+}
+
+impl Ranks {
+    // What is known by ranks and roles of the names of plans.
+    pub(crate) fn of(plans: &[Plan], ranks: Vec<u32>, roles: Vec<Role>) -> Ranks
+        requires ranks { greatest ranks.items ≤ MOST_NAMES }
+        requires small { AllByRecursion IsSmall (map plan_of plans.now) }
+        requires ends { AllByRecursion EndsInTime (flat_map nodes (map plan_of plans.now)) }
+        ensures ranks { result.ranks ≡ ranks.items }
+        ensures roles { result.roles ≡ roles.items }
+        ensures horizon { result.horizon ≡ horizon_of ranks.items (map plan_of plans.now) }
+        ensures transparent { result.transparent ≡ are_transparent (map plan_of plans.now) }
+    {
+        Ranks {
+            horizon: horizon(plans, ranks.as_slice()),
+            is_transparent: is_transparent(plans),
+            ranks,
+            roles,
+        }
+    }
+
+    /// The length of the longest chain of edges that ends in the name.
+    pub fn rank(&self, name: NameId) -> u32
+        ensures { result ≡ rank_in self.now.ranks name }
+    {
+        rank_of(name, self.ranks.as_slice())
+    }
+
+    /// What the policy does to events of the name.
+    pub fn role(&self, name: NameId) -> Role
+        ensures { result ≡ role_in self.now.roles name }
+    {
+        match self.roles.get(name.0 as usize) {
+            Some(role) => *role,
+            None => Role::Free,
+        }
+    }
+
+    /// The horizon in units of time: one more than the greatest class of a node with a deadline, times the greatest
+    /// end of such a node's interval.
+    pub fn horizon(&self) -> u64
+        ensures { result ≡ self.now.horizon }
+    {
+        self.horizon
+    }
+
+    /// Whether the plans are transparent: of two ways at most one looks ahead, and nothing owed by a deadline does.
+    pub fn is_transparent(&self) -> bool
+        ensures { result ≡ self.now.transparent }
+    {
+        self.is_transparent
+    }
+}
