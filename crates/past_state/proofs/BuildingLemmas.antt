@@ -14,9 +14,9 @@ use Rattle.monitorable_guard.specs.Guards.{BoundFormula}
 use Rattle.monitorable_guard.specs.Present.{outermost}
 use Rattle.monitorable_guard.specs.Safety.{BindsFresh, denial}
 use Rattle.windows.specs.Slots.{Slot, IsUpToTime}
-use Rattle.windows.specs.Windows.{Window, AreUpTo}
+use Rattle.windows.specs.Windows.{Window}
 use Rattle.past_state.specs.Keeping.{CanKeep, IsBegun, PushesFor}
-use Rattle.past_state.specs.Laws.{WindowBegins, OnceBegins, SlotBegins, OnceStands, SinceStands}
+use Rattle.past_state.specs.Laws.{IsNew, WindowBegins, OnceBegins, SlotBegins}
 use Rattle.past_state.specs.Stands.{SlotStands}
 use Rattle.past_state.specs.Memories.{Asks, IsUpToTimeOf}
 use Rattle.past_state.specs.Operators.{operators, inner}
@@ -67,21 +67,21 @@ begun_prev begins place interval g slot operand columns is free asks = record {
   up_to = λ time. subst (λ s. IsUpToTime time s.last) (sym is) tt;
 }
 
-pub begun_once : OnceBegins → (place : ℕ) (interval : Interval) (g : Formula) (window : Window) (right : BoundFormula) (columns : List VarId) → window ≡ record { interval = interval; columns = columns; steps = [] }
+pub begun_once : OnceBegins → (place : ℕ) (interval : Interval) (g : Formula) (window : Window) (right : BoundFormula) (columns : List VarId) → IsNew interval columns window
     → AreFreeVariables g columns → Asks g [] right → IsBegun (Once place interval g) (kept.Once window right)
-begun_once begins place interval g window right columns is free asks = record {
-  is_for = (asks, subst (λ w. AreFreeVariables g w.columns) (sym is) free, ap (λ w. w.interval) is);
-  stands = subst (λ w. OnceStands [] interval g w) (sym is) (begins interval g columns free.exact);
-  up_to = λ time. subst (λ w. AreUpTo time w.steps) (sym is) (All-nil _);
+begun_once begins place interval g window right columns new free asks = record {
+  is_for = (asks, subst (AreFreeVariables g) (sym new.columns_are) free, new.interval_is);
+  stands = begins interval g columns window free.exact new;
+  up_to = λ time. omega (arith, new.last_is);
 }
 
 pub begun_since : WindowBegins → (place : ℕ) (interval : Interval) (g h : Formula) (window : Window) (left : BoundFormula) (left_tables : ℕ) (right : BoundFormula) (columns : List VarId)
-    → window ≡ record { interval = interval; columns = columns; steps = [] } → AreFreeVariables h columns → Asks h [] right → Asks g columns left → left_tables ≡ length (outermost g)
+    → IsNew interval columns window → AreFreeVariables h columns → Asks h [] right → Asks g columns left → left_tables ≡ length (outermost g)
     → ((x : VarId) → IsFree x g → IsFree x h) → IsBegun (Since place interval g h) (kept.Since window left left_tables right)
-begun_since begins place interval g h window left left_tables right columns is free asks_right asks_left counted within = record {
-  is_for = (asks_right, subst (λ w. AreFreeVariables h w.columns) (sym is) free, ap (λ w. w.interval) is, subst (λ w. Asks g w.columns left) (sym is) asks_left, counted, within);
-  stands = subst (λ w. SinceStands [] interval g h w) (sym is) (begins interval g h columns free.exact);
-  up_to = λ time. subst (λ w. AreUpTo time w.steps) (sym is) (All-nil _);
+begun_since begins place interval g h window left left_tables right columns new free asks_right asks_left counted within = record {
+  is_for = (asks_right, subst (AreFreeVariables h) (sym new.columns_are) free, new.interval_is, subst (λ l. Asks g l left) (sym new.columns_are) asks_left, counted, within);
+  stands = begins interval g h columns window free.exact new;
+  up_to = λ time. omega (arith, new.last_is);
 }
 
 pub begun_denied : (place : ℕ) (interval : Interval) (g : Formula) (m : Memory) → IsBegun (Once place interval (denial g)) m → IsBegun (Historically place interval g) m

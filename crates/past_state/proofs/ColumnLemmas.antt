@@ -1,5 +1,5 @@
 -- The free variables of a formula are one list.
-use Rattle.std.proofs.Common.{◌≡◌, ◌∙◌, ◌↔◌, ⊎_elim, ◌<◌, List, [], ◌∷◌, Contains, refl, sym, ap, subst, arith}
+use Rattle.std.proofs.Common.{◌≡◌, ◌∙◌, ◌↔◌, inl, inr, ⊎_elim, ◌<◌, List, [], ◌∷◌, Contains, refl, sym, ap, subst, arith}
 use Rattle.std.specs.Cmp.{ranks}
 use Rattle.std.specs.Ordering.{MatchOrdering}
 use Rattle.std.specs.List.Sorted.{IsStrictlySortedBy}
@@ -12,15 +12,15 @@ use Rattle.enf_formula.specs.FreeVariables.{AreFreeVariables}
 use Rattle.enf_value.specs.Valuations.{Valuation, variable_cmp}
 use Rattle.enf_value.specs.declared.events.Event.{Event}
 use Rattle.enf_value.specs.declared.terms.VarId.{VarId}
-use Rattle.monitorable_guard.specs.Evaluation.{AreOpen}
+use Rattle.monitorable_guard.specs.Evaluation.{AreOpen, HasKnownValues}
 use Rattle.monitorable_guard.specs.Guards.{BoundFormula}
 use Rattle.monitorable_guard.specs.Present.{HoldsNow}
 use Rattle.valuations.specs.Columns.{here, later, first_or_later, none_in_nil}
 use Rattle.valuations.specs.Just.{Binds}
-use Rattle.valuations.specs.Tables.{Relation, Has}
-use Rattle.windows.specs.Answers.{Lasts}
-use Rattle.windows.specs.Windows.{Window}
+use Rattle.valuations.specs.Tables.{Relation, IsTable, Has}
+use Rattle.windows.specs.Windows.{Window, Keeps}
 use Rattle.past_state.specs.Memories.{AnswersAll, AreSurviving}
+use Rattle.past_state.specs.Sources.{AllComeFrom}
 
 below : (x y : VarId) → variable_cmp x y ≡ Less → x.0 < y.0
 below x y e = subst (λ r. MatchOrdering r (x.0 < y.0) (x.0 ≡ y.0) (y.0 < x.0)) e (ranks x.0 y.0)
@@ -62,14 +62,21 @@ open_free f bound xs none opened = record {
 }
 
 pub answers_all : (events : List Event) (tables : List Relation) (guard : BoundFormula) (columns : List VarId) (t : Relation)
-    → AreFreeVariables (tree_of guard.formula) columns → AreFreeVariables (tree_of guard.formula) t.columns
-    → ((v : Valuation) → Binds v t.columns → Has t v ↔ HoldsNow events tables v (tree_of guard.formula)) → AnswersAll events tables guard columns t
-answers_all events tables guard columns t free found rows =
+    → AreFreeVariables (tree_of guard.formula) columns → IsTable t → AreFreeVariables (tree_of guard.formula) t.columns
+    → ((v : Valuation) → Binds v t.columns → Has t v ↔ HoldsNow events tables v (tree_of guard.formula)) → AllComeFrom events tables (tree_of guard.formula) t → AnswersAll events tables guard columns t
+answers_all events tables guard columns t free table found rows known =
     let same : t.columns ≡ columns = same_free (tree_of guard.formula) t.columns columns found free in
-    record { columns_are = same; rows = λ v binds. rows v (subst (Binds v) (sym same) binds) }
+    record { table = table; columns_are = same; rows = λ v binds. rows v (subst (Binds v) (sym same) binds); known = known }
+
+-- with nothing bound no value is that of a bound variable
+pub known_from : (events : List Event) (tables : List Relation) (f : Formula) (bound : List VarId) (v : Valuation) (t : Relation) → bound ≡ [] → HasKnownValues events tables f bound v t → AllComeFrom events tables f t
+known_from events tables f bound v t none known row there value inside =
+    ⊎_elim (λ argument. inl argument)
+    (λ either. inr (⊎_elim (λ tabled. inl tabled) (λ last. ⊎_elim (λ constant. inr constant) (λ of. absurd (none_in_nil of.0 (subst (λ l. Contains l of.0) none of.1))) last) either))
+    (known row there value inside)
 
 pub surviving_in : (events : List Event) (tables : List Relation) (guard : BoundFormula) (window : Window) (lasting surviving : Relation) → lasting.columns ≡ window.columns
-    → ((v : Valuation) → Has lasting v ↔ Lasts window.steps v) → surviving.columns ≡ lasting.columns
+    → ((v : Valuation) → Has lasting v ↔ Keeps window window.last v) → surviving.columns ≡ lasting.columns
     → ((v : Valuation) → Has surviving v ↔ (Has lasting v × HoldsNow events tables v (tree_of guard.formula))) → AreSurviving events tables guard window surviving
 surviving_in events tables guard window lasting surviving columns lasts surviving_columns survives = record {
   columns_are = surviving_columns ∙ columns;

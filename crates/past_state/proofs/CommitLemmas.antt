@@ -1,14 +1,13 @@
 -- Operators to which a step is committed one after another.
-use Rattle.std.proofs.Common.{◌≡◌, ◌∙◌, ℕ, zero, suc, ◌+◌, ◌<◌, ◌≤◌, List, [], ◌∷◌, ◌++◌, length, take, get_or, set, refl, sym, ap, subst, arith, length-append}
-use Rattle.std.proofs.Math.Seq.{take-append_seam}
-use Rattle.std.proofs.lemmas.List.Elements.{All-get_or, All-push, All-weaker, All-nil, All-cons, All-head, All-tail}
-use Rattle.windows.specs.Windows.{at}
+use Rattle.std.proofs.Common.{◌≡◌, ◌∙◌, ℕ, zero, suc, ◌+◌, ◌<◌, ◌≤◌, List, [], ◌∷◌, ◌++◌, length, get_or, set, refl, sym, ap, subst, arith, length-append}
+use Rattle.std.proofs.lemmas.List.Elements.{All-get_or, All-nil, All-cons}
 use Rattle.past_state.specs.declared.memories.Memory.{Memory}
 use Rattle.past_state.specs.declared.memories.Memory.TheVariants as kept
-use Rattle.past_state.specs.Memories.{FitMemory, IsUpToTimeOf, committed}
-use Rattle.past_state.specs.Runs.{AllFit, AreUpToTimeOf, commit_one, commit_all}
+use Rattle.past_state.specs.Memories.{FitMemory, IsUpToTimeOf, IsCommittedTo, IsSameMemory}
+use Rattle.past_state.specs.Runs.{AllFit, AreUpToTimeOf, OneCommitted, AllCommitted, AreSameKinds}
 use Rattle.past_state.specs.declared.memories.StepTables.{StepTables}
 use Rattle.past_state.specs.declared.operators.Operator.{Operator}
+use Rattle.past_state.proofs.MemoryLemmas.{same_itself, same_then}
 
 pub within : (operators : List Operator) (front back : List StepTables) (t : StepTables) → AllFit operators (front ++ t ∷ back) → length front < length operators
 within [] [] back t fit = absurd fit
@@ -22,41 +21,43 @@ fit_at [] (s ∷ front) back t d fit = absurd fit
 fit_at (o ∷ operators) [] back t d fit = fit.0
 fit_at (o ∷ operators) (s ∷ front) back t d fit = fit_at operators front back t d fit.1
 
-pub uncommitted : (time : ℕ) (operators : List Operator) (front : List StepTables) (d : Operator) → get_or (commit_all time operators front) (length front) d ≡ get_or operators (length front) d
-uncommitted time [] [] d = refl
-uncommitted time [] (s ∷ front) d = refl
-uncommitted time (o ∷ operators) [] d = refl
-uncommitted time (o ∷ operators) (s ∷ front) d = uncommitted time operators front d
+pub commit_none : (time : ℕ) (operators : List Operator) → AllCommitted time operators [] operators
+commit_none time [] = refl
+commit_none time (o ∷ operators) = refl
 
-pub commit_next : (time : ℕ) (operators : List Operator) (front : List StepTables) (t : StepTables) (d : Operator) → length front < length operators
-    → set (commit_all time operators front) (length front) (commit_one time (get_or operators (length front) d) t) ≡ commit_all time operators (front ++ t ∷ [])
-commit_next time [] front t d below = absurd (omega (arith, below))
-commit_next time (o ∷ []) [] t d below = refl
-commit_next time (o ∷ p ∷ operators) [] t d below = refl
-commit_next time (o ∷ operators) (s ∷ front) t d below = ap (λ l. commit_one time o s ∷ l) (commit_next time operators front t d (omega (arith, below)))
+pub uncommitted : (time : ℕ) (operators : List Operator) (front : List StepTables) (now : List Operator) (d : Operator) → AllCommitted time operators front now
+    → length front < length operators → get_or now (length front) d ≡ get_or operators (length front) d
+uncommitted time [] front now d committed below = absurd (omega (arith, below))
+uncommitted time (o ∷ operators) [] now d committed below = ap (λ l. get_or l 0 d) committed
+uncommitted time (o ∷ operators) (s ∷ front) [] d committed below = absurd committed
+uncommitted time (o ∷ operators) (s ∷ front) (p ∷ now) d committed below = uncommitted time operators front now d committed.1 (omega (arith, below))
 
-pub same_length : (time : ℕ) (operators : List Operator) (front : List StepTables) → length (commit_all time operators front) ≡ length operators
-same_length time [] front = refl
-same_length time (o ∷ operators) [] = refl
-same_length time (o ∷ operators) (t ∷ front) = ap suc (same_length time operators front)
+pub commit_next : (time : ℕ) (operators : List Operator) (front : List StepTables) (t : StepTables) (now : List Operator) (after : Operator) (d : Operator) → length front < length operators
+    → AllCommitted time operators front now → OneCommitted time (get_or operators (length front) d) t after → AllCommitted time operators (front ++ t ∷ []) (set now (length front) after)
+commit_next time [] front t now after d below committed one = absurd (omega (arith, below))
+commit_next time (o ∷ operators) [] t now after d below committed one =
+    subst (λ l. AllCommitted time (o ∷ operators) (t ∷ []) (set l 0 after)) (sym committed) (one, commit_none time operators)
+commit_next time (o ∷ operators) (s ∷ front) t [] after d below committed one = absurd committed
+commit_next time (o ∷ operators) (s ∷ front) t (p ∷ now) after d below committed one = (committed.0, commit_next time operators front t now after d (omega (arith, below)) committed.1 one)
 
-pub unchanged : {X : Type 0} (xs : List X) (i : ℕ) (x : X) → i < length xs → x ≡ get_or xs i x → set xs i x ≡ xs
-unchanged [] i x below is = refl
-unchanged (y ∷ xs) zero x below is = λ j. is j ∷ xs
-unchanged (y ∷ xs) (suc i) x below is = ap (λ l. y ∷ l) (unchanged xs i x (omega (arith, below)) is)
+pub same_length : (time : ℕ) (operators : List Operator) (front : List StepTables) (now : List Operator) → AllCommitted time operators front now → length now ≡ length operators
+same_length time [] front now committed = ap length committed
+same_length time (o ∷ operators) [] now committed = ap length committed
+same_length time (o ∷ operators) (t ∷ front) [] committed = absurd committed
+same_length time (o ∷ operators) (t ∷ front) (p ∷ now) committed = ap suc (same_length time operators front now committed.1)
 
 pub up_to_at : (time : ℕ) (operators : List Operator) (front back : List StepTables) (t : StepTables) (d : Operator) → AllFit operators (front ++ t ∷ back) → AreUpToTimeOf time operators
     → IsUpToTimeOf time (get_or operators (length front) d).memory
 up_to_at time operators front back t d fit up_to = All-get_or (λ o. IsUpToTimeOf time o.memory) operators (length front) d (within operators front back t fit) up_to
 
 pub below : (time : ℕ) (operators now : List Operator) (steps front back : List StepTables) (t : StepTables) (place : ℕ) → AllFit operators steps → steps ≡ front ++ t ∷ back → place ≡ length front
-    → now ≡ commit_all time operators front → place < length now
+    → AllCommitted time operators front now → place < length now
 below time operators now steps front back t place fit split at committed_so_far =
-    omega (arith, at, within operators front back t (subst (AllFit operators) split fit), ap length committed_so_far, same_length time operators front)
+    omega (arith, at, within operators front back t (subst (AllFit operators) split fit), same_length time operators front now committed_so_far)
 
 -- the turn of the loop at the next step
 module _ (time : ℕ) (operators now : List Operator) (steps front back : List StepTables) (t : StepTables) (place : ℕ) (o : Operator)
-    (fit : AllFit operators steps) (split : steps ≡ front ++ t ∷ back) (at : place ≡ length front) (committed_so_far : now ≡ commit_all time operators front) where
+    (fit : AllFit operators steps) (split : steps ≡ front ++ t ∷ back) (at : place ≡ length front) (committed_so_far : AllCommitted time operators front now) where
   fits : AllFit operators (front ++ t ∷ back)
   fits = subst (AllFit operators) split fit
 
@@ -64,7 +65,7 @@ module _ (time : ℕ) (operators now : List Operator) (steps front back : List S
   inside = below time operators now steps front back t place fit split at committed_so_far
 
   is_old : o ≡ get_or now place o → o ≡ get_or operators (length front) o
-  is_old is = is ∙ ap (λ l. get_or l place o) committed_so_far ∙ ap (λ n. get_or (commit_all time operators front) n o) at ∙ uncommitted time operators front o
+  is_old is = is ∙ ap (λ n. get_or now n o) at ∙ uncommitted time operators front now o committed_so_far (within operators front back t fits)
 
   pub fits_here : o ≡ get_or now place o → FitMemory o.memory t
   fits_here is = subst (λ p. FitMemory p.memory t) (sym (is_old is)) (fit_at operators front back t o fits)
@@ -72,36 +73,36 @@ module _ (time : ℕ) (operators now : List Operator) (steps front back : List S
   pub up_to_here : o ≡ get_or now place o → AreUpToTimeOf time operators → IsUpToTimeOf time o.memory
   up_to_here is up_to = subst (λ p. IsUpToTimeOf time p.memory) (sym (is_old is)) (up_to_at time operators front back t o fits up_to)
 
-  pub next_committed : (after : Operator) → o ≡ get_or now place o → after ≡ commit_one time o t → set now place after ≡ commit_all time operators (front ++ t ∷ [])
-  next_committed after is e =
-      ap (λ l. set l place after) committed_so_far ∙ ap (λ n. set (commit_all time operators front) n after) at
-      ∙ ap (λ p. set (commit_all time operators front) (length front) p) (e ∙ ap (λ p. commit_one time p t) (is_old is))
-      ∙ commit_next time operators front t o (within operators front back t fits)
+  pub next_committed : (after : Operator) → o ≡ get_or now place o → OneCommitted time o t after → AllCommitted time operators (front ++ t ∷ []) (set now place after)
+  next_committed after is one =
+      subst (λ n. AllCommitted time operators (front ++ t ∷ []) (set now n after)) (sym at)
+      (commit_next time operators front t now after o (within operators front back t fits) committed_so_far (subst (λ p. OneCommitted time p t after) (is_old is) one))
 
-  pub not_committed : (after : Operator) → o ≡ get_or now place o → after ≡ o → set now place after ≡ commit_all time operators (take (length front) steps)
-  not_committed after is e =
-      ap (λ p. set now place p) e ∙ unchanged now place o inside is ∙ committed_so_far
-      ∙ ap (commit_all time operators) (sym (ap (take (length front)) split ∙ take-append_seam front (t ∷ back)))
+-- each stays of its kind
+pub same_all : (operators : List Operator) → AreSameKinds operators operators
+same_all [] = refl
+same_all (o ∷ operators) = (refl, same_itself o.memory, same_all operators)
 
-pub commit_none : (time : ℕ) (operators : List Operator) → commit_all time operators [] ≡ operators
-commit_none time [] = refl
-commit_none time (o ∷ operators) = refl
+pub same_set : (operators now : List Operator) (place : ℕ) (o after : Operator) → AreSameKinds operators now → place < length now → o ≡ get_or now place o → after.taken ≡ o.taken → IsSameMemory o.memory after.memory
+    → AreSameKinds operators (set now place after)
+same_set [] now place o after same below is taken memory = absurd (omega (arith, below, ap length same))
+same_set (p ∷ operators) [] place o after same below is taken memory = absurd same
+same_set (p ∷ operators) (q ∷ now) zero o after same below is taken memory =
+    (taken ∙ ap (λ x. x.taken) is ∙ same.0, same_then p.memory q.memory after.memory same.1 (subst (λ x. IsSameMemory x.memory after.memory) is memory), same.2)
+same_set (p ∷ operators) (q ∷ now) (suc place) o after same below is taken memory = (same.0, same.1, same_set operators now place o after same.2 (omega (arith, below)) is taken memory)
 
 pub lengths_add : {X : Type 0} (front : List X) (x : X) (place : ℕ) → place ≡ length front → place + 1 ≡ length (front ++ x ∷ [])
 lengths_add front x place e = omega (arith, e, length-append front (x ∷ []))
 
 -- what is committed at a time is not later than it
-one_up_to : (time later : ℕ) (m : Memory) (t : StepTables) → time ≤ later → IsUpToTimeOf time m → IsUpToTimeOf later (committed m time t)
-one_up_to time later (kept.Prev slot operand) t within up_to = within
-one_up_to time later (kept.Once window right) t within up_to =
-    All-push (λ s. s.time ≤ later) window.steps (at time t.surviving t.right) (All-weaker (λ s. s.time ≤ time) (λ s. s.time ≤ later) (λ s below. omega (arith, below)) window.steps up_to) within
-one_up_to time later (kept.Since window left left_tables right) t within up_to =
-    All-push (λ s. s.time ≤ later) window.steps (at time t.surviving t.right) (All-weaker (λ s. s.time ≤ time) (λ s. s.time ≤ later) (λ s below. omega (arith, below)) window.steps up_to) within
+one_up_to : (time later : ℕ) (m : Memory) (t : StepTables) (after : Memory) → time ≤ later → IsCommittedTo m time t after → IsUpToTimeOf later after
+one_up_to time later (kept.Prev slot operand) t after within committed = subst (IsUpToTimeOf later) (sym committed) within
+one_up_to time later (kept.Once window right) t after within committed = subst (IsUpToTimeOf later) (sym committed.2) (omega (arith, committed.1.last_is))
+one_up_to time later (kept.Since window left left_tables right) t after within committed = subst (IsUpToTimeOf later) (sym committed.2) (omega (arith, committed.1.last_is))
 
-pub all_up_to : (time later : ℕ) (operators : List Operator) (steps : List StepTables) → time ≤ later → AllFit operators steps → AreUpToTimeOf time operators → AreUpToTimeOf later (commit_all time operators steps)
-all_up_to time later [] steps within fit up_to = All-nil _
-all_up_to time later (o ∷ operators) [] within fit up_to = absurd fit
-all_up_to time later (o ∷ operators) (t ∷ steps) within fit up_to =
-    All-cons (λ p. IsUpToTimeOf later p.memory) (commit_one time o t) (commit_all time operators steps)
-    (one_up_to time later o.memory t within (All-head (λ p. IsUpToTimeOf time p.memory) o operators up_to))
-    (all_up_to time later operators steps within fit.1 (All-tail (λ p. IsUpToTimeOf time p.memory) o operators up_to))
+pub all_up_to : (time later : ℕ) (operators : List Operator) (steps : List StepTables) (after : List Operator) → time ≤ later → AllFit operators steps → AllCommitted time operators steps after → AreUpToTimeOf later after
+all_up_to time later [] steps after within fit committed = subst (AreUpToTimeOf later) (sym committed) (All-nil _)
+all_up_to time later (o ∷ operators) [] after within fit committed = absurd fit
+all_up_to time later (o ∷ operators) (t ∷ steps) [] within fit committed = absurd committed
+all_up_to time later (o ∷ operators) (t ∷ steps) (p ∷ after) within fit committed =
+    All-cons (λ q. IsUpToTimeOf later q.memory) p after (one_up_to time later o.memory t p.memory within committed.0.1) (all_up_to time later operators steps after within fit.1 committed.1)

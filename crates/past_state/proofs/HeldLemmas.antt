@@ -8,10 +8,6 @@ use Rattle.enf_value.specs.Valuations.{Valuation}
 use Rattle.enf_value.specs.declared.intervals.Interval.{Interval}
 use Rattle.enf_value.specs.declared.steps.Step.{Step}
 use Rattle.valuations.specs.Tables.{Relation, Has}
-use Rattle.windows.specs.Answers.{Answers, Lasts}
-use Rattle.windows.specs.Laws.{OneStepMore}
-use Rattle.windows.specs.Windows.{at}
-use Rattle.windows.specs.declared.steps.CommittedStep.{CommittedStep}
 use Rattle.past_state.specs.Held.{HeldAt}
 use Rattle.past_state.proofs.Decided.{IsDecided, stable, in_interval, in_table}
 
@@ -67,33 +63,29 @@ module _ (trace : List Step) (step : Step) (interval : Interval) (time : ℕ) (F
       )))
       (cases_lt h.0 (length trace)))
 
--- the answer of the steps with one step more is what held on the longer trace
-pub goes_on : OneStepMore → (trace : List Step) (step : Step) (interval : Interval) (time : ℕ) (F G F' G' : ℕ → Type 0)
+-- what was remembered, and goes on by one step, is what held on the longer trace
+pub goes_on : (trace : List Step) (step : Step) (interval : Interval) (time : ℕ) (F G F' G' : ℕ → Type 0)
     → ((k : ℕ) → k < length trace → F k ↔ F' k) → ((k : ℕ) → k < length trace → G k ↔ G' k)
-    → (steps : List CommittedStep) (surviving right : Relation) (v : Valuation)
-    → Answers interval time steps v ↔ HeldAt trace interval time F G
-    → Has surviving v ↔ (Lasts steps v × F' (length trace))
+    → (surviving right : Relation) (v : Valuation) (Before Kept Now : Type 0) → (Before → Kept)
+    → Now ↔ ((IsIn interval (time - step.time) × Has right v) ⊎ (Before × Has surviving v))
+    → Before ↔ HeldAt trace interval time F G
+    → Has surviving v ↔ (Kept × F' (length trace))
     → Has right v ↔ G' (length trace)
-    → Answers interval time (steps ++ at step.time surviving right ∷ []) v ↔ HeldAt (trace ++ step ∷ []) interval time F' G'
-goes_on more trace step interval time F G F' G' same_F same_G steps surviving right v answers survives is_right =
-    let now : CommittedStep = at step.time surviving right in
-    let unfolded = more interval time steps now v in (
-      λ h. ⊎_elim
-          (λ n. held_now trace step interval time F G F' G' same_F same_G n.0 (is_right.0 n.1))
-          (λ e. held_on trace step interval time F G F' G' same_F same_G (answers.0 e.0) (survives.0 e.1).1)
-          (unfolded.0 h),
-      λ held. unfolded.1 (⊎_elim
-          (λ yes. inl yes)
-          (λ no. inr (
-            answers.1 (λ none. held_from trace step interval time F G F' G' same_F same_G held (λ either. ⊎_elim (λ n. no (n.0, is_right.1 n.1)) (λ e. e.0 none) either)),
-            stable (in_table surviving v) (λ none. held_from trace step interval time F G F' G' same_F same_G held (λ either. ⊎_elim (λ n. no (n.0, is_right.1 n.1)) (λ e.
-                none (survives.1 (lasts (answers.1 e.0), e.1))) either)),
-          ))
-          (decided now)),
-    )
+    → Now ↔ HeldAt (trace ++ step ∷ []) interval time F' G'
+goes_on trace step interval time F G F' G' same_F same_G surviving right v Before Kept Now is_kept unfolded answers survives is_right = (
+  λ h. ⊎_elim
+      (λ n. held_now trace step interval time F G F' G' same_F same_G n.0 (is_right.0 n.1))
+      (λ e. held_on trace step interval time F G F' G' same_F same_G (answers.0 e.0) (survives.0 e.1).1)
+      (unfolded.0 h),
+  λ held. unfolded.1 (⊎_elim
+      (λ yes. inl yes)
+      (λ no. inr (
+        answers.1 (λ none. held_from trace step interval time F G F' G' same_F same_G held (λ either. ⊎_elim (λ n. no (n.0, is_right.1 n.1)) (λ e. e.0 none) either)),
+        stable (in_table surviving v) (λ none. held_from trace step interval time F G F' G' same_F same_G held (λ either. ⊎_elim (λ n. no (n.0, is_right.1 n.1)) (λ e.
+            none (survives.1 (is_kept (answers.1 e.0), e.1))) either)),
+      ))
+      decided),
+)
   where
-    lasts : Answers interval time steps v → Lasts steps v
-    lasts h = record { before = h.before; step = h.step; after = h.after; split = h.split; counts = tt; right = h.right; survives = h.survives }
-
-    decided : (now : CommittedStep) → IsDecided (IsIn interval (time - now.time) × Has now.right v)
-    decided now = ⊎_elim (λ within. ⊎_elim (λ has. inl (within, has)) (λ no. inr (λ h. no h.1)) (in_table now.right v)) (λ no. inr (λ h. no h.0)) (in_interval interval (time - now.time))
+    decided : IsDecided (IsIn interval (time - step.time) × Has right v)
+    decided = ⊎_elim (λ within. ⊎_elim (λ has. inl (within, has)) (λ no. inr (λ h. no h.1)) (in_table right v)) (λ no. inr (λ h. no h.0)) (in_interval interval (time - step.time))

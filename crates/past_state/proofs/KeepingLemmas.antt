@@ -39,18 +39,18 @@ keep_all None (Implies place g h) B S safe fresh within =
     All-append CanKeep (operators g) (operators h) (keep_all None g B S safe.2 fresh.0 (λ x free. within x (inl free))) (keep_all None h B S safe.3 fresh.1 (λ x free. within x (inr free)))
 keep_all None (Exists place xs g) B S safe fresh within = keep_all None g B (λ x. S x ⊎ Contains xs x) safe fresh.1 (inside xs g S within)
 keep_all None (Forall place xs g) B S safe fresh within = keep_all (Some xs) g B (λ x. S x ⊎ Contains xs x) safe fresh.1 (inside xs g S within)
-keep_all None (Prev place interval g) B S safe fresh within = All-cons CanKeep (Prev place interval g) (operators g) (alone g S fresh within) (keep_all None g Nothing S safe fresh within)
-keep_all None (Once place interval g) B S safe fresh within = All-cons CanKeep (Once place interval g) (operators g) (alone g S fresh within) (keep_all None g Nothing S safe fresh within)
+keep_all None (Prev place interval g) B S safe fresh within = All-cons CanKeep (Prev place interval g) (operators g) (alone g S fresh within, safe) (keep_all None g Nothing S safe fresh within)
+keep_all None (Once place interval g) B S safe fresh within = All-cons CanKeep (Once place interval g) (operators g) (alone g S fresh within, safe) (keep_all None g Nothing S safe fresh within)
 keep_all None (Historically place interval (Not p h)) B S safe fresh within =
-    All-cons CanKeep (Historically place interval (Not p h)) (operators h) (alone h S fresh within) (keep_all None h Nothing S safe.1 fresh within)
+    All-cons CanKeep (Historically place interval (Not p h)) (operators h) (alone h S fresh within, safe.1) (keep_all None h Nothing S safe.1 fresh within)
 keep_all None (Historically place interval (Implies p a b)) B S safe fresh within =
-    All-cons CanKeep (Historically place interval (Implies p a b)) (operators a ++ operators b) (alone_denied (Implies p a b) S fresh within)
+    All-cons CanKeep (Historically place interval (Implies p a b)) (operators a ++ operators b) (alone_denied (Implies p a b) S fresh within, (safe.2, (safe.3, safe.4)))
     (All-append CanKeep (operators a) (operators b) (keep_all None a Nothing S safe.2 fresh.0 (λ x free. within x (inl free))) (keep_all None b (With Nothing a) S safe.4 fresh.1 (λ x free. within x (inr free))))
 keep_all None (Historically place interval g) B S safe fresh within =
-    All-cons CanKeep (Historically place interval g) (operators g) (alone_denied g S fresh within) (keep_all None g Nothing S safe.2 fresh within)
+    All-cons CanKeep (Historically place interval g) (operators g) (alone_denied g S fresh within, (safe.1, safe.2)) (keep_all None g Nothing S safe.2 fresh within)
 keep_all None (Since place interval g h) B S safe fresh within =
     All-cons CanKeep (Since place interval g h) (operators g ++ operators h)
-    (alone h S fresh.1 (λ x free. within x (inr free)), fresh_fewer g S (λ x. IsFree x h) (λ x free. within x (inr free)) fresh.0, λ x free. ⊎_elim (λ b. absurd b) (λ is. is) (safe.1 x free))
+    (alone h S fresh.1 (λ x free. within x (inr free)), fresh_fewer g S (λ x. IsFree x h) (λ x free. within x (inr free)) fresh.0, λ x free. ⊎_elim (λ b. absurd b) (λ is. is) (safe.1 x free), safe.0, safe.2)
     (All-append CanKeep (operators g) (operators h) (keep_all None g (With Nothing h) S safe.2 fresh.0 (λ x free. within x (inl free))) (keep_all None h Nothing S safe.0 fresh.1 (λ x free. within x (inr free))))
 keep_all None (Next place interval g) B S safe fresh within = absurd safe
 keep_all None (Eventually place interval g) B S safe fresh within = absurd safe

@@ -13,3 +13,4 @@ pub mod PastLemmas
 pub mod BuildingLemmas
 pub mod KeepingLemmas
 pub mod GuardLemmas
+pub mod KnownLemmas

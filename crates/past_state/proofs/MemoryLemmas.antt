@@ -1,5 +1,5 @@
 -- What is kept for an operator, with one step more.
-use Rattle.std.proofs.Common.{◌≡◌, ◌↔◌, ◌⊎◌, inr, ℕ, ◌≤◌, IsTrue, List, [], ◌∷◌, ◌++◌, length, drop, Contains, refl, sym, subst, arith}
+use Rattle.std.proofs.Common.{◌≡◌, ◌∙◌, ◌↔◌, ◌⊎◌, inr, ℕ, ◌≤◌, IsTrue, List, [], ◌∷◌, ◌++◌, length, drop, Contains, refl, sym, subst, arith}
 use Rattle.std.specs.Prelude.{IsSome}
 use Rattle.std.proofs.lemmas.Bool.{and_parts}
 use Rattle.enf_value.specs.Valuations.{Valuation, value_at}
@@ -20,7 +20,7 @@ use Rattle.valuations.specs.Just.{Binds}
 use Rattle.valuations.specs.Tables.{Relation, Has}
 use Rattle.windows.specs.Windows.{Window}
 use Rattle.past_state.specs.Laws.{AreTablesOf, SinceAnswers, SinceGoesOn, OnceAnswers, OnceGoesOn, HistoricallyIsDenied, PrevAnswers, PrevGoesOn, satisfied, everywhere}
-use Rattle.past_state.specs.Memories.{Asks, IsFor, CanAskAll, CanAskUnder, CanStep, AnswersAll, AreLasting, AreSurviving, AreStepTables, FitMemory, GivesNow, MemoryStands, committed}
+use Rattle.past_state.specs.Memories.{Asks, IsFor, CanAskAll, CanAskUnder, CanStep, AnswersAll, AreLasting, AreSurviving, AreStepTables, FitMemory, GivesNow, MemoryStands, IsCommittedTo, IsSameMemory}
 use Rattle.past_state.specs.Operators.{inner}
 use Rattle.past_state.specs.declared.memories.Memory.{Memory}
 use Rattle.past_state.specs.declared.memories.Memory.TheVariants as kept
@@ -204,27 +204,53 @@ module _ (laws : Laws) (trace : List Step) (step : Step) (later : last_time trac
   given_stands f m tables t given past for stands inside are gives = absurd for
 
   -- and with the step committed it stands for the longer trace
-  pub committed_stands : (f : Formula) (m : Memory) (tables : List Relation) (t : StepTables) → IsTrue (is_past f) → IsFor f m → MemoryStands trace f m
-      → StandFor (trace ++ step ∷ []) (length trace) (inner f) tables → AreStepTables step.events tables m t
-      → MemoryStands (trace ++ step ∷ []) f (committed m step.time t)
-  committed_stands (Prev place interval g) (kept.Prev slot operand) tables t past for stands inside are =
-      laws.prev_goes_on trace step interval g slot t.right stands are.columns_are (is_answer g operand tables slot.columns t.right for.0 for.1 past inside are)
-  committed_stands (Once place interval g) (kept.Once window right) tables t past for stands inside are =
-      laws.once_goes_on trace step interval g window t.surviving t.right past later stands (once_tables g interval window right tables t for.0 for.1 past inside are.0 are.1)
-  committed_stands (Historically place interval g) (kept.Once window right) tables t past for stands inside are =
+  pub committed_stands : (f : Formula) (m : Memory) (tables : List Relation) (t : StepTables) (after : Memory) → IsTrue (is_past f) → IsFor f m → MemoryStands trace f m
+      → StandFor (trace ++ step ∷ []) (length trace) (inner f) tables → AreStepTables step.events tables m t → IsCommittedTo m step.time t after
+      → MemoryStands (trace ++ step ∷ []) f after
+  committed_stands (Prev place interval g) (kept.Prev slot operand) tables t after past for stands inside are committed =
+      subst (MemoryStands (trace ++ step ∷ []) (Prev place interval g)) (sym committed)
+      (laws.prev_goes_on trace step interval g slot t.right stands are.columns_are (is_answer g operand tables slot.columns t.right for.0 for.1 past inside are))
+  committed_stands (Once place interval g) (kept.Once window right) tables t after past for stands inside are committed =
+      subst (MemoryStands (trace ++ step ∷ []) (Once place interval g)) (sym committed.2)
+      (laws.once_goes_on trace step interval g window t.surviving t.right past later stands (once_tables g interval window right tables t for.0 for.1 past inside are.0 are.1) committed.0 committed.1)
+  committed_stands (Historically place interval g) (kept.Once window right) tables t after past for stands inside are committed =
       let past' = denial_past g past in
-      laws.once_goes_on trace step interval (denial g) window t.surviving t.right past' later stands (once_tables (denial g) interval window right tables t for.0 for.1 past'
-      (subst (λ l. StandFor (trace ++ step ∷ []) (length trace) l tables) (sym (denial_outermost g)) inside) are.0 are.1)
-  committed_stands (Since place interval g h) (kept.Since window left left_tables right) tables t past for stands inside are =
+      subst (MemoryStands (trace ++ step ∷ []) (Historically place interval g)) (sym committed.2)
+      (laws.once_goes_on trace step interval (denial g) window t.surviving t.right past' later stands (once_tables (denial g) interval window right tables t for.0 for.1 past'
+      (subst (λ l. StandFor (trace ++ step ∷ []) (length trace) l tables) (sym (denial_outermost g)) inside) are.0 are.1) committed.0 committed.1)
+  committed_stands (Since place interval g h) (kept.Since window left left_tables right) tables t after past for stands inside are committed =
       let pasts = and_parts (is_past g) (is_past h) past in
-      laws.since_goes_on trace step interval g h window t.surviving t.right pasts.0 pasts.1 later stands
-      (since_tables g h window left right left_tables tables t for.0 for.1 for.3 for.4 for.5 pasts.0 pasts.1 inside are.0 are.1)
-  committed_stands f m tables t past for stands inside are = absurd for
+      subst (MemoryStands (trace ++ step ∷ []) (Since place interval g h)) (sym committed.2)
+      (laws.since_goes_on trace step interval g h window t.surviving t.right pasts.0 pasts.1 later stands
+      (since_tables g h window left right left_tables tables t for.0 for.1 for.3 for.4 for.5 pasts.0 pasts.1 inside are.0 are.1) committed.0 committed.1)
+  committed_stands f m tables t after past for stands inside are committed = absurd for
 
 -- what is kept is for the same operator
-pub still_for : (f : Formula) (m : Memory) (time : ℕ) (t : StepTables) → IsFor f m → IsFor f (committed m time t)
-still_for (Prev place interval g) (kept.Prev slot operand) time t for = for
-still_for (Once place interval g) (kept.Once window right) time t for = for
-still_for (Historically place interval g) (kept.Once window right) time t for = for
-still_for (Since place interval g h) (kept.Since window left left_tables right) time t for = for
-still_for f m time t for = absurd for
+pub still_for : (f : Formula) (m : Memory) (after : Memory) → IsFor f m → IsSameMemory m after → IsFor f after
+still_for (Prev place interval g) (kept.Prev slot operand) after for same =
+    subst (IsFor (Prev place interval g)) (sym same.3) (for.0, subst (AreFreeVariables g) (sym same.2) for.1, same.1 ∙ for.2)
+still_for (Once place interval g) (kept.Once window right) after for same =
+    subst (IsFor (Once place interval g)) (sym same.2) (for.0, subst (AreFreeVariables g) (sym same.1.columns_are) for.1, same.1.interval_is ∙ for.2)
+still_for (Historically place interval g) (kept.Once window right) after for same =
+    subst (IsFor (Historically place interval g)) (sym same.2) (for.0, subst (AreFreeVariables (denial g)) (sym same.1.columns_are) for.1, same.1.interval_is ∙ for.2)
+still_for (Since place interval g h) (kept.Since window left left_tables right) after for same =
+    subst (IsFor (Since place interval g h)) (sym same.2)
+    (for.0, subst (AreFreeVariables h) (sym same.1.columns_are) for.1, same.1.interval_is ∙ for.2, subst (λ l. Asks g l left) (sym same.1.columns_are) for.3, for.4, for.5)
+still_for f m after for same = absurd for
+
+-- and so it goes on
+pub same_itself : (m : Memory) → IsSameMemory m m
+same_itself (kept.Prev slot operand) = (slot, refl, refl, refl)
+same_itself (kept.Once window right) = (window, record { interval_is = refl; columns_are = refl }, refl)
+same_itself (kept.Since window left left_tables right) = (window, record { interval_is = refl; columns_are = refl }, refl)
+
+pub same_then : (a b c : Memory) → IsSameMemory a b → IsSameMemory b c → IsSameMemory a c
+same_then (kept.Prev slot operand) b c first second =
+    let next : IsSameMemory (kept.Prev first.0 operand) c = subst (λ m. IsSameMemory m c) first.3 second in
+    (next.0, next.1 ∙ first.1, next.2 ∙ first.2, next.3)
+same_then (kept.Once window right) b c first second =
+    let next : IsSameMemory (kept.Once first.0 right) c = subst (λ m. IsSameMemory m c) first.2 second in
+    (next.0, record { interval_is = next.1.interval_is ∙ first.1.interval_is; columns_are = next.1.columns_are ∙ first.1.columns_are }, next.2)
+same_then (kept.Since window left left_tables right) b c first second =
+    let next : IsSameMemory (kept.Since first.0 left left_tables right) c = subst (λ m. IsSameMemory m c) first.2 second in
+    (next.0, record { interval_is = next.1.interval_is ∙ first.1.interval_is; columns_are = next.1.columns_are ∙ first.1.columns_are }, next.2)

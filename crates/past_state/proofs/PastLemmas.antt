@@ -19,8 +19,8 @@ use Rattle.valuations.specs.Just.{Binds}
 use Rattle.valuations.specs.Tables.{Relation, Has, AgreeOn}
 use Rattle.trace_meaning.specs.Continuation.{last_time}
 use Rattle.past_state.specs.Operators.{operators, all_operators, all_outermost}
-use Rattle.past_state.specs.Past.{Past, PastTables, IsPast, IsSound, TablesStand, AreOf, RunStands, CommitStands, AreEvaluated, AreSatisfied, ArePastTables, BeginAt, BindsBound, IsEvaluated, IsGuard, IsSatisfied, IsTestOf, formulas, formula_of, tables_of, with_committed}
-use Rattle.past_state.specs.Runs.{AllStand, AreInsideOut, AreOrdered, AllFit, Runs, outer_onto, commit_all}
+use Rattle.past_state.specs.Past.{Past, PastTables, IsPast, IsSound, TablesStand, AreOf, RunStands, CommitStands, AreEvaluated, AreSatisfied, ArePastTables, BeginAt, BindsBound, IsEvaluated, IsGuard, IsSatisfied, IsTestOf, formulas, formula_of, tables_of}
+use Rattle.past_state.specs.Runs.{AllStand, AreInsideOut, AreOrdered, AllFit, Runs, outer_onto, AllCommitted, AreSameKinds}
 use Rattle.past_state.specs.declared.guards.PlacedGuard.{PlacedGuard}
 use Rattle.past_state.specs.declared.memories.StepTables.{StepTables}
 use Rattle.past_state.specs.declared.operators.Operator.{Operator}
@@ -40,7 +40,7 @@ outer_are fs = ap (outer_onto []) (sym (append-nil (reverse (all_operators fs)))
 pub ordered : (past : Past) → IsPast past → AreOrdered past.operators
 ordered past is = record { formulas = reverse (all_operators (formulas past.guards)); are_for = is.kept; inside_out = inside_out (formulas past.guards) }
 
-all_reverse : {X : Type 0} (P : X → Type 0) (xs : List X) → All P xs → All P (reverse xs)
+pub all_reverse : {X : Type 0} (P : X → Type 0) (xs : List X) → All P xs → All P (reverse xs)
 all_reverse P [] all = All-nil P
 all_reverse P (x ∷ xs) all = subst (All P) (sym (reverse-append (x ∷ []) xs)) (All-append P (reverse xs) (x ∷ []) (all_reverse P xs (All-tail P x xs all)) (All-cons P x [] (All-head P x xs all) (All-nil P)))
 
@@ -87,16 +87,18 @@ run_stands laws past time events tables is are trace step same_time same_events 
     (all_reverse ahead (all_operators (formulas past.guards)) (all_past past.guards is.sound)) (inside_out (formulas past.guards)) stands tt runs))
 
 pub commit_stands : Laws → CommitStands
-commit_stands laws past time events tables is trace step same_time same_events later stands are =
+commit_stands laws past time events tables after is committed trace step same_time same_events later stands are =
     let fs = reverse (all_operators (formulas past.guards)) in
     let runs : Runs step.events step.time [] past.operators tables.steps tables.stack =
     subst (λ e. Runs e step.time [] past.operators tables.steps tables.stack) (sym same_events) (subst (λ t. Runs events t [] past.operators tables.steps tables.stack) (sym same_time) are.1) in
-    subst (λ t. AllStand (trace ++ step ∷ []) fs (commit_all t past.operators tables.steps)) same_time
-    (committed_run laws trace step (subst (λ t. last_time trace ≤ t) (sym same_time) later) [] [] fs past.operators tables.steps tables.stack is.kept
-    (all_reverse ahead (all_operators (formulas past.guards)) (all_past past.guards is.sound)) (inside_out (formulas past.guards)) stands tt runs)
+    subst (λ gs. AllStand (trace ++ step ∷ []) (reverse (all_operators (formulas gs))) after.operators) (sym committed.0)
+    (committed_run laws trace step (subst (λ t. last_time trace ≤ t) (sym same_time) later) [] [] fs past.operators tables.steps tables.stack after.operators is.kept
+    (all_reverse ahead (all_operators (formulas past.guards)) (all_past past.guards is.sound)) (inside_out (formulas past.guards)) stands tt runs
+    (subst (λ t. AllCommitted t past.operators tables.steps after.operators) (sym same_time) committed.1))
 
-pub still_past : (past : Past) (time : ℕ) (steps : List StepTables) → IsPast past → IsPast (with_committed past time steps)
-still_past past time steps is = record { sound = is.sound; begin = is.begin; kept = still_all_for time (reverse (all_operators (formulas past.guards))) past.operators steps is.kept }
+pub still_past : (past : Past) (after : List Operator) → IsPast past → AreSameKinds past.operators after → IsPast (record past { operators = after })
+still_past past after is same =
+    record { sound = is.sound; begin = is.begin; kept = still_all_for (reverse (all_operators (formulas past.guards))) past.operators after is.kept same }
 
 -- ---- what the tables of a step are
 
@@ -215,7 +217,7 @@ can_evaluate tables number g items count v asked binds = record {
   binds = binds g asked.is;
 }
 
-same_guard : (guards : List PlacedGuard) (number : ℕ) (g h : PlacedGuard) → IsGuard guards number g → IsGuard guards number h → g ≡ h
+pub same_guard : (guards : List PlacedGuard) (number : ℕ) (g h : PlacedGuard) → IsGuard guards number g → IsGuard guards number h → g ≡ h
 same_guard guards number g h a b = same_Some g h (sym a ∙ b)
 
 pub are_evaluated : (tables : PastTables) (number : ℕ) (g : PlacedGuard) (items : List Relation) (count : ℕ) (events : List Event) (v : Valuation) (t : Relation) → Asked tables number g items count

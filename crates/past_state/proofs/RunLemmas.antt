@@ -15,7 +15,7 @@ use Rattle.trace_meaning.specs.Continuation.{last_time}
 use Rattle.valuations.specs.Tables.{Relation, IsTable}
 use Rattle.past_state.specs.Memories.{IsFor, AreStepTables, GivesNow, CanStep}
 use Rattle.past_state.specs.Operators.{inner}
-use Rattle.past_state.specs.Runs.{AreFor, AllStand, outer_onto, AreInsideOut, Runs, AreOrdered, commit_all}
+use Rattle.past_state.specs.Runs.{AreFor, AllStand, outer_onto, AreInsideOut, Runs, AreOrdered, AllCommitted, AreSameKinds}
 use Rattle.past_state.specs.declared.memories.Memory.{Memory}
 use Rattle.past_state.specs.declared.memories.Memory.TheVariants as kept
 use Rattle.past_state.specs.declared.memories.StepTables.{StepTables}
@@ -154,27 +154,28 @@ module _ (laws : Laws) (trace : List Step) (step : Step) (later : last_time trac
       stand_run (f ∷ drop (length (inner f)) before) (runs.1.0 ∷ drop o.taken stack) fs operators steps final for.2 (All-tail (λ g. IsTrue (is_past g)) f fs past) order.1 stands.1
       (given_stands laws trace step later f o.memory stack t runs.1.0 (All-head (λ g. IsTrue (is_past g)) f fs past) for.0 stands.0 inside runs.0 runs.1.2, rest) runs.1.3
 
-  pub committed_run : (before : List Formula) (stack : List Relation) (fs : List Formula) (operators : List Operator) (steps : List StepTables) (final : List Relation)
+  pub committed_run : (before : List Formula) (stack : List Relation) (fs : List Formula) (operators : List Operator) (steps : List StepTables) (final : List Relation) (after : List Operator)
       → AreFor fs operators → AllPast fs → AreInsideOut before fs → AllStand trace fs operators → StandFor (trace ++ step ∷ []) (length trace) before stack
-      → Runs step.events step.time stack operators steps final → AllStand (trace ++ step ∷ []) fs (commit_all step.time operators steps)
-  committed_run before stack [] operators steps final for past order stands stand runs = tt
-  committed_run before stack (f ∷ fs) [] steps final for past order stands stand runs = absurd for
-  committed_run before stack (f ∷ fs) (o ∷ operators) [] final for past order stands stand runs = absurd runs
-  committed_run before stack (f ∷ fs) (o ∷ operators) (t ∷ steps) final for past order stands stand runs =
+      → Runs step.events step.time stack operators steps final → AllCommitted step.time operators steps after → AllStand (trace ++ step ∷ []) fs after
+  committed_run before stack [] operators steps final after for past order stands stand runs committed = tt
+  committed_run before stack (f ∷ fs) [] steps final after for past order stands stand runs committed = absurd for
+  committed_run before stack (f ∷ fs) (o ∷ operators) [] final after for past order stands stand runs committed = absurd runs
+  committed_run before stack (f ∷ fs) (o ∷ operators) (t ∷ steps) final [] for past order stands stand runs committed = absurd committed
+  committed_run before stack (f ∷ fs) (o ∷ operators) (t ∷ steps) final (p ∷ after) for past order stands stand runs committed =
       let is : before ≡ inner f ++ order.0.0 = order.0.1 in
       let both : StandFor (trace ++ step ∷ []) (length trace) (inner f ++ order.0.0) stack = subst (λ l. StandFor (trace ++ step ∷ []) (length trace) l stack) is stand in
       let inside : StandFor (trace ++ step ∷ []) (length trace) (inner f) stack = stand_front (trace ++ step ∷ []) (length trace) (inner f) order.0.0 stack both in
       let rest : StandFor (trace ++ step ∷ []) (length trace) (drop (length (inner f)) before) (drop o.taken stack) =
       subst (λ n. StandFor (trace ++ step ∷ []) (length trace) (drop (length (inner f)) before) (drop n stack)) (sym for.1)
       (subst (λ l. StandFor (trace ++ step ∷ []) (length trace) l (drop (length (inner f)) stack)) (sym (behind_inner f before order.0.0 is)) (stand_back (trace ++ step ∷ []) (length trace) (inner f) order.0.0 stack both)) in (
-        committed_stands laws trace step later f o.memory stack t (All-head (λ g. IsTrue (is_past g)) f fs past) for.0 stands.0 inside runs.0,
-        committed_run (f ∷ drop (length (inner f)) before) (runs.1.0 ∷ drop o.taken stack) fs operators steps final for.2 (All-tail (λ g. IsTrue (is_past g)) f fs past) order.1 stands.1
-            (given_stands laws trace step later f o.memory stack t runs.1.0 (All-head (λ g. IsTrue (is_past g)) f fs past) for.0 stands.0 inside runs.0 runs.1.2, rest) runs.1.3,
+        committed_stands laws trace step later f o.memory stack t p.memory (All-head (λ g. IsTrue (is_past g)) f fs past) for.0 stands.0 inside runs.0 committed.0.1,
+        committed_run (f ∷ drop (length (inner f)) before) (runs.1.0 ∷ drop o.taken stack) fs operators steps final after for.2 (All-tail (λ g. IsTrue (is_past g)) f fs past) order.1 stands.1
+            (given_stands laws trace step later f o.memory stack t runs.1.0 (All-head (λ g. IsTrue (is_past g)) f fs past) for.0 stands.0 inside runs.0 runs.1.2, rest) runs.1.3 committed.1,
       )
 
-pub still_all_for : (time : ℕ) (fs : List Formula) (operators : List Operator) (steps : List StepTables) → AreFor fs operators → AreFor fs (commit_all time operators steps)
-still_all_for time [] [] steps for = tt
-still_all_for time [] (o ∷ operators) steps for = absurd for
-still_all_for time (f ∷ fs) [] steps for = absurd for
-still_all_for time (f ∷ fs) (o ∷ operators) [] for = for
-still_all_for time (f ∷ fs) (o ∷ operators) (t ∷ steps) for = (still_for f o.memory time t for.0, for.1, still_all_for time fs operators steps for.2)
+pub still_all_for : (fs : List Formula) (operators after : List Operator) → AreFor fs operators → AreSameKinds operators after → AreFor fs after
+still_all_for [] [] after for same = subst (AreFor []) (sym same) tt
+still_all_for [] (o ∷ operators) after for same = absurd for
+still_all_for (f ∷ fs) [] after for same = absurd for
+still_all_for (f ∷ fs) (o ∷ operators) [] for same = absurd same
+still_all_for (f ∷ fs) (o ∷ operators) (p ∷ after) for same = (still_for f o.memory p.memory for.0 same.1, same.0 ∙ for.1, still_all_for fs operators after for.2 same.2)

@@ -1,11 +1,12 @@
 -- Windows that go on standing for a trace.
-use Rattle.std.proofs.Common.{◌≡◌, ◌↔◌, ℕ, suc, ◌-◌, ◌<◌, ◌≤◌, IsTrue, List, [], ◌∷◌, ◌++◌, length, sym, subst, arith, length-append}
-use Rattle.std.proofs.lemmas.List.Elements.{All-push, All-weaker}
+use Rattle.std.proofs.Common.{◌≡◌, ◌∙◌, ◌↔◌, ◌⊎◌, Contains, ℕ, suc, ◌-◌, ◌<◌, ◌≤◌, IsTrue, List, [], ◌∷◌, ◌++◌, length, sym, subst, arith, length-append}
 use Rattle.enf_value.specs.Data.{step_at}
 use Rattle.enf_value.specs.Membership.{IsIn}
 use Rattle.enf_value.specs.Valuations.{Valuation}
+use Rattle.enf_value.specs.declared.terms.VarId.{VarId}
 use Rattle.enf_value.specs.declared.intervals.Interval.{Interval}
 use Rattle.enf_value.specs.declared.steps.Step.{Step}
+use Rattle.enf_formula.specs.FreeVariables.{IsFree}
 use Rattle.enf_formula.specs.Formulas.{Formula, Not, Implies, Once, Historically}
 use Rattle.enf_formula.specs.Laws.{IsStable, PastDecides}
 use Rattle.enf_formula.specs.Past.{is_past}
@@ -14,12 +15,11 @@ use Rattle.monitorable_guard.specs.Safety.{denial}
 use Rattle.trace_meaning.specs.Continuation.{last_time}
 use Rattle.trace_meaning.specs.Laws.{LastIsTheNew}
 use Rattle.valuations.specs.Just.{Binds}
-use Rattle.valuations.specs.Tables.{Relation}
-use Rattle.windows.specs.Answers.{Answers}
-use Rattle.windows.specs.Laws.{OneStepMore}
-use Rattle.windows.specs.Windows.{Window, AreUpTo, at}
+use Rattle.valuations.specs.Tables.{Relation, Has}
+use Rattle.windows.specs.Laws.{NothingAtFirst, RememberedIsKept}
+use Rattle.windows.specs.Windows.{Window, AnswersNow, IsCommitted, Keeps, Remembers}
 use Rattle.past_state.specs.Held.{HeldAt}
-use Rattle.past_state.specs.Laws.{AreTablesOf, AnswersNow, satisfied, with_step}
+use Rattle.past_state.specs.Laws.{AreTablesOf, IsNew, satisfied}
 use Rattle.past_state.specs.Stands.{WindowStands}
 use Rattle.past_state.proofs.HeldLemmas.{earlier_at, new_at, goes_on}
 
@@ -57,28 +57,50 @@ held_since trace step interval F G = (
 then : {P Q R : Type 0} → P ↔ Q → Q ↔ R → P ↔ R
 then a b = (λ p. b.0 (a.0 p), λ r. a.1 (b.1 r))
 
-module _ (more : OneStepMore) (last : LastIsTheNew) (trace : List Step) (step : Step) (interval : Interval) (F G F' G' : Valuation → ℕ → Type 0) (g : Formula) (window : Window) (surviving right : Relation)
+module _ (kept : RememberedIsKept) (last : LastIsTheNew) (trace : List Step) (step : Step) (interval : Interval) (F G F' G' : Valuation → ℕ → Type 0) (g : Formula) (window : Window) (surviving right : Relation)
     (same_F : (v : Valuation) (k : ℕ) → k < length trace → F v k ↔ F' v k) (same_G : (v : Valuation) (k : ℕ) → k < length trace → G v k ↔ G' v k)
     (later : last_time trace ≤ step.time) (stands : WindowStands trace interval F G g window) (tables : AreTablesOf trace window F' G' surviving right) where
+  -- at a time from the step's on
+  goes : (time : ℕ) → step.time ≤ time → (v : Valuation) → Binds v window.columns → (Now : Type 0)
+      → Now ↔ ((IsIn interval (time - step.time) × Has right v) ⊎ (Remembers window time v × Has surviving v))
+      → Now ↔ HeldAt (trace ++ step ∷ []) interval time (F' v) (G' v)
+  goes time from v binds Now unfolded =
+      let up_to = stands.up_to in
+      goes_on trace step interval time (F v) (G v) (F' v) (G' v) (same_F v) (same_G v) surviving right v (Remembers window time v) (Keeps window window.last v) Now
+      (kept window time v (omega arith)) unfolded (stands.gives time (omega arith) v binds) (tables.survives v binds) (tables.is_right v binds)
+
   pub answered : (v : Valuation) → Binds v window.columns → AnswersNow window step.time surviving right v ↔ HeldSince (trace ++ step ∷ []) (length trace) interval (F' v) (G' v)
-  answered v binds = subst (λ i. Answers i step.time (window.steps ++ at step.time surviving right ∷ []) v ↔ HeldSince (trace ++ step ∷ []) (length trace) interval (F' v) (G' v)) (sym stands.interval_is)
-      (then
-      (goes_on more trace step interval step.time (F v) (G v) (F' v) (G' v) (same_F v) (same_G v) window.steps surviving right v (stands.gives step.time later v binds) (tables.survives v binds) (tables.is_right v binds))
-      (held_since trace step interval (F' v) (G' v)))
+  answered v binds =
+      let same : 0 ≡ step.time - step.time = omega arith in
+      then
+      (goes step.time (omega arith) v binds (AnswersNow window step.time surviving right v)
+      (subst (λ i. AnswersNow window step.time surviving right v ↔ ((IsIn i (step.time - step.time) × Has right v) ⊎ (Remembers window step.time v × Has surviving v))) stands.interval_is
+      (subst (λ d. AnswersNow window step.time surviving right v ↔ ((IsIn window.interval d × Has right v) ⊎ (Remembers window step.time v × Has surviving v))) same (λ h. h, λ h. h))))
+      (held_since trace step interval (F' v) (G' v))
 
-  up_to_last : AreUpTo (last_time (trace ++ step ∷ [])) (window.steps ++ at step.time surviving right ∷ [])
-  up_to_last = subst (λ t. AreUpTo t (window.steps ++ at step.time surviving right ∷ [])) (sym (last trace step))
-      (All-push (λ s. s.time ≤ step.time) window.steps (at step.time surviving right) (All-weaker (λ s. s.time ≤ last_time trace) (λ s. s.time ≤ step.time) (λ s below. omega (arith, below)) window.steps stands.up_to) (omega arith))
-
-  pub still_stands : WindowStands (trace ++ step ∷ []) interval F' G' g (with_step window step.time surviving right)
-  still_stands = record {
-    interval_is = stands.interval_is;
-    columns_are = stands.columns_are;
-    up_to = up_to_last;
+  pub still_stands : (after : Window) → IsCommitted window step.time surviving right after → WindowStands (trace ++ step ∷ []) interval F' G' g after
+  still_stands after committed = record {
+    interval_is = committed.interval_is ∙ stands.interval_is;
+    columns_are = λ x. subst (λ l. Contains l x ↔ IsFree x g) (sym committed.columns_are) (stands.columns_are x);
+    up_to = subst (λ t. after.last ≤ t) (sym (last trace step)) (omega (arith, committed.last_is));
     gives = λ time from v binds.
         let from_step : step.time ≤ time = subst (λ t. t ≤ time) (last trace step) from in
-        goes_on more trace step interval time (F v) (G v) (F' v) (G' v) (same_F v) (same_G v) window.steps surviving right v (stands.gives time (omega arith) v binds) (tables.survives v binds) (tables.is_right v binds);
+        goes time from_step v (subst (Binds v) committed.columns_are binds) (Remembers after time v)
+        (subst (λ i. Remembers after time v ↔ ((IsIn i (time - step.time) × Has right v) ⊎ (Remembers window time v × Has surviving v))) stands.interval_is (committed.remembers time from_step v));
   }
+
+-- a window before the first step stands for no trace yet
+pub begins : NothingAtFirst → (interval : Interval) (F G : Valuation → ℕ → Type 0) (g : Formula) (columns : List VarId) (window : Window) → ((x : VarId) → Contains columns x ↔ IsFree x g)
+    → IsNew interval columns window → WindowStands [] interval F G g window
+begins nothing interval F G g columns window free new = record {
+  interval_is = new.interval_is;
+  columns_are = λ x. subst (λ l. Contains l x ↔ IsFree x g) (sym new.columns_are) (free x);
+  up_to = omega (arith, new.last_is);
+  gives = λ time from v binds. (
+    λ h. absurd (nothing window.interval time v ((new.stands.remembers time (omega (arith, new.last_is)) v).0 h)),
+    λ held. absurd (held (λ h. omega (arith, h.1))),
+  );
+}
 
 -- the denial holds where the formula fails
 denial_is : ((trace : List Step) (i : ℕ) (v : Valuation) (f : Formula) → IsStable (Sat trace i v f)) → (trace : List Step) (i : ℕ) (v : Valuation) (g : Formula)

@@ -3,7 +3,7 @@ use Rattle.std.specs.Prelude.{◌≡◌, ◌⊎◌, ℕ, List, [], ◌++◌, Con
 use Rattle.enf_value.specs.declared.terms.VarId.{VarId}
 use Rattle.enf_formula.specs.Formulas.{Formula, Prev, Once, Historically, Since}
 use Rattle.enf_formula.specs.FreeVariables.{IsFree}
-use Rattle.monitorable_guard.specs.Safety.{BindsFresh, denial}
+use Rattle.monitorable_guard.specs.Safety.{Safe, BindsFresh, Nothing, With, denial}
 use Rattle.past_state.specs.Memories.{IsFor, IsUpToTimeOf, MemoryStands}
 use Rattle.past_state.specs.Runs.{AreFor, AllStand, AreUpToTimeOf}
 use Rattle.past_state.specs.declared.memories.Memory.{Memory}
@@ -13,13 +13,14 @@ use Rattle.past_state.specs.declared.operators.Operator.{Operator}
 abbrev pub IsFresh : Formula → Type 0
 IsFresh f = BindsFresh f (λ x. Contains [] x ⊎ IsFree x f)
 
--- no quantifier in an operand binds a variable in scope, and what is free on the left of `since` is so on the right
+-- the operands can be evaluated, no quantifier in them binds a variable in scope, and what is free on the left of
+-- `since` is so on the right
 abbrev pub CanKeep : Formula → Type 0
-CanKeep (Prev place interval g) = IsFresh g
-CanKeep (Once place interval g) = IsFresh g
-CanKeep (Historically place interval g) = IsFresh (denial g)
+CanKeep (Prev place interval g) = IsFresh g × Safe g Nothing
+CanKeep (Once place interval g) = IsFresh g × Safe g Nothing
+CanKeep (Historically place interval g) = IsFresh (denial g) × Safe (denial g) Nothing
 CanKeep (Since place interval g h) = IsFresh h × BindsFresh g (λ x. IsFree x h) × ((x : VarId) → IsFree x g
-    → IsFree x h)
+    → IsFree x h) × Safe h Nothing × Safe g (With Nothing h)
 CanKeep f = Unit {0}
 
 -- what is kept for the operator before the first step

@@ -12,9 +12,8 @@ use Rattle.monitorable_guard.specs.Safety.{denial}
 use Rattle.trace_meaning.specs.Continuation.{last_time}
 use Rattle.valuations.specs.Just.{Binds}
 use Rattle.valuations.specs.Tables.{Relation, Has}
-use Rattle.windows.specs.Answers.{Answers, Lasts}
 use Rattle.windows.specs.Slots.{Slot, GivesLast, with_rows}
-use Rattle.windows.specs.Windows.{Window, at}
+use Rattle.windows.specs.Windows.{Window, AnswersNow, IsCommitted, Keeps, StandsFor}
 use Rattle.past_state.specs.Stands.{WindowStands, SlotStands}
 
 -- a formula at a position
@@ -25,24 +24,15 @@ satisfied trace f v i = Sat trace i v f
 abbrev pub everywhere : Valuation → ℕ → Type 0
 everywhere v = Anywhere
 
--- the tables of a window at the step that comes behind the trace: of the rows that last, those for which F holds
+-- the tables of a window at the step that comes behind the trace: of the rows that are kept, those for which F holds
 -- there; and those for which G holds there
 pub record AreTablesOf (trace : List Step) (window : Window) (F G : Valuation → ℕ → Type 0) (surviving right : Relation)
     : Type 0 where
   pub surviving_columns : surviving.columns ≡ window.columns
   pub right_columns : right.columns ≡ window.columns
   pub survives : (v : Valuation) → Binds v window.columns
-      → Has surviving v ↔ (Lasts window.steps v × F v (length trace))
+      → Has surviving v ↔ (Keeps window window.last v × F v (length trace))
   pub is_right : (v : Valuation) → Binds v window.columns → Has right v ↔ G v (length trace)
-
--- the window with the step committed
-abbrev pub with_step : Window → ℕ → Relation → Relation → Window
-with_step window time surviving right = record window { steps = window.steps ++ at time surviving right ∷ [] }
-
--- what it answers at the step
-abbrev pub AnswersNow : Window → ℕ → Relation → Relation → Valuation → Type 0
-AnswersNow window time surviving right v =
-    Answers window.interval time (window.steps ++ at time surviving right ∷ []) v
 
 -- the slot with the step committed
 abbrev pub with_last : Slot → ℕ → Relation → Slot
@@ -55,14 +45,21 @@ SinceStands trace interval f g = WindowStands trace interval (satisfied trace f)
 abbrev pub OnceStands : List Step → Interval → Formula → Window → Type 0
 OnceStands trace interval g = WindowStands trace interval everywhere (satisfied trace g) g
 
--- a window without a step stands for no trace yet
+-- a window before the first step
+pub record IsNew (interval : Interval) (columns : List VarId) (window : Window) : Type 0 where
+  pub interval_is : window.interval ≡ interval
+  pub columns_are : window.columns ≡ columns
+  pub last_is : window.last ≡ 0
+  pub stands : StandsFor window []
+
+-- stands for no trace yet
 abbrev pub WindowBegins : Type 0
-WindowBegins = (interval : Interval) (f g : Formula) (columns : List VarId) → ((x : VarId) → Contains columns x
-    ↔ IsFree x g) → SinceStands [] interval f g (record { interval = interval; columns = columns; steps = [] })
+WindowBegins = (interval : Interval) (f g : Formula) (columns : List VarId) (window : Window) → ((x : VarId)
+    → Contains columns x ↔ IsFree x g) → IsNew interval columns window → SinceStands [] interval f g window
 
 abbrev pub OnceBegins : Type 0
-OnceBegins = (interval : Interval) (g : Formula) (columns : List VarId) → ((x : VarId) → Contains columns x
-    ↔ IsFree x g) → OnceStands [] interval g (record { interval = interval; columns = columns; steps = [] })
+OnceBegins = (interval : Interval) (g : Formula) (columns : List VarId) (window : Window) → ((x : VarId)
+    → Contains columns x ↔ IsFree x g) → IsNew interval columns window → OnceStands [] interval g window
 
 -- with one step more that is not earlier, and its tables, a window answers at the step what is satisfied there, and
 -- then stands for the longer trace
@@ -80,7 +77,8 @@ SinceGoesOn = (trace : List Step) (step : Step) (interval : Interval) (f g : For
     (surviving right : Relation) → IsTrue (is_past f) → IsTrue (is_past g) → last_time trace ≤ step.time
     → SinceStands trace interval f g window
     → AreTablesOf trace window (satisfied (trace ++ step ∷ []) f) (satisfied (trace ++ step ∷ []) g) surviving right
-    → SinceStands (trace ++ step ∷ []) interval f g (with_step window step.time surviving right)
+    → (after : Window) → IsCommitted window step.time surviving right after
+    → SinceStands (trace ++ step ∷ []) interval f g after
 
 -- the same of `once`
 abbrev pub OnceAnswers : Type 0
@@ -97,7 +95,8 @@ OnceGoesOn = (trace : List Step) (step : Step) (interval : Interval) (g : Formul
     (surviving right : Relation) → IsTrue (is_past g) → last_time trace ≤ step.time
     → OnceStands trace interval g window
     → AreTablesOf trace window everywhere (satisfied (trace ++ step ∷ []) g) surviving right
-    → OnceStands (trace ++ step ∷ []) interval g (with_step window step.time surviving right)
+    → (after : Window) → IsCommitted window step.time surviving right after
+    → OnceStands (trace ++ step ∷ []) interval g after
 
 -- `historically g` fails where `once` of the denial of g holds, so that it has that window
 abbrev pub HistoricallyIsDenied : Type 0

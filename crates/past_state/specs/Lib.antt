@@ -7,5 +7,7 @@ pub mod Runs
 pub mod Stacks
 pub mod Stands
 pub mod Keeping
+pub mod Known
 pub mod Laws
 pub mod Memories
+pub mod Sources

@@ -11,11 +11,11 @@ use Rattle.monitorable_guard.specs.Guards.{BoundFormula}
 use Rattle.monitorable_guard.specs.Present.{HoldsNow, outermost}
 use Rattle.monitorable_guard.specs.Safety.{BindsFresh, denial}
 use Rattle.valuations.specs.Just.{Binds}
-use Rattle.valuations.specs.Tables.{Relation, Has}
-use Rattle.windows.specs.Answers.{Lasts}
-use Rattle.windows.specs.Slots.{GivesLast, IsUpToTime}
-use Rattle.windows.specs.Windows.{Window, AreUpTo}
-use Rattle.past_state.specs.Laws.{AnswersNow, SinceStands, OnceStands, with_step, with_last}
+use Rattle.valuations.specs.Tables.{Relation, Has, IsTable}
+use Rattle.windows.specs.Slots.{Slot, GivesLast, IsUpToTime}
+use Rattle.windows.specs.Windows.{Window, AnswersNow, IsCommitted, IsSameKind, Keeps}
+use Rattle.past_state.specs.Laws.{SinceStands, OnceStands, with_last}
+use Rattle.past_state.specs.Sources.{AllComeFrom}
 use Rattle.past_state.specs.Stands.{SlotStands}
 use Rattle.past_state.specs.declared.memories.Memory.{Memory}
 use Rattle.past_state.specs.declared.memories.Memory.TheVariants as kept
@@ -62,22 +62,25 @@ CanStep tables (kept.Since window left left_tables right) =
     CanAskAll right window.columns (drop left_tables tables) × CanAskUnder left window.columns tables
     × (left_tables ≤ length tables)
 
--- the table has these columns, and of the valuations that bind them just those under which the guard holds
+-- the table has these columns, and of the valuations that bind them just those under which the guard holds; its values
+-- are those of the events, the tables and the guard's constants
 pub record AnswersAll (events : List Event) (tables : List Relation) (guard : BoundFormula) (columns : List VarId)
     (t : Relation) : Type 0 where
+  pub table : IsTable t
   pub columns_are : t.columns ≡ columns
   pub rows : (v : Valuation) → Binds v columns → Has t v ↔ HoldsNow events tables v (tree_of guard.formula)
+  pub known : AllComeFrom events tables (tree_of guard.formula) t
 
--- the table has these columns and just the rows of the window that last
+-- the table has these columns and just the rows that the window keeps
 pub record AreLasting (window : Window) (t : Relation) : Type 0 where
   pub columns_are : t.columns ≡ window.columns
-  pub rows : (v : Valuation) → Has t v ↔ Lasts window.steps v
+  pub rows : (v : Valuation) → Has t v ↔ Keeps window window.last v
 
 -- and of those just the ones under which the guard holds
 pub record AreSurviving (events : List Event) (tables : List Relation) (guard : BoundFormula) (window : Window)
     (t : Relation) : Type 0 where
   pub columns_are : t.columns ≡ window.columns
-  pub rows : (v : Valuation) → Has t v ↔ (Lasts window.steps v × HoldsNow events tables v (tree_of guard.formula))
+  pub rows : (v : Valuation) → Has t v ↔ (Keeps window window.last v × HoldsNow events tables v (tree_of guard.formula))
 
 -- what a step brings, with the tables of the outermost operators of the operands
 abbrev pub AreStepTables : List Event → List Relation → Memory → StepTables → Type 0
@@ -98,8 +101,8 @@ FitMemory (kept.Since window left left_tables right) t =
 -- nothing that is kept is later
 abbrev pub IsUpToTimeOf : ℕ → Memory → Type 0
 IsUpToTimeOf time (kept.Prev slot operand) = IsUpToTime time slot.last
-IsUpToTimeOf time (kept.Once window right) = AreUpTo time window.steps
-IsUpToTimeOf time (kept.Since window left left_tables right) = AreUpTo time window.steps
+IsUpToTimeOf time (kept.Once window right) = window.last ≤ time
+IsUpToTimeOf time (kept.Since window left left_tables right) = window.last ≤ time
 
 -- what is given at the step
 abbrev pub GivesNow : Memory → ℕ → StepTables → Relation → Type 0
@@ -110,12 +113,22 @@ GivesNow (kept.Once window right) time t given =
 GivesNow (kept.Since window left left_tables right) time t given =
     (given.columns ≡ window.columns) × ((v : Valuation) → Has given v ↔ AnswersNow window time t.surviving t.right v)
 
--- what is kept with the step committed
-abbrev pub committed : Memory → ℕ → StepTables → Memory
-committed (kept.Prev slot operand) time t = kept.Prev (with_last slot time t.right) operand
-committed (kept.Once window right) time t = kept.Once (with_step window time t.surviving t.right) right
-committed (kept.Since window left left_tables right) time t =
-    kept.Since (with_step window time t.surviving t.right) left left_tables right
+-- what is kept after the step is committed: the slot or the window with it, and the same guards
+abbrev pub IsCommittedTo : Memory → ℕ → StepTables → Memory → Type 0
+IsCommittedTo (kept.Prev slot operand) time t m = m ≡ kept.Prev (with_last slot time t.right) operand
+IsCommittedTo (kept.Once window right) time t m =
+    (after : Window) × IsCommitted window time t.surviving t.right after × (m ≡ kept.Once after right)
+IsCommittedTo (kept.Since window left left_tables right) time t m =
+    (after : Window) × IsCommitted window time t.surviving t.right after
+    × (m ≡ kept.Since after left left_tables right)
+
+-- the guards stay, and the columns and the interval of what is kept
+abbrev pub IsSameMemory : Memory → Memory → Type 0
+IsSameMemory (kept.Prev slot operand) m = (after : Slot) × (after.interval ≡ slot.interval)
+    × (after.columns ≡ slot.columns) × (m ≡ kept.Prev after operand)
+IsSameMemory (kept.Once window right) m = (after : Window) × IsSameKind window after × (m ≡ kept.Once after right)
+IsSameMemory (kept.Since window left left_tables right) m =
+    (after : Window) × IsSameKind window after × (m ≡ kept.Since after left left_tables right)
 
 -- what is kept stands for the trace
 abbrev pub MemoryStands : List Step → Formula → Memory → Type 0

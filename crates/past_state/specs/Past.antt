@@ -16,7 +16,7 @@ use Rattle.trace_meaning.specs.Continuation.{last_time}
 use Rattle.valuations.specs.Just.{Binds}
 use Rattle.valuations.specs.Tables.{Relation, Has, AgreeOn}
 use Rattle.past_state.specs.Operators.{all_operators, all_outermost}
-use Rattle.past_state.specs.Runs.{AreFor, AllStand, Runs, commit_all}
+use Rattle.past_state.specs.Runs.{AreFor, AllStand, Runs, AllCommitted}
 use Rattle.past_state.specs.declared.guards.PlacedGuard.{PlacedGuard}
 use Rattle.past_state.specs.declared.memories.StepTables.{StepTables}
 use Rattle.past_state.specs.declared.operators.Operator.{Operator}
@@ -68,9 +68,10 @@ abbrev pub AreOf : Past → ℕ → List Event → PastTables → Type 0
 AreOf past time events tables = (tables.guards ≡ past.guards)
     × Runs events time [] past.operators tables.steps tables.stack
 
--- with the step committed
-abbrev pub with_committed : Past → ℕ → List StepTables → Past
-with_committed past time steps = record past { operators = commit_all time past.operators steps }
+-- the guards stay, and the step is committed to the operators
+abbrev pub PastCommitted : Past → ℕ → List StepTables → Past → Type 0
+PastCommitted past time steps after = (after.guards ≡ past.guards)
+    × AllCommitted time past.operators steps after.operators
 
 -- for each trace for which the past stands, and a step with these events at this time that is not earlier
 abbrev pub TablesWillStand : Past → ℕ → List Event → PastTables → Type 0
@@ -87,8 +88,8 @@ RunStands = (past : Past) (time : ℕ) (events : List Event) (tables : PastTable
     → AreOf past time events tables → TablesWillStand past time events tables
 
 abbrev pub CommitStands : Type 0
-CommitStands = (past : Past) (time : ℕ) (events : List Event) (tables : PastTables) → IsPast past
-    → CommittedWillStand past time events tables (with_committed past time tables.steps)
+CommitStands = (past : Past) (time : ℕ) (events : List Event) (tables : PastTables) (after : Past) → IsPast past
+    → PastCommitted past time tables.steps after → CommittedWillStand past time events tables after
 
 -- there are tables for the outermost operators of the guards, in order
 pub record ArePastTables (tables : PastTables) : Type 0 where

@@ -1,10 +1,11 @@
 -- A step over all operators, from the inside out.
-use Rattle.std.specs.Prelude.{◌≡◌, ℕ, List, [], ◌∷◌, ◌++◌, length, drop, take, All}
+use Rattle.std.specs.Prelude.{◌≡◌, ℕ, List, [], ◌∷◌, ◌++◌, length, drop, All}
 use Rattle.enf_value.specs.declared.events.Event.{Event}
 use Rattle.enf_value.specs.declared.steps.Step.{Step}
 use Rattle.enf_formula.specs.Formulas.{Formula}
 use Rattle.valuations.specs.Tables.{Relation, IsTable}
-use Rattle.past_state.specs.Memories.{IsFor, AreStepTables, FitMemory, GivesNow, IsUpToTimeOf, MemoryStands, committed}
+use Rattle.past_state.specs.Memories.{IsFor, AreStepTables, FitMemory, GivesNow}
+use Rattle.past_state.specs.Memories.{IsUpToTimeOf, MemoryStands, IsCommittedTo, IsSameMemory}
 use Rattle.past_state.specs.Operators.{inner}
 use Rattle.past_state.specs.declared.memories.StepTables.{StepTables}
 use Rattle.past_state.specs.declared.operators.Operator.{Operator}
@@ -53,14 +54,16 @@ pub record AreOrdered (operators : List Operator) : Type 0 where
 abbrev pub AreUpToTimeOf : ℕ → List Operator → Type 0
 AreUpToTimeOf time operators = All (λ o. IsUpToTimeOf time o.memory) operators
 
-abbrev pub commit_one : ℕ → Operator → StepTables → Operator
-commit_one time o t = record o { memory = committed o.memory time t }
+abbrev pub OneCommitted : ℕ → Operator → StepTables → Operator → Type 0
+OneCommitted time o t after = (after.taken ≡ o.taken) × IsCommittedTo o.memory time t after.memory
 
--- all with the step committed
-abbrev pub commit_all : ℕ → List Operator → List StepTables → List Operator
-commit_all time [] steps = []
-commit_all time (o ∷ operators) [] = o ∷ operators
-commit_all time (o ∷ operators) (t ∷ steps) = commit_one time o t ∷ commit_all time operators steps
+-- the operators after the step is committed to each for which there are tables, in order
+abbrev pub AllCommitted : ℕ → List Operator → List StepTables → List Operator → Type 0
+AllCommitted time [] steps after = after ≡ []
+AllCommitted time (o ∷ operators) [] after = after ≡ o ∷ operators
+AllCommitted time (o ∷ operators) (t ∷ steps) [] = ⊥
+AllCommitted time (o ∷ operators) (t ∷ steps) (p ∷ after) = OneCommitted time o t p
+    × AllCommitted time operators steps after
 
 -- the tables fit what is kept, one for one
 abbrev pub AllFit : List Operator → List StepTables → Type 0
@@ -69,6 +72,9 @@ AllFit [] (t ∷ steps) = ⊥
 AllFit (o ∷ operators) [] = ⊥
 AllFit (o ∷ operators) (t ∷ steps) = FitMemory o.memory t × AllFit operators steps
 
--- some steps at the front are committed, and the others are not
-abbrev pub SomeCommitted : ℕ → List Operator → List StepTables → List Operator → Type 0
-SomeCommitted time before steps after = (n : ℕ) × (after ≡ commit_all time before (take n steps))
+-- each operator is one of the same kind as before, with the same guards
+abbrev pub AreSameKinds : List Operator → List Operator → Type 0
+AreSameKinds [] after = after ≡ []
+AreSameKinds (o ∷ operators) [] = ⊥
+AreSameKinds (o ∷ operators) (p ∷ after) = (p.taken ≡ o.taken) × IsSameMemory o.memory p.memory
+    × AreSameKinds operators after

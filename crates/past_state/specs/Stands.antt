@@ -10,20 +10,19 @@ use Rattle.enf_formula.specs.FreeVariables.{IsFree}
 use Rattle.enf_formula.specs.Satisfaction.{Sat}
 use Rattle.trace_meaning.specs.Continuation.{last_time}
 use Rattle.valuations.specs.Just.{Binds}
-use Rattle.windows.specs.Answers.{Answers}
 use Rattle.windows.specs.Slots.{Slot, GivesLast, IsUpToTime}
-use Rattle.windows.specs.Windows.{Window, AreUpTo}
+use Rattle.windows.specs.Windows.{Window, Remembers}
 use Rattle.past_state.specs.Held.{HeldAt}
 
--- the window gives, at each time from the last one on, the valuations for which some position at a distance in the
+-- the window remembers, at each time from the last one on, the valuations for which some position at a distance in the
 -- interval satisfies the right side, and each position behind it the left side
 pub record WindowStands (trace : List Step) (interval : Interval) (F G : Valuation → ℕ → Type 0) (g : Formula)
     (window : Window) : Type 0 where
   pub interval_is : window.interval ≡ interval
   pub columns_are : (x : VarId) → Contains window.columns x ↔ IsFree x g
-  pub up_to : AreUpTo (last_time trace) window.steps
+  pub up_to : window.last ≤ last_time trace
   pub gives : (time : ℕ) → last_time trace ≤ time → (v : Valuation) → Binds v window.columns
-      → Answers interval time window.steps v ↔ HeldAt trace interval time (F v) (G v)
+      → Remembers window time v ↔ HeldAt trace interval time (F v) (G v)
 
 -- the slot gives, at each time from the last one on, the valuations that satisfied the operand at the last position,
 -- where that time's distance is in the interval

@@ -5,7 +5,7 @@ ghost use Rattle.enf_formula.specs.Formulas.{tree_of};
 ghost use Rattle.enf_formula.specs.FreeVariables.{IsFree};
 ghost use Rattle.enf_value.specs.declared.terms.VarId.{VarId as Variable};
 ghost use Rattle.monitorable_guard.specs.Present.{outermost};
-ghost use Rattle.monitorable_guard.specs.Safety.{BindsFresh, denial};
+ghost use Rattle.monitorable_guard.specs.Safety.{Safe, BindsFresh, Nothing, With, denial};
 ghost use Rattle.past_state.specs.Keeping.{IsFresh, CanKeep, IsBegun, PushesFor};
 ghost use Rattle.past_state.specs.Operators.{operators};
 
@@ -16,7 +16,8 @@ use enf_formula::Formula;
 use enf_value::intervals::Interval;
 use enf_value::memory::NoMemory;
 use enf_value::terms::Vars;
-use monitorable_guard::Guard;
+use monitorable_guard::laws::safe_with_listed;
+use monitorable_guard::{Guard, GuardRefusal};
 use std::alloc::Global;
 use windows::{PrevSlot, SinceWindow};
 
@@ -93,10 +94,12 @@ fn push_one(taken: usize, memory: Memory, out: &mut Vec<Operator>) -> Result<usi
 }
 
 fn prev_memory(alloc: Global, interval: Interval, operand: &Formula) -> Result<Memory, NoMemory>
-    requires { IsFresh (tree_of operand.now) }
+    requires fresh { IsFresh (tree_of operand.now) }
+    requires safe { Safe (tree_of operand.now) Nothing }
     ensures { IfOk result (λ m. (place : ℕ) → IsBegun (tree.Prev place interval (tree_of operand.now)) m) }
 {
     prev();
+    safe_with_listed();
     let columns = operand.free_vars(alloc)?;
     let operand = guard_of(alloc, operand, &Vars::new(alloc))?;
     let slot = PrevSlot::new(interval, columns);
@@ -104,10 +107,12 @@ fn prev_memory(alloc: Global, interval: Interval, operand: &Formula) -> Result<M
 }
 
 fn once_memory(alloc: Global, interval: Interval, operand: &Formula) -> Result<Memory, NoMemory>
-    requires { IsFresh (tree_of operand.now) }
+    requires fresh { IsFresh (tree_of operand.now) }
+    requires safe { Safe (tree_of operand.now) Nothing }
     ensures { IfOk result (λ m. (place : ℕ) → IsBegun (tree.Once place interval (tree_of operand.now)) m) }
 {
     once();
+    safe_with_listed();
     let columns = operand.free_vars(alloc)?;
     let right = guard_of(alloc, operand, &Vars::new(alloc))?;
     let window = SinceWindow::new(alloc, interval, columns);
@@ -119,7 +124,8 @@ fn historically_memory(
     interval: Interval,
     operand: &Formula,
 ) -> Result<Memory, NoMemory>
-    requires { IsFresh (denial (tree_of operand.now)) }
+    requires fresh { IsFresh (denial (tree_of operand.now)) }
+    requires safe { Safe (denial (tree_of operand.now)) Nothing }
     ensures { IfOk result (λ m. (place : ℕ) → IsBegun (tree.Historically place interval (tree_of operand.now)) m) }
 {
     once_memory(alloc, interval, &denial_of(alloc, operand)?)
@@ -136,10 +142,13 @@ fn since_memory(
     requires fresh_right { IsFresh (tree_of right.now) }
     requires fresh_left { BindsFresh (tree_of left.now) (λ x. IsFree x (tree_of right.now)) }
     requires within { (x : Variable) → IsFree x (tree_of left.now) → IsFree x (tree_of right.now) }
+    requires safe_right { Safe (tree_of right.now) Nothing }
+    requires safe_left { Safe (tree_of left.now) (With Nothing (tree_of right.now)) }
     ensures { IfOk result (λ m. (place : ℕ)
         → IsBegun (tree.Since place interval (tree_of left.now) (tree_of right.now)) m) }
 {
     since();
+    safe_with_listed();
     let columns = right.free_vars(alloc)?;
     let left = guard_of(alloc, left, &columns)?;
     let right = guard_of(alloc, right, &Vars::new(alloc))?;
@@ -173,13 +182,15 @@ fn denial_of(alloc: Global, formula: &Formula) -> Result<Formula, NoMemory>
     }
 }
 
-// A guard's operand is a guard with these variables bound.
+// The guard of a formula that can be evaluated with these variables bound.
 pub fn guard_of(alloc: Global, formula: &Formula, bound: &Vars) -> Result<Guard, NoMemory>
+    requires { Safe (tree_of formula.now) (Contains bound.now) }
     ensures formula { IfOk result (λ g. tree_of g.formula ≡ tree_of formula.now) }
     ensures bound { IfOk result (λ g. g.bound ≡ bound.now) }
 {
     match Guard::of(alloc, formula.duplicate(alloc)?, bound) {
         Ok(guard) => Ok(guard),
-        Err(_refusal) => Err(NoMemory),
+        Err(GuardRefusal::NoMemory) => Err(NoMemory),
+        Err(GuardRefusal::Unguarded { .. }) => unreachable!(),
     }
 }

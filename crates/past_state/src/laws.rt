@@ -1,11 +1,12 @@
 //! How windows and slots stand for a trace, step by step: laws over the definitions, each the contract of a function.
+ghost use Rattle.past_state.specs.Known.{TablesAreKnown};
 ghost use Rattle.past_state.specs.Laws.{WindowBegins, SinceAnswers, SinceGoesOn, OnceBegins, OnceAnswers, OnceGoesOn, HistoricallyIsDenied, SlotBegins, PrevAnswers, PrevGoesOn};
 ghost use Rattle.past_state.specs.Past.{RunStands, CommitStands};
 
 use enf_formula::laws::{dependence, is_classical};
 use monitorable_guard::laws::present_is_satisfied;
 use trace_meaning::laws::trace_grows;
-use windows::laws::step_by_step;
+use windows::laws::{step_by_step, windows_stand};
 
 /// A window of `since`, from no step on.
 pub fn since()
@@ -16,6 +17,7 @@ pub fn since()
     dependence();
     trace_grows();
     step_by_step();
+    windows_stand();
 }
 
 /// A window of `once`, and that of `historically`.
@@ -29,6 +31,7 @@ pub fn once()
     is_classical();
     trace_grows();
     step_by_step();
+    windows_stand();
 }
 
 /// A slot of `prev`, from no step on.
@@ -51,4 +54,12 @@ pub fn steps_stand()
     once();
     prev();
     present_is_satisfied();
+}
+
+/// Whatever was committed before: each value of the tables at a step is one of its events, of the constants of the
+/// guards, or of a row that is kept.
+pub fn tables_are_known()
+    ensures { TablesAreKnown }
+{
+    windows_stand();
 }

@@ -9,3 +9,5 @@ pub mod operators;
 pub mod past;
 mod stack;
 mod surviving;
+
+pub use past::{PastState, Tables};

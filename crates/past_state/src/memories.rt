@@ -6,6 +6,7 @@ ghost use Rattle.enf_value.specs.Valuations.{Valuation as Bound};
 ghost use Rattle.monitorable_guard.specs.Evaluation.{FitOperators};
 ghost use Rattle.monitorable_guard.specs.Present.{HoldsNow, outermost};
 ghost use Rattle.monitorable_guard.specs.Safety.{BindsFresh};
+ghost use Rattle.past_state.specs.Sources.{AllComeFrom};
 ghost use Rattle.valuations.specs.Just.{Binds};
 ghost use Rattle.valuations.specs.Tables.{IsTable, Has};
 
@@ -45,7 +46,7 @@ pub struct StepTables {
 }
 
 impl Memory {
-    ghost use Rattle.past_state.specs.Memories.{CanStep, AreStepTables, FitMemory, IsUpToTimeOf, GivesNow, committed};
+    ghost use Rattle.past_state.specs.Memories.{CanStep, AreStepTables, FitMemory, IsUpToTimeOf, GivesNow, IsCommittedTo, IsSameMemory};
 
     /// What a step with these events brings, from the tables of the outermost operators of the operands, the first
     /// of which stands last.
@@ -103,12 +104,12 @@ impl Memory {
         }
     }
 
-    /// Makes the step the last one.
+    /// Makes the step the last one. After want of memory it answers no more calls but drop.
     pub fn commit(&mut self, time: u64, tables: StepTables) -> Result<(), NoMemory>
         requires later { IsUpToTimeOf time self.old }
         requires fits { FitMemory self.old tables }
-        ensures ok { OnOk result (self.new ≡ committed self.old time tables) }
-        ensures err { OnErr result (self.new ≡ self.old) }
+        ensures ok { OnOk result (IsCommittedTo self.old time tables self.new) }
+        ensures kind { IsSameMemory self.old self.new }
     {
         match self {
             Memory::Prev { slot, .. } => {
@@ -136,6 +137,8 @@ fn all_rows(
     ensures free { IfOk result (λ t. AreFreeVariables (tree_of guard.now.formula) t.columns) }
     ensures rows { IfOk result (λ t. (v : Bound) → Binds v t.columns
         → Has t v ↔ HoldsNow events.now (reverse stack.now) v (tree_of guard.now.formula)) }
+    ensures known { IfOk result
+        (AllComeFrom events.now (reverse stack.now) (tree_of guard.now.formula)) }
 {
     let past = Stack { tables: stack };
     guard.evaluate_at(alloc, events, &past, &Valuation::empty(alloc))

@@ -1,6 +1,6 @@
 //! The operators on the past of guards, from the inside out.
 ghost use Rattle.std.specs.Prelude.{◌≡◌, [], IfOk, OnOk, reverse};
-ghost use Rattle.past_state.specs.Runs.{AreOrdered, AreUpToTimeOf, Runs, AllFit, commit_all, SomeCommitted};
+ghost use Rattle.past_state.specs.Runs.{AreOrdered, AreUpToTimeOf, Runs, AllFit, AllCommitted, AreSameKinds};
 
 use crate::memories::{Memory, StepTables};
 use enf_value::event_sets::EventSet;
@@ -58,9 +58,8 @@ pub fn commit_each(
 ) -> Result<(), NoMemory>
     requires later { AreUpToTimeOf time operators.old.items }
     requires fits { AllFit operators.old.items steps.items }
-    ensures ok { OnOk result (operators.new.items
-        ≡ commit_all time operators.old.items steps.items) }
-    ensures some { SomeCommitted time operators.old.items steps.items operators.new.items }
+    ensures ok { OnOk result (AllCommitted time operators.old.items steps.items operators.new.items) }
+    ensures kinds { AreSameKinds operators.old.items operators.new.items }
 {
     let mut place = 0;
     for step in steps {

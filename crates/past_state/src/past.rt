@@ -3,7 +3,7 @@ ghost use Rattle.std.specs.Prelude.{◌≡◌, ◌≤◌, ℕ, [], IfOk, OnOk, A
 ghost use Rattle.valuations.specs.Tables.{IsTable};
 
 use crate::guards::{PlacedGuard, place_all, push_all};
-use crate::laws::steps_stand;
+use crate::laws::{steps_stand, tables_are_known};
 use crate::memories::StepTables;
 use crate::operators::{Operator, commit_each, run};
 use crate::stack::Stack;
@@ -71,8 +71,9 @@ impl Model for Tables {
 }
 
 impl PastState {
-    ghost use Rattle.past_state.specs.Past.{AreOf, PastStands, TablesWillStand, CommittedWillStand, with_committed};
+    ghost use Rattle.past_state.specs.Past.{AreOf, PastStands, TablesWillStand, CommittedWillStand, PastCommitted};
     ghost use Rattle.past_state.specs.Guarded.{AreCopies, IsFreshGuard};
+    ghost use Rattle.past_state.specs.Known.{AreKnown};
     ghost use Rattle.past_state.specs.Runs.{AreUpToTimeOf, AllFit};
 
     /// One window or slot for each operator on the past, before the first step. No quantifier in a guard binds a
@@ -95,8 +96,10 @@ impl PastState {
         requires { AreUpToTimeOf time self.now.operators }
         ensures are { IfOk result (AreOf self.now time events.now) }
         ensures stand { IfOk result (TablesWillStand self.now time events.now) }
+        ensures known { IfOk result (AreKnown self.now events.now) }
     {
         steps_stand();
+        tables_are_known();
         let ran = run(alloc, self.operators.as_slice(), time, events)?;
         Ok(Tables {
             guards: self.guards.clone()?,
@@ -109,7 +112,7 @@ impl PastState {
     pub fn commit(&mut self, time: u64, _events: &EventSet, tables: Tables) -> Result<(), NoMemory>
         requires later { AreUpToTimeOf time self.old.operators }
         requires are { AreOf self.old time _events.now tables }
-        ensures ok { OnOk result (self.new ≡ with_committed self.old time tables.steps) }
+        ensures ok { OnOk result (PastCommitted self.old time tables.steps self.new) }
         ensures up_to { OnOk result ((later : ℕ) → time ≤ later
             → AreUpToTimeOf later self.new.operators) }
         ensures stands { OnOk result (CommittedWillStand self.old time _events.now tables self.new) }
@@ -121,6 +124,7 @@ impl PastState {
 
 impl Tables {
     ghost use Rattle.std.specs.Prelude.{◌<◌, length};
+    ghost use Rattle.past_state.specs.Known.{IsKnownOfGuard};
     ghost use Rattle.past_state.specs.Past.{BindsBound, AreEvaluated, AreSatisfied, IsTestOf, IsEvaluated, IsSatisfied};
 
     /// The guard's rows at the step, with the valuation's values of the bound variables.
@@ -136,6 +140,7 @@ impl Tables {
         ensures table { IfOk result IsTable }
         ensures evaluated { IfOk result (AreEvaluated self.now guard events.now v.now) }
         ensures satisfied { IfOk result (AreSatisfied self.now guard events.now v.now) }
+        ensures known { IfOk result (IsKnownOfGuard self.now guard events.now v.now) }
     {
         present_is_satisfied();
         let placed = &self.guards[guard as usize];

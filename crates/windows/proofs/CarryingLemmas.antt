@@ -1,5 +1,5 @@
 -- The rows that go from step to step.
-use Rattle.std.proofs.Common.{◌≡◌, ◌∙◌, ◌↔◌, ◌⊎◌, inl, inr, ⊎_elim, ℕ, ◌+◌, ◌-◌, ◌<◌, ◌≤◌, Bool, true, IsTrue, List, [], ◌∷◌, ◌++◌, length, take, get_or, All, Contains, refl, sym, ap, subst, arith, append-nil}
+use Rattle.std.proofs.Common.{◌≡◌, ◌∙◌, ◌↔◌, ◌⊎◌, inl, inr, ⊎_elim, ℕ, ◌+◌, ◌-◌, ◌<◌, ◌≤◌, Bool, true, IsTrue, List, [], ◌∷◌, ◌++◌, length, take, get_or, All, Contains, refl, sym, ap, subst, append-nil}
 use Rattle.std.proofs.lemmas.List.{take_all, take_more}
 use Rattle.std.proofs.lemmas.List.Elements.{All-get_or}
 use Rattle.enf_value.specs.Membership.{IsIn}
@@ -8,10 +8,9 @@ use Rattle.enf_value.specs.declared.intervals.Interval.{Interval}
 use Rattle.enf_value.specs.declared.terms.VarId.{VarId}
 use Rattle.valuations.specs.Columns.{here, not_shared_in}
 use Rattle.valuations.specs.Tables.{Relation, Has, not_shared, AreSameColumns}
-use Rattle.windows.specs.Answers.{Answers, Lasts}
-use Rattle.windows.specs.Windows.{HasColumns, at}
+use Rattle.windows.specs.Answers.{Answers, HasColumns}
 use Rattle.windows.specs.declared.steps.CommittedStep.{CommittedStep}
-use Rattle.windows.proofs.HeldLemmas.{held_more, held_lasts, nothing_at_first}
+use Rattle.windows.proofs.HeldLemmas.{held_more, nothing_at_first}
 
 nil_from_none : {X : Type 0} (xs : List X) → ((x : X) → Contains xs x → ⊥) → xs ≡ []
 nil_from_none [] none = refl
@@ -81,22 +80,3 @@ nothing_walked interval time t none v = (λ h. absurd (none v h), λ h. absurd (
 pub fitting : (columns : List VarId) (steps : List CommittedStep) (i : ℕ) (step : CommittedStep) → i < length steps
     → step ≡ get_or steps i step → All (HasColumns columns) steps → HasColumns columns step
 fitting columns steps i step within is fits = subst (HasColumns columns) (sym is) (All-get_or (HasColumns columns) steps i step within fits)
-
--- the last step is the present one
-pub walked_now : (interval : Interval) (time : ℕ) (steps : List CommittedStep) (surviving right : Relation) (counts : Bool) (held t : Relation)
-    → (IsTrue counts ↔ IsIn interval 0)
-    → ((v : Valuation) → Has held v ↔ Answers interval time steps v)
-    → ((v : Valuation) → Has t v ↔ ((IsTrue counts × Has right v) ⊎ (Has held v × Has surviving v)))
-    → (v : Valuation) → Has t v ↔ Answers interval time (steps ++ at time surviving right ∷ []) v
-walked_now interval time steps surviving right counts held t counted before has =
-    let same : 0 ≡ time - time = omega arith in
-    walked interval time steps (at time surviving right) counts held t (subst (λ d. IsTrue counts ↔ IsIn interval d) same counted) before has
-
--- where each distance is in the interval
-pub lasting : (interval : Interval) (time : ℕ) (these steps : List CommittedStep) (t : Relation) → these ≡ steps → ((d : ℕ) → IsIn interval d)
-    → ((v : Valuation) → Has t v ↔ Answers interval time these v)
-    → (v : Valuation) → Has t v ↔ Lasts steps v
-lasting interval time these steps t same always has v = subst (λ l. Has t v ↔ Lasts l v) same (
-  λ h. held_lasts _ these v ((has v).0 h),
-  λ h. (has v).1 (record { before = h.before; step = h.step; after = h.after; split = h.split; counts = always (time - h.step.time); right = h.right; survives = h.survives }),
-)

@@ -4,7 +4,7 @@ use Rattle.std.proofs.lemmas.List.Elements.{All-push, All-nil, All-contains, Con
 use Rattle.enf_value.specs.Membership.{IsIn}
 use Rattle.enf_value.specs.Valuations.{Valuation}
 use Rattle.valuations.specs.Tables.{Has}
-use Rattle.windows.specs.Answers.{IsHeld, Lasts}
+use Rattle.windows.specs.Answers.{IsHeld}
 use Rattle.windows.specs.Laws.{NothingAtFirst, OneStepMore, LaterAnswersLast}
 use Rattle.windows.specs.declared.steps.CommittedStep.{CommittedStep}
 
@@ -66,10 +66,6 @@ nothing_at_first interval time v = none_held (λ earlier. IsIn interval (time - 
 
 pub one_step_more : OneStepMore
 one_step_more interval time steps step v = held_more (λ earlier. IsIn interval (time - earlier)) steps step v
-
--- what is held at times that count is held where each time counts
-pub held_lasts : (C : ℕ → Type 0) (steps : List CommittedStep) (v : Valuation) → IsHeld C steps v → Lasts steps v
-held_lasts C steps v h = record { before = h.before; step = h.step; after = h.after; split = h.split; counts = tt; right = h.right; survives = h.survives }
 
 pub later_answers_last : LaterAnswersLast
 later_answers_last interval time steps more v h =

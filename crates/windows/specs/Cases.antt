@@ -6,9 +6,8 @@ use Rattle.enf_value.specs.declared.terms.VarId.{VarId}
 use Rattle.enf_value.specs.declared.values.Value.{Value}
 use Rattle.enf_value.specs.declared.values.Value.TheVariants.{Num}
 use Rattle.valuations.specs.Tables.{Relation, valuation_of}
-use Rattle.windows.specs.Answers.{Answers}
+use Rattle.windows.specs.Answers.{Answers, at}
 use Rattle.windows.specs.Slots.{GivesLast, with_rows}
-use Rattle.windows.specs.Windows.{at}
 use Rattle.windows.specs.declared.steps.CommittedStep.{CommittedStep}
 use Rattle.windows.specs.declared.steps.LastStep.{LastStep}
 

@@ -1,10 +1,11 @@
 -- The statements of the laws of windows.
-use Rattle.std.specs.Prelude.{ℕ, ◌-◌, ◌↔◌, ◌⊎◌, List, [], ◌∷◌, ◌++◌}
+use Rattle.std.specs.Prelude.{ℕ, ◌-◌, ◌≤◌, ◌↔◌, ◌⊎◌, List, [], ◌∷◌, ◌++◌}
 use Rattle.enf_value.specs.Membership.{IsIn}
 use Rattle.enf_value.specs.Valuations.{Valuation}
 use Rattle.enf_value.specs.declared.intervals.Interval.{Interval}
-use Rattle.valuations.specs.Tables.{Has}
-use Rattle.windows.specs.Answers.{Answers, Lasts}
+use Rattle.valuations.specs.Tables.{Has, Relation}
+use Rattle.windows.specs.Answers.{Answers, HasColumns, Lasts, at}
+use Rattle.windows.specs.Windows.{Window, Remembers, Keeps, IsCommitted, GoesOnStanding}
 use Rattle.windows.specs.declared.steps.CommittedStep.{CommittedStep}
 
 -- no step answers nothing
@@ -21,3 +22,14 @@ OneStepMore = (interval : Interval) (time : ℕ) (steps : List CommittedStep) (s
 abbrev pub LaterAnswersLast : Type 0
 LaterAnswersLast = (interval : Interval) (time : ℕ) (steps more : List CommittedStep) (v : Valuation)
     → Answers interval time (steps ++ more) v → Lasts steps v ⊎ Lasts more v
+
+-- what a window remembers at a time from its last one on it kept at the last one
+abbrev pub RememberedIsKept : Type 0
+RememberedIsKept = (window : Window) (time : ℕ) (v : Valuation) → window.last ≤ time → Remembers window time v
+    → Keeps window window.last v
+
+-- with a step committed that is not earlier, and has tables of its columns, a window stands for the longer list
+abbrev pub CommittedStands : Type 0
+CommittedStands = (before : Window) (time : ℕ) (surviving right : Relation) (after : Window) → before.last ≤ time
+    → HasColumns before.columns (at time surviving right) → IsCommitted before time surviving right after
+    → GoesOnStanding before time surviving right after

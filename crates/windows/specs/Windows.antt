@@ -1,29 +1,120 @@
--- What an operator `since` on the past has to remember: the steps that were committed.
-use Rattle.std.specs.Prelude.{◌≡◌, ℕ, ◌≤◌, List, All}
-use Rattle.enf_value.specs.Membership.{HasNoRepeats}
+-- What an operator `since` on the past has to remember, and for which committed steps it stands.
+use Rattle.std.specs.Prelude.{◌≡◌, ◌↔◌, ◌⊎◌, ℕ, ◌-◌, ◌≤◌, List, map, All, Contains, length}
+use Rattle.smallvec.specs.SmallVec.{SmallVec}
+use Rattle.enf_value.specs.Membership.{HasNoRepeats, IsIn}
+use Rattle.enf_value.specs.Valuations.{Valuation}
 use Rattle.enf_value.specs.declared.intervals.Interval.{Interval}
 use Rattle.enf_value.specs.declared.terms.VarId.{VarId}
-use Rattle.valuations.specs.Tables.{Relation}
+use Rattle.enf_value.specs.declared.values.Value.{Value}
+use Rattle.valuations.specs.Tables.{Relation, IsTable, Agrees, Has}
+use Rattle.windows.specs.Answers.{Answers, AreUpTo, HasColumns, to_the_end, with_step}
+use Rattle.windows.specs.Pairs.{AreKept}
 use Rattle.windows.specs.declared.steps.CommittedStep.{CommittedStep}
+use Rattle.windows.specs.declared.surviving.Surviving.{Surviving}
+use Rattle.windows.specs.declared.surviving.Surviving.TheVariants.{All as Whole, Only, AllBut}
 
+-- rows, each with times at which it was right; the last time is 0 where no step is committed
 pub record Window : Type 0 where
   pub interval : Interval
   pub columns : List VarId
-  pub steps : List CommittedStep
+  pub last : ℕ
+  pub kept : List (List Value × List ℕ)
 
--- a step at this time, with the rows that survive it and those that are right at it
-abbrev pub at : ℕ → Relation → Relation → CommittedStep
-at time surviving right = record { time = time; surviving = surviving; right = right }
+-- the rows with their times
+abbrev pub kept_of : List (List Value × SmallVec ℕ) → List (List Value × List ℕ)
+kept_of entries = map (λ e. (e.0, e.1.items)) entries
 
--- no step is later than the time
-abbrev pub AreUpTo : ℕ → List CommittedStep → Type 0
-AreUpTo time steps = All (λ step. step.time ≤ time) steps
+-- the columns are distinct, each row is as long as they, and its times rise up to the last one
+pub record IsWindow (columns : List VarId) (last : ℕ) (entries : List (List Value × SmallVec ℕ)) : Type 0 where
+  pub distinct : HasNoRepeats columns
+  pub kept : AreKept (length columns) last entries
 
--- both tables have these columns, in this order
-abbrev pub HasColumns : List VarId → CommittedStep → Type 0
-HasColumns columns step = (step.surviving.columns ≡ columns) × (step.right.columns ≡ columns)
+-- a row with the valuation's values has this time
+abbrev pub HasRow : Window → Valuation → ℕ → Type 0
+HasRow window v time = (row : List Value) × (times : List ℕ) × Contains window.kept (row, times)
+    × Contains times time × Agrees v window.columns row
 
--- the columns are distinct, and the tables of each step have them
-pub record IsWindow (window : Window) : Type 0 where
-  pub distinct : HasNoRepeats window.columns
-  pub fits : All (HasColumns window.columns) window.steps
+-- one of its times is at a distance in the interval
+abbrev pub RemembersIn : Interval → Window → ℕ → Valuation → Type 0
+RemembersIn interval window time v = (earlier : ℕ) × IsIn interval (time - earlier) × HasRow window v earlier
+
+-- what it remembers gives the valuation at the time, where each remembered row survives
+abbrev pub Remembers : Window → ℕ → Valuation → Type 0
+Remembers window time v = RemembersIn window.interval window time v
+
+-- and what it remembers for this time or a later one: the time is not past the end of the interval
+abbrev pub Keeps : Window → ℕ → Valuation → Type 0
+Keeps window time v = RemembersIn (to_the_end window.interval) window time v
+
+-- which valuations survive a step
+abbrev pub SurvivesFor : Surviving → Valuation → Type 0
+SurvivesFor Whole v = Unit {0}
+SurvivesFor (Only rows) v = Has rows.now v
+SurvivesFor (AllBut rows) v = Has rows.now v → ⊥
+
+-- the table that tells it has these columns
+abbrev pub FitsColumns : List VarId → Surviving → Type 0
+FitsColumns columns Whole = Unit {0}
+FitsColumns columns (Only rows) = rows.now.columns ≡ columns
+FitsColumns columns (AllBut rows) = rows.now.columns ≡ columns
+
+-- what is known of that table
+abbrev pub AreTables : Surviving → Type 0
+AreTables Whole = Unit {0}
+AreTables (Only rows) = IsTable rows.now
+AreTables (AllBut rows) = IsTable rows.now
+
+-- the window stands for the steps: at each time from its last one on it remembers what the plain walk over them gives,
+-- and keeps what that walk gives at that time or can give later
+pub record StandsFor (window : Window) (steps : List CommittedStep) : Type 0 where
+  pub fits : All (HasColumns window.columns) steps
+  pub up_to : AreUpTo window.last steps
+  pub remembers : (time : ℕ) → window.last ≤ time → (v : Valuation)
+      → Remembers window time v ↔ Answers window.interval time steps v
+  pub keeps : (time : ℕ) → window.last ≤ time → (v : Valuation)
+      → Keeps window time v ↔ Answers (to_the_end window.interval) time steps v
+
+-- at a step at this time a window gives the rows that are right at it, where 0 is in the interval, and those of the
+-- remembered ones that survive it
+abbrev pub AnswersBy : Window → ℕ → (Valuation → Type 0) → Relation → Valuation → Type 0
+AnswersBy window time S right v = (IsIn window.interval 0 × Has right v) ⊎ (Remembers window time v × S v)
+
+abbrev pub AnswersNow : Window → ℕ → Relation → Relation → Valuation → Type 0
+AnswersNow window time surviving right v = AnswersBy window time (Has surviving) right v
+
+-- with the step committed the window remembers, and keeps, those that are right at it, by the distance from its time,
+-- and those of the ones before that survive it
+pub record IsCommittedBy (before : Window) (time : ℕ) (S : Valuation → Type 0) (right : Relation) (after : Window)
+    : Type 0 where
+  pub interval_is : after.interval ≡ before.interval
+  pub columns_are : after.columns ≡ before.columns
+  pub last_is : after.last ≡ time
+  pub remembers : (later : ℕ) → time ≤ later → (v : Valuation)
+      → Remembers after later v
+      ↔ ((IsIn before.interval (later - time) × Has right v) ⊎ (Remembers before later v × S v))
+  pub keeps : (later : ℕ) → time ≤ later → (v : Valuation)
+      → Keeps after later v
+      ↔ ((IsIn (to_the_end before.interval) (later - time) × Has right v) ⊎ (Keeps before later v × S v))
+
+abbrev pub IsCommitted : Window → ℕ → Relation → Relation → Window → Type 0
+IsCommitted before time surviving right after = IsCommittedBy before time (Has surviving) right after
+
+-- the columns and the interval stay
+pub record IsSameKind (before after : Window) : Type 0 where
+  pub interval_is : after.interval ≡ before.interval
+  pub columns_are : after.columns ≡ before.columns
+
+-- the table is that of the walk over each list of steps for which the window stands, with this step more
+abbrev pub IsWalkedNow : Window → ℕ → Relation → Relation → Relation → Type 0
+IsWalkedNow window time surviving right t = (steps : List CommittedStep) → StandsFor window steps → (v : Valuation)
+    → Has t v ↔ Answers window.interval time (with_step steps time surviving right) v
+
+-- it has the rows that a step at the last time or later can answer by a step of such a list
+abbrev pub IsWalkedLater : Window → Relation → Type 0
+IsWalkedLater window t = (steps : List CommittedStep) → StandsFor window steps → (v : Valuation)
+    → Has t v ↔ Answers (to_the_end window.interval) window.last steps v
+
+-- the window stands for such a list with this step more
+abbrev pub GoesOnStanding : Window → ℕ → Relation → Relation → Window → Type 0
+GoesOnStanding before time surviving right after = (steps : List CommittedStep) → StandsFor before steps
+    → StandsFor after (with_step steps time surviving right)

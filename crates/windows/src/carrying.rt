@@ -3,8 +3,7 @@ ghost use Rattle.std.specs.Prelude.{◌≡◌, ◌↔◌, ◌⊎◌, IsTrue, IfO
 ghost use Rattle.enf_value.specs.Membership.{HasNoRepeats};
 ghost use Rattle.enf_value.specs.Valuations.{Valuation as Bound};
 ghost use Rattle.valuations.specs.Tables.{IsTable, Has};
-ghost use Rattle.windows.specs.Answers.{Answers};
-ghost use Rattle.windows.specs.Windows.{HasColumns};
+ghost use Rattle.windows.specs.Answers.{Answers, HasColumns};
 
 use crate::steps::CommittedStep;
 use enf_value::intervals::Interval;

@@ -3,12 +3,18 @@
 #![tactic(auto)]
 
 mod carrying;
+mod entries;
 pub mod laws;
 pub mod prev;
 pub mod since;
+pub mod since_walk;
 pub mod steps;
+pub mod surviving;
+mod times;
 pub mod worked_cases;
 
 pub use prev::PrevSlot;
 pub use since::SinceWindow;
+pub use since_walk::SinceWalk;
 pub use steps::{CommittedStep, LastStep};
+pub use surviving::Surviving;

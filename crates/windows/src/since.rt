@@ -1,66 +1,94 @@
 //! Windows of the operators `since`, `once` and `historically`.
-ghost use Rattle.std.specs.Prelude.{◌≡◌, ◌↔◌, [], ◌∷◌, ◌++◌, IfOk, OnOk, OnErr};
+ghost use Rattle.std.specs.Prelude.{◌≡◌, ◌↔◌, ◌≤◌, [], IfOk, OnOk, OnErr};
 ghost use Rattle.enf_value.specs.Membership.{HasNoRepeats};
 ghost use Rattle.enf_value.specs.Valuations.{Valuation as Bound};
 ghost use Rattle.valuations.specs.Tables.{IsTable, Has};
-ghost use Rattle.windows.specs.Answers.{Answers, Lasts};
 
-use crate::carrying::{carried, held};
-use crate::steps::CommittedStep;
+use crate::entries::{
+    Entries, add_rows, forget_steps, keep_surviving, push_ending, push_given, push_now,
+};
+use crate::steps::LastStep;
+use crate::surviving::Surviving;
 use enf_value::intervals::Interval;
 use enf_value::items::Duplicate;
 use enf_value::memory::NoMemory;
+use enf_value::rows::Row;
 use enf_value::terms::Vars;
+use indexmap::IndexMap;
 use std::alloc::Global;
+use std::collections::VecDeque;
 use std::marker::Model;
 use valuations::Table;
 
-/// The steps that were committed, each with the rows that survive it and those that are right at it.
+/// The rows that were right at a committed step and survived each step behind it, with the times of those steps that a
+/// later step can ask for.
 #[derive(Debug, Drop)]
 pub struct SinceWindow {
     interval: Interval,
     columns: Vars,
-    steps: Vec<CommittedStep>,
+    last: u64,
+    entries: Entries,
+    // of an interval with an end, the steps whose rows may end, in order
+    ending: VecDeque<LastStep>,
 }
 
 impl Model for SinceWindow {
-    ghost use Rattle.windows.specs.Windows.{Window, IsWindow};
+    ghost use Rattle.windows.specs.Windows.{Window, IsWindow, kept_of};
 
     ghost Value = { Window };
 
-    ghost view = { λ w. record { interval = w.interval; columns = w.columns; steps = w.steps.items } };
-
-    ghost invariant = { λ w. IsWindow (record {
+    ghost view = { λ w. record {
       interval = w.interval;
       columns = w.columns;
-      steps = w.steps.items;
-    }) };
+      last = w.last;
+      kept = kept_of w.entries.entries;
+    } };
+
+    ghost invariant = { λ w. IsWindow w.columns w.last w.entries.entries };
 }
 
 impl SinceWindow {
-    ghost use Rattle.windows.specs.Windows.{AreUpTo, at};
+    ghost use Rattle.windows.specs.Windows.{StandsFor, Keeps, AnswersBy, AnswersNow, FitsColumns, IsWalkedNow, IsWalkedLater, IsCommitted, IsCommittedBy, IsSameKind, GoesOnStanding, SurvivesFor};
 
     /// No step is committed. The columns are distinct.
     pub fn new(alloc: Global, interval: Interval, columns: Vars) -> SinceWindow
         requires { HasNoRepeats columns }
-        ensures { result ≡ record { interval = interval; columns = columns; steps = [] } }
+        ensures interval { result.interval ≡ interval }
+        ensures columns { result.columns ≡ columns }
+        ensures last { result.last ≡ 0 }
+        ensures stands { StandsFor result [] }
     {
         SinceWindow {
             interval,
             columns,
-            steps: Vec::new(alloc),
+            last: 0,
+            entries: IndexMap::new(alloc),
+            ending: VecDeque::new(alloc),
         }
     }
 
-    /// The rows that a later step can answer by a step committed so far: those that are right at such a step and
-    /// survive each one behind it.
+    /// The rows that a step from the last time on can answer by a step committed so far: those that are right at such
+    /// a step, at a distance from the last time that is not past the interval, and survive each one behind it.
     pub fn rows(&self, alloc: Global) -> Result<Table, NoMemory>
         ensures table { IfOk result IsTable }
         ensures columns { IfOk result (λ t. t.columns ≡ self.now.columns) }
-        ensures rows { IfOk result (λ t. (v : Bound) → Has t v ↔ Lasts self.now.steps v) }
+        ensures rows { IfOk result (λ t. (v : Bound) → Has t v ↔ Keeps self.now self.now.last v) }
+        ensures walked { IfOk result (IsWalkedLater self.now) }
     {
-        let any = Interval { low: 0, high: None };
-        held(alloc, &self.columns, self.steps.as_slice(), any, 0)
+        let to_the_end = Interval {
+            low: 0,
+            high: self.interval.high,
+        };
+        let mut rows = Vec::new(alloc);
+        push_given(
+            alloc,
+            &self.entries,
+            &Surviving::All,
+            to_the_end,
+            self.last,
+            &mut rows,
+        )?;
+        Table::from_rows(self.columns.duplicate(alloc)?, rows)
     }
 
     /// The rows that hold at a step at this time: those that are right at it, where 0 is in the interval, and
@@ -73,44 +101,80 @@ impl SinceWindow {
         surviving: &Table,
         right: &Table,
     ) -> Result<Table, NoMemory>
-        requires later { AreUpTo time self.now.steps }
+        requires later { self.now.last ≤ time }
         requires surviving_columns { surviving.now.columns ≡ self.now.columns }
         requires right_columns { right.now.columns ≡ self.now.columns }
         ensures table { IfOk result IsTable }
         ensures columns { IfOk result (λ t. t.columns ≡ self.now.columns) }
         ensures rows { IfOk result (λ t. (v : Bound) → Has t v
-            ↔ Answers self.now.interval time
-            (self.now.steps ++ at time surviving.now right.now ∷ []) v) }
+            ↔ AnswersNow self.now time surviving.now right.now v) }
+        ensures walked { IfOk result (IsWalkedNow self.now time surviving.now right.now) }
     {
-        let past = held(
-            alloc,
-            &self.columns,
-            self.steps.as_slice(),
-            self.interval,
-            time,
-        )?;
-        carried(alloc, &past, surviving, right, self.interval.has(0))
+        self.answer_by(alloc, time, &Surviving::Only(surviving), right)
     }
 
-    /// Makes this step the last one; want of memory changes nothing. No committed step is later, and the tables have
-    /// the window's columns.
+    /// The same of the rows that survive by all, by a table, or by all but a table.
+    pub fn answer_by(
+        &self,
+        alloc: Global,
+        time: u64,
+        surviving: &Surviving<'_>,
+        right: &Table,
+    ) -> Result<Table, NoMemory>
+        requires later { self.now.last ≤ time }
+        requires surviving_columns { FitsColumns self.now.columns surviving.now }
+        requires right_columns { right.now.columns ≡ self.now.columns }
+        ensures table { IfOk result IsTable }
+        ensures columns { IfOk result (λ t. t.columns ≡ self.now.columns) }
+        ensures rows { IfOk result (λ t. (v : Bound) → Has t v
+            ↔ AnswersBy self.now time (SurvivesFor surviving.now) right.now v) }
+    {
+        let mut rows = Vec::new(alloc);
+        surviving.tables();
+        push_given(
+            alloc,
+            &self.entries,
+            surviving,
+            self.interval,
+            time,
+            &mut rows,
+        )?;
+        push_now(alloc, right, self.interval, &mut rows)?;
+        Table::from_rows(self.columns.duplicate(alloc)?, rows)
+    }
+
+    /// Makes this step the last one. After want of memory the window answers no more calls but drop. No committed step
+    /// is later, and the tables have the window's columns.
     pub fn commit(&mut self, time: u64, surviving: &Table, right: &Table) -> Result<(), NoMemory>
-        requires later { AreUpTo time self.old.steps }
+        requires later { self.old.last ≤ time }
         requires surviving_columns { surviving.now.columns ≡ self.old.columns }
         requires right_columns { right.now.columns ≡ self.old.columns }
-        ensures ok { OnOk result (self.new ≡ record self.old {
-          steps = self.old.steps ++ at time surviving.now right.now ∷ [];
-        }) }
-        ensures err { OnErr result (self.new ≡ self.old) }
+        ensures ok { OnOk result (IsCommitted self.old time surviving.now right.now self.new) }
+        ensures stands { OnOk result (GoesOnStanding self.old time surviving.now right.now self.new) }
+        ensures kind { IsSameKind self.old self.new }
     {
-        let alloc = *self.steps.allocator();
-        let surviving = surviving.duplicate(alloc)?;
-        let right = right.duplicate(alloc)?;
-        self.steps.push(CommittedStep {
-            time,
-            surviving,
-            right,
-        })?;
-        Ok(())
+        self.commit_by(time, &Surviving::Only(surviving), right)
+    }
+
+    /// The same of the rows that survive by all, by a table, or by all but a table.
+    pub fn commit_by(
+        &mut self,
+        time: u64,
+        surviving: &Surviving<'_>,
+        right: &Table,
+    ) -> Result<(), NoMemory>
+        requires later { self.old.last ≤ time }
+        requires surviving_columns { FitsColumns self.old.columns surviving.now }
+        requires right_columns { right.now.columns ≡ self.old.columns }
+        ensures ok { OnOk result (IsCommittedBy self.old time (SurvivesFor surviving.now) right.now self.new) }
+        ensures kind { IsSameKind self.old self.new }
+    {
+        let alloc = *self.entries.allocator();
+        surviving.tables();
+        push_ending(alloc, &mut self.ending, self.interval, time, right)?;
+        forget_steps(&mut self.entries, &mut self.ending, self.interval, time);
+        keep_surviving(&mut self.entries, surviving);
+        self.last = time;
+        add_rows(alloc, &mut self.entries, right, self.interval, time)
     }
 }

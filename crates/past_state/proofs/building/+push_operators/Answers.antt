@@ -5,7 +5,7 @@ use Rattle.enf_formula.specs.Formulas.{Prev, Once, Historically, Since}
 use Rattle.enf_formula.specs.FreeVariables.{IsFree}
 use Rattle.enf_value.specs.declared.terms.VarId.{VarId}
 use Rattle.monitorable_guard.specs.Present.{outermost}
-use Rattle.monitorable_guard.specs.Safety.{BindsFresh}
+use Rattle.monitorable_guard.specs.Safety.{Safe, BindsFresh, Nothing, With, denial}
 use Rattle.past_state.specs.Keeping.{CanKeep, IsBegun, IsFresh, PushesFor}
 use Rattle.past_state.specs.Operators.{operators}
 use Rattle.past_state.proofs.BuildingLemmas.{keep_rest, keep_first, keep_left, keep_right, pushes_up, pushes_both, both_fewer, sum_counts}
@@ -137,3 +137,21 @@ returns-in_ok-since_memory-in-Since-clause-pushed t c = IfOk-weaker c.push_one-i
     (subst (λ f. IsBegun (Since c.in-Since.field-0 c.in-Since.interval (tree_of f) (tree_of c.in-Since.g.value)) c.in_ok-since_memory-in-Since.field-0) c.deref-in-Since-3.ensures
     (subst (λ g. IsBegun (Since c.in-Since.field-0 c.in-Since.interval (tree_of c.deref-in-Since-3.result.now) (tree_of g)) c.in_ok-since_memory-in-Since.field-0) c.deref-in-Since-4.ensures (c.in_ok-since_memory-in-Since.ensures c.in-Since.field-0)))
     (sum_counts (outermost (tree_of c.in-Since.f.value)) (outermost (tree_of c.in-Since.g.value)) _ _ (c.in_ok-left-in-Since.ensures.count ∙ ap (λ f. length (outermost (tree_of f))) c.deref-in-Since-2.ensures) (c.in_ok-right-in-Since.ensures.count ∙ ap (λ f. length (outermost (tree_of f))) c.deref-in-Since.ensures)) grown)) c.push_one-in-Since.ensures.pushed
+
+pub prev_memory-requires-clause-safe : goal.prev_memory-requires-clause-safe
+prev_memory-requires-clause-safe t c = subst (λ f. Safe (tree_of f) Nothing) (sym c.deref-in-Prev-2.ensures) (keep_first _ _ (subst (λ f. All CanKeep (operators (tree_of f))) c.in-Prev.is c.requires)).1
+
+pub once_memory-requires-clause-safe : goal.once_memory-requires-clause-safe
+once_memory-requires-clause-safe t c = subst (λ f. Safe (tree_of f) Nothing) (sym c.deref-in-Once-2.ensures) (keep_first _ _ (subst (λ f. All CanKeep (operators (tree_of f))) c.in-Once.is c.requires)).1
+
+pub historically_memory-requires-clause-safe : goal.historically_memory-requires-clause-safe
+historically_memory-requires-clause-safe t c =
+    subst (λ f. Safe (denial (tree_of f)) Nothing) (sym c.deref-in-Historically-2.ensures) (keep_first _ _ (subst (λ f. All CanKeep (operators (tree_of f))) c.in-Historically.is c.requires)).1
+
+pub since_memory-requires-clause-safe_right : goal.since_memory-requires-clause-safe_right
+since_memory-requires-clause-safe_right t c = subst (λ g. Safe (tree_of g) Nothing) (sym c.deref-in-Since-4.ensures) (keep_first _ _ (subst (λ f. All CanKeep (operators (tree_of f))) c.in-Since.is c.requires)).3
+
+pub since_memory-requires-clause-safe_left : goal.since_memory-requires-clause-safe_left
+since_memory-requires-clause-safe_left t c =
+    subst (λ g. Safe (tree_of g) (With Nothing (tree_of c.deref-in-Since-4.result.now))) (sym c.deref-in-Since-3.ensures)
+    (subst (λ g. Safe (tree_of c.in-Since.f.value) (With Nothing (tree_of g))) (sym c.deref-in-Since-4.ensures) (keep_first _ _ (subst (λ f. All CanKeep (operators (tree_of f))) c.in-Since.is c.requires)).4)

@@ -8,4 +8,4 @@ new-slot-requires c = distinct c.in_ok-columns.columns c.in_ok-columns.ensures.r
 
 pub returns : goal.returns
 returns c = λ place. begun_prev c.prev.ensures.begins place c.args.interval (tree_of c.args.operand.now) c.new-slot.result c.in_ok-operand.operand c.in_ok-columns.columns c.new-slot.ensures c.in_ok-columns.ensures
-    (asks (tree_of c.args.operand.now) [] c.in_ok-operand.operand (tree_of c.args.operand.now) c.in_ok-operand.ensures.formula refl (c.in_ok-operand.ensures.bound ∙ c.new.ensures) c.requires)
+    (asks (tree_of c.args.operand.now) [] c.in_ok-operand.operand (tree_of c.args.operand.now) c.in_ok-operand.ensures.formula refl (c.in_ok-operand.ensures.bound ∙ c.new.ensures) c.requires.fresh)

@@ -1,23 +1,17 @@
-use Rattle.std.proofs.Common.{◌∷◌, [], ◌++◌, arith}
-use Rattle.std.proofs.lemmas.List.Elements.{All-nil}
+use Rattle.std.proofs.Common.{◌∷◌, [], ◌++◌}
 use Rattle.past_state.specs.Laws.{satisfied}
-use Rattle.past_state.proofs.StandsLemmas.{same_sat, answered, still_stands}
+use Rattle.past_state.proofs.StandsLemmas.{same_sat, answered, begins, still_stands}
 use Rattle.past_state.proofs.laws.since.Goals as goal
 
 pub returns-clause-begins : goal.returns-clause-begins
-returns-clause-begins c = λ interval f g columns free. record {
-  interval_is = λ i. interval;
-  columns_are = free;
-  up_to = All-nil _;
-  gives = λ time from v binds. (λ h. absurd (c.step_by_step.ensures.nothing interval time v h), λ held. absurd (held (λ h. omega (arith, h.1))));
-}
+returns-clause-begins c = λ interval f g columns window free new. begins c.step_by_step.ensures.nothing interval (satisfied [] f) (satisfied [] g) g columns window free new
 
 pub returns-clause-answers : goal.returns-clause-answers
 returns-clause-answers c = λ trace step place interval f g window surviving right past_f past_g later stands tables.
-    answered c.step_by_step.ensures.more c.trace_grows.ensures.last trace step interval (satisfied trace f) (satisfied trace g) (satisfied (trace ++ step ∷ []) f) (satisfied (trace ++ step ∷ []) g) g window surviving right
+    answered c.windows_stand.ensures.kept c.trace_grows.ensures.last trace step interval (satisfied trace f) (satisfied trace g) (satisfied (trace ++ step ∷ []) f) (satisfied (trace ++ step ∷ []) g) g window surviving right
     (same_sat c.dependence.ensures.steps trace step f past_f) (same_sat c.dependence.ensures.steps trace step g past_g) later stands tables
 
 pub returns-clause-goes_on : goal.returns-clause-goes_on
 returns-clause-goes_on c = λ trace step interval f g window surviving right past_f past_g later stands tables.
-    still_stands c.step_by_step.ensures.more c.trace_grows.ensures.last trace step interval (satisfied trace f) (satisfied trace g) (satisfied (trace ++ step ∷ []) f) (satisfied (trace ++ step ∷ []) g) g window surviving right
+    still_stands c.windows_stand.ensures.kept c.trace_grows.ensures.last trace step interval (satisfied trace f) (satisfied trace g) (satisfied (trace ++ step ∷ []) f) (satisfied (trace ++ step ∷ []) g) g window surviving right
     (same_sat c.dependence.ensures.steps trace step f past_f) (same_sat c.dependence.ensures.steps trace step g past_g) later stands tables

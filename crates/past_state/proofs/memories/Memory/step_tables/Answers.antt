@@ -3,6 +3,7 @@ use Rattle.enf_formula.specs.Formulas.{tree_of}
 use Rattle.monitorable_guard.specs.Evaluation.{FitOperators}
 use Rattle.monitorable_guard.specs.Present.{HoldsNow, outermost}
 use Rattle.past_state.specs.Memories.{CanStep, AreStepTables}
+use Rattle.past_state.specs.Sources.{AllComeFrom}
 use Rattle.enf_value.specs.Valuations.{Valuation}
 use Rattle.valuations.specs.Just.{Binds}
 use Rattle.valuations.specs.Tables.{Has}
@@ -34,13 +35,13 @@ pub returns-in_ok-surviving-in-Prev : goal.returns-in_ok-surviving-in-Prev
 returns-in_ok-surviving-in-Prev c =
     subst (λ m. AreStepTables c.args.events.now (reverse c.args.stack.now) m (record { surviving = c.in_ok-surviving-in-Prev.surviving; right = c.in_ok-right-in-Prev.right })) (sym c.in-Prev.is)
     (answers_all c.args.events.now (reverse c.args.stack.now) c.in-Prev.operand c.in-Prev.slot.columns c.in_ok-right-in-Prev.right
-    (subst (CanStep (reverse c.args.stack.now)) c.in-Prev.is c.requires).free c.in_ok-right-in-Prev.ensures.free c.in_ok-right-in-Prev.ensures.rows)
+    (subst (CanStep (reverse c.args.stack.now)) c.in-Prev.is c.requires).free c.in_ok-right-in-Prev.ensures.table c.in_ok-right-in-Prev.ensures.free c.in_ok-right-in-Prev.ensures.rows c.in_ok-right-in-Prev.ensures.known)
 
 pub returns-in_ok-surviving-in-Once : goal.returns-in_ok-surviving-in-Once
 returns-in_ok-surviving-in-Once c =
     subst (λ m. AreStepTables c.args.events.now (reverse c.args.stack.now) m (record { surviving = c.in_ok-surviving-in-Once.surviving; right = c.in_ok-right-in-Once.right })) (sym c.in-Once.is) (
       answers_all c.args.events.now (reverse c.args.stack.now) c.in-Once.right c.in-Once.window.columns c.in_ok-right-in-Once.right
-          (subst (CanStep (reverse c.args.stack.now)) c.in-Once.is c.requires).free c.in_ok-right-in-Once.ensures.free c.in_ok-right-in-Once.ensures.rows,
+          (subst (CanStep (reverse c.args.stack.now)) c.in-Once.is c.requires).free c.in_ok-right-in-Once.ensures.table c.in_ok-right-in-Once.ensures.free c.in_ok-right-in-Once.ensures.rows c.in_ok-right-in-Once.ensures.known,
       record { columns_are = c.in_ok-surviving-in-Once.ensures.columns; rows = c.in_ok-surviving-in-Once.ensures.rows },
     )
 
@@ -48,8 +49,10 @@ pub returns-in_ok-surviving-in-Since : goal.returns-in_ok-surviving-in-Since
 returns-in_ok-surviving-in-Since c =
     subst (λ m. AreStepTables c.args.events.now (reverse c.args.stack.now) m (record { surviving = c.in_ok-surviving-in-Since.surviving; right = c.in_ok-right-in-Since.right })) (sym c.in-Since.is) (
       answers_all c.args.events.now (drop c.in-Since.left_tables (reverse c.args.stack.now)) c.in-Since.right c.in-Since.window.columns c.in_ok-right-in-Since.right
-          (subst (CanStep (reverse c.args.stack.now)) c.in-Since.is c.requires).0.free c.in_ok-right-in-Since.ensures.free
+          (subst (CanStep (reverse c.args.stack.now)) c.in-Since.is c.requires).0.free c.in_ok-right-in-Since.ensures.table c.in_ok-right-in-Since.ensures.free
           (subst (λ l. (v : Valuation) → Binds v c.in_ok-right-in-Since.right.columns → Has c.in_ok-right-in-Since.right v ↔ HoldsNow c.args.events.now l v (tree_of c.in-Since.right.formula))
-          (stack_below c.args.stack.now c.in-Since.left_tables (subst (CanStep (reverse c.args.stack.now)) c.in-Since.is c.requires).2) c.in_ok-right-in-Since.ensures.rows),
+          (stack_below c.args.stack.now c.in-Since.left_tables (subst (CanStep (reverse c.args.stack.now)) c.in-Since.is c.requires).2) c.in_ok-right-in-Since.ensures.rows)
+          (subst (λ l. AllComeFrom c.args.events.now l (tree_of c.in-Since.right.formula) c.in_ok-right-in-Since.right)
+          (stack_below c.args.stack.now c.in-Since.left_tables (subst (CanStep (reverse c.args.stack.now)) c.in-Since.is c.requires).2) c.in_ok-right-in-Since.ensures.known),
       surviving_in c.args.events.now (reverse c.args.stack.now) c.in-Since.left c.in-Since.window c.in_ok-kept-in-Since.kept c.in_ok-surviving-in-Since.surviving c.in_ok-kept-in-Since.ensures.columns c.in_ok-kept-in-Since.ensures.rows c.in_ok-surviving-in-Since.ensures.columns c.in_ok-surviving-in-Since.ensures.rows,
     )

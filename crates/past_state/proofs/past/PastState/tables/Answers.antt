@@ -18,3 +18,6 @@ invariant_of-result c = tables_are c.args.self.now c.args.time c.args.events.now
 
 pub returns-clause-stand : goal.returns-clause-stand
 returns-clause-stand c = c.steps_stand.ensures.tables c.args.self.now c.args.time c.args.events.now _ (subst IsPast c.self.view_is c.self.invariant) (are c)
+
+pub returns-clause-known : goal.returns-clause-known
+returns-clause-known c = c.tables_are_known.ensures c.args.self.now c.args.time c.args.events.now _ (subst IsPast c.self.view_is c.self.invariant) c.requires (are c)

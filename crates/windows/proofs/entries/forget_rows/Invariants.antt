@@ -1,0 +1,7 @@
+use Rattle.std.proofs.Common.{take, Contains}
+use Rattle.windows.specs.Pairs.{KeepsRows}
+use Rattle.windows.proofs.entries.forget_rows.Given as goal
+
+abbrev pub invariant-loop-row : goal.invariant-loop-row
+invariant-loop-row l =
+    KeepsRows (λ row. Contains (take l.row-index l.failing.rows) row → ⊥) l.fn.entries.entries l.entries.entries

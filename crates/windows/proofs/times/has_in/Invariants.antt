@@ -1,0 +1,6 @@
+use Rattle.std.proofs.Common.{take}
+use Rattle.windows.specs.Pairs.{IsSomeIn}
+use Rattle.windows.proofs.times.has_in.Given as goal
+
+abbrev pub invariant-loop-time : goal.invariant-loop-time
+invariant-loop-time l = IsSomeIn l.interval l.now (take l.time-index l.times.items) → ⊥

@@ -1,0 +1,40 @@
+//! Which rows survive a step.
+ghost use Rattle.std.specs.Prelude.{◌↔◌, IsTrue};
+ghost use Rattle.windows.specs.Pairs.{Survives};
+ghost use Rattle.windows.specs.Windows.{AreTables};
+
+use enf_value::rows::Row;
+use valuations::Table;
+
+/// The rows that survive a step: all, those of a table, or all but those of a table.
+#[derive(Clone, Copy, Debug)]
+pub enum Surviving<'a> {
+    All,
+    Only(&'a Table),
+    AllBut(&'a Table),
+}
+
+impl Surviving<'_> {
+    // Whether the row survives.
+    pub(crate) fn has(&self, row: &Row) -> bool
+        ensures { IsTrue result ↔ Survives self.now row.now }
+    {
+        match self {
+            Surviving::All => true,
+            Surviving::Only(rows) => rows.has(row),
+            Surviving::AllBut(rows) => !rows.has(row),
+        }
+    }
+
+    // The table is one; nothing is done.
+    pub(crate) fn tables(&self)
+        ensures { AreTables self.now }
+    {
+        match self {
+            Surviving::All => {}
+            Surviving::Only(rows) | Surviving::AllBut(rows) => {
+                rows.is_empty();
+            }
+        }
+    }
+}
