@@ -3,8 +3,8 @@
 .PHONY: help demo try build bench check test fmt clean
 
 help:
-	@echo 'make demo                            enforces the logs of examples/ and shows what was changed'
-	@echo 'make try SIG=FILE POLICY=FILE LOG=FILE    the same for files of your own, before any proof'
+	@echo 'make demo                            enforces the logs of examples/, shows what was changed, and checks two policies'
+	@echo 'make try SIG=FILE POLICY=FILE [LOG=FILE]  the same for files of your own; without a log it checks the policy'
 	@echo 'make build                           proves the program and leaves it as bin/enf'
 	@echo 'make bench                           measures the proved program on generated logs'
 	@echo 'make check                           proves every crate, over what earlier checks kept'

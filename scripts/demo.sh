@@ -1,6 +1,6 @@
 #!/usr/bin/env bash
 # Enforces the logs of examples/, and shows for each what was changed, the report and the status. One of them is a
-# generated log, which it generates again.
+# generated log, which it generates again. Then it checks two policies, of which one is refused.
 set -u
 cd "$(dirname "$0")/.." || exit 1
 . scripts/enf.sh
@@ -35,6 +35,26 @@ show_rules() {
     done
 }
 
+# show_check RULES NAME STATUS: shows what `check` says of a policy, and fails where its status, its output or its report
+# is not the one that is wanted.
+show_check() {
+    local status
+    echo
+    echo "== examples/$2.policy"
+    show_lines "examples/$2.policy"
+    echo "-- enf check"
+    check "examples/$1.sig" "examples/$2.policy" "$work/output" "$work/report"
+    status=$?
+    show_lines "$work/output"
+    echo "-- the report"
+    show_lines "$work/report"
+    echo "-- the status: $status"
+    if [ "$status" -ne "$3" ] || ! cat "$work/output" "$work/report" | cmp -s - "examples/$2.checked"; then
+        echo "status $3 and examples/$2.checked were wanted" >&2
+        exit 1
+    fi
+}
+
 say_program
 show_rules access
 show access access 0
@@ -47,3 +67,8 @@ if ! generate 1 8 "$work/log" || ! cmp "$work/log" examples/generated.log; then
 fi
 show_lines "$work/log"
 show generated generated 0
+echo
+echo "== examples/data.sig"
+show_lines examples/data.sig
+show_check data data 0
+show_check data reminder 2

@@ -21,23 +21,33 @@ say_program() {
     echo "Each run compiles anew, which takes about half a minute; please wait."
 }
 
-# enforce SIGNATURE POLICY LOG OUTPUT REPORT: enforces the log, and answers the status of the program.
-enforce() {
+# run_on COMMAND SIGNATURE POLICY INPUT OUTPUT REPORT: runs a command on two files, and answers the status of the program.
+run_on() {
     local status
     if is_proved; then
-        bin/enf enforce "$1" "$2" < "$3" > "$4" 2> "$5"
+        bin/enf "$1" "$2" "$3" < "$4" > "$5" 2> "$6"
         return
     fi
     local here
     here=$(pwd)
     (cd crates/enf_cli && rt try \
-        --data signature="$(absolute "$here" "$1")" --data policy="$(absolute "$here" "$2")" \
-        -- enforce signature policy) < "$3" > "$4" 2> "$5.all"
+        --data signature="$(absolute "$here" "$2")" --data policy="$(absolute "$here" "$3")" \
+        -- "$1" signature policy) < "$4" > "$5" 2> "$6.all"
     status=$?
     # `rt try` adds lines of its own to the report.
-    grep -v -e '^checked: ' -e '^run=' "$5.all" > "$5"
-    rm -f "$5.all"
+    grep -v -e '^checked: ' -e '^run=' "$6.all" > "$6"
+    rm -f "$6.all"
     return "$status"
+}
+
+# enforce SIGNATURE POLICY LOG OUTPUT REPORT: enforces the log.
+enforce() {
+    run_on enforce "$1" "$2" "$3" "$4" "$5"
+}
+
+# check SIGNATURE POLICY OUTPUT REPORT: checks the policy.
+check() {
+    run_on check "$1" "$2" /dev/null "$3" "$4"
 }
 
 # generate START STEPS OUTPUT: writes a generated log, and answers the status of the program.

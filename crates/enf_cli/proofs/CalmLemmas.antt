@@ -7,7 +7,7 @@ use Rattle.enf_io.specs.Contents.{Missing}
 use Rattle.enf_cli.specs.Calls.{Call}
 use Rattle.enf_cli.specs.Files.{FailsToRead, HoldsSignature}
 use Rattle.enf_cli.specs.Outcomes.{BreaksOffLog, MissesFile, Outcome}
-use Rattle.enf_cli.specs.Words.{IsEnforce}
+use Rattle.enf_cli.specs.Words.{NamesFiles}
 use Rattle.enf_cli.specs.declared.refusals.Status.TheVariants as statuses
 use Rattle.enf_cli.proofs.DueLemmas.{one_form}
 
@@ -22,7 +22,7 @@ module _ {Gate : Type 0} (call : Call Gate) (x : CalmContents) (files : call.bef
       let h = subst (λ v. FailsToRead name v call.after.files) files failed in
       held (h.missing refl refl)
 
-  module _ (signature policy : List ℕ) (form : IsEnforce call.words signature policy) (held : contents_under x signature ≢ Missing) (also : contents_under x policy ≢ Missing) where
+  module _ (signature policy : List ℕ) (form : NamesFiles call.words signature policy) (held : contents_under x signature ≢ Missing) (also : contents_under x policy ≢ Missing) where
     misses_none : MissesFile call → ⊥
     misses_none m = by (one_form call.words signature policy m.signature_file m.policy_file form m.form) m.failed
       where
@@ -41,5 +41,6 @@ module _ {Gate : Type 0} (call : Call Gate) (x : CalmContents) (files : call.bef
 
   -- no write fault comes
   pub no_write_fault : call.before.gate.write_faults ≡ 0 → call.after.gate.write_faults ≡ 0 → Outcome call statuses.WriteFault → ⊥
-  no_write_fault before after (inl o, same) = none_more call.before.gate.write_faults call.after.gate.write_faults before after o.cut.2
+  no_write_fault before after (inl (inl o), same) = none_more call.before.gate.write_faults call.after.gate.write_faults before after o.cut.2
+  no_write_fault before after (inl (inr o), same) = none_more call.before.gate.write_faults call.after.gate.write_faults before after o.writes
   no_write_fault before after (inr o, same) = none_more call.before.gate.write_faults call.after.gate.write_faults before after o.writes

@@ -9,6 +9,9 @@ use Rattle.enf_io.specs.Since.{Grew, GrewWhereTold, OfCalls}
 use Rattle.enf_io.specs.SinceLaws.{left-since}
 use Rattle.enf_io.specs.Streams.{Stream}
 use Rattle.enf_formula.specs.Formulas.{Formula}
+use Rattle.enforce_types.specs.Accepted.{AcceptedIsNotRefused, RefusesPolicy as RefusesTyping}
+use Rattle.enforce_types.specs.declared.refusals.TypeRefusal.{TypeRefusal}
+use Rattle.enforce_types.specs.declared.refusals.TypeRefusal.TheVariants as types
 use Rattle.formula_reader.specs.Reading.{IsTextAnswer}
 use Rattle.formula_reader.specs.Resolution.{Rule}
 use Rattle.formula_reader.specs.declared.policies.PolicyRefusal.{PolicyRefusal as PolicyTextRefusal}
@@ -29,15 +32,15 @@ use Rattle.signature.specs.declared.refusals.SignatureRefusal.TheVariants as ans
 use Rattle.trace_meaning.specs.Records.{NeverFall, clock_after, time_of}
 use Rattle.enf_cli.specs.Accepted.{UpToDate, record_of, records_of}
 use Rattle.enf_cli.specs.Calls.{Call, LeavesFiles, LeavesGate}
-use Rattle.enf_cli.specs.Dues.{AsksRefusedPolicy, AsksRefusedSignature, AsksSignature, AsksToGenerate, AsksTold, BreaksOff, Dues, IsAcceptable, MeetsReadFault, MeetsRefusal, TellBytes, taken_between}
+use Rattle.enf_cli.specs.Dues.{AsksPolicy, AsksRefused, AsksRefusedPolicy, AsksRefusedSignature, AsksSignature, AsksToCheck, AsksToGenerate, AsksTold, AsksUnbuilt, BreaksOff, Dues, IsAcceptable, MeetsReadFault, MeetsRefusal, TellBytes, taken_between}
 use Rattle.enf_cli.specs.Exchanges.{Exchanged, IsExchange}
 use Rattle.enf_cli.specs.Files.{AreHeld, AreUnder, HoldsSignature, IsRefusedPolicy, IsRefusedSignature}
 use Rattle.enf_cli.specs.Limits.{most_log_bytes}
 use Rattle.enf_cli.specs.Logs.{IsFalling, IsRefusedAs, RunsLog}
-use Rattle.enf_cli.specs.Outcomes.{Asks, GeneratesLog, IsDone, Outcome, Refuses, RefusesPolicy, RefusesRecord, RefusesSignature, RefusesWords}
-use Rattle.enf_cli.specs.Policies.{CanBeBuilt, SpellsPolicy, formulas}
+use Rattle.enf_cli.specs.Outcomes.{Asks, AsksToEnforce, ChecksPolicy, GeneratesLog, IsDone, Outcome, Refuses, RefusesPolicy, RefusesRecord, RefusesSignature, RefusesWords}
+use Rattle.enf_cli.specs.Policies.{CanBeBuilt, HasUnbuilt, ReadsPolicy, SpellsPolicy, SpellsRefused, formulas}
 use Rattle.enf_cli.specs.Signatures.{SpellsSignature}
-use Rattle.enf_cli.specs.Words.{IsEnforce, IsGenerate, MatchNoForm}
+use Rattle.enf_cli.specs.Words.{IsCheck, IsEnforce, IsGenerate, MatchNoForm, NamesFiles}
 use Rattle.enf_cli.specs.declared.log.Verdict.{Verdict}
 use Rattle.enf_cli.specs.declared.log.Verdict.TheVariants as verdicts
 use Rattle.enf_cli.specs.declared.refusals.PolicyRefusal.{PolicyRefusal}
@@ -57,18 +60,43 @@ OneRecordAnswer = (entries : List NameEntry) (mode : LogMode) (bytes : List ℕ)
 
 -- ---- the words and the files ask for one thing
 
--- the words name one signature and one policy
-pub one_form : (words : List (List ℕ)) (signature policy signature' policy' : List ℕ) → IsEnforce words signature policy → IsEnforce words signature' policy' → (signature ≡ signature') × (policy ≡ policy')
-one_form words signature policy signature' policy' e f =
-    let both : codes "enforce" ∷ signature ∷ policy ∷ [] ≡ codes "enforce" ∷ signature' ∷ policy' ∷ [] = sym e ∙ f in
+-- words have one command
+same_command : (words : List (List ℕ)) (command other : List ℕ) (more others : List (List ℕ)) → words ≡ command ∷ more → words ≡ other ∷ others → command ≡ other
+same_command words command other more others e f =
+    let both : command ∷ more ≡ other ∷ others = sym e ∙ f in
+    cc
+
+-- and two words behind it
+same_files : (words : List (List ℕ)) (command other signature policy signature' policy' : List ℕ) → words ≡ command ∷ signature ∷ policy ∷ [] → words ≡ other ∷ signature' ∷ policy' ∷ [] → (signature ≡ signature') × (policy ≡ policy')
+same_files words command other signature policy signature' policy' e f =
+    let both : command ∷ signature ∷ policy ∷ [] ≡ other ∷ signature' ∷ policy' ∷ [] = sym e ∙ f in
     (cc, cc)
 
+-- the words name one signature and one policy
+pub one_form : (words : List (List ℕ)) (signature policy signature' policy' : List ℕ) → NamesFiles words signature policy → NamesFiles words signature' policy' → (signature ≡ signature') × (policy ≡ policy')
+one_form words signature policy signature' policy' (inl e) (inl f) = same_files words (codes "enforce") (codes "enforce") signature policy signature' policy' e f
+one_form words signature policy signature' policy' (inl e) (inr f) = same_files words (codes "enforce") (codes "check") signature policy signature' policy' e f
+one_form words signature policy signature' policy' (inr e) (inl f) = same_files words (codes "check") (codes "enforce") signature policy signature' policy' e f
+one_form words signature policy signature' policy' (inr e) (inr f) = same_files words (codes "check") (codes "check") signature policy signature' policy' e f
+
 -- and they do not ask to generate
-two_forms : (words : List (List ℕ)) (signature policy : List ℕ) (start steps : ℕ) → IsEnforce words signature policy → IsGenerate words start steps → ⊥
-two_forms words signature policy start steps e g =
-    let both : codes "enforce" ∷ signature ∷ policy ∷ [] ≡ codes "gen" ∷ g.start_word ∷ g.steps_word ∷ [] = sym e ∙ g.form in
-    let command : codes "enforce" ≡ codes "gen" = cc in
+files_or_generate : (words : List (List ℕ)) (signature policy : List ℕ) (start steps : ℕ) → NamesFiles words signature policy → IsGenerate words start steps → ⊥
+files_or_generate words signature policy start steps (inl e) g =
+    let command : codes "enforce" ≡ codes "gen" = same_command words (codes "enforce") (codes "gen") (signature ∷ policy ∷ []) (g.start_word ∷ g.steps_word ∷ []) e g.form in
     omega (arith, ap length command)
+files_or_generate words signature policy start steps (inr e) g =
+    let command : codes "check" ≡ codes "gen" = same_command words (codes "check") (codes "gen") (signature ∷ policy ∷ []) (g.start_word ∷ g.steps_word ∷ []) e g.form in
+    omega (arith, ap length command)
+
+enforce_or_check : (words : List (List ℕ)) (signature policy signature' policy' : List ℕ) → IsEnforce words signature policy → IsCheck words signature' policy' → ⊥
+enforce_or_check words signature policy signature' policy' e f =
+    let command : codes "enforce" ≡ codes "check" = same_command words (codes "enforce") (codes "check") (signature ∷ policy ∷ []) (signature' ∷ policy' ∷ []) e f in
+    omega (arith, ap length command)
+
+-- words that name files match a form
+some_form : (words : List (List ℕ)) (signature policy : List ℕ) → NamesFiles words signature policy → MatchNoForm words → ⊥
+some_form words signature policy (inl e) none = none.enforce signature policy e
+some_form words signature policy (inr e) none = none.check signature policy e
 
 -- where files tell a file's bytes, no others are under its name
 told_bytes : (files : Option (List ℕ → Contents)) (name other all bytes : List ℕ) → name ≡ other → TellBytes files name all → AreUnder files other bytes → bytes ≡ all
@@ -84,12 +112,49 @@ OneTextAnswer = (entries : List NameEntry) (bytes : List ℕ)
 same_text_answer : OneTextAnswer → (entries : List NameEntry) (bytes : List ℕ) (answer other : Result (List Rule) PolicyTextRefusal) → IsTextAnswer entries bytes answer → IsTextAnswer entries bytes other → answer ≡ other
 same_text_answer one entries bytes answer other is also = let all = one entries bytes in all.2 answer is ∙ sym (all.2 other also)
 
--- each text of a signature has one answer, and each of a policy
-module _ (one : OneAnswer) (one_text : OneTextAnswer) where
+-- a policy of which each rule can be built has none that cannot
+built_or_not : (entries others : List NameEntry) (policy policy' : List Rule) → entries ≡ others → policy ≡ policy' → All (CanBeBuilt entries) (formulas policy) → HasUnbuilt others policy' → ⊥
+built_or_not entries others policy policy' same is_same all none =
+    let there = none.of_policy in
+    let here = subst (λ (es : List NameEntry). All (CanBeBuilt es) (formulas policy)) same all in
+    let also = subst (λ (rules : List Rule). All (CanBeBuilt others) (formulas rules)) is_same here in
+    none.not_built (subst (CanBeBuilt others) there.2 (also there.0 none.formula there.1))
+
+-- what is asked for in one form
+asks_named : {Gate : Type 0} (call : Call Gate) (entries : List NameEntry) (policy : List Rule) → Asks IsEnforce call entries policy ⊎ Asks IsCheck call entries policy → Asks NamesFiles call entries policy
+asks_named call entries policy (inl a) =
+    record { signature_file = a.signature_file; policy_file = a.policy_file; form = inl a.form; holds_signature = a.holds_signature; holds_policy = a.holds_policy }
+asks_named call entries policy (inr a) =
+    record { signature_file = a.signature_file; policy_file = a.policy_file; form = inr a.form; holds_signature = a.holds_signature; holds_policy = a.holds_policy }
+
+policy_named : {Gate : Type 0} (call : Call Gate) (entries : List NameEntry) (policy : List Rule) → AsksPolicy IsEnforce call entries policy ⊎ AsksPolicy IsCheck call entries policy → AsksPolicy NamesFiles call entries policy
+policy_named call entries policy (inl t) =
+    record {
+      asks = record { signature_file = t.asks.signature_file; policy_file = t.asks.policy_file; form = inl t.asks.form; bytes = t.asks.bytes; told = t.asks.told; is_signature = t.asks.is_signature };
+      bytes = t.bytes;
+      told = t.told;
+      is_policy = t.is_policy;
+    }
+policy_named call entries policy (inr t) =
+    record {
+      asks = record { signature_file = t.asks.signature_file; policy_file = t.asks.policy_file; form = inr t.asks.form; bytes = t.asks.bytes; told = t.asks.told; is_signature = t.asks.is_signature };
+      bytes = t.bytes;
+      told = t.told;
+      is_policy = t.is_policy;
+    }
+
+-- each text of a signature has one answer, and each of a policy; and a policy that is accepted is not refused
+module _ (one : OneAnswer) (one_text : OneTextAnswer) (accepted : AcceptedIsNotRefused) where
   -- bytes are one signature at most
   same_signature : (bytes : List ℕ) (entries others : List NameEntry) → SpellsSignature bytes entries → SpellsSignature bytes others → entries ≡ others
   same_signature bytes entries others p q =
       let same : ◌≡◌ {A = Result (List NameEntry) TextRefusal} (Ok entries) (Ok others) = same_answer one bytes (Ok entries) (Ok others) p.answer q.answer in
+      cc
+
+  -- and one policy
+  same_policy : (entries : List NameEntry) (bytes : List ℕ) (policy other : List Rule) → ReadsPolicy entries bytes policy → ReadsPolicy entries bytes other → policy ≡ other
+  same_policy entries bytes policy other p q =
+      let same : ◌≡◌ {A = Result (List Rule) PolicyTextRefusal} (Ok policy) (Ok other) = same_text_answer one_text entries bytes (Ok policy) (Ok other) p.answer q.answer in
       cc
 
   -- a text that spells a signature has no refusal
@@ -104,14 +169,19 @@ module _ (one : OneAnswer) (one_text : OneTextAnswer) where
   signature_not_refused (signatures.Repeated name place) bytes entries is refused = spelled_not_refused bytes entries (answers.Repeated refused.2 place) is refused.3
   signature_not_refused (signatures.Limit place) bytes entries is refused = spelled_not_refused bytes entries (answers.Limit refused.1 place) is refused.2
 
-  -- nor has one that spells a policy
+  -- nor has one that spells an accepted policy, by its reading or by its typing
   read_not_refused : (entries : List NameEntry) (bytes : List ℕ) (policy : List Rule) (refusal : PolicyTextRefusal) → SpellsPolicy entries bytes policy → IsTextAnswer entries bytes (Err refusal) → ⊥
   read_not_refused entries bytes policy refusal is refused =
-      let same : ◌≡◌ {A = Result (List Rule) PolicyTextRefusal} (Ok policy) (Err refusal) = same_text_answer one_text entries bytes (Ok policy) (Err refusal) is.answer refused in
+      let same : ◌≡◌ {A = Result (List Rule) PolicyTextRefusal} (Ok policy) (Err refusal) = same_text_answer one_text entries bytes (Ok policy) (Err refusal) is.reads.answer refused in
       absurd cc
 
+  typed_not_refused : (entries : List NameEntry) (bytes : List ℕ) (policy : List Rule) (refusal : TypeRefusal) → SpellsPolicy entries bytes policy → SpellsRefused entries bytes refusal → refusal ≡ types.NoMemory
+  typed_not_refused entries bytes policy refusal is refused =
+      let same = same_policy entries bytes refused.policy policy refused.reads is.reads in
+      accepted entries (formulas policy) refusal is.accepted (subst (λ (rules : List Rule). RefusesTyping entries (formulas rules) refusal) same refused.refused)
+
   policy_not_refused : (entries : List NameEntry) (why : PolicyRefusal) (bytes : List ℕ) (policy : List Rule) → SpellsPolicy entries bytes policy → IsRefusedPolicy entries why bytes → ⊥
-  policy_not_refused entries policies.TooLong bytes policy is refused = omega (arith, is.short, refused)
+  policy_not_refused entries policies.TooLong bytes policy is refused = omega (arith, is.reads.short, refused)
   policy_not_refused entries (policies.Syntax place) bytes policy is refused = read_not_refused entries bytes policy (read.Syntax place) is refused.1
   policy_not_refused entries (policies.UnknownName place) bytes policy is refused = read_not_refused entries bytes policy (read.UnknownName place) is refused.1
   policy_not_refused entries (policies.Arity place) bytes policy is refused = read_not_refused entries bytes policy (read.Arity place) is refused.1
@@ -119,22 +189,15 @@ module _ (one : OneAnswer) (one_text : OneTextAnswer) where
   policy_not_refused entries (policies.FreeVariable place) bytes policy is refused = read_not_refused entries bytes policy (read.FreeVariable place) is refused.1
   policy_not_refused entries (policies.Rebound place) bytes policy is refused = read_not_refused entries bytes policy (read.Rebound place) is refused.1
   policy_not_refused entries (policies.Limit place) bytes policy is refused = read_not_refused entries bytes policy (read.Limit place) is refused.1
-  policy_not_refused entries policies.NotBuilt bytes policy is refused =
-      let other = refused.1 in
-      let same : ◌≡◌ {A = Result (List Rule) PolicyTextRefusal} (Ok policy) (Ok other.policy) = same_text_answer one_text entries bytes (Ok policy) (Ok other.policy) is.answer other.answer in
-      let is_same : policy ≡ other.policy = cc in
-      let none = other.unbuilt in
-      let there = none.of_policy in
-      let all = subst (λ (rules : List Rule). All (CanBeBuilt entries) (formulas rules)) is_same is.can_be_built in
-      none.not_built (subst (CanBeBuilt entries) there.2 (all there.0 none.formula there.1))
+  policy_not_refused entries (policies.Unguarded place) bytes policy is refused = let none = typed_not_refused entries bytes policy (types.Unguarded place) is refused in absurd cc
+  policy_not_refused entries (policies.NotEnforceable place) bytes policy is refused = let none = typed_not_refused entries bytes policy (types.NotEnforceable place) is refused in absurd cc
+  policy_not_refused entries (policies.RoleClash name) bytes policy is refused = let none = typed_not_refused entries bytes policy (types.RoleClash refused.0) is refused.2 in absurd cc
+  policy_not_refused entries (policies.Untriggered place) bytes policy is refused = let none = typed_not_refused entries bytes policy (types.Untriggered place) is refused in absurd cc
+  policy_not_refused entries (policies.Cyclic name) bytes policy is refused = let none = typed_not_refused entries bytes policy (types.Cyclic refused.0) is refused.2 in absurd cc
 
-  module _ {Gate : Type 0} (call : Call Gate) (entries : List NameEntry) (t : AsksSignature call entries) where
-    -- the words match a form
-    some_form : MatchNoForm call.words → ⊥
-    some_form none = none.enforce t.signature_file t.policy_file t.form
-
+  module _ {Gate : Type 0} (call : Call Gate) (entries : List NameEntry) (t : AsksSignature NamesFiles call entries) where
     -- files have no other signature under the name
-    one_signature : (signature policy : List ℕ) (others : List NameEntry) → IsEnforce call.words signature policy → HoldsSignature call.before.files.contents signature others → entries ≡ others
+    one_signature : (signature policy : List ℕ) (others : List NameEntry) → NamesFiles call.words signature policy → HoldsSignature call.before.files.contents signature others → entries ≡ others
     one_signature signature policy others form holds =
         let names = one_form call.words t.signature_file t.policy_file signature policy t.form form in
         let all = told_bytes call.before.files.contents t.signature_file signature t.bytes holds.bytes names.0 t.told holds.under in
@@ -147,54 +210,97 @@ module _ (one : OneAnswer) (one_text : OneTextAnswer) where
         let all = told_bytes call.before.files.contents t.signature_file r.signature_file t.bytes r.refused.bytes names.0 t.told r.refused.under in
         signature_not_refused why t.bytes entries t.is_signature (subst (IsRefusedSignature why) all r.refused.refused)
 
+    -- nor have they another policy under the name
+    one_policy : (bytes : List ℕ) → TellBytes call.before.files.contents t.policy_file bytes → (others : List NameEntry) (policy : List Rule) → Asks NamesFiles call others policy → (entries ≡ others) × SpellsPolicy entries bytes policy
+    one_policy bytes told others policy a =
+        let same = one_signature a.signature_file a.policy_file others a.form a.holds_signature in
+        let names = one_form call.words t.signature_file t.policy_file a.signature_file a.policy_file t.form a.form in
+        let all = told_bytes call.before.files.contents t.policy_file a.policy_file bytes a.holds_policy.bytes names.1 told a.holds_policy.under in
+        let here = subst (λ (es : List NameEntry). SpellsPolicy es a.holds_policy.bytes policy) (sym same) a.holds_policy.is_policy in
+        (same, subst (λ (b : List ℕ). SpellsPolicy entries b policy) all here)
+
   module _ {Gate : Type 0} (call : Call Gate) where
     -- a signature that is refused is under no name of a run
-    refused_signature_not_asked : (t : AsksRefusedSignature call) (entries : List NameEntry) (policy : List Rule) → Asks call entries policy → ⊥
+    refused_signature_not_asked : (t : AsksRefusedSignature call) (entries : List NameEntry) (policy : List Rule) → Asks NamesFiles call entries policy → ⊥
     refused_signature_not_asked t entries policy a =
         let names = one_form call.words t.signature_file t.policy_file a.signature_file a.policy_file t.form a.form in
         let all = told_bytes call.before.files.contents t.signature_file a.signature_file t.bytes a.holds_signature.bytes names.0 t.told a.holds_signature.under in
         signature_not_refused t.why t.bytes entries (subst (λ (b : List ℕ). SpellsSignature b entries) all a.holds_signature.is_signature) t.refused
 
     -- nor is a policy that is refused
-    refused_policy_not_asked : (t : AsksRefusedPolicy call) (others : List NameEntry) (policy : List Rule) → Asks call others policy → ⊥
-    refused_policy_not_asked t others policy a =
-        let same = one_signature call t.entries t.asks a.signature_file a.policy_file others a.form a.holds_signature in
-        let names = one_form call.words t.asks.signature_file t.asks.policy_file a.signature_file a.policy_file t.asks.form a.form in
-        let all = told_bytes call.before.files.contents t.asks.policy_file a.policy_file t.bytes a.holds_policy.bytes names.1 t.told a.holds_policy.under in
-        let here = subst (λ (es : List NameEntry). SpellsPolicy es a.holds_policy.bytes policy) (sym same) a.holds_policy.is_policy in
-        policy_not_refused t.entries t.why t.bytes policy (subst (λ (b : List ℕ). SpellsPolicy t.entries b policy) all here) t.refused
+    refused_policy_not_asked : (t : AsksRefusedPolicy call) (others : List NameEntry) (policy : List Rule) → Asks NamesFiles call others policy → ⊥
+    refused_policy_not_asked t others policy a = policy_not_refused t.entries t.why t.bytes policy (one_policy call t.entries t.asks t.bytes t.told others policy a).1 t.refused
 
-    not_asked : AsksRefusedSignature call ⊎ AsksRefusedPolicy call → (entries : List NameEntry) (policy : List Rule) → Asks call entries policy → ⊥
-    not_asked (inl t) entries policy a = refused_signature_not_asked t entries policy a
-    not_asked (inr t) entries policy a = refused_policy_not_asked t entries policy a
+    -- nor is one to be enforced that cannot be built
+    unbuilt_not_asked : (t : AsksUnbuilt call) (others : List NameEntry) (policy : List Rule) → AsksToEnforce call others policy → ⊥
+    unbuilt_not_asked t others policy a =
+        let named = policy_named call t.entries t.policy (inl t.asks) in
+        let other = one_policy call t.entries named.asks named.bytes named.told others policy (asks_named call others policy (inl a.asks)) in
+        let same = same_policy t.entries named.bytes policy t.policy other.1.reads named.is_policy.reads in
+        built_or_not others t.entries policy t.policy (sym other.0) same a.can_be_built t.unbuilt
+
+    not_asked : AsksRefused call → (entries : List NameEntry) (policy : List Rule) → AsksToEnforce call entries policy → ⊥
+    not_asked (inl t) entries policy a = refused_signature_not_asked t entries policy (asks_named call entries policy (inl a.asks))
+    not_asked (inr (inl t)) entries policy a = refused_policy_not_asked t entries policy (asks_named call entries policy (inl a.asks))
+    not_asked (inr (inr t)) entries policy a = unbuilt_not_asked t entries policy a
+
+    not_checked : AsksRefused call → (entries : List NameEntry) (policy : List Rule) → Asks IsCheck call entries policy → ⊥
+    not_checked (inl t) entries policy a = refused_signature_not_asked t entries policy (asks_named call entries policy (inr a))
+    not_checked (inr (inl t)) entries policy a = refused_policy_not_asked t entries policy (asks_named call entries policy (inr a))
+    not_checked (inr (inr t)) entries policy a = enforce_or_check call.words t.asks.asks.signature_file t.asks.asks.policy_file a.signature_file a.policy_file t.asks.asks.form a.form
 
     -- words that match no form ask for nothing
-    files_some_form : AsksRefusedSignature call ⊎ AsksRefusedPolicy call → MatchNoForm call.words → ⊥
-    files_some_form (inl t) none = none.enforce t.signature_file t.policy_file t.form
-    files_some_form (inr t) none = some_form call t.entries t.asks none
+    files_some_form : AsksRefused call → MatchNoForm call.words → ⊥
+    files_some_form (inl t) none = some_form call.words t.signature_file t.policy_file t.form none
+    files_some_form (inr (inl t)) none = some_form call.words t.asks.signature_file t.asks.policy_file t.asks.form none
+    files_some_form (inr (inr t)) none = none.enforce t.asks.asks.signature_file t.asks.asks.policy_file t.asks.asks.form
+
+    files_not_generated : AsksRefused call → (start steps : ℕ) → IsGenerate call.words start steps → ⊥
+    files_not_generated (inl t) start steps form = files_or_generate call.words t.signature_file t.policy_file start steps t.form form
+    files_not_generated (inr (inl t)) start steps form = files_or_generate call.words t.asks.signature_file t.asks.policy_file start steps t.asks.form form
+    files_not_generated (inr (inr t)) start steps form = files_or_generate call.words t.asks.asks.signature_file t.asks.asks.policy_file start steps (inl t.asks.asks.form) form
+
+    -- what a refused file leaves
+    abbrev FilesRefused : Type 0
+    FilesRefused = ((why : SignatureRefusal) × Refuses call (refusals.Signature why)) ⊎ (((why : PolicyRefusal) × Refuses call (refusals.Policy why)) ⊎ Refuses call refusals.NotBuilt)
+
+    -- neither file is refused where the policy is told and accepted
+    no_refusal_of_files : (entries : List NameEntry) (policy : List Rule) → AsksPolicy NamesFiles call entries policy → FilesRefused → Refuses call refusals.NotBuilt
+    no_refusal_of_files entries policy t (inl (why, r)) = absurd (no_signature_refusal call entries t.asks why r.meets)
+    no_refusal_of_files entries policy t (inr (inl (why, r))) = absurd (no_policy_refusal r.meets)
+      where
+        no_policy_refusal : RefusesPolicy call why → ⊥
+        no_policy_refusal m =
+            let w = m.refused in
+            let same = one_signature call entries t.asks m.signature_file m.policy_file m.entries m.form m.holds_signature in
+            let names = one_form call.words t.asks.signature_file t.asks.policy_file m.signature_file m.policy_file t.asks.form m.form in
+            let all = told_bytes call.before.files.contents t.asks.policy_file m.policy_file t.bytes w.bytes names.1 t.told w.under in
+            let here = subst (λ (es : List NameEntry). IsRefusedPolicy es why w.bytes) (sym same) w.refused in
+            policy_not_refused entries why t.bytes policy t.is_policy (subst (IsRefusedPolicy entries why) all here)
+    no_refusal_of_files entries policy t (inr (inr r)) = r
+
+    enforced_not_refused : (entries : List NameEntry) (policy : List Rule) → AsksTold call entries policy → FilesRefused → ⊥
+    enforced_not_refused entries policy t o =
+        let named = policy_named call entries policy (inl t.asks) in
+        let m = (no_refusal_of_files entries policy named o).meets in
+        let other = one_policy call entries named.asks named.bytes named.told m.entries m.policy (asks_named call m.entries m.policy (inl m.asks)) in
+        let same = same_policy entries named.bytes policy m.policy named.is_policy.reads other.1.reads in
+        built_or_not entries m.entries policy m.policy other.0 same t.can_be_built m.unbuilt
+
+    checked_not_refused : AsksToCheck call → FilesRefused → ⊥
+    checked_not_refused (entries, policy, t) o =
+        let m = (no_refusal_of_files entries policy (policy_named call entries policy (inr t)) o).meets in
+        enforce_or_check call.words m.asks.signature_file m.asks.policy_file t.asks.signature_file t.asks.policy_file m.asks.form t.asks.form
 
   module _ {Gate : Type 0} (call : Call Gate) (entries : List NameEntry) (policy : List Rule) (t : AsksTold call entries policy) where
     -- what is asked for has these entries
-    asked_same : (others : List NameEntry) (policy' : List Rule) → Asks call others policy' → entries ≡ others
-    asked_same others policy' a = one_signature call entries t.asks a.signature_file a.policy_file others a.form a.holds_signature
-
-    -- a policy that can be built is not refused
-    no_policy_refusal : (why : PolicyRefusal) → RefusesPolicy call why → ⊥
-    no_policy_refusal why r =
-        let w = r.refused in
-        let same = one_signature call entries t.asks r.signature_file r.policy_file r.entries r.form r.holds_signature in
-        let names = one_form call.words t.asks.signature_file t.asks.policy_file r.signature_file r.policy_file t.asks.form r.form in
-        let all = told_bytes call.before.files.contents t.asks.policy_file r.policy_file t.bytes w.bytes names.1 t.told w.under in
-        let here = subst (λ (es : List NameEntry). IsRefusedPolicy es why w.bytes) (sym same) w.refused in
-        policy_not_refused entries why t.bytes policy t.is_policy (subst (IsRefusedPolicy entries why) all here)
-
-    -- neither file is refused
-    no_refusal_of_files : ((why : SignatureRefusal) × Refuses call (refusals.Signature why)) ⊎ ((why : PolicyRefusal) × Refuses call (refusals.Policy why)) → ⊥
-    no_refusal_of_files (inl (why, r)) = no_signature_refusal call entries t.asks why r.meets
-    no_refusal_of_files (inr (why, r)) = no_policy_refusal why r.meets
+    asked_same : (others : List NameEntry) (policy' : List Rule) → AsksToEnforce call others policy' → entries ≡ others
+    asked_same others policy' a =
+        let named = policy_named call entries policy (inl t.asks) in
+        (one_policy call entries named.asks named.bytes named.told others policy' (asks_named call others policy' (inl a.asks))).0
 
     -- the log is run under the entries that are told
-    ran_told : (others : List NameEntry) (policy' : List Rule) (verdict : Verdict) → Asks call others policy' → RunsLog others (formulas policy') verdict call.before.gate call.after.gate → RunsLog entries (formulas policy') verdict call.before.gate call.after.gate
+    ran_told : (others : List NameEntry) (policy' : List Rule) (verdict : Verdict) → AsksToEnforce call others policy' → RunsLog others (formulas policy') verdict call.before.gate call.after.gate → RunsLog entries (formulas policy') verdict call.before.gate call.after.gate
     ran_told others policy' verdict asks ran = subst (λ (es : List NameEntry). RunsLog es (formulas policy') verdict call.before.gate call.after.gate) (sym (asked_same others policy' asks)) ran
 
   -- ---- a log is read in one way
@@ -423,31 +529,40 @@ module _ (one : OneAnswer) (one_text : OneTextAnswer) where
       dues_done o =
           record {
             done = λ due. inl refl;
-            words = λ due. absurd (due.enforce o.asks.signature_file o.asks.policy_file o.asks.form);
+            words = λ due. absurd (due.enforce o.asks.asks.signature_file o.asks.asks.policy_file o.asks.asks.form);
             files = λ due. absurd (not_asked call due o.entries o.policy o.asks);
             refused_record = λ due. absurd (done_meets_none call o due);
             read_fault = λ due. absurd (no_read_fault o.files o.reads due);
             write_fault = λ due. absurd (due o.writes);
           }
 
-      files_not_generated : AsksRefusedSignature call ⊎ AsksRefusedPolicy call → (start steps : ℕ) → IsGenerate call.words start steps → ⊥
-      files_not_generated (inl due) start steps form = two_forms call.words due.signature_file due.policy_file start steps due.form form
-      files_not_generated (inr due) start steps form = two_forms call.words due.asks.signature_file due.asks.policy_file start steps due.asks.form form
-
       dues_generated : GeneratesLog call → Dues call statuses.Done
       dues_generated o =
           record {
             done = λ due. inl refl;
             words = λ due. absurd (due.generate o.log.start o.log.steps o.log.form);
-            files = λ due. absurd (files_not_generated due o.log.start o.log.steps o.log.form);
-            refused_record = λ due. absurd (two_forms call.words due.asks.asks.signature_file due.asks.asks.policy_file o.log.start o.log.steps due.asks.asks.form o.log.form);
+            files = λ due. absurd (files_not_generated call due o.log.start o.log.steps o.log.form);
+            refused_record = λ due. absurd (files_or_generate call.words due.asks.asks.asks.signature_file due.asks.asks.asks.policy_file o.log.start o.log.steps (inl due.asks.asks.asks.form) o.log.form);
             read_fault = λ due. absurd (no_read_fault o.log.files o.log.reads due);
             write_fault = λ due. absurd (due o.writes);
           }
 
-      words_not_done : RefusesWords call → IsAcceptable call ⊎ AsksToGenerate call → ⊥
-      words_not_done o (inl due) = some_form call due.entries due.asks.asks o.words
-      words_not_done o (inr due) = o.words.generate due.0 due.1 due.2
+      dues_checked : ChecksPolicy call → Dues call statuses.Done
+      dues_checked o =
+          let a = o.policy.asks in
+          record {
+            done = λ due. inl refl;
+            words = λ due. absurd (due.check a.signature_file a.policy_file a.form);
+            files = λ due. absurd (not_checked call due o.policy.entries o.policy.policy a);
+            refused_record = λ due. absurd (enforce_or_check call.words due.asks.asks.asks.signature_file due.asks.asks.asks.policy_file a.signature_file a.policy_file due.asks.asks.asks.form a.form);
+            read_fault = λ due. absurd (no_read_fault o.policy.files o.policy.reads due);
+            write_fault = λ due. absurd (due o.writes);
+          }
+
+      words_not_done : RefusesWords call → IsAcceptable call ⊎ (AsksToGenerate call ⊎ AsksToCheck call) → ⊥
+      words_not_done o (inl due) = o.words.enforce due.asks.asks.asks.signature_file due.asks.asks.asks.policy_file due.asks.asks.asks.form
+      words_not_done o (inr (inl due)) = o.words.generate due.0 due.1 due.2
+      words_not_done o (inr (inr due)) = o.words.check due.2.asks.signature_file due.2.asks.policy_file due.2.asks.form
 
       dues_words : RefusesWords call → Dues call statuses.Words
       dues_words o =
@@ -455,49 +570,47 @@ module _ (one : OneAnswer) (one_text : OneTextAnswer) where
             done = λ due. absurd (words_not_done o due);
             words = λ due. inl refl;
             files = λ due. absurd (files_some_form call due o.words);
-            refused_record = λ due. absurd (some_form call due.entries due.asks.asks o.words);
+            refused_record = λ due. absurd (o.words.enforce due.asks.asks.asks.signature_file due.asks.asks.asks.policy_file due.asks.asks.asks.form);
             read_fault = λ due. absurd (no_read_fault o.files (ap (λ (s : Stream). s.read_faults) o.gate.1) due);
             write_fault = λ due. absurd (due (ap (λ (s : Stream). s.write_faults) o.gate.1));
           }
 
-      -- what a refused file leaves
-      abbrev FilesRefused : Type 0
-      FilesRefused = ((why : SignatureRefusal) × Refuses call (refusals.Signature why)) ⊎ ((why : PolicyRefusal) × Refuses call (refusals.Policy why))
-
-      refused_gate : FilesRefused → LeavesGate call
+      refused_gate : FilesRefused call → LeavesGate call
       refused_gate (inl (why, r)) = r.meets.gate
-      refused_gate (inr (why, r)) = r.meets.gate
+      refused_gate (inr (inl (why, r))) = r.meets.gate
+      refused_gate (inr (inr r)) = r.meets.gate
 
-      refused_files : FilesRefused → LeavesFiles call
+      refused_files : FilesRefused call → LeavesFiles call
       refused_files (inl (why, r)) = r.meets.files
-      refused_files (inr (why, r)) = r.meets.files
+      refused_files (inr (inl (why, r))) = r.meets.files
+      refused_files (inr (inr r)) = r.meets.files
 
-      refused_form : FilesRefused → MatchNoForm call.words → ⊥
-      refused_form (inl (why, r)) none = none.enforce r.meets.signature_file r.meets.policy_file r.meets.form
-      refused_form (inr (why, r)) none = none.enforce r.meets.signature_file r.meets.policy_file r.meets.form
+      -- the words of a refused file are of a form
+      refused_named : FilesRefused call → (signature : List ℕ) × (policy : List ℕ) × NamesFiles call.words signature policy
+      refused_named (inl (why, r)) = (r.meets.signature_file, r.meets.policy_file, r.meets.form)
+      refused_named (inr (inl (why, r))) = (r.meets.signature_file, r.meets.policy_file, r.meets.form)
+      refused_named (inr (inr r)) = (r.meets.asks.signature_file, r.meets.asks.policy_file, inl r.meets.asks.form)
 
-      refused_not_generates : FilesRefused → AsksToGenerate call → ⊥
-      refused_not_generates (inl (why, r)) g = two_forms call.words r.meets.signature_file r.meets.policy_file g.0 g.1 r.meets.form g.2
-      refused_not_generates (inr (why, r)) g = two_forms call.words r.meets.signature_file r.meets.policy_file g.0 g.1 r.meets.form g.2
+      refused_not_done : FilesRefused call → IsAcceptable call ⊎ (AsksToGenerate call ⊎ AsksToCheck call) → ⊥
+      refused_not_done o (inl due) = enforced_not_refused call due.entries due.policy due.asks o
+      refused_not_done o (inr (inl due)) = let n = refused_named o in files_or_generate call.words n.0 n.1 due.0 due.1 n.2 due.2
+      refused_not_done o (inr (inr due)) = checked_not_refused call due o
 
-      refused_not_done : FilesRefused → IsAcceptable call ⊎ AsksToGenerate call → ⊥
-      refused_not_done o (inl due) = no_refusal_of_files call due.entries due.policy due.asks o
-      refused_not_done o (inr due) = refused_not_generates o due
-
-      dues_files : FilesRefused → Dues call statuses.Files
+      dues_files : FilesRefused call → Dues call statuses.Files
       dues_files o =
           record {
             done = λ due. absurd (refused_not_done o due);
-            words = λ due. absurd (refused_form o due);
+            words = λ due. absurd (let n = refused_named o in some_form call.words n.0 n.1 n.2 due);
             files = λ due. inl refl;
-            refused_record = λ due. absurd (no_refusal_of_files call due.entries due.policy due.asks o);
+            refused_record = λ due. absurd (enforced_not_refused call due.entries due.policy due.asks o);
             read_fault = λ due. absurd (no_read_fault (refused_files o) (ap (λ (s : Stream). s.read_faults) (refused_gate o).1) due);
             write_fault = λ due. absurd (due (ap (λ (s : Stream). s.write_faults) (refused_gate o).1));
           }
 
       module _ (number : ℕ) (why : RecordRefusal) (o : RefusesRecord call number why) where
-        record_not_done : IsAcceptable call ⊎ AsksToGenerate call → ⊥
-        record_not_done (inr due) = two_forms call.words o.asks.signature_file o.asks.policy_file due.0 due.1 o.asks.form due.2
+        record_not_done : IsAcceptable call ⊎ (AsksToGenerate call ⊎ AsksToCheck call) → ⊥
+        record_not_done (inr (inl due)) = files_or_generate call.words o.asks.asks.signature_file o.asks.asks.policy_file due.0 due.1 (inl o.asks.asks.form) due.2
+        record_not_done (inr (inr due)) = enforce_or_check call.words o.asks.asks.signature_file o.asks.asks.policy_file due.2.asks.signature_file due.2.asks.policy_file o.asks.asks.form due.2.asks.form
         record_not_done (inl due) =
             let ran = ran_told call due.entries due.policy due.asks o.entries o.policy (verdicts.Refused why) o.asks o.ran in
             let y = tells_still call.before.gate.told call.after.gate.told due.gate due.told ran.exchanged.grew in
@@ -507,7 +620,7 @@ module _ (one : OneAnswer) (one_text : OneTextAnswer) where
         dues_record =
             record {
               done = λ due. absurd (record_not_done due);
-              words = λ due. absurd (due.enforce o.asks.signature_file o.asks.policy_file o.asks.form);
+              words = λ due. absurd (due.enforce o.asks.asks.signature_file o.asks.asks.policy_file o.asks.asks.form);
               files = λ due. absurd (not_asked call due o.entries o.policy o.asks);
               refused_record = λ due. inl refl;
               read_fault = λ due. absurd (no_read_fault o.files o.ran.ends.1 due);
@@ -520,8 +633,9 @@ module _ (one : OneAnswer) (one_text : OneTextAnswer) where
 
       -- what holds at a status leaves no room for another that is due
       pub dues_of : (result : Status) → Outcome call result → Dues call result
-      dues_of statuses.Done (inl o, same) = dues_done o
-      dues_of statuses.Done (inr o, same) = dues_generated o
+      dues_of statuses.Done (inl (inl o), same) = dues_done o
+      dues_of statuses.Done (inl (inr o), same) = dues_generated o
+      dues_of statuses.Done (inr o, same) = dues_checked o
       dues_of statuses.Words o = dues_words o.meets
       dues_of statuses.Files o = dues_files o
       dues_of statuses.Record o = dues_record o.0 o.1 o.2.meets

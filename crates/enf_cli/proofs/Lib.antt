@@ -7,6 +7,7 @@ pub mod GeneratingLemmas
 pub mod LogLemmas
 pub mod LogProgress
 pub mod ReportLemmas
+pub mod TextLemmas
 pub mod TurnLemmas
 pub mod RunLemmas
 pub mod DueLemmas

@@ -28,7 +28,8 @@ use Rattle.trace_meaning.specs.Good.{Good}
 use Rattle.trace_meaning.specs.OutSteps.{IsWithin, OutStep, trace_of}
 use Rattle.trace_meaning.specs.Records.{Record, clock_after}
 use Rattle.enf_cli.specs.Accepted.{AnswersBytes, UpToDate, record_of, records_of}
-use Rattle.enf_cli.specs.Enforcement.{IsEnforced, is_causable, is_suppressible}
+use Rattle.enforce_types.specs.Given.{is_causable, is_suppressible}
+use Rattle.enf_cli.specs.Enforcement.{IsEnforced}
 use Rattle.enf_cli.specs.Exchanges.{Exchanged, IsBegun}
 use Rattle.enf_cli.specs.Limits.{most_log_bytes}
 use Rattle.enf_cli.specs.Logs.{CutsRun, RunsShort}

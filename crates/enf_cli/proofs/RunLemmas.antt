@@ -18,18 +18,21 @@ use Rattle.signature.specs.declared.entries.NameEntry.{NameEntry}
 use Rattle.trace_meaning.specs.Records.{clock_after, time_of}
 use Rattle.enf_cli.specs.Accepted.{UpToDate, record_of, records_of}
 use Rattle.enf_cli.specs.Calls.{Call, LeavesFiles}
+use Rattle.enf_cli.specs.Checking.{check_text}
 use Rattle.enf_cli.specs.Endings.{ending_after_file, write_faults_behind}
-use Rattle.enf_cli.specs.Enforcement.{is_causable}
+use Rattle.enforce_types.specs.Given.{is_causable}
 use Rattle.enf_cli.specs.Exchanges.{Exchanged}
-use Rattle.enf_cli.specs.Policies.{formulas}
+use Rattle.enf_cli.specs.Policies.{CanBeBuilt, formulas}
 use Rattle.enf_cli.specs.Limits.{most_log_bytes}
-use Rattle.enf_cli.specs.Files.{EndsFile, HoldsPolicy, HoldsRefusedPolicy, HoldsSignature}
+use Rattle.enf_cli.specs.Files.{EndsFile, HoldsPolicy, HoldsRefusedPolicy, HoldsRefusedSignature, HoldsSignature}
 use Rattle.enf_cli.specs.Logs.{CutsRun, EndsAs, IsRefusedAs, MetEnd, RanAsJudged, RunsLog, conclusion_of}
-use Rattle.enf_cli.specs.Outcomes.{Asks, IsDone, Meets, Outcome, Performs, Refuses}
+use Rattle.enf_cli.specs.Outcomes.{Asks, AsksToEnforce, ChecksPolicy, IsDone, Meets, Outcome, Performs, Refuses}
 use Rattle.enf_cli.specs.Progress.{AnswersTurn, CutsTurn, EndsByRefusal, EndsTurn, EnforcesOne, IsLeft, IsNew, MeetsEnd, TakesBytes, TakesMore, reads_on}
 use Rattle.enf_cli.specs.Refusals.{status_of}
-use Rattle.enf_cli.specs.Reports.{EndsWith}
-use Rattle.enf_cli.specs.Words.{IsEnforce}
+use Rattle.enf_cli.specs.Reports.{EndsWith, WritesText}
+use Rattle.enforce_types.specs.Accepted.{IsTyped}
+use Rattle.enforce_types.specs.Typed.{Typed}
+use Rattle.enf_cli.specs.Words.{IsCheck, IsEnforce, NamesFiles}
 use Rattle.enf_cli.specs.declared.endings.Cut.{Cut}
 use Rattle.enf_cli.specs.declared.endings.Cut.TheVariants as cuts
 use Rattle.enf_cli.specs.declared.endings.Ending.{Ending}
@@ -44,6 +47,7 @@ use Rattle.enf_cli.specs.declared.refusals.RecordRefusal.{RecordRefusal}
 use Rattle.enf_cli.specs.declared.refusals.RecordRefusal.TheVariants as records
 use Rattle.enf_cli.specs.declared.refusals.Refusal.{Refusal}
 use Rattle.enf_cli.specs.declared.refusals.Refusal.TheVariants as refusals
+use Rattle.enf_cli.specs.declared.refusals.SignatureRefusal.{SignatureRefusal}
 use Rattle.enf_cli.specs.declared.refusals.Status.{Status}
 use Rattle.enf_cli.proofs.ExchangeLemmas.{exchanged_ended, exchanged_marked}
 use Rattle.enf_cli.proofs.LogLemmas.{begins_shorter, behind_le}
@@ -193,7 +197,20 @@ cut_run T entries rules policy laws may built before taken log b c h count cuts.
 
 -- ---- the work of a run
 
-module _ {Gate : Type 0} (call : Call Gate) (signature_file policy_file : List ℕ) (form : IsEnforce call.words signature_file policy_file) where
+module _ {Gate : Type 0} (call : Call Gate) (signature_file policy_file : List ℕ) (form : NamesFiles call.words signature_file policy_file) where
+  -- memory runs out before the gate is touched
+  pub memory_ends : call.after.gate_itself ≡ call.before.gate_itself → call.after.gate ≡ call.before.gate → LeavesFiles call → Performs call (Err (endings.Cut cuts.NoMemory))
+  memory_ends itself seen h = inl (inl (record { signature_file = signature_file; policy_file = policy_file; form = form; gate = (itself, seen); files = h }))
+
+  -- the signature gives nothing
+  pub signature_ends : (end : FileEnding SignatureRefusal) → call.after.gate_itself ≡ call.before.gate_itself → call.after.gate ≡ call.before.gate
+      → EndsFile (HoldsRefusedSignature call.before.files.contents signature_file) signature_file call.before.files call.after.files end → Performs call (Err (ending_after_file refusals.Signature end))
+  signature_ends (files.Refused why) itself seen h =
+      record { signature_file = signature_file; policy_file = policy_file; form = form; refused = h.0; gate = (itself, seen); files = h.1 }
+  signature_ends files.Fault itself seen h =
+      inl (record { signature_file = signature_file; policy_file = policy_file; form = form; failed = inl h; gate = (itself, seen) })
+  signature_ends files.NoMemory itself seen h = memory_ends itself seen h
+
   -- the policy gives nothing, behind a signature
   pub policy_ends : (entries : List NameEntry) (end : FileEnding PolicyRefusal) → call.after.gate_itself ≡ call.before.gate_itself → call.after.gate ≡ call.before.gate
       → HoldsSignature call.before.files.contents signature_file entries
@@ -202,50 +219,81 @@ module _ {Gate : Type 0} (call : Call Gate) (signature_file policy_file : List �
       record { signature_file = signature_file; policy_file = policy_file; form = form; entries = entries; holds_signature = holds; refused = h.0; gate = (itself, seen); files = h.1 }
   policy_ends entries files.Fault itself seen holds h =
       inl (record { signature_file = signature_file; policy_file = policy_file; form = form; failed = inr ((entries, holds), h); gate = (itself, seen) })
-  policy_ends entries files.NoMemory itself seen holds h =
-      inl (inl (record { signature_file = signature_file; policy_file = policy_file; form = form; gate = (itself, seen); files = h }))
+  policy_ends entries files.NoMemory itself seen holds h = memory_ends itself seen h
 
-  module _ (entries : List NameEntry) (policy : List Rule) (holds_signature : HoldsSignature call.before.files.contents signature_file entries)
-      (holds_policy : HoldsPolicy call.before.files.contents policy_file entries policy) (same : LeavesFiles call) where
-    abbrev asks : Asks call entries policy
-    asks = record { signature_file = signature_file; policy_file = policy_file; form = form; holds_signature = holds_signature; holds_policy = holds_policy }
+module _ {Gate : Type 0} (call : Call Gate) (signature_file policy_file : List ℕ) (form : IsEnforce call.words signature_file policy_file) (entries : List NameEntry) (policy : List Rule)
+    (holds_signature : HoldsSignature call.before.files.contents signature_file entries) (holds_policy : HoldsPolicy call.before.files.contents policy_file entries policy)
+    (can_be_built : All (CanBeBuilt entries) (formulas policy)) (same : LeavesFiles call) where
+  abbrev asks : AsksToEnforce call entries policy
+  asks =
+      record {
+        asks = record { signature_file = signature_file; policy_file = policy_file; form = form; holds_signature = holds_signature; holds_policy = holds_policy };
+        can_be_built = can_be_built;
+      }
 
-    -- the run of the log was cut
-    pub log_ends : (cut : Cut) → CutsRun entries (formulas policy) call.before.gate call.after.gate cut → Performs call (Err (endings.Cut cut))
-    log_ends cuts.WriteFault h = inl (record { entries = entries; policy = policy; asks = asks; cut = h; files = same })
-    log_ends cuts.NoMemory h = inl (inr (record { entries = entries; policy = policy; asks = asks; cut = h; files = same }))
+  -- the run of the log was cut
+  pub log_ends : (cut : Cut) → CutsRun entries (formulas policy) call.before.gate call.after.gate cut → Performs call (Err (endings.Cut cut))
+  log_ends cuts.WriteFault h = inl (inl (record { entries = entries; policy = policy; asks = asks; cut = h; files = same }))
+  log_ends cuts.NoMemory h = inl (inr (record { entries = entries; policy = policy; asks = asks; cut = h; files = same }))
 
-    -- the judgement of the log is a refusal
-    pub log_refused : (accepted : ℕ) (verdict : Verdict) (ran : RunsLog entries (formulas policy) verdict call.before.gate call.after.gate) (why : Refusal)
-        → accepted ≡ length ran.answers.read → Err why ≡ conclusion_of accepted verdict → Meets call why
-    log_refused accepted verdicts.Accepted ran why count h = cc
-    log_refused accepted verdicts.Fault ran why count h =
-        let is : why ≡ refusals.ReadFault = cc in
-        subst (Meets call) (sym is) (inr (record { entries = entries; policy = policy; asks = asks; ran = ran; failed = ran.ends.1; files = same }))
-    log_refused accepted (verdicts.Refused refusal) ran why count h =
-        let is : why ≡ refusals.Record (accepted + 1) refusal = cc in
-        subst (Meets call) (sym is) (record { entries = entries; policy = policy; asks = asks; ran = ran; number_is = ap (λ n. n + 1) count; files = same })
+  -- the judgement of the log is a refusal
+  pub log_refused : (accepted : ℕ) (verdict : Verdict) (ran : RunsLog entries (formulas policy) verdict call.before.gate call.after.gate) (why : Refusal)
+      → accepted ≡ length ran.answers.read → Err why ≡ conclusion_of accepted verdict → Meets call why
+  log_refused accepted verdicts.Accepted ran why count h = cc
+  log_refused accepted verdicts.Fault ran why count h =
+      let is : why ≡ refusals.ReadFault = cc in
+      subst (Meets call) (sym is) (inr (record { entries = entries; policy = policy; asks = asks; ran = ran; failed = ran.ends.1; files = same }))
+  log_refused accepted (verdicts.Refused refusal) ran why count h =
+      let is : why ≡ refusals.Record (accepted + 1) refusal = cc in
+      subst (Meets call) (sym is) (record { entries = entries; policy = policy; asks = asks; ran = ran; number_is = ap (λ n. n + 1) count; files = same })
 
-    -- the judgement of the log is that all is accepted
-    pub log_done : (accepted : ℕ) (verdict : Verdict) (ran : RunsLog entries (formulas policy) verdict call.before.gate call.after.gate) → Ok tt ≡ conclusion_of accepted verdict → IsDone call
-    log_done accepted verdicts.Fault ran h = cc
-    log_done accepted (verdicts.Refused refusal) ran h = cc
-    log_done accepted verdicts.Accepted ran h =
-        record {
-          entries = entries;
-          policy = policy;
-          asks = asks;
-          taken = ran.taken;
-          given = ran.given;
-          rest = ran.rest;
-          answers = ran.answers;
-          nothing_left = ran.ends.0;
-          whole = ran.ends.1;
-          exchanged = ran.exchanged;
-          reads = ran.ends.2;
-          writes = ran.writes;
-          files = same;
-        }
+  -- the judgement of the log is that all is accepted
+  pub log_done : (accepted : ℕ) (verdict : Verdict) (ran : RunsLog entries (formulas policy) verdict call.before.gate call.after.gate) → Ok tt ≡ conclusion_of accepted verdict → IsDone call
+  log_done accepted verdicts.Fault ran h = cc
+  log_done accepted (verdicts.Refused refusal) ran h = cc
+  log_done accepted verdicts.Accepted ran h =
+      record {
+        entries = entries;
+        policy = policy;
+        asks = asks;
+        taken = ran.taken;
+        given = ran.given;
+        rest = ran.rest;
+        answers = ran.answers;
+        nothing_left = ran.ends.0;
+        whole = ran.ends.1;
+        exchanged = ran.exchanged;
+        reads = ran.ends.2;
+        writes = ran.writes;
+        files = same;
+      }
+
+module _ {Gate : Type 0} (call : Call Gate) (signature_file policy_file : List ℕ) (form : IsCheck call.words signature_file policy_file) (entries : List NameEntry) (policy : List Rule)
+    (holds_signature : HoldsSignature call.before.files.contents signature_file entries) (holds_policy : HoldsPolicy call.before.files.contents policy_file entries policy)
+    (typed : Typed) (is_typed : IsTyped entries (formulas policy) typed) (same : LeavesFiles call) where
+  abbrev asks_check : Asks IsCheck call entries policy
+  asks_check = record { signature_file = signature_file; policy_file = policy_file; form = form; holds_signature = holds_signature; holds_policy = holds_policy }
+
+  -- what is to be said of the policy was given whole
+  pub check_done : WritesText {T = Unit {0}} (check_text entries policy typed.ranked) (Ok tt) call.before.gate call.after.gate → ChecksPolicy call
+  check_done w =
+      record {
+        policy = record { entries = entries; policy = policy; asks = asks_check; typed = typed; is_typed = is_typed; given = w.adds; reads = w.reads; files = same };
+        writes = w.writes;
+      }
+
+  -- or a part of it
+  pub check_ends : (cut : Cut) → WritesText {T = Unit {0}} (check_text entries policy typed.ranked) (Err cut) call.before.gate call.after.gate → Performs call (Err (endings.Cut cut))
+  check_ends cuts.WriteFault w =
+      inr (record {
+        policy = record { entries = entries; policy = policy; asks = asks_check; typed = typed; is_typed = is_typed; given = w.adds; reads = w.reads; files = same };
+        writes = w.writes;
+      })
+  check_ends cuts.NoMemory w =
+      inr (inr (record {
+        policy = record { entries = entries; policy = policy; asks = asks_check; typed = typed; is_typed = is_typed; given = w.adds; reads = w.reads; files = same };
+        writes = w.writes;
+      }))
 
 -- rules are built from their own policy
 pub own_built : (rules : List CauseRule) → AreBuilt (policy_of rules) rules
@@ -257,7 +305,8 @@ own_built (rule ∷ rules) = (record { at = record { forall_at = 0; implies_at =
 of_refusal : {Gate : Type 0} (call : Call Gate) (why : Refusal) → Refuses call why → Outcome call (status_of why)
 of_refusal call refusals.Words r = r
 of_refusal call (refusals.Signature why) r = inl (why, r)
-of_refusal call (refusals.Policy why) r = inr (why, r)
+of_refusal call (refusals.Policy why) r = inr (inl (why, r))
+of_refusal call refusals.NotBuilt r = inr (inr r)
 of_refusal call (refusals.Record number why) r = (number, why, r)
 of_refusal call refusals.ReadFault r = r
 

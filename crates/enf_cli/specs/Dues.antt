@@ -1,5 +1,5 @@
 -- Where each status must come, of every gate and files that tell.
-use Rattle.std.specs.Prelude.{◌≡◌, ◌≢◌, ℕ, ◌-◌, ◌<◌, List, length, take, Option, None, Some, ◌⊎◌}
+use Rattle.std.specs.Prelude.{◌≡◌, ◌≢◌, ℕ, ◌-◌, ◌<◌, List, length, take, All, Option, None, Some, ◌⊎◌}
 use Rattle.enf_io.specs.Contents.{Contents, Holds}
 use Rattle.enf_io.specs.Exchange.{Exchange, left}
 use Rattle.formula_reader.specs.Resolution.{Rule}
@@ -13,9 +13,9 @@ use Rattle.enf_cli.specs.Calls.{Call}
 use Rattle.enf_cli.specs.Limits.{most_log_bytes}
 use Rattle.enf_cli.specs.Files.{IsRefusedPolicy, IsRefusedSignature}
 use Rattle.enf_cli.specs.Logs.{IsRefusedAs}
-use Rattle.enf_cli.specs.Policies.{SpellsPolicy}
+use Rattle.enf_cli.specs.Policies.{CanBeBuilt, HasUnbuilt, SpellsPolicy, formulas}
 use Rattle.enf_cli.specs.Signatures.{SpellsSignature}
-use Rattle.enf_cli.specs.Words.{IsEnforce, IsGenerate, MatchNoForm}
+use Rattle.enf_cli.specs.Words.{IsCheck, IsEnforce, IsGenerate, MatchNoForm, NamesFiles}
 use Rattle.enf_cli.specs.declared.refusals.PolicyRefusal.{PolicyRefusal}
 use Rattle.enf_cli.specs.declared.refusals.RecordRefusal.{RecordRefusal}
 use Rattle.enf_cli.specs.declared.refusals.SignatureRefusal.{SignatureRefusal}
@@ -27,41 +27,58 @@ abbrev pub TellBytes : Option (List ℕ → Contents) → List ℕ → List ℕ 
 TellBytes None name bytes = ⊥
 TellBytes (Some files) name bytes = files name ≡ Holds bytes
 
--- the words ask to enforce, under a signature that files tell
-pub record AsksSignature {Gate : Type 0} (call : Call Gate) (entries : List NameEntry) : Type 0 where
+-- the words are of a form that names a signature, which files tell, and a policy
+pub record AsksSignature {Gate : Type 0} (IsForm : List (List ℕ) → List ℕ → List ℕ → Type 0) (call : Call Gate)
+    (entries : List NameEntry) : Type 0 where
   pub signature_file : List ℕ
   pub policy_file : List ℕ
-  pub form : IsEnforce call.words signature_file policy_file
+  pub form : IsForm call.words signature_file policy_file
   pub bytes : List ℕ
   pub told : TellBytes call.before.files.contents signature_file bytes
   pub is_signature : SpellsSignature bytes entries
 
--- the words ask to enforce, under a signature and a policy that files tell
-pub record AsksTold {Gate : Type 0} (call : Call Gate) (entries : List NameEntry)
-    (policy : List Rule) : Type 0 where
-  pub asks : AsksSignature call entries
+-- and files tell the policy, which is accepted
+pub record AsksPolicy {Gate : Type 0} (IsForm : List (List ℕ) → List ℕ → List ℕ → Type 0) (call : Call Gate)
+    (entries : List NameEntry) (policy : List Rule) : Type 0 where
+  pub asks : AsksSignature IsForm call entries
   pub bytes : List ℕ
   pub told : TellBytes call.before.files.contents asks.policy_file bytes
   pub is_policy : SpellsPolicy entries bytes policy
 
--- the words ask to enforce, under a signature that files tell and that is refused
+-- the words ask to enforce, under a signature and a policy that files tell, and each rule can be built
+pub record AsksTold {Gate : Type 0} (call : Call Gate) (entries : List NameEntry) (policy : List Rule) : Type 0 where
+  pub asks : AsksPolicy IsEnforce call entries policy
+  pub can_be_built : All (CanBeBuilt entries) (formulas policy)
+
+-- the words name a signature that files tell and that is refused
 pub record AsksRefusedSignature {Gate : Type 0} (call : Call Gate) : Type 0 where
   pub signature_file : List ℕ
   pub policy_file : List ℕ
-  pub form : IsEnforce call.words signature_file policy_file
+  pub form : NamesFiles call.words signature_file policy_file
   pub bytes : List ℕ
   pub told : TellBytes call.before.files.contents signature_file bytes
   pub why : SignatureRefusal
   pub refused : IsRefusedSignature why bytes
 
--- the words ask to enforce, under a signature and a policy that files tell, of which the policy is refused
+-- the words name a signature and a policy that files tell, of which the policy is refused
 pub record AsksRefusedPolicy {Gate : Type 0} (call : Call Gate) : Type 0 where
   pub entries : List NameEntry
-  pub asks : AsksSignature call entries
+  pub asks : AsksSignature NamesFiles call entries
   pub bytes : List ℕ
   pub told : TellBytes call.before.files.contents asks.policy_file bytes
   pub why : PolicyRefusal
   pub refused : IsRefusedPolicy entries why bytes
+
+-- the words ask to enforce a policy that files tell and that is accepted, of which a rule cannot be built
+pub record AsksUnbuilt {Gate : Type 0} (call : Call Gate) : Type 0 where
+  pub entries : List NameEntry
+  pub policy : List Rule
+  pub asks : AsksPolicy IsEnforce call entries policy
+  pub unbuilt : HasUnbuilt entries policy
+
+-- the files that the words name are such that the run is refused
+abbrev pub AsksRefused : {Gate : Type 0} → Call Gate → Type 0
+AsksRefused call = AsksRefusedSignature call ⊎ (AsksRefusedPolicy call ⊎ AsksUnbuilt call)
 
 -- what was taken between two moments of a gate
 abbrev pub taken_between : Exchange → Exchange → List ℕ
@@ -82,6 +99,10 @@ pub record IsAcceptable {Gate : Type 0} (call : Call Gate) : Type 0 where
 -- the words ask to generate a log
 abbrev pub AsksToGenerate : {Gate : Type 0} → Call Gate → Type 0
 AsksToGenerate call = (start steps : ℕ) × IsGenerate call.words start steps
+
+-- the words ask to check a policy that files tell and that is accepted
+abbrev pub AsksToCheck : {Gate : Type 0} → Call Gate → Type 0
+AsksToCheck call = (entries : List NameEntry) × (policy : List Rule) × AsksPolicy IsCheck call entries policy
 
 -- the accepted records of the bytes taken are followed by a refusal
 pub record MeetsRefusal {Gate : Type 0} (call : Call Gate) : Type 0 where
@@ -115,9 +136,9 @@ Comes status result = (result ≡ status) ⊎ BreaksOff result
 
 -- where each status must come; want of memory may come anywhere
 pub record Dues {Gate : Type 0} (call : Call Gate) (result : Status) : Type 0 where
-  pub done : IsAcceptable call ⊎ AsksToGenerate call → Comes statuses.Done result
+  pub done : IsAcceptable call ⊎ (AsksToGenerate call ⊎ AsksToCheck call) → Comes statuses.Done result
   pub words : MatchNoForm call.words → Comes statuses.Words result
-  pub files : AsksRefusedSignature call ⊎ AsksRefusedPolicy call → Comes statuses.Files result
+  pub files : AsksRefused call → Comes statuses.Files result
   pub refused_record : MeetsRefusal call → Comes statuses.Record result
   pub read_fault : MeetsReadFault call → Comes statuses.ReadFault result
   pub write_fault : call.after.gate.write_faults ≢ call.before.gate.write_faults → Comes statuses.WriteFault result

@@ -5,8 +5,8 @@ use Rattle.enf_io.specs.FileCalls.{FileView, ReadsFile}
 use Rattle.enf_io.specs.declared.devices.IoRefusal.{IoRefusal}
 use Rattle.enf_io.specs.declared.devices.IoRefusal.TheVariants.{Failed, NoMemory}
 use Rattle.enf_value.specs.declared.events.NameId.{NameId}
-use Rattle.enforcer_core.specs.Rules.{AreBuilt}
-use Rattle.enforcer_core.specs.declared.enforcer.CauseRule.{CauseRule}
+use Rattle.enforce_types.specs.declared.refusals.TypeRefusal.TheVariants as types
+use Rattle.formula_reader.specs.Canonical.{name_text}
 use Rattle.formula_reader.specs.Reading.{IsTextAnswer}
 use Rattle.formula_reader.specs.Resolution.{Rule}
 use Rattle.formula_reader.specs.declared.policies.PolicyRefusal.{PolicyRefusal as TextRefusal}
@@ -17,7 +17,7 @@ use Rattle.signature.specs.declared.entries.NameEntry.{NameEntry}
 use Rattle.signature.specs.declared.refusals.SignatureLimit.{SignatureLimit}
 use Rattle.signature.specs.declared.refusals.SignatureRefusal.TheVariants as answers
 use Rattle.enf_value.specs.declared.limits.TheConstants.{MOST_FILE_BYTES}
-use Rattle.enf_cli.specs.Policies.{formulas, SpellsPolicy, SpellsUnbuilt}
+use Rattle.enf_cli.specs.Policies.{SpellsPolicy, SpellsRefused}
 use Rattle.enf_cli.specs.Signatures.{SpellsSignature}
 use Rattle.enf_cli.specs.declared.endings.FileEnding.{FileEnding}
 use Rattle.enf_cli.specs.declared.endings.FileEnding.TheVariants as endings
@@ -41,7 +41,7 @@ pub record HoldsSignature (told : Option (List ℕ → Contents)) (name : List �
   pub under : AreUnder told name bytes
   pub is_signature : SpellsSignature bytes entries
 
--- the file holds a policy of these rules under this signature, each of which can be built
+-- the file holds an accepted policy of these rules under this signature
 pub record HoldsPolicy (told : Option (List ℕ → Contents)) (name : List ℕ) (entries : List NameEntry)
     (policy : List Rule) : Type 0 where
   pub bytes : List ℕ
@@ -74,7 +74,7 @@ policy_refusal_for (read.Rebound place) = Some (policies.Rebound place)
 policy_refusal_for (read.Limit place) = Some (policies.Limit place)
 policy_refusal_for read.NoMemory = None
 
--- the bytes are more than a file may have, or their first refusal is one at a place, or a rule of theirs is not built
+-- the bytes are more than a file may have, or their first refusal is one at a place or of a name
 abbrev pub IsRefusedPolicy : List NameEntry → PolicyRefusal → List ℕ → Type 0
 IsRefusedPolicy entries policies.TooLong bytes = MOST_FILE_BYTES < length bytes
 IsRefusedPolicy entries (policies.Syntax place) bytes =
@@ -91,14 +91,14 @@ IsRefusedPolicy entries (policies.Rebound place) bytes =
     (length bytes ≤ MOST_FILE_BYTES) × IsTextAnswer entries bytes (Err (read.Rebound place))
 IsRefusedPolicy entries (policies.Limit place) bytes =
     (length bytes ≤ MOST_FILE_BYTES) × IsTextAnswer entries bytes (Err (read.Limit place))
-IsRefusedPolicy entries policies.NotBuilt bytes = (length bytes ≤ MOST_FILE_BYTES) × SpellsUnbuilt entries bytes
-
--- the file holds a policy, and these are the cause rules that it is
-pub record HoldsBuilt (told : Option (List ℕ → Contents)) (name : List ℕ) (entries : List NameEntry)
-    (rules : List CauseRule) : Type 0 where
-  pub policy : List Rule
-  pub holds : HoldsPolicy told name entries policy
-  pub built : AreBuilt (formulas policy) rules
+IsRefusedPolicy entries (policies.Unguarded place) bytes = SpellsRefused entries bytes (types.Unguarded place)
+IsRefusedPolicy entries (policies.NotEnforceable place) bytes =
+    SpellsRefused entries bytes (types.NotEnforceable place)
+IsRefusedPolicy entries (policies.RoleClash name) bytes = (number : NameId)
+    × (name.items ≡ name_text entries number) × SpellsRefused entries bytes (types.RoleClash number)
+IsRefusedPolicy entries (policies.Untriggered place) bytes = SpellsRefused entries bytes (types.Untriggered place)
+IsRefusedPolicy entries (policies.Cyclic name) bytes = (number : NameId)
+    × (name.items ≡ name_text entries number) × SpellsRefused entries bytes (types.Cyclic number)
 
 -- the file holds what is refused so as a signature
 pub record HoldsRefusedSignature (told : Option (List ℕ → Contents)) (name : List ℕ)

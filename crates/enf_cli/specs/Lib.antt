@@ -1,5 +1,7 @@
 pub mod Accepted
 pub mod Calls
+pub mod Cases
+pub mod Checking
 pub mod Dues
 pub mod Endings
 pub mod Enforcement

@@ -1,21 +1,24 @@
 -- What holds of a run at each status.
-use Rattle.std.specs.Prelude.{◌≡◌, ℕ, ◌+◌, List, [], length, ◌⊎◌, Option, Result, Ok, Err}
+use Rattle.std.specs.Prelude.{◌≡◌, ℕ, ◌+◌, List, [], length, All, ◌⊎◌, Option, Result, Ok, Err}
 use Rattle.enf_io.specs.Counts.{one_more}
 use Rattle.enf_io.specs.Exchange.{Exchange, Gave}
+use Rattle.enforce_types.specs.Accepted.{IsTyped}
+use Rattle.enforce_types.specs.Typed.{Typed}
 use Rattle.formula_reader.specs.Resolution.{Rule}
 use Rattle.signature.specs.declared.entries.NameEntry.{NameEntry}
 use Rattle.log_gen.specs.Generated.{generated_text}
 use Rattle.log_stream.specs.Logs.{behind_blanks}
 use Rattle.enf_cli.specs.Accepted.{AnswersBytes, UpToDate}
 use Rattle.enf_cli.specs.Calls.{Call, LeavesFiles, LeavesGate, LeavesReport}
+use Rattle.enf_cli.specs.Checking.{check_text}
 use Rattle.enf_cli.specs.Files.{FailsToRead, HoldsPolicy, HoldsRefusedPolicy, HoldsRefusedSignature, HoldsSignature}
 use Rattle.enf_cli.specs.Exchanges.{Exchanged}
 use Rattle.enf_cli.specs.Generating.{AddsPartOrNothing}
-use Rattle.enf_cli.specs.Policies.{formulas}
+use Rattle.enf_cli.specs.Policies.{CanBeBuilt, HasUnbuilt, formulas}
 use Rattle.enf_cli.specs.Logs.{CutsRun, MetEnd, RunsLog}
 use Rattle.enf_cli.specs.Refusals.{text_of_refusal}
 use Rattle.enf_cli.specs.Reports.{AddsPart, IsReported, IsReportedInPart, SaysNoMemory}
-use Rattle.enf_cli.specs.Words.{IsEnforce, IsGenerate, MatchNoForm}
+use Rattle.enf_cli.specs.Words.{IsCheck, IsEnforce, IsGenerate, MatchNoForm, NamesFiles}
 use Rattle.enf_cli.specs.declared.endings.Cut.{Cut}
 use Rattle.enf_cli.specs.declared.endings.Cut.TheVariants as cuts
 use Rattle.enf_cli.specs.declared.endings.Ending.{Ending}
@@ -29,13 +32,20 @@ use Rattle.enf_cli.specs.declared.refusals.SignatureRefusal.{SignatureRefusal}
 use Rattle.enf_cli.specs.declared.refusals.Status.{Status}
 use Rattle.enf_cli.specs.declared.refusals.Status.TheVariants as statuses
 
--- the words ask to enforce this policy under a signature of these entries, as the files hold them
-pub record Asks {Gate : Type 0} (call : Call Gate) (entries : List NameEntry) (policy : List Rule) : Type 0 where
+-- the words are of a form that names the files of this policy and of a signature of these entries
+pub record Asks {Gate : Type 0} (IsForm : List (List ℕ) → List ℕ → List ℕ → Type 0) (call : Call Gate)
+    (entries : List NameEntry) (policy : List Rule) : Type 0 where
   pub signature_file : List ℕ
   pub policy_file : List ℕ
-  pub form : IsEnforce call.words signature_file policy_file
+  pub form : IsForm call.words signature_file policy_file
   pub holds_signature : HoldsSignature call.before.files.contents signature_file entries
   pub holds_policy : HoldsPolicy call.before.files.contents policy_file entries policy
+
+-- the words ask to enforce this policy, and each of its rules can be built
+pub record AsksToEnforce {Gate : Type 0} (call : Call Gate) (entries : List NameEntry) (policy : List Rule) : Type 0
+  where
+    pub asks : Asks IsEnforce call entries policy
+    pub can_be_built : All (CanBeBuilt entries) (formulas policy)
 
 -- the words match no form, and nothing was touched
 pub record RefusesWords {Gate : Type 0} (call : Call Gate) : Type 0 where
@@ -47,7 +57,7 @@ pub record RefusesWords {Gate : Type 0} (call : Call Gate) : Type 0 where
 pub record RefusesSignature {Gate : Type 0} (call : Call Gate) (why : SignatureRefusal) : Type 0 where
   pub signature_file : List ℕ
   pub policy_file : List ℕ
-  pub form : IsEnforce call.words signature_file policy_file
+  pub form : NamesFiles call.words signature_file policy_file
   pub refused : HoldsRefusedSignature call.before.files.contents signature_file why
   pub gate : LeavesGate call
   pub files : LeavesFiles call
@@ -56,10 +66,19 @@ pub record RefusesSignature {Gate : Type 0} (call : Call Gate) (why : SignatureR
 pub record RefusesPolicy {Gate : Type 0} (call : Call Gate) (why : PolicyRefusal) : Type 0 where
   pub signature_file : List ℕ
   pub policy_file : List ℕ
-  pub form : IsEnforce call.words signature_file policy_file
+  pub form : NamesFiles call.words signature_file policy_file
   pub entries : List NameEntry
   pub holds_signature : HoldsSignature call.before.files.contents signature_file entries
   pub refused : HoldsRefusedPolicy call.before.files.contents policy_file entries why
+  pub gate : LeavesGate call
+  pub files : LeavesFiles call
+
+-- the policy is accepted and to be enforced, but a rule of it cannot be built, and the gate was not touched
+pub record RefusesUnbuilt {Gate : Type 0} (call : Call Gate) : Type 0 where
+  pub entries : List NameEntry
+  pub policy : List Rule
+  pub asks : Asks IsEnforce call entries policy
+  pub unbuilt : HasUnbuilt entries policy
   pub gate : LeavesGate call
   pub files : LeavesFiles call
 
@@ -67,7 +86,7 @@ pub record RefusesPolicy {Gate : Type 0} (call : Call Gate) (why : PolicyRefusal
 pub record RefusesRecord {Gate : Type 0} (call : Call Gate) (number : ℕ) (why : RecordRefusal) : Type 0 where
   pub entries : List NameEntry
   pub policy : List Rule
-  pub asks : Asks call entries policy
+  pub asks : AsksToEnforce call entries policy
   pub ran : RunsLog entries (formulas policy) (verdicts.Refused why) call.before.gate call.after.gate
   pub number_is : number ≡ length ran.answers.read + 1
   pub files : LeavesFiles call
@@ -76,7 +95,7 @@ pub record RefusesRecord {Gate : Type 0} (call : Call Gate) (number : ℕ) (why 
 pub record MissesFile {Gate : Type 0} (call : Call Gate) : Type 0 where
   pub signature_file : List ℕ
   pub policy_file : List ℕ
-  pub form : IsEnforce call.words signature_file policy_file
+  pub form : NamesFiles call.words signature_file policy_file
   pub failed : FailsToRead signature_file call.before.files call.after.files
       ⊎ (((entries : List NameEntry) × HoldsSignature call.before.files.contents signature_file entries)
       × FailsToRead policy_file call.before.files call.after.files)
@@ -86,7 +105,7 @@ pub record MissesFile {Gate : Type 0} (call : Call Gate) : Type 0 where
 pub record BreaksOffLog {Gate : Type 0} (call : Call Gate) : Type 0 where
   pub entries : List NameEntry
   pub policy : List Rule
-  pub asks : Asks call entries policy
+  pub asks : AsksToEnforce call entries policy
   pub ran : RunsLog entries (formulas policy) verdicts.Fault call.before.gate call.after.gate
   pub failed : call.after.gate.read_faults ≡ one_more call.before.gate.read_faults
   pub files : LeavesFiles call
@@ -96,6 +115,7 @@ abbrev pub Meets : {Gate : Type 0} → Call Gate → Refusal → Type 0
 Meets call refusals.Words = RefusesWords call
 Meets call (refusals.Signature why) = RefusesSignature call why
 Meets call (refusals.Policy why) = RefusesPolicy call why
+Meets call refusals.NotBuilt = RefusesUnbuilt call
 Meets call (refusals.Record number why) = RefusesRecord call number why
 Meets call refusals.ReadFault = MissesFile call ⊎ BreaksOffLog call
 
@@ -104,7 +124,7 @@ Meets call refusals.ReadFault = MissesFile call ⊎ BreaksOffLog call
 pub record IsDone {Gate : Type 0} (call : Call Gate) : Type 0 where
   pub entries : List NameEntry
   pub policy : List Rule
-  pub asks : Asks call entries policy
+  pub asks : AsksToEnforce call entries policy
   pub taken : List ℕ
   pub given : List ℕ
   pub rest : List ℕ
@@ -120,15 +140,15 @@ pub record IsDone {Gate : Type 0} (call : Call Gate) : Type 0 where
 pub record FailsToWrite {Gate : Type 0} (call : Call Gate) : Type 0 where
   pub entries : List NameEntry
   pub policy : List Rule
-  pub asks : Asks call entries policy
+  pub asks : AsksToEnforce call entries policy
   pub cut : CutsRun entries (formulas policy) call.before.gate call.after.gate cuts.WriteFault
   pub files : LeavesFiles call
 
--- memory ran out before the log was begun
+-- memory ran out before the log was begun, or before anything was said of a policy
 pub record RunsOutBefore {Gate : Type 0} (call : Call Gate) : Type 0 where
   pub signature_file : List ℕ
   pub policy_file : List ℕ
-  pub form : IsEnforce call.words signature_file policy_file
+  pub form : NamesFiles call.words signature_file policy_file
   pub gate : LeavesGate call
   pub files : LeavesFiles call
 
@@ -136,7 +156,7 @@ pub record RunsOutBefore {Gate : Type 0} (call : Call Gate) : Type 0 where
 pub record RunsOutWithin {Gate : Type 0} (call : Call Gate) : Type 0 where
   pub entries : List NameEntry
   pub policy : List Rule
-  pub asks : Asks call entries policy
+  pub asks : AsksToEnforce call entries policy
   pub cut : CutsRun entries (formulas policy) call.before.gate call.after.gate cuts.NoMemory
   pub files : LeavesFiles call
 
@@ -166,14 +186,47 @@ pub record RunsOutGenerating {Gate : Type 0} (call : Call Gate) : Type 0 where
   pub log : Generates call AddsPartOrNothing
   pub writes : call.after.gate.write_faults ≡ call.before.gate.write_faults
 
+-- the words ask to check an accepted policy, and what was given to the gate is so of what is to be said of it; nothing
+-- was taken from the gate, no read of it was made, and the files were not touched
+pub record Checks {Gate : Type 0} (call : Call Gate)
+    (IsGiven : List ℕ → Option Exchange → Option Exchange → Type 0) : Type 0 where
+  pub entries : List NameEntry
+  pub policy : List Rule
+  pub asks : Asks IsCheck call entries policy
+  pub typed : Typed
+  pub is_typed : IsTyped entries (formulas policy) typed
+  pub given : IsGiven (check_text entries policy typed.ranked) call.before.gate.told call.after.gate.told
+  pub reads : call.after.gate.read_faults ≡ call.before.gate.read_faults
+  pub files : LeavesFiles call
+
+-- all of it was given
+pub record ChecksPolicy {Gate : Type 0} (call : Call Gate) : Type 0 where
+  pub policy : Checks call Gave
+  pub writes : call.after.gate.write_faults ≡ call.before.gate.write_faults
+
+-- a write to the gate failed behind a front of it, which is not the whole
+pub record ChecksInPart {Gate : Type 0} (call : Call Gate) : Type 0 where
+  pub policy : Checks call AddsPart
+  pub writes : call.after.gate.write_faults ≡ one_more call.before.gate.write_faults
+
+-- memory ran out behind a front of it, which is not the whole
+pub record RunsOutChecking {Gate : Type 0} (call : Call Gate) : Type 0 where
+  pub policy : Checks call AddsPart
+  pub writes : call.after.gate.write_faults ≡ call.before.gate.write_faults
+
+-- what holds where a run is done, but for the report
+abbrev pub IsFinished : {Gate : Type 0} → Call Gate → Type 0
+IsFinished call = (IsDone call ⊎ GeneratesLog call) ⊎ ChecksPolicy call
+
 -- what holds where a run is cut, but for the report
 abbrev pub IsCut : {Gate : Type 0} → Call Gate → Cut → Type 0
-IsCut call cuts.WriteFault = FailsToWrite call ⊎ GeneratesInPart call
-IsCut call cuts.NoMemory = (RunsOutBefore call ⊎ RunsOutWithin call) ⊎ RunsOutGenerating call
+IsCut call cuts.WriteFault = (FailsToWrite call ⊎ GeneratesInPart call) ⊎ ChecksInPart call
+IsCut call cuts.NoMemory =
+    (RunsOutBefore call ⊎ RunsOutWithin call) ⊎ (RunsOutGenerating call ⊎ RunsOutChecking call)
 
 -- how the work of a run ends, but for the report
 abbrev pub Performs : {Gate : Type 0} → Call Gate → Result (Unit {0}) Ending → Type 0
-Performs call (Ok done) = IsDone call ⊎ GeneratesLog call
+Performs call (Ok done) = IsFinished call
 Performs call (Err (endings.Refused why)) = Meets call why
 Performs call (Err (endings.Cut cut)) = IsCut call cut
 
@@ -195,12 +248,12 @@ pub record RunsOut {Gate : Type 0} (call : Call Gate) : Type 0 where
 
 -- what holds at each status
 abbrev pub Outcome : {Gate : Type 0} → Call Gate → Status → Type 0
-Outcome call statuses.Done = (IsDone call ⊎ GeneratesLog call) × LeavesReport call
+Outcome call statuses.Done = IsFinished call × LeavesReport call
 Outcome call statuses.Words = Refuses call refusals.Words
 Outcome call statuses.Files =
     ((why : SignatureRefusal) × Refuses call (refusals.Signature why))
-    ⊎ ((why : PolicyRefusal) × Refuses call (refusals.Policy why))
+    ⊎ (((why : PolicyRefusal) × Refuses call (refusals.Policy why)) ⊎ Refuses call refusals.NotBuilt)
 Outcome call statuses.Record = (number : ℕ) × (why : RecordRefusal) × Refuses call (refusals.Record number why)
 Outcome call statuses.ReadFault = Refuses call refusals.ReadFault
-Outcome call statuses.WriteFault = (FailsToWrite call ⊎ GeneratesInPart call) × LeavesReport call
+Outcome call statuses.WriteFault = IsCut call cuts.WriteFault × LeavesReport call
 Outcome call statuses.NoMemory = RunsOut call ⊎ RunsOutInLine call

@@ -34,7 +34,13 @@ text_of_policy_refusal (policies.FreeVariable place) =
     codes "policy: free variable at " ++ decimal place ++ codes "\n"
 text_of_policy_refusal (policies.Rebound place) = codes "policy: rebound at " ++ decimal place ++ codes "\n"
 text_of_policy_refusal (policies.Limit place) = codes "policy: limit at " ++ decimal place ++ codes "\n"
-text_of_policy_refusal policies.NotBuilt = codes "policy: not built\n"
+text_of_policy_refusal (policies.Unguarded place) = codes "policy: unguarded at " ++ decimal place ++ codes "\n"
+text_of_policy_refusal (policies.NotEnforceable place) =
+    codes "policy: not enforceable at " ++ decimal place ++ codes "\n"
+text_of_policy_refusal (policies.RoleClash name) = codes "policy: role clash " ++ name.items ++ codes "\n"
+text_of_policy_refusal (policies.Untriggered place) =
+    codes "policy: untriggered at " ++ decimal place ++ codes "\n"
+text_of_policy_refusal (policies.Cyclic name) = codes "policy: cyclic " ++ name.items ++ codes "\n"
 
 -- what is said of a record
 abbrev pub text_of_record_refusal : RecordRefusal → List ℕ
@@ -54,6 +60,7 @@ abbrev pub text_of_refusal : Refusal → List ℕ
 text_of_refusal refusals.Words = usage_line
 text_of_refusal (refusals.Signature why) = text_of_signature_refusal why
 text_of_refusal (refusals.Policy why) = text_of_policy_refusal why
+text_of_refusal refusals.NotBuilt = codes "policy: not built\n"
 text_of_refusal (refusals.Record number why) =
     codes "record " ++ decimal number ++ codes ": " ++ text_of_record_refusal why ++ codes "\n"
 text_of_refusal refusals.ReadFault = codes "read fault\n"
@@ -66,6 +73,7 @@ abbrev pub status_of : Refusal → Status
 status_of refusals.Words = statuses.Words
 status_of (refusals.Signature why) = statuses.Files
 status_of (refusals.Policy why) = statuses.Files
+status_of refusals.NotBuilt = statuses.Files
 status_of (refusals.Record number why) = statuses.Record
 status_of refusals.ReadFault = statuses.ReadFault
 

@@ -1,5 +1,5 @@
 -- The words of the command line.
-use Rattle.std.specs.Prelude.{◌≡◌, ℕ, ◌≤◌, List, [], ◌∷◌, length, codes, map, String, string_bytes}
+use Rattle.std.specs.Prelude.{◌≡◌, ◌⊎◌, ℕ, ◌≤◌, List, [], ◌∷◌, length, codes, map, String, string_bytes}
 use Rattle.std.specs.Str.Parse.{IsNumeral, digits_value}
 use Rattle.std.specs.declared.alloc.Global.{Global}
 use Rattle.enf_cli.specs.Limits.{most_start, most_steps}
@@ -21,6 +21,14 @@ pub record IsNumber (most : ℕ) (word : List ℕ) (number : ℕ) : Type 0 where
 abbrev pub IsEnforce : List (List ℕ) → List ℕ → List ℕ → Type 0
 IsEnforce words signature policy = words ≡ codes "enforce" ∷ signature ∷ policy ∷ []
 
+-- `check SIG POLICY`
+abbrev pub IsCheck : List (List ℕ) → List ℕ → List ℕ → Type 0
+IsCheck words signature policy = words ≡ codes "check" ∷ signature ∷ policy ∷ []
+
+-- a form that names a signature and a policy
+abbrev pub NamesFiles : List (List ℕ) → List ℕ → List ℕ → Type 0
+NamesFiles words signature policy = IsEnforce words signature policy ⊎ IsCheck words signature policy
+
 -- `gen START N`
 pub record IsGenerate (words : List (List ℕ)) (start steps : ℕ) : Type 0 where
   pub start_word : List ℕ
@@ -32,9 +40,11 @@ pub record IsGenerate (words : List (List ℕ)) (start steps : ℕ) : Type 0 whe
 -- the words match the form, with what stands in its places
 abbrev pub Matches : List (List ℕ) → Form → Type 0
 Matches words (forms.Enforce signature policy) = IsEnforce words signature.now policy.now
+Matches words (forms.Check signature policy) = IsCheck words signature.now policy.now
 Matches words (forms.Generate start steps) = IsGenerate words start steps
 
 -- the words match no form
 pub record MatchNoForm (words : List (List ℕ)) : Type 0 where
   pub enforce : (signature policy : List ℕ) → IsEnforce words signature policy → ⊥
+  pub check : (signature policy : List ℕ) → IsCheck words signature policy → ⊥
   pub generate : (start steps : ℕ) → IsGenerate words start steps → ⊥

@@ -1,15 +1,19 @@
 //! The signature and the policy, as the files give them.
-ghost use Rattle.std.specs.Prelude.{◌≡◌, ◌≤◌, Err, IfOk, IfErr, IsTrue, All, MatchOption, OnOk, Some, length};
-ghost use Rattle.enf_cli.specs.Enforcement.{is_causable};
-ghost use Rattle.enf_cli.specs.Files.{EndsFile, HoldsBuilt, HoldsRefusedPolicy, HoldsRefusedSignature, HoldsSignature, IsLong, IsNotRead, IsRefusedSignature, IsShort, policy_refusal_for, word_from};
+ghost use Rattle.std.specs.Prelude.{◌≡◌, ◌≤◌, Err, IfOk, IfErr, List, MatchOption, OnOk, Some, ℕ, length};
+ghost use Rattle.enf_cli.specs.Files.{EndsFile, HoldsPolicy, HoldsRefusedPolicy, HoldsRefusedSignature, HoldsSignature, IsLong, IsNotRead, IsRefusedPolicy, IsRefusedSignature, IsShort, policy_refusal_for, word_from};
+ghost use Rattle.enf_cli.specs.Policies.{SpellsRefused, formulas};
+ghost use Rattle.enforce_types.specs.Accepted.{IsTyped};
+ghost use Rattle.enforce_types.specs.Typed.{typed_of};
+ghost use Rattle.formula_reader.specs.Canonical.{name_text};
+ghost use Rattle.formula_reader.specs.Resolution.{rules_of};
 ghost use Rattle.signature.specs.Refusals.{GivesAnswer};
 
-use crate::building::build_rules;
 use crate::endings::FileEnding;
 use crate::refusals::{PolicyRefusal, SignatureRefusal};
 use enf_io::devices::{Files, IoRefusal};
-use enf_value::{ByteKind, MOST_FILE_BYTES, NoMemory};
-use enforcer_core::enforcer::CauseRule;
+use enf_value::{ByteKind, MOST_FILE_BYTES, NameId, NoMemory};
+use enforce_types::{TypeRefusal, TypedPolicy};
+use formula_reader::Policy;
 use signature::Signature;
 use std::alloc::Global;
 
@@ -33,17 +37,24 @@ pub fn read_signature<F: Files>(
     }
 }
 
-/// Reads the policy under a signature, and gives the cause rules that it is.
+/// A policy that is accepted, as it was read, with its plans.
+#[derive(Debug, Drop)]
+pub struct AcceptedPolicy {
+    pub policy: Policy,
+    pub typed: TypedPolicy,
+}
+
+/// Reads the policy under a signature.
 pub fn read_policy<F: Files>(
     alloc: Global,
     files: &mut F,
     name: &str,
     signature: &Signature,
-) -> Result<Vec<CauseRule>, FileEnding<PolicyRefusal>>
-    ensures held { IfOk result
-        (λ rules. HoldsBuilt (F.seen files.old).contents name.now signature.now rules.items) }
-    ensures causable { IfOk result
-        (λ rules. All (λ rule. IsTrue (is_causable signature.now rule.cause)) rules.items) }
+) -> Result<AcceptedPolicy, FileEnding<PolicyRefusal>>
+    ensures held { IfOk result (λ accepted.
+        HoldsPolicy (F.seen files.old).contents name.now signature.now (rules_of accepted.policy)) }
+    ensures typed { IfOk result (λ accepted.
+        IsTyped signature.now (formulas (rules_of accepted.policy)) (typed_of accepted.typed)) }
     ensures same { OnOk result (F.seen files.new ≡ F.seen files.old) }
     ensures ends { IfErr result (EndsFile
         (HoldsRefusedPolicy (F.seen files.old).contents name.now signature.now)
@@ -56,9 +67,9 @@ pub fn read_policy<F: Files>(
         Ok(policy) => policy,
         Err(refusal) => return Err(FileEnding::Refused(policy_refusal_of(refusal)?)),
     };
-    match build_rules(alloc, signature, policy.rules.as_slice())? {
-        Some(rules) => Ok(rules),
-        None => Err(FileEnding::Refused(PolicyRefusal::NotBuilt)),
+    match TypedPolicy::of(alloc, signature, &policy) {
+        Ok(typed) => Ok(AcceptedPolicy { policy, typed }),
+        Err(refusal) => Err(FileEnding::Refused(type_refusal_of(alloc, signature, refusal)?)),
     }
 }
 
@@ -100,6 +111,39 @@ fn policy_refusal_of(refusal: formula_reader::PolicyRefusal) -> Result<PolicyRef
         formula_reader::PolicyRefusal::Rebound { place } => Ok(PolicyRefusal::Rebound { place }),
         formula_reader::PolicyRefusal::Limit { place } => Ok(PolicyRefusal::Limit { place }),
         formula_reader::PolicyRefusal::NoMemory => Err(NoMemory),
+    }
+}
+
+// What a refusal of the typing says, with the text of the name that it is about.
+fn type_refusal_of(
+    alloc: Global,
+    signature: &Signature,
+    refusal: TypeRefusal,
+) -> Result<PolicyRefusal, NoMemory>
+    ensures { IfOk result (λ why. (bytes : List ℕ) → SpellsRefused signature.now bytes refusal
+        → IsRefusedPolicy signature.now why bytes) }
+{
+    match refusal {
+        TypeRefusal::Unguarded { place } => Ok(PolicyRefusal::Unguarded { place }),
+        TypeRefusal::NotEnforceable { place } => Ok(PolicyRefusal::NotEnforceable { place }),
+        TypeRefusal::RoleClash { name } => Ok(PolicyRefusal::RoleClash {
+            name: Vec::from_slice(alloc, text_of_name(signature, name))?,
+        }),
+        TypeRefusal::Untriggered { place } => Ok(PolicyRefusal::Untriggered { place }),
+        TypeRefusal::Cyclic { name } => Ok(PolicyRefusal::Cyclic {
+            name: Vec::from_slice(alloc, text_of_name(signature, name))?,
+        }),
+        TypeRefusal::NoMemory => Err(NoMemory),
+    }
+}
+
+/// The text of a name; nothing, where there is no such name.
+pub fn text_of_name(signature: &Signature, name: NameId) -> &[u8]
+    ensures { result.now ≡ name_text signature.now name }
+{
+    match signature.entry(name) {
+        Some(entry) => entry.text.bytes(),
+        None => &[],
     }
 }
 

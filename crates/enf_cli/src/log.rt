@@ -6,7 +6,7 @@ ghost use Rattle.enforcer_core.specs.Rules.{AreBuilt};
 ghost use Rattle.enf_cli.specs.Limits.{most_log_bytes, most_read_bytes};
 ghost use Rattle.enf_cli.specs.Accepted.{record_of};
 ghost use Rattle.enf_cli.specs.Endings.{write_faults_behind};
-ghost use Rattle.enf_cli.specs.Enforcement.{is_causable};
+ghost use Rattle.enforce_types.specs.Given.{is_causable};
 ghost use Rattle.enf_cli.specs.Logs.{CutsRun, RanAsJudged};
 ghost use Rattle.enf_cli.specs.Progress.{AnswersItem, AnswersNext, AnswersTurn, CutsItem, CutsNext, CutsTurn, IsNew, JudgesEnd, LosesPiece, TakesTurn, reads_on, refusal_for};
 ghost use Rattle.log_stream.specs.Logs.{IsPending};

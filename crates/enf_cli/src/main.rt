@@ -4,6 +4,7 @@
 #![tactic(auto)]
 
 mod building;
+mod checking;
 mod endings;
 mod files;
 mod generating;

@@ -35,7 +35,7 @@ pub enum SignatureRefusal {
 }
 
 /// Why the policy is refused. A place is a byte offset, counted from 0.
-#[derive(Clone, Copy, Debug, PartialEq, Eq)]
+#[derive(Debug, PartialEq, Eq, Drop)]
 pub enum PolicyRefusal {
     TooLong,
     Syntax { place: u32 },
@@ -45,8 +45,13 @@ pub enum PolicyRefusal {
     FreeVariable { place: u32 },
     Rebound { place: u32 },
     Limit { place: u32 },
-    /// A rule is not `forall x. guard(x) -> cause()` with a causable cause.
-    NotBuilt,
+    Unguarded { place: u32 },
+    NotEnforceable { place: u32 },
+    /// Events of the name are caused and suppressed.
+    RoleClash { name: Vec<u8> },
+    Untriggered { place: u32 },
+    /// Each event of the name may cause the next.
+    Cyclic { name: Vec<u8> },
 }
 
 /// Why a record is refused. A place is a byte offset within the record, counted from 0.
@@ -70,6 +75,8 @@ pub enum Refusal {
     Words,
     Signature(SignatureRefusal),
     Policy(PolicyRefusal),
+    /// The policy is accepted, but a rule is not `forall x. guard(x) -> cause()` with a causable cause.
+    NotBuilt,
     /// The record's number is counted from 1.
     Record { number: u64, why: RecordRefusal },
     ReadFault,
@@ -82,7 +89,7 @@ impl Refusal {
     {
         match self {
             Refusal::Words => Status::Words,
-            Refusal::Signature(_) | Refusal::Policy(_) => Status::Files,
+            Refusal::Signature(_) | Refusal::Policy(_) | Refusal::NotBuilt => Status::Files,
             Refusal::Record { .. } => Status::Record,
             Refusal::ReadFault => Status::ReadFault,
         }

@@ -52,7 +52,8 @@ fn write_refusal<R: Sink>(refusal: &Refusal, report: &mut R) -> Result<(), Cut>
     match refusal {
         Refusal::Words => write_pieces(&[USAGE], report),
         Refusal::Signature(why) => write_signature_refusal(why, report),
-        Refusal::Policy(why) => write_policy_refusal(*why, report),
+        Refusal::Policy(why) => write_policy_refusal(why, report),
+        Refusal::NotBuilt => write_pieces(&[b"policy: not built\n"], report),
         Refusal::Record { number, why } => write_record_refusal(*number, *why, report),
         Refusal::ReadFault => write_pieces(&[b"read fault\n"], report),
     }
@@ -82,24 +83,34 @@ fn write_at<R: Sink>(what: &[u8], place: u32, report: &mut R) -> Result<(), Cut>
     write_pieces(&[what, digits.format(place).as_bytes(), b"\n"], report)
 }
 
-fn write_policy_refusal<R: Sink>(why: PolicyRefusal, report: &mut R) -> Result<(), Cut>
-    ensures { WritesText (text_of_policy_refusal why) result
+fn write_policy_refusal<R: Sink>(why: &PolicyRefusal, report: &mut R) -> Result<(), Cut>
+    ensures { WritesText (text_of_policy_refusal why.now) result
         (R.seen report.old) (R.seen report.new) }
 {
     match why {
         PolicyRefusal::TooLong => write_pieces(&[b"policy: too long\n"], report),
-        PolicyRefusal::Syntax { place } => write_at(b"policy: syntax at ", place, report),
+        PolicyRefusal::Syntax { place } => write_at(b"policy: syntax at ", *place, report),
         PolicyRefusal::UnknownName { place } => {
-            write_at(b"policy: unknown name at ", place, report)
+            write_at(b"policy: unknown name at ", *place, report)
         }
-        PolicyRefusal::Arity { place } => write_at(b"policy: arity at ", place, report),
-        PolicyRefusal::Sort { place } => write_at(b"policy: sort at ", place, report),
+        PolicyRefusal::Arity { place } => write_at(b"policy: arity at ", *place, report),
+        PolicyRefusal::Sort { place } => write_at(b"policy: sort at ", *place, report),
         PolicyRefusal::FreeVariable { place } => {
-            write_at(b"policy: free variable at ", place, report)
+            write_at(b"policy: free variable at ", *place, report)
         }
-        PolicyRefusal::Rebound { place } => write_at(b"policy: rebound at ", place, report),
-        PolicyRefusal::Limit { place } => write_at(b"policy: limit at ", place, report),
-        PolicyRefusal::NotBuilt => write_pieces(&[b"policy: not built\n"], report),
+        PolicyRefusal::Rebound { place } => write_at(b"policy: rebound at ", *place, report),
+        PolicyRefusal::Limit { place } => write_at(b"policy: limit at ", *place, report),
+        PolicyRefusal::Unguarded { place } => write_at(b"policy: unguarded at ", *place, report),
+        PolicyRefusal::NotEnforceable { place } => {
+            write_at(b"policy: not enforceable at ", *place, report)
+        }
+        PolicyRefusal::RoleClash { name } => {
+            write_pieces(&[b"policy: role clash ", name, b"\n"], report)
+        }
+        PolicyRefusal::Untriggered { place } => {
+            write_at(b"policy: untriggered at ", *place, report)
+        }
+        PolicyRefusal::Cyclic { name } => write_pieces(&[b"policy: cyclic ", name, b"\n"], report),
     }
 }
 
@@ -173,8 +184,8 @@ fn write_falling<R: Sink>(number: u64, given: u64, clock: u64, report: &mut R) -
     )
 }
 
-// The pieces, one after another.
-fn write_pieces<R: Sink>(pieces: &[&[u8]], report: &mut R) -> Result<(), Cut>
+/// The pieces, one after another.
+pub fn write_pieces<R: Sink>(pieces: &[&[u8]], report: &mut R) -> Result<(), Cut>
     ensures { WritesText (flat_map (λ piece. piece.now) pieces.now) result
         (R.seen report.old) (R.seen report.new) }
 {

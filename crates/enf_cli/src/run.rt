@@ -5,8 +5,10 @@ ghost use Rattle.enf_cli.specs.Calls.{call_of, devices};
 ghost use Rattle.enf_cli.specs.Dues.{Dues};
 ghost use Rattle.enf_cli.specs.Logs.{conclusion_of};
 ghost use Rattle.enf_cli.specs.Outcomes.{Outcome, Performs};
-ghost use Rattle.enf_cli.specs.Words.{IsEnforce};
+ghost use Rattle.enf_cli.specs.Words.{IsCheck, IsEnforce};
 
+use crate::building::build_rules;
+use crate::checking::give_check;
 use crate::endings::Ending;
 use crate::files::{read_policy, read_signature};
 use crate::generating::give_log;
@@ -18,7 +20,8 @@ use enf_io::devices::{Files, Gate, Sink};
 use std::alloc::Global;
 
 /// Does what the words ask for: `enforce SIG POLICY` takes the log from the gate and gives the
-/// enforced log to it, `gen START N` gives a generated log. The report says why a run ends early.
+/// enforced log to it, `check SIG POLICY` gives what is to be said of the policy, `gen START N` gives
+/// a generated log. The report says why a run ends early.
 pub fn run<G: Gate, F: Files, R: Sink>(
     alloc: Global,
     words: &[String],
@@ -39,6 +42,7 @@ pub fn run<G: Gate, F: Files, R: Sink>(
     signature::laws::one_answer();
     formula_reader::laws::one_text_answer();
     log_stream::laws::one_answer();
+    enforce_types::laws::accepted_is_not_refused();
     match perform(alloc, words, gate, files) {
         Ok(()) => Status::Done,
         Err(ending) => report_ending(&ending, report),
@@ -60,6 +64,7 @@ fn perform<G: Gate, F: Files>(
         Some(Form::Enforce { signature, policy }) => {
             enforce(alloc, signature, policy, gate, files)
         }
+        Some(Form::Check { signature, policy }) => check(alloc, signature, policy, gate, files),
         Some(Form::Generate { start, steps }) => Ok(give_log(alloc, start, steps, gate)?),
         None => Err(Ending::Refused(Refusal::Words)),
     }
@@ -82,11 +87,37 @@ fn enforce<G: Gate, F: Files>(
         }) result }
 {
     let signature = read_signature(alloc, files, signature_file)?;
-    let rules = read_policy(alloc, files, policy_file, &signature)?;
-    let log = Enforcement::new(alloc, &signature, rules)?;
+    let accepted = read_policy(alloc, files, policy_file, &signature)?;
+    let rules = accepted.policy.rules.as_slice();
+    let Some(built) = build_rules(alloc, &signature, rules)? else {
+        return Err(Ending::Refused(Refusal::NotBuilt));
+    };
+    let log = Enforcement::new(alloc, &signature, built)?;
     let judged = enforce_log(alloc, &signature, log, gate)?;
     conclude(judged)?;
     Ok(())
+}
+
+// Gives what is to be said of the policy.
+fn check<G: Gate, F: Files>(
+    alloc: Global,
+    signature_file: &str,
+    policy_file: &str,
+    gate: &mut G,
+    files: &mut F,
+) -> Result<(), Ending>
+    ensures { (words : List (List ℕ)) (report report' : Stream) →
+        IsCheck words signature_file.now policy_file.now →
+        Performs (record {
+          words = words;
+          before = devices gate.old (G.seen gate.old) (F.seen files.old) report;
+          after = devices gate.new (G.seen gate.new) (F.seen files.new) report';
+        }) result }
+{
+    let signature = read_signature(alloc, files, signature_file)?;
+    let accepted = read_policy(alloc, files, policy_file, &signature)?;
+    let rules = accepted.policy.rules.as_slice();
+    Ok(give_check(alloc, &signature, rules, &accepted.typed, gate)?)
 }
 
 // What the judgement of the log makes of a run.

@@ -1,5 +1,6 @@
 //! Runs over devices in memory, and what they leave.
 mod calm;
+mod checking;
 mod examples;
 mod faults;
 mod generating;

@@ -1,5 +1,5 @@
 //! The words of the command line.
-ghost use Rattle.std.specs.Prelude.{◌≡◌, ◌==◌, ℕ, ◌⊎◌, IfErr, IfSome, IfNone, slice_index};
+ghost use Rattle.std.specs.Prelude.{◌≡◌, ◌==◌, ℕ, ◌⊎◌, ◌∷◌, [], IfErr, IfSome, IfNone, slice_index};
 ghost use Rattle.enf_cli.specs.Words.{IsNumber, MatchNoForm, Matches, texts};
 ghost use Rattle.enf_cli.specs.declared.endings.Cut.TheVariants.{NoMemory as OutOfMemory};
 ghost use Rattle.enf_cli.specs.declared.endings.Ending.TheVariants as ending;
@@ -19,6 +19,8 @@ const MOST_DIGITS: usize = 10;
 pub enum Form<'a> {
     /// `enforce SIG POLICY`
     Enforce { signature: &'a str, policy: &'a str },
+    /// `check SIG POLICY`
+    Check { signature: &'a str, policy: &'a str },
     /// `gen START N`
     Generate { start: u32, steps: u32 },
 }
@@ -64,14 +66,29 @@ pub fn form_of(words: &[String]) -> Option<Form<'_>>
     ensures some { IfSome result (λ form. Matches (texts words.now) form) }
     ensures none { IfNone result (MatchNoForm (texts words.now)) }
 {
-    match words {
-        [command, signature, policy] if command.as_str() == "enforce" => Some(Form::Enforce {
-            signature: signature.as_str(),
-            policy: policy.as_str(),
+    let [command, first, second] = words else {
+        return None;
+    };
+    form_of_three(command.as_str(), first.as_str(), second.as_str())
+}
+
+// Each form has a command and two words.
+fn form_of_three<'a>(command: &str, first: &'a str, second: &'a str) -> Option<Form<'a>>
+    ensures some { IfSome result (λ form. Matches (command.now ∷ first.now ∷ second.now ∷ []) form) }
+    ensures none { IfNone result (MatchNoForm (command.now ∷ first.now ∷ second.now ∷ [])) }
+{
+    match command {
+        "enforce" => Some(Form::Enforce {
+            signature: first,
+            policy: second,
         }),
-        [command, start, steps] if command.as_str() == "gen" => Some(Form::Generate {
-            start: read_number(start.as_str(), MOST_START)?,
-            steps: read_number(steps.as_str(), MOST_STEPS)?,
+        "check" => Some(Form::Check {
+            signature: first,
+            policy: second,
+        }),
+        "gen" => Some(Form::Generate {
+            start: read_number(first, MOST_START)?,
+            steps: read_number(second, MOST_STEPS)?,
         }),
         _ => None,
     }

@@ -2,7 +2,7 @@
 ghost use Rattle.std.specs.Prelude.{◌≡◌, ◌≢◌, IfOk, codes};
 ghost use Rattle.enf_io.specs.Calm.{contents_under};
 ghost use Rattle.enf_io.specs.Contents.{Missing};
-ghost use Rattle.enf_cli.specs.Words.{IsEnforce, texts};
+ghost use Rattle.enf_cli.specs.Words.{NamesFiles, texts};
 
 use crate::refusals::Status;
 use crate::run::run;
@@ -45,10 +45,21 @@ impl Outcome {
 
 /// The words `enforce sig pol`.
 pub fn enforce_words(alloc: Global) -> Result<[String; 3], NoMemory>
-    ensures { IfOk result (λ words. IsEnforce (texts words) (codes "sig") (codes "pol")) }
+    ensures { IfOk result (λ words. NamesFiles (texts words) (codes "sig") (codes "pol")) }
 {
     Ok([
         String::from_str(alloc, "enforce")?,
+        String::from_str(alloc, "sig")?,
+        String::from_str(alloc, "pol")?,
+    ])
+}
+
+/// The words `check sig pol`.
+pub fn check_words(alloc: Global) -> Result<[String; 3], NoMemory>
+    ensures { IfOk result (λ words. NamesFiles (texts words) (codes "sig") (codes "pol")) }
+{
+    Ok([
+        String::from_str(alloc, "check")?,
         String::from_str(alloc, "sig")?,
         String::from_str(alloc, "pol")?,
     ])
@@ -82,7 +93,7 @@ pub fn run_calmly(
     files: &mut CalmFiles,
     report: &mut CalmSink,
 ) -> Status
-    requires words { IsEnforce (texts words.now) (codes "sig") (codes "pol") }
+    requires words { NamesFiles (texts words.now) (codes "sig") (codes "pol") }
     requires signature { contents_under files.old (codes "sig") ≢ Missing }
     requires policy { contents_under files.old (codes "pol") ≢ Missing }
     ensures no_read_fault { result ≡ Status.ReadFault → ⊥ }
@@ -100,10 +111,29 @@ pub fn enforced(
     pieces: Vec<usize>,
 ) -> Result<Outcome, NoMemory> {
     let words = enforce_words(alloc)?;
+    let gate = CalmGate::new(alloc, Vec::from_slice(alloc, log)?, pieces);
+    ran(alloc, &words, signature, policy, gate)
+}
+
+/// Checks the policy. There is a log, of which nothing is to be read.
+pub fn checked(alloc: Global, signature: &[u8], policy: &[u8]) -> Result<Outcome, NoMemory> {
+    let words = check_words(alloc)?;
+    let gate = CalmGate::new(alloc, Vec::from_slice(alloc, b"no log")?, Vec::new(alloc));
+    ran(alloc, &words, signature, policy, gate)
+}
+
+fn ran(
+    alloc: Global,
+    words: &[String],
+    signature: &[u8],
+    policy: &[u8],
+    mut gate: CalmGate,
+) -> Result<Outcome, NoMemory>
+    requires { NamesFiles (texts words.now) (codes "sig") (codes "pol") }
+{
     let mut files = files_of(alloc, signature, policy)?;
-    let mut gate = CalmGate::new(alloc, Vec::from_slice(alloc, log)?, pieces);
     let mut report = CalmSink::new(alloc);
-    let status = run_calmly(alloc, &words, &mut gate, &mut files, &mut report);
+    let status = run_calmly(alloc, words, &mut gate, &mut files, &mut report);
     Ok(Outcome {
         status,
         output: Vec::from_slice(alloc, gate.given())?,

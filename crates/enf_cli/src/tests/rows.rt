@@ -126,11 +126,20 @@ fn a_refused_file_leaves_the_gate_alone(rt: HostRuntime) -> Result<(), Fail> {
             b"policy: rebound at 25\n",
         ),
         (
+            b"request(text); alarm();",
+            RAISE,
+            b"policy: not enforceable at 22\n",
+        ),
+        (
             SIGNATURE,
-            b"rule r: forall u. request(u) -> consent(u);",
+            b"rule bar: alarm() -> not use(\"x\");",
             b"policy: not built\n",
         ),
-        (b"request(text); alarm();", RAISE, b"policy: not built\n"),
+        (
+            SIGNATURE,
+            b"rule bar: alarm() -> not use(\"x\"); rule r: forall u. request(u) -> consent(u);",
+            b"policy: not enforceable at 53\n",
+        ),
     ] {
         let outcome = enforced(alloc, signature, policy, b"@1;", Vec::new(alloc))?;
         outcome.assert_is(&rt, "a refused file", Status::Files, b"", report);

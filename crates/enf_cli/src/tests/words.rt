@@ -15,7 +15,9 @@ fn words_and_missing_files_are_told(rt: HostRuntime) -> Result<(), Fail> {
     for (line, status, report) in [
         ("enforce", Status::Words, USAGE),
         ("enforce sig pol --save state", Status::Words, USAGE),
-        ("check sig pol", Status::Words, USAGE),
+        ("check sig", Status::Words, USAGE),
+        ("check sig pol more", Status::Words, USAGE),
+        ("checks sig pol", Status::Words, USAGE),
         ("--help", Status::Words, USAGE),
         ("gen 1", Status::Words, USAGE),
         ("gen 1 2 3", Status::Words, USAGE),
@@ -30,6 +32,8 @@ fn words_and_missing_files_are_told(rt: HostRuntime) -> Result<(), Fail> {
         ("gen 00000000001 2", Status::Words, USAGE),
         ("enforce missing pol", Status::ReadFault, b"read fault\n"),
         ("enforce sig missing", Status::ReadFault, b"read fault\n"),
+        ("check missing pol", Status::ReadFault, b"read fault\n"),
+        ("check sig missing", Status::ReadFault, b"read fault\n"),
     ] {
         let words = words_of(alloc, line)?;
         let mut files = files_of(alloc, SIGNATURE, RAISE)?;

@@ -1,28 +1,48 @@
-use Rattle.std.proofs.Common.{List, ℕ, Ok, subst}
+use Rattle.std.proofs.Common.{◌≡◌, List, [], ◌∷◌, ℕ, Ok, ap, map, refl, subst}
+use Rattle.enf_formula.specs.Formulas.{Formula, tree_of}
+use Rattle.enforce_types.specs.Accepted.{IsAccepted, IsTyped, RefusesPolicy}
+use Rattle.enforce_types.specs.Typed.{Typed, typed_of}
 use Rattle.formula_reader.specs.Reading.{IsTextAnswer}
-use Rattle.formula_reader.specs.Resolution.{rules_of}
-use Rattle.enforcer_core.specs.Rules.{AreBuilt}
+use Rattle.formula_reader.specs.Resolution.{formulas as read_formulas, rule_of, rules_of}
+use Rattle.formula_reader.specs.declared.policies.Rule.{Rule as ReadRule}
+use Rattle.signature.specs.declared.entries.NameEntry.{NameEntry}
 use Rattle.enf_cli.specs.Files.{IsShort}
 use Rattle.enf_cli.specs.Policies.{formulas}
-use Rattle.enf_cli.proofs.BuildingLemmas.{all_can_be_built}
 use Rattle.enf_cli.proofs.files.read_policy.Goals as goal
 
-pub returns-in-Some-2-clause-held : goal.returns-in-Some-2-clause-held
-returns-in-Some-2-clause-held g c =
+-- the formulas of rules are those of the rules as they were read
+same_formulas : (rules : List ReadRule) → read_formulas rules ≡ formulas (map rule_of rules)
+same_formulas [] = refl
+same_formulas (rule ∷ rules) = ap (λ (fs : List Formula). tree_of rule.formula ∷ fs) (same_formulas rules)
+
+is_accepted : (entries : List NameEntry) (policy : List Formula) (typed : Typed) → IsTyped entries policy typed → IsAccepted entries policy
+is_accepted entries policy typed t = (typed.plans, typed.guards, t.planned, t.accepted)
+
+pub returns-in-Ok-of-clause-typed : goal.returns-in-Ok-of-clause-typed
+returns-in-Ok-of-clause-typed g c =
+    subst (λ (fs : List Formula). IsTyped c.args.signature.now fs (typed_of c.in-Ok-of.typed)) (same_formulas c.in-Ok.policy.rules) c.in-Ok-of.ensures.typed
+
+pub returns-in-Ok-of-clause-held : goal.returns-in-Ok-of-clause-held
+returns-in-Ok-of-clause-held g c =
     let entries = c.args.signature.now in
     let policy = rules_of c.in-Ok.policy in
     let bytes = c.in-Some.bytes.items in
     let short : IsShort (g.F.Files.seen c.args.files.now).contents c.args.name.now bytes = rw c.in-Some.is at c.in_ok-bytes.ensures.bytes in
     let answer = subst (λ (text : List ℕ). IsTextAnswer entries text (Ok policy)) c.deref.ensures.value c.in-Ok.ensures.answer in
-    let built = rw c.in-Some-2.is at c.in_ok-rules.ensures.built in
-    let causable = rw c.in-Some-2.is at c.in_ok-rules.ensures.causable in
-    let are_built : AreBuilt (formulas policy) c.in-Some-2.rules.items = rw c.as_slice.ensures at built in
+    let typed = subst (λ (fs : List Formula). IsTyped entries fs (typed_of c.in-Ok-of.typed)) (same_formulas c.in-Ok.policy.rules) c.in-Ok-of.ensures.typed in
     record {
-      policy = policy;
-      holds = record {
-        bytes = bytes;
-        under = short.under;
-        is_policy = record { short = short.short; answer = answer; can_be_built = all_can_be_built entries (formulas policy) c.in-Some-2.rules.items are_built causable };
-      };
-      built = are_built;
+      bytes = bytes;
+      under = short.under;
+      is_policy = record { reads = record { short = short.short; answer = answer }; accepted = is_accepted entries (formulas policy) (typed_of c.in-Ok-of.typed) typed };
     }
+
+pub returns-clause-ends : goal.returns-clause-ends
+returns-clause-ends g c =
+    let entries = c.args.signature.now in
+    let policy = rules_of c.in-Ok.policy in
+    let bytes = c.in-Some.bytes.items in
+    let short : IsShort (g.F.Files.seen c.args.files.now).contents c.args.name.now bytes = rw c.in-Some.is at c.in_ok-bytes.ensures.bytes in
+    let answer = subst (λ (text : List ℕ). IsTextAnswer entries text (Ok policy)) c.deref.ensures.value c.in-Ok.ensures.answer in
+    let refused = subst (λ (fs : List Formula). RefusesPolicy entries fs c.in-Err-of.refusal) (same_formulas c.in-Ok.policy.rules) c.in-Err-of.ensures.refused in
+    let why = c.in_ok-type_refusal_of-in-Err-of.ensures bytes (record { policy = policy; reads = record { short = short.short; answer = answer }; refused = refused }) in
+    (record { bytes = bytes; under = short.under; refused = why }, c.in_ok-bytes.ensures.same)

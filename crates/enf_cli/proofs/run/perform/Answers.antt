@@ -6,3 +6,8 @@ pub returns-in-Some-Enforce : goal.returns-in-Some-Enforce
 returns-in-Some-Enforce g c report report' =
     let form = c.in-Some-Enforce in
     c.enforce.ensures (texts c.args.words.now) report report' (subst (Matches (texts c.args.words.now)) form.field-0-is form.ensures.some)
+
+pub returns-in-Some-Check : goal.returns-in-Some-Check
+returns-in-Some-Check g c report report' =
+    let form = c.in-Some-Check in
+    c.check.ensures (texts c.args.words.now) report report' (subst (Matches (texts c.args.words.now)) form.field-0-is form.ensures.some)

@@ -1,0 +1,7 @@
+consent(text);
+request(text);
+use(text) -;
+delete(text) +;
+lock(text);
+unlock(text) +;
+notice(text) +;
