@@ -5,13 +5,17 @@
 
 mod case;
 mod escapes;
+mod evaluations;
 mod event_sets;
 mod guards;
 mod intervals;
 mod logs;
+mod parts;
+mod past;
 mod policies;
 mod signatures;
 mod tables;
+mod typing;
 mod values;
 
 use case::CaseError;
@@ -55,7 +59,10 @@ fn answer_line(alloc: Global, line: &[u8], out: &mut Vec<u8>) -> Result<(), Case
         b"table" => tables::answer(alloc, &input, out),
         b"tables" => tables::answer_counts(alloc, out),
         b"guard" => guards::answer(alloc, &input, out),
+        b"evaluate" => evaluations::answer(alloc, &input, out),
+        b"past" => past::answer(alloc, &input, out),
         b"policy" => policies::answer(alloc, &input, out),
+        b"check" => typing::answer(alloc, &input, out),
         b"log" => logs::answer(alloc, LogMode::Input, &input, out),
         b"trace" => logs::answer(alloc, LogMode::TraceLog, &input, out),
         _ => Err(CaseError::UnknownKind),

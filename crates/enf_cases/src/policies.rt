@@ -1,22 +1,18 @@
 //! Policies under a signature: the canonical texts of the rules that are read, or the first refusal.
 
 use crate::case::CaseError;
+use crate::parts::{part, read_signature};
 use enf_value::{MOST_FILE_BYTES, Place, print_bytes, print_number};
 use formula_reader::{PolicyRefusal, print_rule, read_policy};
-use signature::Signature;
 use std::alloc::Global;
 
 /// Reads a signature and, behind a byte 1, a policy under it.
 pub fn answer(alloc: Global, input: &[u8], out: &mut Vec<u8>) -> Result<(), CaseError> {
-    let cut = input.iter().position(|byte| *byte == 1);
-    let cut = cut.ok_or(CaseError::Malformed)?;
-    let text = input.get(cut + 1..).unwrap_or(&[]);
-    if cut > MOST_FILE_BYTES || text.len() > MOST_FILE_BYTES {
+    let (signature, text) = part(input)?;
+    if text.len() > MOST_FILE_BYTES {
         return Err(CaseError::Malformed);
     }
-    let Ok(signature) = Signature::read(alloc, &input[..cut]) else {
-        return Err(CaseError::Malformed);
-    };
+    let signature = read_signature(alloc, signature)?;
     match read_policy(alloc, &signature, text) {
         Ok(policy) => {
             for rule in policy.rules.as_slice() {
@@ -28,7 +24,8 @@ pub fn answer(alloc: Global, input: &[u8], out: &mut Vec<u8>) -> Result<(), Case
     }
 }
 
-fn print_refusal(refusal: PolicyRefusal, out: &mut Vec<u8>) -> Result<(), CaseError> {
+/// Appends the refusal with its place.
+pub fn print_refusal(refusal: PolicyRefusal, out: &mut Vec<u8>) -> Result<(), CaseError> {
     let (what, place): (&[u8], Place) = match refusal {
         PolicyRefusal::Syntax { place } => (b"syntax", place),
         PolicyRefusal::UnknownName { place } => (b"unknown name", place),

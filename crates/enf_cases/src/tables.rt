@@ -1,10 +1,10 @@
 //! Tables: what their operations give.
-ghost use Rattle.std.specs.Prelude.{◌≡◌, ◌<◌, IfSome, IsTrue, All, Contains, length};
+ghost use Rattle.std.specs.Prelude.{◌≡◌, IsTrue, All, Contains, length};
 ghost use Rattle.enf_value.specs.Membership.{HasNoRepeats};
 ghost use Rattle.enf_value.specs.declared.terms.VarId.{VarId as Variable};
 
 use crate::case::CaseError;
-use crate::guards::read_variables;
+use crate::parts::{cut, read_variables};
 use enf_value::{Row, Value, VarId, Vars, print_bytes, print_number, print_value, read_value};
 use std::alloc::Global;
 use valuations::{Table, Valuation};
@@ -88,14 +88,6 @@ fn read_row(alloc: Global, bytes: &[u8]) -> Result<Row, CaseError> {
     Ok(Row::from_vec(values))
 }
 
-/// What stands before the first of these bytes, and what stands behind it.
-pub fn cut(bytes: &[u8], mark: u8) -> Option<(&[u8], &[u8])>
-    ensures { IfSome result (λ parts. length parts.1.now < length bytes.now) }
-{
-    let end = bytes.iter().position(|byte| *byte == mark)?;
-    Some((&bytes[..end], &bytes[end + 1..]))
-}
-
 fn read_whole(alloc: Global, bytes: &[u8]) -> Result<Value, CaseError> {
     match read_value(alloc, bytes, 0)? {
         Some((value, _)) => Ok(value),
@@ -103,8 +95,8 @@ fn read_whole(alloc: Global, bytes: &[u8]) -> Result<Value, CaseError> {
     }
 }
 
-// A digit and a value for each variable that is bound.
-fn read_valuation(alloc: Global, bytes: &[u8]) -> Result<Valuation, CaseError> {
+/// A digit and a value for each variable that is bound, with `,` behind it.
+pub fn read_valuation(alloc: Global, bytes: &[u8]) -> Result<Valuation, CaseError> {
     let mut v = Valuation::empty(alloc);
     let mut rest = bytes;
     while let Some((piece, behind)) = cut(rest, b',') {

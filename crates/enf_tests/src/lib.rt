@@ -7,4 +7,6 @@ mod devices;
 #[cfg(test)]
 mod formulas;
 #[cfg(test)]
+mod plans;
+#[cfg(test)]
 mod values;
