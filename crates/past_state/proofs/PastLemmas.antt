@@ -19,7 +19,7 @@ use Rattle.valuations.specs.Just.{Binds}
 use Rattle.valuations.specs.Tables.{Relation, Has, AgreeOn}
 use Rattle.trace_meaning.specs.Continuation.{last_time}
 use Rattle.past_state.specs.Operators.{operators, all_operators, all_outermost}
-use Rattle.past_state.specs.Past.{Past, PastTables, IsPast, IsSound, TablesStand, AreOf, RunStands, CommitStands, AreEvaluated, AreSatisfied, ArePastTables, BeginAt, BindsBound, IsEvaluated, IsGuard, IsSatisfied, IsTestOf, formulas, formula_of, tables_of}
+use Rattle.past_state.specs.Past.{Past, PastTables, IsPast, IsSound, TablesStand, AreOf, RunStands, CommitStands, AreEvaluated, AreSatisfied, ArePastTables, HasOpenColumns, BeginAt, BindsBound, IsEvaluated, IsGuard, IsSatisfied, IsTestOf, formulas, formula_of, tables_of}
 use Rattle.past_state.specs.Runs.{AllStand, AreInsideOut, AreOrdered, AllFit, Runs, outer_onto, AllCommitted, AreSameKinds}
 use Rattle.past_state.specs.declared.guards.PlacedGuard.{PlacedGuard}
 use Rattle.past_state.specs.declared.memories.StepTables.{StepTables}
@@ -220,6 +220,10 @@ can_evaluate tables number g items count v asked binds = record {
 pub same_guard : (guards : List PlacedGuard) (number : ℕ) (g h : PlacedGuard) → IsGuard guards number g → IsGuard guards number h → g ≡ h
 same_guard guards number g h a b = same_Some g h (sym a ∙ b)
 
+pub are_open : (tables : PastTables) (number : ℕ) (g : PlacedGuard) (items : List Relation) (count : ℕ) (t : Relation) → Asked tables number g items count → AreOpen (formula_of g) g.guard.bound t.columns
+    → HasOpenColumns tables number t
+are_open tables number g items count t asked opened h is = subst (λ k. AreOpen (formula_of k) k.guard.bound t.columns) (same_guard tables.guards number g h asked.is is) opened
+
 pub are_evaluated : (tables : PastTables) (number : ℕ) (g : PlacedGuard) (items : List Relation) (count : ℕ) (events : List Event) (v : Valuation) (t : Relation) → Asked tables number g items count
     → HoldsFor events (reverse (take (count - g.start) items)) (formula_of g) g.guard.bound v t → AreEvaluated tables number events v t
 are_evaluated tables number g items count events v t asked holds h is =
@@ -231,7 +235,7 @@ pub are_satisfied : PresentIsSatisfied → (tables : PastTables) (number : ℕ) 
     → AreSatisfied tables number events v t
 are_satisfied present tables number g items count events v t asked binds opened holds h is trace step same stand w agree bound =
     evaluated_satisfied present tables number h events v t asked.are is
-    (subst (λ k. AreOpen (formula_of k) k.guard.bound t.columns) (same_guard tables.guards number g h asked.is is) opened) (binds h is)
+    (are_open tables number g items count t asked opened h is) (binds h is)
     (are_evaluated tables number g items count events v t asked holds h is) trace step same stand w agree bound
 
 -- ---- a test

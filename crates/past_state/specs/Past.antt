@@ -9,7 +9,7 @@ use Rattle.enf_formula.specs.Formulas.{Formula, tree_of}
 use Rattle.enf_formula.specs.FreeVariables.{IsFree}
 use Rattle.enf_formula.specs.Past.{is_past}
 use Rattle.enf_formula.specs.Satisfaction.{Sat}
-use Rattle.monitorable_guard.specs.Evaluation.{FitOperators, HoldsFor}
+use Rattle.monitorable_guard.specs.Evaluation.{AreOpen, FitOperators, HoldsFor}
 use Rattle.monitorable_guard.specs.Present.{HoldsNow, StandFor, outermost}
 use Rattle.monitorable_guard.specs.Safety.{BindsFresh}
 use Rattle.trace_meaning.specs.Continuation.{last_time}
@@ -108,6 +108,11 @@ tables_of g tables = drop g.start tables.stack
 -- v binds the guard's bound variables
 abbrev pub BindsBound : List PlacedGuard → ℕ → Valuation → Type 0
 BindsBound guards number v = (g : PlacedGuard) → IsGuard guards number g → Binds v g.guard.bound
+
+-- the columns are the guard's free variables that are not bound, in rising order
+abbrev pub HasOpenColumns : PastTables → ℕ → Relation → Type 0
+HasOpenColumns tables number t = (g : PlacedGuard) → IsGuard tables.guards number g
+    → AreOpen (formula_of g) g.guard.bound t.columns
 
 -- the rows are those that evaluation gives over the tables
 abbrev pub AreEvaluated : PastTables → ℕ → List Event → Valuation → Relation → Type 0

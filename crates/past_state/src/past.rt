@@ -125,9 +125,10 @@ impl PastState {
 impl Tables {
     ghost use Rattle.std.specs.Prelude.{◌<◌, length};
     ghost use Rattle.past_state.specs.Known.{IsKnownOfGuard};
-    ghost use Rattle.past_state.specs.Past.{BindsBound, AreEvaluated, AreSatisfied, IsTestOf, IsEvaluated, IsSatisfied};
+    ghost use Rattle.past_state.specs.Past.{BindsBound, HasOpenColumns, AreEvaluated, AreSatisfied, IsTestOf, IsEvaluated, IsSatisfied};
 
-    /// The guard's rows at the step, with the valuation's values of the bound variables.
+    /// The guard's rows at the step, with the valuation's values of the bound variables. The columns are those free
+    /// variables that are not bound, in rising variable number.
     pub fn rows(
         &self,
         alloc: Global,
@@ -138,6 +139,7 @@ impl Tables {
         requires within { guard < length self.now.guards }
         requires binds { BindsBound self.now.guards guard v.now }
         ensures table { IfOk result IsTable }
+        ensures columns { IfOk result (HasOpenColumns self.now guard) }
         ensures evaluated { IfOk result (AreEvaluated self.now guard events.now v.now) }
         ensures satisfied { IfOk result (AreSatisfied self.now guard events.now v.now) }
         ensures known { IfOk result (IsKnownOfGuard self.now guard events.now v.now) }

@@ -230,7 +230,7 @@ pub fn push_ending(
     time: u64,
     right: &Table,
 ) -> Result<(), NoMemory> {
-    if interval.high.is_some() {
+    if interval.high.is_some() && !right.is_empty() {
         let rows = right.duplicate(alloc)?;
         ending.push_back(LastStep { time, rows })?;
     }

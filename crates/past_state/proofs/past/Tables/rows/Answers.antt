@@ -1,8 +1,8 @@
 use Rattle.std.proofs.Common.{◌∙◌, ◌-◌, take, reverse, ap, sym, subst}
 use Rattle.std.proofs.lemmas.Result.{IfOk-weaker}
 use Rattle.past_state.specs.Known.{IsKnownOfGuard}
-use Rattle.past_state.specs.Past.{formula_of, ArePastTables, AreEvaluated, AreSatisfied}
-use Rattle.past_state.proofs.PastLemmas.{asked, at_events, can_evaluate, are_evaluated, are_satisfied}
+use Rattle.past_state.specs.Past.{formula_of, ArePastTables, AreEvaluated, AreSatisfied, HasOpenColumns}
+use Rattle.past_state.proofs.PastLemmas.{asked, at_events, can_evaluate, are_evaluated, are_open, are_satisfied}
 use Rattle.past_state.proofs.KnownLemmas.{known_at, known_of_guard}
 use Rattle.past_state.proofs.StackLemmas.{ok_both}
 use Rattle.past_state.proofs.past.Tables.rows.Goals as goal
@@ -17,6 +17,12 @@ pub evaluate_at-requires : goal.evaluate_at-requires
 evaluate_at-requires c = can_evaluate c.args.self.now c.args.guard c.index-placed.result.now c.deref-2.result.now c.len.result c.args.v.now (asked c.args.self.now c.args.guard c.index-placed.result.now c.deref.result.now.items c.deref-2.result.now c.len.result (subst ArePastTables c.self.view_is c.self.invariant)
     (ap (λ v. v.items) c.deref.ensures ∙ ap (λ t. t.guards) c.self.view_is) c.requires.within c.index-placed.ensures
     (ap reverse c.deref-2.ensures.value ∙ ap (λ t. t.stack) c.self.view_is) (c.len.ensures ∙ sym c.deref-2.ensures.len)) c.requires.binds
+
+pub returns-clause-columns : goal.returns-clause-columns
+returns-clause-columns c = IfOk-weaker c.evaluate_at.result _ (HasOpenColumns c.args.self.now c.args.guard)
+    (λ t opened. are_open c.args.self.now c.args.guard c.index-placed.result.now c.deref-2.result.now c.len.result t (asked c.args.self.now c.args.guard c.index-placed.result.now c.deref.result.now.items c.deref-2.result.now c.len.result (subst ArePastTables c.self.view_is c.self.invariant)
+    (ap (λ v. v.items) c.deref.ensures ∙ ap (λ t. t.guards) c.self.view_is) c.requires.within c.index-placed.ensures
+    (ap reverse c.deref-2.ensures.value ∙ ap (λ t. t.stack) c.self.view_is) (c.len.ensures ∙ sym c.deref-2.ensures.len)) opened) c.evaluate_at.ensures.columns
 
 pub returns-clause-evaluated : goal.returns-clause-evaluated
 returns-clause-evaluated c = IfOk-weaker c.evaluate_at.result _ (AreEvaluated c.args.self.now c.args.guard c.args.events.now c.args.v.now)
