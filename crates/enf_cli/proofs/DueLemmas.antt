@@ -9,7 +9,7 @@ use Rattle.enf_io.specs.Since.{Grew, GrewWhereTold, OfCalls}
 use Rattle.enf_io.specs.SinceLaws.{left-since}
 use Rattle.enf_io.specs.Streams.{Stream}
 use Rattle.enf_formula.specs.Formulas.{Formula}
-use Rattle.enforce_types.specs.Accepted.{AcceptedIsNotRefused, RefusesPolicy as RefusesTyping}
+use Rattle.enforce_types.specs.Accepted.{AcceptedIsNotRefused, RefusesPolicy}
 use Rattle.enforce_types.specs.declared.refusals.TypeRefusal.{TypeRefusal}
 use Rattle.enforce_types.specs.declared.refusals.TypeRefusal.TheVariants as types
 use Rattle.formula_reader.specs.Reading.{IsTextAnswer}
@@ -37,7 +37,7 @@ use Rattle.enf_cli.specs.Exchanges.{Exchanged, IsExchange}
 use Rattle.enf_cli.specs.Files.{AreHeld, AreUnder, HoldsSignature, IsRefusedPolicy, IsRefusedSignature}
 use Rattle.enf_cli.specs.Limits.{most_log_bytes}
 use Rattle.enf_cli.specs.Logs.{IsFalling, IsRefusedAs, RunsLog}
-use Rattle.enf_cli.specs.Outcomes.{Asks, AsksToEnforce, ChecksPolicy, GeneratesLog, IsDone, Outcome, Refuses, RefusesPolicy, RefusesRecord, RefusesSignature, RefusesWords}
+use Rattle.enf_cli.specs.Outcomes.{Asks, AsksToEnforce, ChecksPolicy, GeneratesLog, IsDone, Outcome, Refuses, RefusesPolicyFile, RefusesRecord, RefusesSignatureFile, RefusesWords}
 use Rattle.enf_cli.specs.Policies.{CanBeBuilt, HasUnbuilt, ReadsPolicy, SpellsPolicy, SpellsRefused, formulas}
 use Rattle.enf_cli.specs.Signatures.{SpellsSignature}
 use Rattle.enf_cli.specs.Words.{IsCheck, IsEnforce, IsGenerate, MatchNoForm, NamesFiles}
@@ -178,17 +178,17 @@ module _ (one : OneAnswer) (one_text : OneTextAnswer) (accepted : AcceptedIsNotR
   typed_not_refused : (entries : List NameEntry) (bytes : List ℕ) (policy : List Rule) (refusal : TypeRefusal) → SpellsPolicy entries bytes policy → SpellsRefused entries bytes refusal → refusal ≡ types.NoMemory
   typed_not_refused entries bytes policy refusal is refused =
       let same = same_policy entries bytes refused.policy policy refused.reads is.reads in
-      accepted entries (formulas policy) refusal is.accepted (subst (λ (rules : List Rule). RefusesTyping entries (formulas rules) refusal) same refused.refused)
+      accepted entries (formulas policy) refusal is.accepted (subst (λ (rules : List Rule). RefusesPolicy entries (formulas rules) refusal) same refused.refused)
 
   policy_not_refused : (entries : List NameEntry) (why : PolicyRefusal) (bytes : List ℕ) (policy : List Rule) → SpellsPolicy entries bytes policy → IsRefusedPolicy entries why bytes → ⊥
   policy_not_refused entries policies.TooLong bytes policy is refused = omega (arith, is.reads.short, refused)
-  policy_not_refused entries (policies.Syntax place) bytes policy is refused = read_not_refused entries bytes policy (read.Syntax place) is refused.1
-  policy_not_refused entries (policies.UnknownName place) bytes policy is refused = read_not_refused entries bytes policy (read.UnknownName place) is refused.1
-  policy_not_refused entries (policies.Arity place) bytes policy is refused = read_not_refused entries bytes policy (read.Arity place) is refused.1
-  policy_not_refused entries (policies.Sort place) bytes policy is refused = read_not_refused entries bytes policy (read.SortClash place) is refused.1
-  policy_not_refused entries (policies.FreeVariable place) bytes policy is refused = read_not_refused entries bytes policy (read.FreeVariable place) is refused.1
-  policy_not_refused entries (policies.Rebound place) bytes policy is refused = read_not_refused entries bytes policy (read.Rebound place) is refused.1
-  policy_not_refused entries (policies.Limit place) bytes policy is refused = read_not_refused entries bytes policy (read.Limit place) is refused.1
+  policy_not_refused entries (policies.Syntax place) bytes policy is refused = read_not_refused entries bytes policy (read.Syntax place) is refused.answer
+  policy_not_refused entries (policies.UnknownName place) bytes policy is refused = read_not_refused entries bytes policy (read.UnknownName place) is refused.answer
+  policy_not_refused entries (policies.Arity place) bytes policy is refused = read_not_refused entries bytes policy (read.Arity place) is refused.answer
+  policy_not_refused entries (policies.Sort place) bytes policy is refused = read_not_refused entries bytes policy (read.SortClash place) is refused.answer
+  policy_not_refused entries (policies.FreeVariable place) bytes policy is refused = read_not_refused entries bytes policy (read.FreeVariable place) is refused.answer
+  policy_not_refused entries (policies.Rebound place) bytes policy is refused = read_not_refused entries bytes policy (read.Rebound place) is refused.answer
+  policy_not_refused entries (policies.Limit place) bytes policy is refused = read_not_refused entries bytes policy (read.Limit place) is refused.answer
   policy_not_refused entries (policies.Unguarded place) bytes policy is refused = let none = typed_not_refused entries bytes policy (types.Unguarded place) is refused in absurd cc
   policy_not_refused entries (policies.NotEnforceable place) bytes policy is refused = let none = typed_not_refused entries bytes policy (types.NotEnforceable place) is refused in absurd cc
   policy_not_refused entries (policies.RoleClash name) bytes policy is refused = let none = typed_not_refused entries bytes policy (types.RoleClash refused.0) is refused.2 in absurd cc
@@ -204,7 +204,7 @@ module _ (one : OneAnswer) (one_text : OneTextAnswer) (accepted : AcceptedIsNotR
         same_signature t.bytes entries others t.is_signature (subst (λ (b : List ℕ). SpellsSignature b others) all holds.is_signature)
 
     -- the signature is not refused
-    no_signature_refusal : (why : SignatureRefusal) → RefusesSignature call why → ⊥
+    no_signature_refusal : (why : SignatureRefusal) → RefusesSignatureFile call why → ⊥
     no_signature_refusal why r =
         let names = one_form call.words t.signature_file t.policy_file r.signature_file r.policy_file t.form r.form in
         let all = told_bytes call.before.files.contents t.signature_file r.signature_file t.bytes r.refused.bytes names.0 t.told r.refused.under in
@@ -269,7 +269,7 @@ module _ (one : OneAnswer) (one_text : OneTextAnswer) (accepted : AcceptedIsNotR
     no_refusal_of_files entries policy t (inl (why, r)) = absurd (no_signature_refusal call entries t.asks why r.meets)
     no_refusal_of_files entries policy t (inr (inl (why, r))) = absurd (no_policy_refusal r.meets)
       where
-        no_policy_refusal : RefusesPolicy call why → ⊥
+        no_policy_refusal : RefusesPolicyFile call why → ⊥
         no_policy_refusal m =
             let w = m.refused in
             let same = one_signature call entries t.asks m.signature_file m.policy_file m.entries m.form m.holds_signature in

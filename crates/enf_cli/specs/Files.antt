@@ -7,9 +7,7 @@ use Rattle.enf_io.specs.declared.devices.IoRefusal.TheVariants.{Failed, NoMemory
 use Rattle.enf_value.specs.declared.events.NameId.{NameId}
 use Rattle.enforce_types.specs.declared.refusals.TypeRefusal.TheVariants as types
 use Rattle.formula_reader.specs.Canonical.{name_text}
-use Rattle.formula_reader.specs.Reading.{IsTextAnswer}
 use Rattle.formula_reader.specs.Resolution.{Rule}
-use Rattle.formula_reader.specs.declared.policies.PolicyRefusal.{PolicyRefusal as TextRefusal}
 use Rattle.formula_reader.specs.declared.policies.PolicyRefusal.TheVariants as read
 use Rattle.signature.specs.Refusals.{IsAnswer}
 use Rattle.enf_value.specs.Names.{is_word_byte}
@@ -17,7 +15,7 @@ use Rattle.signature.specs.declared.entries.NameEntry.{NameEntry}
 use Rattle.signature.specs.declared.refusals.SignatureLimit.{SignatureLimit}
 use Rattle.signature.specs.declared.refusals.SignatureRefusal.TheVariants as answers
 use Rattle.enf_value.specs.declared.limits.TheConstants.{MOST_FILE_BYTES}
-use Rattle.enf_cli.specs.Policies.{SpellsPolicy, SpellsRefused}
+use Rattle.enf_cli.specs.Policies.{ReadsRefused, SpellsPolicy, SpellsRefused}
 use Rattle.enf_cli.specs.Signatures.{SpellsSignature}
 use Rattle.enf_cli.specs.declared.endings.FileEnding.{FileEnding}
 use Rattle.enf_cli.specs.declared.endings.FileEnding.TheVariants as endings
@@ -63,34 +61,16 @@ IsRefusedSignature (signatures.Repeated name place) bytes =
 IsRefusedSignature (signatures.Limit place) bytes =
     (length bytes ≤ MOST_FILE_BYTES) × (which : SignatureLimit) × IsAnswer bytes (Err (answers.Limit which place))
 
--- what a refusal of the reader of policies says; for want of memory nothing
-abbrev pub policy_refusal_for : TextRefusal → Option PolicyRefusal
-policy_refusal_for (read.Syntax place) = Some (policies.Syntax place)
-policy_refusal_for (read.UnknownName place) = Some (policies.UnknownName place)
-policy_refusal_for (read.Arity place) = Some (policies.Arity place)
-policy_refusal_for (read.SortClash place) = Some (policies.Sort place)
-policy_refusal_for (read.FreeVariable place) = Some (policies.FreeVariable place)
-policy_refusal_for (read.Rebound place) = Some (policies.Rebound place)
-policy_refusal_for (read.Limit place) = Some (policies.Limit place)
-policy_refusal_for read.NoMemory = None
-
 -- the bytes are more than a file may have, or their first refusal is one at a place or of a name
 abbrev pub IsRefusedPolicy : List NameEntry → PolicyRefusal → List ℕ → Type 0
 IsRefusedPolicy entries policies.TooLong bytes = MOST_FILE_BYTES < length bytes
-IsRefusedPolicy entries (policies.Syntax place) bytes =
-    (length bytes ≤ MOST_FILE_BYTES) × IsTextAnswer entries bytes (Err (read.Syntax place))
-IsRefusedPolicy entries (policies.UnknownName place) bytes =
-    (length bytes ≤ MOST_FILE_BYTES) × IsTextAnswer entries bytes (Err (read.UnknownName place))
-IsRefusedPolicy entries (policies.Arity place) bytes =
-    (length bytes ≤ MOST_FILE_BYTES) × IsTextAnswer entries bytes (Err (read.Arity place))
-IsRefusedPolicy entries (policies.Sort place) bytes =
-    (length bytes ≤ MOST_FILE_BYTES) × IsTextAnswer entries bytes (Err (read.SortClash place))
-IsRefusedPolicy entries (policies.FreeVariable place) bytes =
-    (length bytes ≤ MOST_FILE_BYTES) × IsTextAnswer entries bytes (Err (read.FreeVariable place))
-IsRefusedPolicy entries (policies.Rebound place) bytes =
-    (length bytes ≤ MOST_FILE_BYTES) × IsTextAnswer entries bytes (Err (read.Rebound place))
-IsRefusedPolicy entries (policies.Limit place) bytes =
-    (length bytes ≤ MOST_FILE_BYTES) × IsTextAnswer entries bytes (Err (read.Limit place))
+IsRefusedPolicy entries (policies.Syntax place) bytes = ReadsRefused entries bytes (read.Syntax place)
+IsRefusedPolicy entries (policies.UnknownName place) bytes = ReadsRefused entries bytes (read.UnknownName place)
+IsRefusedPolicy entries (policies.Arity place) bytes = ReadsRefused entries bytes (read.Arity place)
+IsRefusedPolicy entries (policies.Sort place) bytes = ReadsRefused entries bytes (read.SortClash place)
+IsRefusedPolicy entries (policies.FreeVariable place) bytes = ReadsRefused entries bytes (read.FreeVariable place)
+IsRefusedPolicy entries (policies.Rebound place) bytes = ReadsRefused entries bytes (read.Rebound place)
+IsRefusedPolicy entries (policies.Limit place) bytes = ReadsRefused entries bytes (read.Limit place)
 IsRefusedPolicy entries (policies.Unguarded place) bytes = SpellsRefused entries bytes (types.Unguarded place)
 IsRefusedPolicy entries (policies.NotEnforceable place) bytes =
     SpellsRefused entries bytes (types.NotEnforceable place)

@@ -54,7 +54,7 @@ pub record RefusesWords {Gate : Type 0} (call : Call Gate) : Type 0 where
   pub files : LeavesFiles call
 
 -- the signature is refused, and the gate was not touched
-pub record RefusesSignature {Gate : Type 0} (call : Call Gate) (why : SignatureRefusal) : Type 0 where
+pub record RefusesSignatureFile {Gate : Type 0} (call : Call Gate) (why : SignatureRefusal) : Type 0 where
   pub signature_file : List ℕ
   pub policy_file : List ℕ
   pub form : NamesFiles call.words signature_file policy_file
@@ -63,7 +63,7 @@ pub record RefusesSignature {Gate : Type 0} (call : Call Gate) (why : SignatureR
   pub files : LeavesFiles call
 
 -- there is a signature, the policy is refused under it, and the gate was not touched
-pub record RefusesPolicy {Gate : Type 0} (call : Call Gate) (why : PolicyRefusal) : Type 0 where
+pub record RefusesPolicyFile {Gate : Type 0} (call : Call Gate) (why : PolicyRefusal) : Type 0 where
   pub signature_file : List ℕ
   pub policy_file : List ℕ
   pub form : NamesFiles call.words signature_file policy_file
@@ -113,8 +113,8 @@ pub record BreaksOffLog {Gate : Type 0} (call : Call Gate) : Type 0 where
 -- what holds where a run ends with a refusal, but for its line on the report
 abbrev pub Meets : {Gate : Type 0} → Call Gate → Refusal → Type 0
 Meets call refusals.Words = RefusesWords call
-Meets call (refusals.Signature why) = RefusesSignature call why
-Meets call (refusals.Policy why) = RefusesPolicy call why
+Meets call (refusals.Signature why) = RefusesSignatureFile call why
+Meets call (refusals.Policy why) = RefusesPolicyFile call why
 Meets call refusals.NotBuilt = RefusesUnbuilt call
 Meets call (refusals.Record number why) = RefusesRecord call number why
 Meets call refusals.ReadFault = MissesFile call ⊎ BreaksOffLog call

@@ -1,5 +1,5 @@
 -- The text of a policy, which policies are accepted, and which rules are built.
-use Rattle.std.specs.Prelude.{ℕ, ◌≤◌, IsTrue, List, length, map, Contains, Ok}
+use Rattle.std.specs.Prelude.{ℕ, ◌≤◌, IsTrue, List, length, map, Contains, Ok, Err}
 use Rattle.enf_formula.specs.Formulas.{Formula}
 use Rattle.enf_value.specs.declared.limits.TheConstants.{MOST_FILE_BYTES}
 use Rattle.enforce_types.specs.Accepted.{IsAccepted, RefusesPolicy}
@@ -9,6 +9,7 @@ use Rattle.enforcer_core.specs.Rules.{IsBuilt}
 use Rattle.enforcer_core.specs.declared.enforcer.CauseRule.{CauseRule}
 use Rattle.formula_reader.specs.Reading.{IsTextAnswer}
 use Rattle.formula_reader.specs.Resolution.{Rule}
+use Rattle.formula_reader.specs.declared.policies.PolicyRefusal.{PolicyRefusal}
 use Rattle.signature.specs.declared.entries.NameEntry.{NameEntry}
 
 -- the formulas of a policy's rules
@@ -26,12 +27,17 @@ pub record ReadsPolicy (entries : List NameEntry) (bytes : List ℕ) (policy : L
   pub short : length bytes ≤ MOST_FILE_BYTES
   pub answer : IsTextAnswer entries bytes (Ok policy)
 
--- and it is accepted
+-- they are no more than a file may have, and the reader refuses them so
+pub record ReadsRefused (entries : List NameEntry) (bytes : List ℕ) (why : PolicyRefusal) : Type 0 where
+  pub short : length bytes ≤ MOST_FILE_BYTES
+  pub answer : IsTextAnswer entries bytes (Err why)
+
+-- the bytes are an accepted policy of these rules
 pub record SpellsPolicy (entries : List NameEntry) (bytes : List ℕ) (policy : List Rule) : Type 0 where
   pub reads : ReadsPolicy entries bytes policy
   pub accepted : IsAccepted entries (formulas policy)
 
--- or its typing refuses it so
+-- the bytes are a policy, and its typing refuses it so
 pub record SpellsRefused (entries : List NameEntry) (bytes : List ℕ) (why : TypeRefusal) : Type 0 where
   pub policy : List Rule
   pub reads : ReadsPolicy entries bytes policy

@@ -11,7 +11,7 @@ use enf_value::memory::NoMemory;
 use std::alloc::AllocError;
 
 /// Why output ends before it is whole.
-#[derive(Clone, Copy, Debug, PartialEq, Eq)]
+#[derive(Clone, Copy, Debug)]
 pub enum Cut {
     WriteFault,
     NoMemory,
@@ -47,7 +47,7 @@ impl From<WriteRefusal> for Cut {
 }
 
 /// Why a file gives nothing: what it holds is refused, or it was not read.
-#[derive(Debug, PartialEq, Eq, Drop)]
+#[derive(Debug, Drop)]
 pub enum FileEnding<W> {
     Refused(W),
     Fault,
@@ -78,7 +78,7 @@ impl<W> From<IoRefusal> for FileEnding<W> {
 }
 
 /// Why a run ends before it is done.
-#[derive(Debug, PartialEq, Eq, Drop)]
+#[derive(Debug, Drop)]
 pub enum Ending {
     Refused(Refusal),
     Cut(Cut),

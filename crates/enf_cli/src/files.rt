@@ -1,12 +1,14 @@
 //! The signature and the policy, as the files give them.
 ghost use Rattle.std.specs.Prelude.{◌≡◌, ◌≤◌, Err, IfOk, IfErr, List, MatchOption, OnOk, Some, ℕ, length};
-ghost use Rattle.enf_cli.specs.Files.{EndsFile, HoldsPolicy, HoldsRefusedPolicy, HoldsRefusedSignature, HoldsSignature, IsLong, IsNotRead, IsRefusedPolicy, IsRefusedSignature, IsShort, policy_refusal_for, word_from};
+ghost use Rattle.enf_cli.specs.Files.{EndsFile, HoldsPolicy, HoldsRefusedPolicy, HoldsRefusedSignature, HoldsSignature, IsLong, IsNotRead, IsRefusedPolicy, IsRefusedSignature, IsShort, word_from};
 ghost use Rattle.enf_cli.specs.Policies.{SpellsRefused, formulas};
 ghost use Rattle.enforce_types.specs.Accepted.{IsTyped};
 ghost use Rattle.enforce_types.specs.Typed.{typed_of};
 ghost use Rattle.formula_reader.specs.Canonical.{name_text};
+ghost use Rattle.formula_reader.specs.Reading.{GivesTextAnswer};
 ghost use Rattle.formula_reader.specs.Resolution.{rules_of};
 ghost use Rattle.signature.specs.Refusals.{GivesAnswer};
+ghost use Rattle.signature.specs.declared.entries.NameEntry.{NameEntry};
 
 use crate::endings::FileEnding;
 use crate::refusals::{PolicyRefusal, SignatureRefusal};
@@ -38,7 +40,7 @@ pub fn read_signature<F: Files>(
 }
 
 /// A policy that is accepted, as it was read, with its plans.
-#[derive(Debug, Drop)]
+#[derive(Drop)]
 pub struct AcceptedPolicy {
     pub policy: Policy,
     pub typed: TypedPolicy,
@@ -96,7 +98,8 @@ fn refusal_of(
 
 // What a refusal of the reader of policies says.
 fn policy_refusal_of(refusal: formula_reader::PolicyRefusal) -> Result<PolicyRefusal, NoMemory>
-    ensures { IfOk result (λ why. policy_refusal_for refusal ≡ Some why) }
+    ensures { IfOk result (λ why. (entries : List NameEntry) (bytes : List ℕ) → length bytes ≤ MOST_FILE_BYTES
+        → GivesTextAnswer entries bytes (Err refusal) → IsRefusedPolicy entries why bytes) }
 {
     match refusal {
         formula_reader::PolicyRefusal::Syntax { place } => Ok(PolicyRefusal::Syntax { place }),

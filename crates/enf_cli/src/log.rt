@@ -32,7 +32,7 @@ pub const MOST_LOG_BYTES: usize = 1_099_511_627_776;
 pub const MOST_READ_BYTES: usize = 65_536;
 
 /// What becomes of a log.
-#[derive(Clone, Copy, Debug, PartialEq, Eq)]
+#[derive(Clone, Copy, Debug)]
 pub enum Verdict {
     Accepted,
     /// The log was cut short by a read fault.
@@ -41,7 +41,7 @@ pub enum Verdict {
 }
 
 /// What becomes of a log behind so many accepted records.
-#[derive(Clone, Copy, Debug, PartialEq, Eq)]
+#[derive(Clone, Copy, Debug)]
 pub struct Judged {
     pub accepted: u64,
     pub verdict: Verdict,

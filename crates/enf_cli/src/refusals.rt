@@ -25,7 +25,7 @@ impl Status {
 }
 
 /// Why the signature is refused. A place is a byte offset, counted from 0.
-#[derive(Debug, PartialEq, Eq, Drop)]
+#[derive(Debug, Drop)]
 pub enum SignatureRefusal {
     TooLong,
     Syntax { place: u32 },
@@ -35,7 +35,7 @@ pub enum SignatureRefusal {
 }
 
 /// Why the policy is refused. A place is a byte offset, counted from 0.
-#[derive(Debug, PartialEq, Eq, Drop)]
+#[derive(Debug, Drop)]
 pub enum PolicyRefusal {
     TooLong,
     Syntax { place: u32 },
@@ -55,7 +55,7 @@ pub enum PolicyRefusal {
 }
 
 /// Why a record is refused. A place is a byte offset within the record, counted from 0.
-#[derive(Clone, Copy, Debug, PartialEq, Eq)]
+#[derive(Clone, Copy, Debug)]
 pub enum RecordRefusal {
     Bad { place: u32 },
     UnknownName { place: u32 },
@@ -70,7 +70,7 @@ pub enum RecordRefusal {
 }
 
 /// What the last line on the report says.
-#[derive(Debug, PartialEq, Eq, Drop)]
+#[derive(Debug, Drop)]
 pub enum Refusal {
     Words,
     Signature(SignatureRefusal),

@@ -8,7 +8,7 @@ use Rattle.rank_check.specs.Refusals.{AreAccepted, RefusesPlans}
 use Rattle.rank_check.specs.declared.answers.RankRefusal.{RankRefusal}
 use Rattle.rank_check.specs.declared.answers.RankRefusal.TheVariants as plans
 use Rattle.signature.specs.declared.entries.NameEntry.{NameEntry}
-use Rattle.enforce_types.specs.Accepted.{IsAccepted, IsRefused, RefusesPolicy, PlansAre, of_plans, of_rule}
+use Rattle.enforce_types.specs.Accepted.{HasRefusal, IsAccepted, RefusesPolicy, PlansAre, of_plans, of_rule}
 use Rattle.enforce_types.specs.PolicyPlans.{ArePlanned, IsFirstRefusal}
 use Rattle.enforce_types.specs.declared.refusals.Refusal.{Refusal}
 use Rattle.enforce_types.specs.declared.refusals.Refusal.TheVariants as rule
@@ -56,17 +56,17 @@ module _ (entries : List NameEntry) (policy : List Formula) where
       let why : RefusesPlans a.3.0 b.0 = same_plans (λ made. RefusesPlans made a.0) (λ made. RefusesPlans made b.0) a.3 b.3 in
       sym a.1 ∙ ap of_plans (one_reason one a.3.0 a.0 b.0 a.3.3 why a.2 b.2) ∙ b.1
 
-  refused_by_plans : (why : RankRefusal) → why ≢ plans.NoMemory → PlansAre entries policy (λ made. RefusesPlans made why) → IsRefused entries policy
+  refused_by_plans : (why : RankRefusal) → why ≢ plans.NoMemory → PlansAre entries policy (λ made. RefusesPlans made why) → HasRefusal entries policy
   refused_by_plans (plans.RoleClash name) n is = (RoleClash name, (λ e. cc), is)
   refused_by_plans (plans.Untriggered place) n is = (Untriggered place, (λ e. cc), is)
   refused_by_plans (plans.Cyclic name) n is = (Cyclic name, (λ e. cc), is)
   refused_by_plans plans.NoMemory n is = absurd (n refl)
 
-  refused_by_rule : (why : Refusal) → IsFirstRefusal entries policy why → IsRefused entries policy
+  refused_by_rule : (why : Refusal) → IsFirstRefusal entries policy why → HasRefusal entries policy
   refused_by_rule (rule.Unguarded place) is = (Unguarded place, (λ e. cc), is)
   refused_by_rule (rule.NotEnforceable place) is = (NotEnforceable place, (λ e. cc), is)
 
-  neither_is : ArePlansAnswered → (IsAccepted entries policy ⊎ IsRefused entries policy → ⊥) → ⊥
+  neither_is : ArePlansAnswered → (IsAccepted entries policy ⊎ HasRefusal entries policy → ⊥) → ⊥
   neither_is answers neither = by (answered entries policy)
     where
       by : ((made : List Plan) × (guards : List (Formula × List VarId)) × ArePlanned entries policy made guards) ⊎ ((why : Refusal) × IsFirstRefusal entries policy why) → ⊥
@@ -84,5 +84,5 @@ not_refused_too stay entries policy refusal accepted why = absurd (not_source en
 pub refused_once : OneReason → (entries : List NameEntry) (policy : List Formula) (refusal other : TypeRefusal) → RefusesPolicy entries policy refusal → RefusesPolicy entries policy other → refusal ≢ NoMemory → other ≢ NoMemory → refusal ≡ other
 refused_once one entries policy refusal other a b m n = one_source entries policy one refusal other (source entries policy refusal a m) (source entries policy other b n)
 
-pub accepted_or_refused : ArePlansAnswered → (entries : List NameEntry) (policy : List Formula) → (IsAccepted entries policy ⊎ IsRefused entries policy → ⊥) → ⊥
+pub accepted_or_refused : ArePlansAnswered → (entries : List NameEntry) (policy : List Formula) → (IsAccepted entries policy ⊎ HasRefusal entries policy → ⊥) → ⊥
 accepted_or_refused answers entries policy neither = neither_is entries policy answers neither

@@ -15,7 +15,7 @@ use Rattle.plan_terms.specs.Plans.{Plan}
 use Rattle.policy_syntax.specs.Limits.{EndsFit}
 use Rattle.policy_syntax.specs.declared.limits.TheConstants.{MOST_INTERVAL_END}
 use Rattle.rank_check.specs.Limits.{AreTriggersBelow, EndsInTime, IsSmall}
-use Rattle.rank_check.specs.Limits as plans_limits
+use Rattle.rank_check.specs.Limits.{ArePlansWithinLimits}
 use Rattle.rank_check.specs.Paths.{guard_triggers, of_each, triggers}
 use Rattle.rank_check.specs.Roles.{AreNamesBelow, cause_of, caused_below, suppress_of, suppressed_below}
 use Rattle.signature.specs.declared.entries.NameEntry.{NameEntry}
@@ -200,7 +200,7 @@ module _ (entries : List NameEntry) where
       ((keeps_numbered (length entries) 0 g p kept, more.0), (small, more.1))
 
   pub plans_within : (policy : List Formula) (plans : List Plan) (guards : List (Formula × List VarId)) → length entries ≤ MOST_NAMES → AreWithinLimits entries policy
-      → ArePlanned entries policy plans guards → plans_limits.AreWithinLimits (length entries) plans
+      → ArePlanned entries policy plans guards → ArePlansWithinLimits (length entries) plans
   plans_within policy plans guards few within are =
       let all = all_keep 0 policy are.made are.answered within.each in
       let kept : AllByRecursion (Keeps (length entries)) plans = subst (AllByRecursion (Keeps (length entries))) (sym are.numbered) all.0 in

@@ -8,7 +8,7 @@ use Rattle.formula_reader.specs.declared.policies.Rule.{Rule}
 use Rattle.plan_terms.specs.Nodes.{IsNumbered}
 use Rattle.plan_terms.specs.Plans.{plan_of}
 use Rattle.plan_terms.specs.declared.plans.Plan.{Plan as StoredPlan}
-use Rattle.rank_check.specs.Limits as plans_limits
+use Rattle.rank_check.specs.Limits.{ArePlansWithinLimits}
 use Rattle.rank_check.specs.Refusals.{RefusesPlans}
 use Rattle.rank_check.specs.declared.answers.RankRefusal.{RankRefusal}
 use Rattle.rank_check.specs.declared.answers.RankRefusal.TheVariants as plans
@@ -32,11 +32,11 @@ module _ (entries : List NameEntry) where
 
   -- the plans as they are passed on
   module _ (rules seen : List Rule) (r : Result RulePlans Refusal) (made : RulePlans) (see : seen ≡ rules) (is : r ≡ Ok made) (h : IfOk r (Planned seen)) (lent : List StoredPlan) (lends : lent ≡ made.plans.items) where
-    pub fits : (names : ℕ) → names ≡ length entries → length entries ≤ MOST_NAMES → AreWithinLimits entries (formulas rules) → plans_limits.AreWithinLimits names (map plan_of lent)
+    pub fits : (names : ℕ) → names ≡ length entries → length entries ≤ MOST_NAMES → AreWithinLimits entries (formulas rules) → ArePlansWithinLimits names (map plan_of lent)
     fits names count few within =
         let whole = plans_within entries (formulas rules) (map plan_of made.plans.items) (guards_of made.guards.items) few within (planned_of rules seen r made see is h) in
-        subst (λ (n : ℕ). plans_limits.AreWithinLimits n (map plan_of lent)) (sym count)
-        (subst (λ (ps : List StoredPlan). plans_limits.AreWithinLimits (length entries) (map plan_of ps)) (sym lends) whole)
+        subst (λ (n : ℕ). ArePlansWithinLimits n (map plan_of lent)) (sym count)
+        (subst (λ (ps : List StoredPlan). ArePlansWithinLimits (length entries) (map plan_of ps)) (sym lends) whole)
 
     pub numbered : AllByRecursion IsNumbered (map plan_of lent)
     numbered =

@@ -63,14 +63,14 @@ AcceptedIsNotRefused = (entries : List NameEntry) (policy : List Formula) (refus
     → IsAccepted entries policy → RefusesPolicy entries policy refusal → refusal ≡ NoMemory
 
 -- there is a refusal of the policy
-abbrev pub IsRefused : List NameEntry → List Formula → Type 0
-IsRefused entries policy =
+abbrev pub HasRefusal : List NameEntry → List Formula → Type 0
+HasRefusal entries policy =
     (refusal : TypeRefusal) × (refusal ≢ NoMemory) × RefusesPolicy entries policy refusal
 
 -- each policy is accepted or refused
 abbrev pub AcceptedOrRefused : Type 0
 AcceptedOrRefused = (entries : List NameEntry) (policy : List Formula)
-    → Classically (IsAccepted entries policy ⊎ IsRefused entries policy)
+    → Classically (IsAccepted entries policy ⊎ HasRefusal entries policy)
 
 -- and refused with one answer at most, but for want of memory
 abbrev pub RefusedOnce : Type 0

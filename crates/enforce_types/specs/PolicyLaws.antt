@@ -10,7 +10,7 @@ use Rattle.monitorable_guard.specs.Safety.{Safe}
 use Rattle.plan_terms.specs.Nodes.{IsNumbered}
 use Rattle.plan_terms.specs.PlanFormula.{formula_for}
 use Rattle.plan_terms.specs.Plans.{Plan}
-use Rattle.rank_check.specs.Limits as plans_limits
+use Rattle.rank_check.specs.Limits.{ArePlansWithinLimits}
 use Rattle.signature.specs.declared.entries.NameEntry.{NameEntry}
 use Rattle.enforce_types.specs.GuardLists.{numbered_guards}
 use Rattle.enforce_types.specs.Numbering.{guard_numbers}
@@ -74,4 +74,4 @@ OneRefusal = (entries : List NameEntry) (policy : List Formula) (refusal other :
 abbrev pub PlansAreWithinLimits : Type 0
 PlansAreWithinLimits = (entries : List NameEntry) (policy : List Formula) (plans : List Plan)
     (guards : List (Formula × List VarId)) → length entries ≤ MOST_NAMES → AreWithinLimits entries policy
-    → ArePlanned entries policy plans guards → plans_limits.AreWithinLimits (length entries) plans
+    → ArePlanned entries policy plans guards → ArePlansWithinLimits (length entries) plans

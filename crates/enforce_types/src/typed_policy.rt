@@ -68,7 +68,8 @@ impl TypedPolicy {
         &self.made.guards
     }
 
-    /// Whether the plans are transparent: of two ways at most one looks ahead, and nothing owed by a deadline does.
+    /// Whether the plans are transparent: of the two sides of an Either at most one has a future node, and neither the body
+    /// of an Eventually nor the right side of an Until has one.
     pub fn is_transparent(&self) -> bool
         ensures { result ≡ self.now.ranked.transparent }
     {

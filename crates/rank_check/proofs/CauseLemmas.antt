@@ -8,7 +8,7 @@ use Rattle.enf_value.specs.declared.events.NameId.{NameId}
 use Rattle.plan_terms.specs.Nodes.{nodes}
 use Rattle.plan_terms.specs.Plans.{Plan, Cause, Suppress, Both, Either, TestOr, Guarded, Eventually, Always, Until, Next}
 use Rattle.rank_check.specs.Paths.{below, begun_by, guard_triggers, path_triggers, triggers, IsCause, IsStart, Edge}
-use Rattle.rank_check.specs.Limits.{AreWithinLimits}
+use Rattle.rank_check.specs.Limits.{ArePlansWithinLimits}
 use Rattle.rank_check.specs.Matrix.{Table, Joins, Adds}
 use Rattle.rank_check.specs.Roles.{IsCaused, caused_below, cause_of}
 use Rattle.rank_check.specs.Walks.{bare_behind, met_behind, Causes}
@@ -230,7 +230,7 @@ cause_in (Cause n place name terms) to is = subst (λ (x : NameId). Contains (na
 cause_in node to is = absurd is
 
 -- both ends of an edge are among the names
-pub edges_are_below : (names : ℕ) (plans : List Plan) (from to : NameId) → AreWithinLimits names plans → Edge plans from to → (from.0 < names) × (to.0 < names)
+pub edges_are_below : (names : ℕ) (plans : List Plan) (from to : NameId) → ArePlansWithinLimits names plans → Edge plans from to → (from.0 < names) × (to.0 < names)
 edges_are_below names plans from to fit e =
     let end : Contains (nodes e.0) e.5 = nodes_in e.2 e.0 e.5 (start_in e.0 e.2 e.3) (end_in e.4 e.2 e.5 e.6) in
     let guard : (node : Plan) × Contains (nodes e.2) node × (guard_triggers node ≡ Some e.8) = guard_in e.4 e.2 e.5 e.8 e.6 e.9 in
@@ -239,7 +239,7 @@ edges_are_below names plans from to fit e =
     (fit.triggers guard.0 e.8 from (in_flat nodes plans e.0 guard.0 e.1 inside) guard.2 e.10, fit.changed to (inl caused))
 
 -- the table has just the edges of the plans
-pub just_edges : (names : ℕ) (plans : List Plan) (empty table : Table) → AreWithinLimits names plans → empty.width ≡ names → ((a b : NameId) → Joins empty a b → ⊥) → Adds (CausedIn plans) empty table → (from to : NameId) → Joins table from to ↔ Edge plans from to
+pub just_edges : (names : ℕ) (plans : List Plan) (empty table : Table) → ArePlansWithinLimits names plans → empty.width ≡ names → ((a b : NameId) → Joins empty a b → ⊥) → Adds (CausedIn plans) empty table → (from to : NameId) → Joins table from to ↔ Edge plans from to
 just_edges names plans empty table fit wide none adds from to = (
   λ joins. ⊎_elim (λ (old : Joins empty from to). absurd (none from to old)) (λ (new : CausedIn plans from to). edge_if_caused from to plans new.0 new.1 new.2) (adds.only from to joins),
   λ edge. let within = edges_are_below names plans from to fit edge in

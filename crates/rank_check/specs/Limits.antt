@@ -23,7 +23,7 @@ abbrev pub EndsInTime : Plan → Type 0
 EndsInTime node = window_end node ≤ MOST_INTERVAL_END
 
 -- plans over the first so many names, within the limits of policies
-pub record AreWithinLimits (names : ℕ) (plans : List Plan) : Type 0 where
+pub record ArePlansWithinLimits (names : ℕ) (plans : List Plan) : Type 0 where
   pub few_names : names ≤ MOST_NAMES
   pub small : AllByRecursion IsSmall plans
   pub ends : AllByRecursion EndsInTime (flat_map nodes plans)

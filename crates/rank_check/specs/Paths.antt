@@ -61,7 +61,7 @@ abbrev pub path_triggers : List Plan → Option (List NameId)
 path_triggers [] = None
 path_triggers (node ∷ path) = option_or (guard_triggers node) (path_triggers path)
 
--- a node that needs a trigger: one that causes an event, or owes one later
+-- a node that needs a trigger: one that causes an event, or owes something later
 abbrev pub needs_trigger : Plan → Bool
 needs_trigger (Cause node place name terms) = true
 needs_trigger (Eventually node place low high body) = true

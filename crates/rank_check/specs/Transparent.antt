@@ -1,4 +1,4 @@
--- Plans that change a log only where it must be changed.
+-- The transparent mark of plans.
 use Rattle.std.specs.Prelude.{Bool, true, ◌&&◌, not, List}
 use Rattle.std.specs.List.{list_all, list_any}
 use Rattle.plan_terms.specs.Nodes.{nodes, is_future}
@@ -9,7 +9,7 @@ use Rattle.plan_terms.specs.Plans.{Until}
 abbrev pub looks_ahead : Plan → Bool
 looks_ahead plan = list_any is_future (nodes plan)
 
--- of two sides not both look ahead, and what is owed by a deadline does not
+-- not both sides of an Either look ahead, nor the body of an Eventually, nor the right side of an Until
 abbrev pub is_transparent_at : Plan → Bool
 is_transparent_at (Either node left right) = not (looks_ahead left && looks_ahead right)
 is_transparent_at (Eventually node place low high body) = not (looks_ahead body)

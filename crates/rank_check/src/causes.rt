@@ -3,7 +3,7 @@ ghost use Rattle.std.specs.Prelude.{◌≡◌, ◌↔◌, Contains, IfOk, OnOk, 
 ghost use Rattle.enf_formula.specs.Formulas.{tree_of};
 ghost use Rattle.enf_value.specs.declared.events.NameId.{NameId as Name};
 ghost use Rattle.plan_terms.specs.Plans.{plan_of};
-ghost use Rattle.rank_check.specs.Limits.{AreWithinLimits};
+ghost use Rattle.rank_check.specs.Limits.{ArePlansWithinLimits};
 ghost use Rattle.rank_check.specs.Matrix.{Adds, Joins};
 ghost use Rattle.rank_check.specs.Paths.{triggers as names_of, Edge};
 ghost use Rattle.rank_check.specs.Walks.{Causes, met_behind, bare_behind};
@@ -18,7 +18,7 @@ use std::alloc::Global;
 
 // The edges of plans over so many names: from each trigger of a path to what is caused on the path below.
 pub fn edges_of(alloc: Global, plans: &[Plan], names: u32) -> Result<Edges, NoMemory>
-    requires { AreWithinLimits names (map plan_of plans.now) }
+    requires { ArePlansWithinLimits names (map plan_of plans.now) }
     ensures width { IfOk result (λ edges. edges.width ≡ names) }
     ensures edges { IfOk result (λ edges. (from to : Name)
         → Joins edges from to ↔ Edge (map plan_of plans.now) from to) }

@@ -3,7 +3,7 @@ ghost use Rattle.std.specs.Prelude.{IfErr, IfOk, OnOk, map};
 ghost use Rattle.std.specs.List.{AllByRecursion};
 ghost use Rattle.plan_terms.specs.Nodes.{IsNumbered};
 ghost use Rattle.plan_terms.specs.Plans.{plan_of};
-ghost use Rattle.rank_check.specs.Limits.{AreWithinLimits};
+ghost use Rattle.rank_check.specs.Limits.{ArePlansWithinLimits};
 ghost use Rattle.rank_check.specs.Ranked.{AreRanked};
 ghost use Rattle.rank_check.specs.Refusals.{AreAccepted, RefusesPlans};
 
@@ -19,7 +19,7 @@ use std::alloc::Global;
 /// The ranks and roles of so many names under plans, or why the plans cannot work together: the first of a name that is
 /// both caused and suppressed, a node that is met before any trigger, and a name on a cycle.
 pub fn check(alloc: Global, plans: &[Plan], names: u32) -> Result<Ranks, RankRefusal>
-    requires fit { AreWithinLimits names (map plan_of plans.now) }
+    requires fit { ArePlansWithinLimits names (map plan_of plans.now) }
     // Equal subtrees of a plan are told apart by their numbers.
     requires numbered { AllByRecursion IsNumbered (map plan_of plans.now) }
     ensures refused { IfErr result (RefusesPlans (map plan_of plans.now)) }

@@ -1,4 +1,4 @@
-//! The ranks and roles of names, and how long anything can be owed.
+//! What is known of accepted plans: the ranks and roles of names, the horizon and the transparent mark.
 ghost use Rattle.std.specs.Prelude.{◌≡◌, ◌≤◌, map};
 ghost use Rattle.std.specs.List.{AllByRecursion, flat_map};
 ghost use Rattle.plan_terms.specs.Nodes.{nodes};
@@ -82,7 +82,8 @@ impl Ranks {
         self.horizon
     }
 
-    /// Whether the plans are transparent: of two ways at most one looks ahead, and nothing owed by a deadline does.
+    /// Whether the plans are transparent: of the two sides of an Either at most one has a future node, and neither the body
+    /// of an Eventually nor the right side of an Until has one.
     pub fn is_transparent(&self) -> bool
         ensures { result ≡ self.now.transparent }
     {

@@ -1,8 +1,8 @@
-use Rattle.std.proofs.Common.{◌≡◌, List, [], ◌∷◌, ℕ, Ok, ap, map, refl, subst}
+use Rattle.std.proofs.Common.{◌≡◌, List, [], ◌∷◌, ℕ, Ok, Err, ap, map, refl, subst}
 use Rattle.enf_formula.specs.Formulas.{Formula, tree_of}
 use Rattle.enforce_types.specs.Accepted.{IsAccepted, IsTyped, RefusesPolicy}
 use Rattle.enforce_types.specs.Typed.{Typed, typed_of}
-use Rattle.formula_reader.specs.Reading.{IsTextAnswer}
+use Rattle.formula_reader.specs.Reading.{GivesTextAnswer, IsTextAnswer}
 use Rattle.formula_reader.specs.Resolution.{formulas as read_formulas, rule_of, rules_of}
 use Rattle.formula_reader.specs.declared.policies.Rule.{Rule as ReadRule}
 use Rattle.signature.specs.declared.entries.NameEntry.{NameEntry}
@@ -45,4 +45,13 @@ returns-clause-ends g c =
     let answer = subst (λ (text : List ℕ). IsTextAnswer entries text (Ok policy)) c.deref.ensures.value c.in-Ok.ensures.answer in
     let refused = subst (λ (fs : List Formula). RefusesPolicy entries fs c.in-Err-of.refusal) (same_formulas c.in-Ok.policy.rules) c.in-Err-of.ensures.refused in
     let why = c.in_ok-type_refusal_of-in-Err-of.ensures bytes (record { policy = policy; reads = record { short = short.short; answer = answer }; refused = refused }) in
+    (record { bytes = bytes; under = short.under; refused = why }, c.in_ok-bytes.ensures.same)
+
+pub returns-in-Err-clause-ends : goal.returns-in-Err-clause-ends
+returns-in-Err-clause-ends g c =
+    let entries = c.args.signature.now in
+    let bytes = c.in-Some.bytes.items in
+    let short : IsShort (g.F.Files.seen c.args.files.now).contents c.args.name.now bytes = rw c.in-Some.is at c.in_ok-bytes.ensures.bytes in
+    let answer = subst (λ (text : List ℕ). GivesTextAnswer entries text (Err c.in-Err.refusal)) c.deref.ensures.value c.in-Err.ensures.answer in
+    let why = c.in_ok-policy_refusal_of-in-Err.ensures entries bytes short.short answer in
     (record { bytes = bytes; under = short.under; refused = why }, c.in_ok-bytes.ensures.same)
