@@ -1,26 +1,38 @@
 -- What is kept before the first step.
 use Rattle.std.proofs.Common.{◌≡◌, ◌∙◌, ◌⊎◌, inl, inr, ⊎_elim, ℕ, suc, ◌+◌, ◌<◌, ◌≤◌, List, [], ◌∷◌, ◌++◌, length, reverse, get_or, All, Contains, None, refl, sym, ap, subst, arith, append_assoc, append-nil, length-append}
+use Rattle.std.specs.Bool.{Decides}
+use Rattle.std.specs.Prelude.{Bool, true, false, not, IsTrue}
+use Rattle.std.proofs.lemmas.Bool.{false≢true}
+use Rattle.std.specs.Cmp.Lexicographic.{pointwise}
 use Rattle.std.specs.List.Sorted.{IsStrictlySortedBy}
+use Rattle.std.proofs.lemmas.Bool.Decides.{Decides-eqb, Decides-like}
+use Rattle.std.proofs.lemmas.Slice.Eq.{slice_eq-Decides}
 use Rattle.std.proofs.lemmas.List.{length-reverse, reverse-append}
 use Rattle.std.proofs.lemmas.List.Elements.{All-append, All-nil, All-cons, All-contains, All-head, All-tail, Contains-append_left, Contains-append_right, Contains-get_or}
 use Rattle.std.proofs.lemmas.Map.Keys.{sorted_tail}
 use Rattle.enf_value.specs.Membership.{HasNoRepeats}
 use Rattle.enf_value.specs.Valuations.{variable_cmp}
 use Rattle.enf_value.specs.declared.intervals.Interval.{Interval}
+use Rattle.enf_value.specs.contracts.terms.VarIdPartialEq.TheImpl as variables
 use Rattle.enf_value.specs.declared.terms.VarId.{VarId}
 use Rattle.enf_formula.specs.Formulas.{Formula, True, False, Atom, Equal, Less, AtMost, Not, And, Or, Implies, Exists, Forall, Prev, Next, Once, Historically, Since, Eventually, Always, Until, tree_of}
 use Rattle.enf_formula.specs.FreeVariables.{IsFree, AreFreeVariables}
 use Rattle.monitorable_guard.specs.Guards.{BoundFormula}
 use Rattle.monitorable_guard.specs.Present.{outermost}
 use Rattle.monitorable_guard.specs.Safety.{BindsFresh, denial}
-use Rattle.windows.specs.Slots.{Slot, IsUpToTime}
+use Rattle.valuations.specs.Columns.{none_in_nil}
+use Rattle.windows.specs.Slots.{Slot, IsUpToTime, LastHasColumns}
 use Rattle.windows.specs.Windows.{Window}
-use Rattle.past_state.specs.Keeping.{CanKeep, IsBegun, PushesFor}
+use Rattle.past_state.specs.Keeping.{CanKeep, IsAlone, IsBegun, PushesFor}
 use Rattle.past_state.specs.Laws.{IsNew, WindowBegins, OnceBegins, SlotBegins}
 use Rattle.past_state.specs.Stands.{SlotStands}
-use Rattle.past_state.specs.Memories.{Asks, IsUpToTimeOf}
+use Rattle.past_state.specs.Asking.{Asks}
+use Rattle.past_state.specs.Lefts.{AsksLeft}
+use Rattle.past_state.specs.Memories.{IsUpToTimeOf}
 use Rattle.past_state.specs.Operators.{operators, inner}
 use Rattle.past_state.specs.Runs.{AreFor, AllStand}
+use Rattle.past_state.specs.declared.left.Left.{Left}
+use Rattle.past_state.specs.declared.left.Left.TheVariants as side
 use Rattle.past_state.specs.declared.memories.Memory.{Memory}
 use Rattle.past_state.specs.declared.memories.Memory.TheVariants as kept
 use Rattle.past_state.specs.declared.operators.Operator.{Operator}
@@ -32,6 +44,18 @@ distinct (x ∷ xs) sorted = (λ there. let less : x.0 < x.0 = after x xs sorted
 
 pub asks : (f : Formula) (bound : List VarId) (guard : BoundFormula) (given : Formula) → tree_of guard.formula ≡ given → given ≡ f → guard.bound ≡ bound → BindsFresh f (λ x. Contains bound x ⊎ IsFree x f) → Asks f bound guard
 asks f bound guard given is same bound_is fresh = record { formula_is = is ∙ same; bound_is = bound_is; fresh = fresh }
+
+-- ---- equal columns
+
+derived_variable_eq-Decides : (x y : VarId) → Decides (variables.eq-value.it x y) (x ≡ y)
+derived_variable_eq-Decides x y = Decides-like (variables.eq-value.it x y) (λ same i. record { 0 = same i }) (λ same. ap (λ z. z.0) same) (Decides-eqb x.0 y.0)
+
+not_apart : (b : Bool) → not b ≡ false → IsTrue b
+not_apart true is = refl
+not_apart false is = absurd (false≢true (sym is))
+
+pub columns_same : (xs ys : List VarId) → not (pointwise variables.eq-value.it xs ys) ≡ false → xs ≡ ys
+columns_same xs ys is = (slice_eq-Decides derived_variable_eq-Decides xs ys _ refl).0 (not_apart _ is)
 
 -- ---- fewer variables in scope
 
@@ -57,12 +81,25 @@ fresh_fewer (Eventually place interval g) S R fewer fresh = fresh_fewer g S R fe
 fresh_fewer (Always place interval g) S R fewer fresh = fresh_fewer g S R fewer fresh
 fresh_fewer (Until place interval g h) S R fewer fresh = (fresh_fewer g S R fewer fresh.0, fresh_fewer h S R fewer fresh.1)
 
+-- what is denied on the left is asked by itself
+pub asks_denied : (f g : Formula) (place : ℕ) (columns : List VarId) (guard : BoundFormula) → f ≡ Not place g → IsAlone g columns guard → BindsFresh f (λ x. Contains columns x ⊎ IsFree x f)
+    → AsksLeft f columns (side.Denied guard)
+asks_denied f g place columns guard is alone fresh = (
+  place,
+  g,
+  is,
+  asks g [] guard g alone.formula_is refl alone.bound_is (fresh_fewer g (λ x. Contains columns x ⊎ IsFree x f) (λ x. Contains [] x ⊎ IsFree x g)
+      (λ x either. ⊎_elim (λ none. absurd (none_in_nil x none)) (λ free. inl ((alone.free.exact x).1 free)) either)
+      (subst (λ h. BindsFresh h (λ x. Contains columns x ⊎ IsFree x f)) is fresh)),
+  alone.free,
+)
+
 -- ---- what is kept for one operator
 
 pub begun_prev : SlotBegins → (place : ℕ) (interval : Interval) (g : Formula) (slot : Slot) (operand : BoundFormula) (columns : List VarId) → slot ≡ record { interval = interval; columns = columns; last = None }
     → AreFreeVariables g columns → Asks g [] operand → IsBegun (Prev place interval g) (kept.Prev slot operand)
 begun_prev begins place interval g slot operand columns is free asks = record {
-  is_for = (asks, subst (λ s. AreFreeVariables g s.columns) (sym is) free, ap (λ s. s.interval) is);
+  is_for = (asks, subst (λ s. AreFreeVariables g s.columns) (sym is) free, ap (λ s. s.interval) is, subst (λ s. LastHasColumns s.columns s.last) (sym is) tt);
   stands = subst (λ s. SlotStands [] interval g s) (sym is) (begins interval g columns free.exact);
   up_to = λ time. subst (λ s. IsUpToTime time s.last) (sym is) tt;
 }
@@ -75,11 +112,11 @@ begun_once begins place interval g window right columns new free asks = record {
   up_to = λ time. omega (arith, new.last_is);
 }
 
-pub begun_since : WindowBegins → (place : ℕ) (interval : Interval) (g h : Formula) (window : Window) (left : BoundFormula) (left_tables : ℕ) (right : BoundFormula) (columns : List VarId)
-    → IsNew interval columns window → AreFreeVariables h columns → Asks h [] right → Asks g columns left → left_tables ≡ length (outermost g)
+pub begun_since : WindowBegins → (place : ℕ) (interval : Interval) (g h : Formula) (window : Window) (left : Left) (left_tables : ℕ) (right : BoundFormula) (columns : List VarId)
+    → IsNew interval columns window → AreFreeVariables h columns → Asks h [] right → AsksLeft g columns left → left_tables ≡ length (outermost g)
     → ((x : VarId) → IsFree x g → IsFree x h) → IsBegun (Since place interval g h) (kept.Since window left left_tables right)
 begun_since begins place interval g h window left left_tables right columns new free asks_right asks_left counted within = record {
-  is_for = (asks_right, subst (AreFreeVariables h) (sym new.columns_are) free, new.interval_is, subst (λ l. Asks g l left) (sym new.columns_are) asks_left, counted, within);
+  is_for = (asks_right, subst (AreFreeVariables h) (sym new.columns_are) free, new.interval_is, subst (λ l. AsksLeft g l left) (sym new.columns_are) asks_left, counted, within);
   stands = begins interval g h columns window free.exact new;
   up_to = λ time. omega (arith, new.last_is);
 }

@@ -19,8 +19,11 @@ use Rattle.valuations.specs.Columns.{here, later, first_or_later, none_in_nil}
 use Rattle.valuations.specs.Just.{Binds}
 use Rattle.valuations.specs.Tables.{Relation, IsTable, Has}
 use Rattle.windows.specs.Windows.{Window, Keeps}
-use Rattle.past_state.specs.Memories.{AnswersAll, AreSurviving}
+use Rattle.past_state.specs.Asking.{AnswersAll}
+use Rattle.past_state.specs.Lefts.{AreSurvivors}
 use Rattle.past_state.specs.Sources.{AllComeFrom}
+use Rattle.past_state.specs.declared.left.Left.TheVariants as side
+use Rattle.past_state.specs.declared.survivors.Survivors.TheVariants as told
 
 below : (x y : VarId) → variable_cmp x y ≡ Less → x.0 < y.0
 below x y e = subst (λ r. MatchOrdering r (x.0 < y.0) (x.0 ≡ y.0) (y.0 < x.0)) e (ranks x.0 y.0)
@@ -75,13 +78,19 @@ known_from events tables f bound v t none known row there value inside =
     (λ either. inr (⊎_elim (λ tabled. inl tabled) (λ last. ⊎_elim (λ constant. inr constant) (λ of. absurd (none_in_nil of.0 (subst (λ l. Contains l of.0) none of.1))) last) either))
     (known row there value inside)
 
+-- the kept rows under which a guard holds are those that survive
 pub surviving_in : (events : List Event) (tables : List Relation) (guard : BoundFormula) (window : Window) (lasting surviving : Relation) → lasting.columns ≡ window.columns
     → ((v : Valuation) → Has lasting v ↔ Keeps window window.last v) → surviving.columns ≡ lasting.columns
-    → ((v : Valuation) → Has surviving v ↔ (Has lasting v × HoldsNow events tables v (tree_of guard.formula))) → AreSurviving events tables guard window surviving
+    → ((v : Valuation) → Has surviving v ↔ (Has lasting v × HoldsNow events tables v (tree_of guard.formula))) → AreSurvivors events tables (side.Asked guard) window (told.Only surviving)
 surviving_in events tables guard window lasting surviving columns lasts surviving_columns survives = record {
-  columns_are = surviving_columns ∙ columns;
-  rows = λ v. (
-    λ h. let both = (survives v).0 h in ((lasts v).0 both.0, both.1),
-    λ both. (survives v).1 ((lasts v).1 both.0, both.1),
-  );
+  fit = surviving_columns ∙ columns;
+  exact = λ v binds keeps. (λ h. ((survives v).0 h).1, λ holds. (survives v).1 ((lasts v).1 keeps, holds));
+}
+
+-- and all but those under which it is denied
+pub failing_in : (events : List Event) (tables : List Relation) (guard : BoundFormula) (window : Window) (failing : Relation) → AnswersAll events tables guard window.columns failing
+    → AreSurvivors events tables (side.Denied guard) window (told.AllBut failing)
+failing_in events tables guard window failing answers = record {
+  fit = answers.columns_are;
+  exact = λ v binds keeps. (λ absent holds. absent ((answers.rows v binds).1 holds), λ fails there. fails ((answers.rows v binds).0 there));
 }

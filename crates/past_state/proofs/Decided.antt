@@ -1,5 +1,5 @@
 -- A table has a valuation or not, and a difference is in an interval or not.
-use Rattle.std.proofs.Common.{◌≡◌, ◌⊎◌, inl, inr, ⊎_elim, ℕ, ◌≤◌, Bool, true, false, List, [], ◌∷◌, Contains, Option, None, Some, refl, sym, subst, arith}
+use Rattle.std.proofs.Common.{◌≡◌, ◌⊎◌, inl, inr, ⊎_elim, ℕ, ◌-◌, ◌≤◌, Bool, true, false, List, [], ◌∷◌, Contains, Option, None, Some, refl, sym, subst, arith}
 use Rattle.std.specs.Bool.{Decides}
 use Rattle.std.proofs.lemmas.Bool.{false≢true, cases_lt}
 use Rattle.std.proofs.lemmas.Option.{same_Some, none-some}
@@ -11,6 +11,10 @@ use Rattle.enf_value.specs.declared.terms.VarId.{VarId}
 use Rattle.enf_value.specs.declared.values.Value.{Value}
 use Rattle.valuations.specs.Columns.{here, later, first_or_later, none_in_nil}
 use Rattle.valuations.specs.Tables.{Relation, Has, Agrees, cell}
+use Rattle.windows.specs.Windows.{Window, HasRow, Remembers}
+use Rattle.past_state.specs.Survivors.{Survives}
+use Rattle.past_state.specs.declared.survivors.Survivors.{Survivors}
+use Rattle.past_state.specs.declared.survivors.Survivors.TheVariants as told
 
 -- it holds or not
 abbrev pub IsDecided : Type 0 → Type 0
@@ -67,3 +71,45 @@ among v columns (row ∷ rows) =
 
 pub in_table : (t : Relation) (v : Valuation) → IsDecided (Has t v)
 in_table t v = among v t.columns t.rows
+
+-- what cannot fail to survive survives
+pub survives_stable : (survivors : Survivors) (v : Valuation) → ((Survives survivors v → ⊥) → ⊥) → Survives survivors v
+survives_stable told.All v h = tt
+survives_stable (told.Only rows) v h = stable (in_table rows v) h
+survives_stable (told.AllBut rows) v h = λ there. h (λ absent. absent there)
+
+-- one of the times counts
+some_time : (Counts : ℕ → Type 0) → ((t : ℕ) → IsDecided (Counts t)) → (times : List ℕ) → IsDecided ((t : ℕ) × Contains times t × Counts t)
+some_time Counts counts [] = inr (λ h. none_in_nil h.0 h.1)
+some_time Counts counts (time ∷ times) =
+    ⊎_elim (λ yes. inl (time, here time times, yes))
+    (λ no. ⊎_elim (λ found. inl (found.0, later found.0 time times found.1, found.2))
+    (λ none. inr (λ h. ⊎_elim (λ same. no (subst Counts (sym same) h.2)) (λ behind. none (h.0, behind, h.2)) (first_or_later h.0 time times h.1)))
+    (some_time Counts counts times))
+    (counts time)
+
+-- a row with the valuation's values has one
+some_row : (Counts : ℕ → Type 0) → ((t : ℕ) → IsDecided (Counts t)) → (v : Valuation) (columns : List VarId) (kept : List (List Value × List ℕ))
+    → IsDecided ((e : List Value × List ℕ) × Contains kept e × ((t : ℕ) × Contains e.1 t × Counts t) × Agrees v columns e.0)
+some_row Counts counts v columns [] = inr (λ h. none_in_nil h.0 h.1)
+some_row Counts counts v columns (e ∷ kept) =
+    ⊎_elim (λ yes. inl (e, here e kept, yes.0, yes.1))
+    (λ no. ⊎_elim (λ found. inl (found.0, later found.0 e kept found.1, found.2, found.3))
+    (λ none. inr (λ h. ⊎_elim (λ same. no (subst (λ f. ((t : ℕ) × Contains f.1 t × Counts t) × Agrees v columns f.0) (sym same) (h.2, h.3))) (λ behind. none (h.0, behind, h.2, h.3)) (first_or_later h.0 e kept h.1)))
+    (some_row Counts counts v columns kept))
+    (both (some_time Counts counts e.1) (agrees v columns e.0 columns))
+
+same_time : (time t : ℕ) → IsDecided (t ≡ time)
+same_time time t = ⊎_elim (λ below. ⊎_elim (λ above. inl (omega (arith, below, above))) (λ no. inr (λ e. no (omega (arith, e)))) (at_most time t)) (λ no. inr (λ e. no (omega (arith, e)))) (at_most t time)
+
+pub in_window : (window : Window) (v : Valuation) (time : ℕ) → IsDecided (HasRow window v time)
+in_window window v time =
+    ⊎_elim (λ found. inl (found.0.0, found.0.1, found.1, subst (Contains found.0.1) found.2.2 found.2.1, found.3))
+    (λ none. inr (λ h. none ((h.0, h.1), h.2, (time, h.3, refl), h.4)))
+    (some_row (λ t. t ≡ time) (same_time time) v window.columns window.kept)
+
+pub is_remembered : (window : Window) (time : ℕ) (v : Valuation) → IsDecided (Remembers window time v)
+is_remembered window time v =
+    ⊎_elim (λ found. inl (found.2.0, found.2.2, (found.0.0, found.0.1, found.1, found.2.1, found.3)))
+    (λ none. inr (λ h. none ((h.2.0, h.2.1), h.2.2, (h.0, h.2.3, h.1), h.2.4)))
+    (some_row (λ t. IsIn window.interval (time - t)) (λ t. in_interval window.interval (time - t)) v window.columns window.kept)

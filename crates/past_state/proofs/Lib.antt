@@ -1,5 +1,11 @@
 pub mod Decided
+pub mod CaseLemmas
+pub mod ChosenLemmas
 pub mod HeldLemmas
+pub mod KeptLemmas
+pub mod RestoredLemmas
+pub mod RestoringLemmas
+pub mod SavedLemmas
 pub mod StandsLemmas
 pub mod RowLemmas
 pub mod KeptRows
@@ -14,3 +20,5 @@ pub mod BuildingLemmas
 pub mod KeepingLemmas
 pub mod GuardLemmas
 pub mod KnownLemmas
+pub mod SurvivorLemmas
+pub mod AskedLemmas

@@ -18,14 +18,24 @@ use Rattle.monitorable_guard.specs.Safety.{BindsFresh, denial}
 use Rattle.trace_meaning.specs.Continuation.{last_time}
 use Rattle.valuations.specs.Just.{Binds}
 use Rattle.valuations.specs.Tables.{Relation, Has}
+use Rattle.windows.specs.Given.{given_last}
+use Rattle.windows.specs.GivenLaws.{given_last_answers}
+use Rattle.windows.specs.Slots.{LastHasColumns}
 use Rattle.windows.specs.Windows.{Window}
 use Rattle.past_state.specs.Laws.{AreTablesOf, SinceAnswers, SinceGoesOn, OnceAnswers, OnceGoesOn, HistoricallyIsDenied, PrevAnswers, PrevGoesOn, satisfied, everywhere}
-use Rattle.past_state.specs.Memories.{Asks, IsFor, CanAskAll, CanAskUnder, CanStep, AnswersAll, AreLasting, AreSurviving, AreStepTables, FitMemory, GivesNow, MemoryStands, IsCommittedTo, IsSameMemory}
+use Rattle.past_state.specs.Asking.{Asks, CanAskAll, CanAskUnder, AnswersAll}
+use Rattle.past_state.specs.Lefts.{AsksLeft, AreSurvivors, CanAskLeft, LeftHolds}
+use Rattle.past_state.specs.Memories.{IsFor, CanStep, AreStepTables, FitMemory, MemoryStands, IsCommittedTo, IsSameMemory, given_by}
 use Rattle.past_state.specs.Operators.{inner}
+use Rattle.past_state.specs.Survivors.{Survives, SurvivorsFit}
+use Rattle.past_state.specs.declared.left.Left.{Left}
+use Rattle.past_state.specs.declared.left.Left.TheVariants as side
+use Rattle.past_state.specs.declared.survivors.Survivors.TheVariants as told
 use Rattle.past_state.specs.declared.memories.Memory.{Memory}
 use Rattle.past_state.specs.declared.memories.Memory.TheVariants as kept
 use Rattle.past_state.specs.declared.memories.StepTables.{StepTables}
 use Rattle.past_state.proofs.HeldLemmas.{new_at}
+use Rattle.past_state.proofs.SurvivorLemmas.{window_gives}
 
 -- ---- tables of several operators
 
@@ -91,6 +101,12 @@ can_ask_under f columns guard tables asks free fit = record {
   tabled = subst (λ h. FitOperators (outermost h) tables) (sym asks.formula_is) fit;
 }
 
+can_ask_left : (f : Formula) (columns : List VarId) (left : Left) (tables : List Relation) → AsksLeft f columns left → ((x : VarId) → IsFree x f → Contains columns x)
+    → FitOperators (outermost f) tables → CanAskLeft columns tables left
+can_ask_left f columns side.All tables asks free fit = tt
+can_ask_left f columns (side.Denied guard) tables asks free fit = can_ask_all asks.1 columns guard tables asks.3 asks.4 (subst (λ g. FitOperators (outermost g) tables) asks.2 fit)
+can_ask_left f columns (side.Asked guard) tables asks free fit = can_ask_under f columns guard tables asks free fit
+
 pub can_step : (f : Formula) (m : Memory) (tables : List Relation) → IsFor f m → FitOperators (inner f) tables → CanStep tables m
 can_step (Prev place interval g) (kept.Prev slot operand) tables for fit = can_ask_all g slot.columns operand tables for.0 for.1 fit
 can_step (Once place interval g) (kept.Once window right) tables for fit = can_ask_all g window.columns right tables for.0 for.1 fit
@@ -99,7 +115,7 @@ can_step (Historically place interval g) (kept.Once window right) tables for fit
 can_step (Since place interval g h) (kept.Since window left left_tables right) tables for fit = (
   subst (λ n. CanAskAll right window.columns (drop n tables)) (sym for.4)
       (can_ask_all h window.columns right (drop (length (outermost g)) tables) for.0 for.1 (fit_back (outermost g) (outermost h) tables fit)),
-  can_ask_under g window.columns left tables for.3 (λ x free. (for.1.exact x).1 (for.5 x free)) (fit_front (outermost g) (outermost h) tables fit),
+  can_ask_left g window.columns left tables for.3 (λ x free. (for.1.exact x).1 (for.5 x free)) (fit_front (outermost g) (outermost h) tables fit),
   subst (λ n. n ≤ length tables) (sym for.4) (fit_long (outermost g) tables (fit_front (outermost g) (outermost h) tables fit)),
 )
 can_step f m tables for fit = absurd for
@@ -107,8 +123,8 @@ can_step f m tables for fit = absurd for
 -- what it brings fits
 pub step_fits : (events : List Event) (tables : List Relation) (m : Memory) (t : StepTables) → AreStepTables events tables m t → FitMemory m t
 step_fits events tables (kept.Prev slot operand) t are = are.columns_are
-step_fits events tables (kept.Once window right) t are = (are.1.columns_are, are.0.columns_are)
-step_fits events tables (kept.Since window left left_tables right) t are = (are.1.columns_are, are.0.columns_are)
+step_fits events tables (kept.Once window right) t are = (subst (SurvivorsFit window.columns) (sym are.1) tt, are.0.columns_are)
+step_fits events tables (kept.Since window left left_tables right) t are = (are.1.fit, are.0.columns_are)
 
 -- ---- a step of a trace for which what is kept stands
 
@@ -146,62 +162,72 @@ module _ (laws : Laws) (trace : List Step) (step : Step) (later : last_time trac
       then (answers.rows v binds) (now_satisfied g guard tables asks.formula_is past stand v (bound_free g columns v free binds))
 
   once_tables : (g : Formula) (interval : Interval) (window : Window) (right : BoundFormula) (tables : List Relation) (t : StepTables) → Asks g [] right → AreFreeVariables g window.columns → IsTrue (is_past g)
-      → StandFor (trace ++ step ∷ []) (length trace) (outermost g) tables → AnswersAll step.events tables right window.columns t.right → AreLasting window t.surviving
+      → StandFor (trace ++ step ∷ []) (length trace) (outermost g) tables → AnswersAll step.events tables right window.columns t.right → t.surviving ≡ told.All
       → AreTablesOf trace window everywhere (satisfied (trace ++ step ∷ []) g) t.surviving t.right
-  once_tables g interval window right tables t asks free past stand answers lasting = record {
-    surviving_columns = lasting.columns_are;
+  once_tables g interval window right tables t asks free past stand answers all = record {
     right_columns = answers.columns_are;
-    survives = λ v binds. (λ h. ((lasting.rows v).0 h, tt), λ h. (lasting.rows v).1 h.0);
+    survives = λ v binds keeps. subst (λ s. Survives s v ↔ everywhere v (length trace)) (sym all) (λ h. h, λ h. h);
     is_right = is_answer g right tables window.columns t.right asks free past stand answers;
   }
 
-  since_tables : (g h : Formula) (window : Window) (left right : BoundFormula) (left_tables : ℕ) (tables : List Relation) (t : StepTables) → Asks h [] right → AreFreeVariables h window.columns
-      → Asks g window.columns left → left_tables ≡ length (outermost g) → ((x : VarId) → IsFree x g → IsFree x h) → IsTrue (is_past g) → IsTrue (is_past h)
+  -- what is asked of the left side is what is satisfied
+  left_satisfied : (g : Formula) (left : Left) (columns : List VarId) (tables : List Relation) → AsksLeft g columns left → IsTrue (is_past g) → StandFor (trace ++ step ∷ []) (length trace) (outermost g) tables
+      → (v : Valuation) → ((x : VarId) → IsFree x g → IsSome (value_at v x))
+      → LeftHolds step.events tables left v ↔ Sat (trace ++ step ∷ []) (length trace) v g
+  left_satisfied g side.All columns tables asks past stand v binds = subst (λ f. LeftHolds step.events tables side.All v ↔ Sat (trace ++ step ∷ []) (length trace) v f) (sym asks.1) (λ h. h, λ h. h)
+  left_satisfied g (side.Denied guard) columns tables asks past stand v binds =
+      let denied = now_satisfied asks.1 guard tables asks.3.formula_is (subst (λ f. IsTrue (is_past f)) asks.2 past) (subst (λ f. StandFor (trace ++ step ∷ []) (length trace) (outermost f) tables) asks.2 stand) v
+      (λ x free. binds x (subst (IsFree x) (sym asks.2) free)) in
+      subst (λ f. LeftHolds step.events tables (side.Denied guard) v ↔ Sat (trace ++ step ∷ []) (length trace) v f) (sym asks.2) (λ fails holds. fails (denied.1 holds), λ fails holds. fails (denied.0 holds))
+  left_satisfied g (side.Asked guard) columns tables asks past stand v binds = now_satisfied g guard tables asks.formula_is past stand v binds
+
+  since_tables : (g h : Formula) (window : Window) (left : Left) (right : BoundFormula) (left_tables : ℕ) (tables : List Relation) (t : StepTables) → Asks h [] right → AreFreeVariables h window.columns
+      → AsksLeft g window.columns left → left_tables ≡ length (outermost g) → ((x : VarId) → IsFree x g → IsFree x h) → IsTrue (is_past g) → IsTrue (is_past h)
       → StandFor (trace ++ step ∷ []) (length trace) (outermost g ++ outermost h) tables
-      → AnswersAll step.events (drop left_tables tables) right window.columns t.right → AreSurviving step.events tables left window t.surviving
+      → AnswersAll step.events (drop left_tables tables) right window.columns t.right → AreSurvivors step.events tables left window t.surviving
       → AreTablesOf trace window (satisfied (trace ++ step ∷ []) g) (satisfied (trace ++ step ∷ []) h) t.surviving t.right
   since_tables g h window left right left_tables tables t asks_right free asks_left counted within past_g past_h stand answers surviving = record {
-    surviving_columns = surviving.columns_are;
     right_columns = answers.columns_are;
-    survives = λ v binds.
-        let holds = now_satisfied g left tables asks_left.formula_is past_g (stand_front _ _ (outermost g) (outermost h) tables stand) v (λ x is. bound_free h window.columns v free binds x (within x is)) in (
-          λ has. let both = (surviving.rows v).0 has in (both.0, holds.0 both.1),
-          λ both. (surviving.rows v).1 (both.0, holds.1 both.1),
-        );
+    survives = λ v binds keeps. then (surviving.exact v binds keeps)
+        (left_satisfied g left window.columns tables asks_left past_g (stand_front _ _ (outermost g) (outermost h) tables stand) v (λ x is. bound_free h window.columns v free binds x (within x is)));
     is_right = is_answer h right (drop left_tables tables) window.columns t.right asks_right free past_h
         (subst (λ n. StandFor (trace ++ step ∷ []) (length trace) (outermost h) (drop n tables)) (sym counted) (stand_back _ _ (outermost g) (outermost h) tables stand)) answers;
   }
 
   -- the table that it gives stands for the operator
-  stands_by : (f : Formula) (columns free_in : List VarId) (given : Relation) → given.columns ≡ columns → ((x : VarId) → Contains columns x → IsFree x f)
-      → ((v : Valuation) → Binds v columns → Has given v ↔ Tabled (trace ++ step ∷ []) (length trace) v f) → StandsFor (trace ++ step ∷ []) (length trace) f given
-  stands_by f columns free_in given same free rows = record {
+  stands_by : (f : Formula) (columns : List VarId) (table : Relation) → table.columns ≡ columns → ((x : VarId) → Contains columns x → IsFree x f)
+      → ((v : Valuation) → Binds v columns → Has table v ↔ Tabled (trace ++ step ∷ []) (length trace) v f) → StandsFor (trace ++ step ∷ []) (length trace) f table
+  stands_by f columns table same free rows = record {
     columns = λ x there. free x (subst (λ l. Contains l x) same there);
     rows = λ v binds. rows v (subst (Binds v) same binds);
   }
 
-  pub given_stands : (f : Formula) (m : Memory) (tables : List Relation) (t : StepTables) (given : Relation) → IsTrue (is_past f) → IsFor f m → MemoryStands trace f m
-      → StandFor (trace ++ step ∷ []) (length trace) (inner f) tables → AreStepTables step.events tables m t → GivesNow m step.time t given
-      → StandsFor (trace ++ step ∷ []) (length trace) f given
-  given_stands (Prev place interval g) (kept.Prev slot operand) tables t given past for stands inside are gives =
-      stands_by _ slot.columns [] given gives.0 (λ x there. (for.1.exact x).0 there)
-      (λ v binds. then (gives.1 v) (laws.prev_answers trace step place interval g slot past later stands v binds))
-  given_stands (Once place interval g) (kept.Once window right) tables t given past for stands inside are gives =
-      stands_by _ window.columns [] given gives.0 (λ x there. (for.1.exact x).0 there)
-      (λ v binds. then (gives.1 v) (laws.once_answers trace step place interval g window t.surviving t.right past later stands (once_tables g interval window right tables t for.0 for.1 past inside are.0 are.1) v binds))
-  given_stands (Historically place interval g) (kept.Once window right) tables t given past for stands inside are gives =
+  pub given_stands : (f : Formula) (m : Memory) (tables : List Relation) (t : StepTables) → IsTrue (is_past f) → IsFor f m → MemoryStands trace f m
+      → StandFor (trace ++ step ∷ []) (length trace) (inner f) tables → AreStepTables step.events tables m t → StandsFor (trace ++ step ∷ []) (length trace) f (given_by m step.time t)
+  given_stands (Prev place interval g) (kept.Prev slot operand) tables t past for stands inside are =
+      stands_by _ slot.columns (given_last slot step.time) refl (λ x there. (for.1.exact x).0 there)
+      (λ v binds. then (given_last_answers slot step.time for.3 v) (laws.prev_answers trace step place interval g slot past later stands v binds))
+  given_stands (Once place interval g) (kept.Once window right) tables t past for stands inside are =
+      let fit = step_fits step.events tables (kept.Once window right) t are in
+      stands_by _ window.columns (given_by (kept.Once window right) step.time t) refl (λ x there. (for.1.exact x).0 there)
+      (λ v binds. then (window_gives window step.time t.surviving t.right fit.0 fit.1 v)
+      (laws.once_answers trace step place interval g window t.surviving t.right past later stands (once_tables g interval window right tables t for.0 for.1 past inside are.0 are.1) v binds))
+  given_stands (Historically place interval g) (kept.Once window right) tables t past for stands inside are =
       let past' = denial_past g past in
-      stands_by _ window.columns [] given gives.0 (λ x there. (denial_free g x).0 ((for.1.exact x).0 there))
-      (λ v binds. then (gives.1 v) (then
+      let fit = step_fits step.events tables (kept.Once window right) t are in
+      stands_by _ window.columns (given_by (kept.Once window right) step.time t) refl (λ x there. (denial_free g x).0 ((for.1.exact x).0 there))
+      (λ v binds. then (window_gives window step.time t.surviving t.right fit.0 fit.1 v) (then
       (laws.once_answers trace step place interval (denial g) window t.surviving t.right past' later stands (once_tables (denial g) interval window right tables t for.0 for.1 past'
       (subst (λ l. StandFor (trace ++ step ∷ []) (length trace) l tables) (sym (denial_outermost g)) inside) are.0 are.1) v binds)
       (let d = laws.denied (trace ++ step ∷ []) (length trace) v place interval g in (d.1, d.0))))
-  given_stands (Since place interval g h) (kept.Since window left left_tables right) tables t given past for stands inside are gives =
+  given_stands (Since place interval g h) (kept.Since window left left_tables right) tables t past for stands inside are =
       let pasts = and_parts (is_past g) (is_past h) past in
-      stands_by _ window.columns [] given gives.0 (λ x there. inr ((for.1.exact x).0 there))
-      (λ v binds. then (gives.1 v) (laws.since_answers trace step place interval g h window t.surviving t.right pasts.0 pasts.1 later stands
+      let fit = step_fits step.events tables (kept.Since window left left_tables right) t are in
+      stands_by _ window.columns (given_by (kept.Since window left left_tables right) step.time t) refl (λ x there. inr ((for.1.exact x).0 there))
+      (λ v binds. then (window_gives window step.time t.surviving t.right fit.0 fit.1 v)
+      (laws.since_answers trace step place interval g h window t.surviving t.right pasts.0 pasts.1 later stands
       (since_tables g h window left right left_tables tables t for.0 for.1 for.3 for.4 for.5 pasts.0 pasts.1 inside are.0 are.1) v binds))
-  given_stands f m tables t given past for stands inside are gives = absurd for
+  given_stands f m tables t past for stands inside are = absurd for
 
   -- and with the step committed it stands for the longer trace
   pub committed_stands : (f : Formula) (m : Memory) (tables : List Relation) (t : StepTables) (after : Memory) → IsTrue (is_past f) → IsFor f m → MemoryStands trace f m
@@ -228,26 +254,26 @@ module _ (laws : Laws) (trace : List Step) (step : Step) (later : last_time trac
 -- what is kept is for the same operator
 pub still_for : (f : Formula) (m : Memory) (after : Memory) → IsFor f m → IsSameMemory m after → IsFor f after
 still_for (Prev place interval g) (kept.Prev slot operand) after for same =
-    subst (IsFor (Prev place interval g)) (sym same.3) (for.0, subst (AreFreeVariables g) (sym same.2) for.1, same.1 ∙ for.2)
+    subst (IsFor (Prev place interval g)) (sym same.4) (for.0, subst (AreFreeVariables g) (sym same.2) for.1, same.1 ∙ for.2, subst (λ l. LastHasColumns l same.0.last) (sym same.2) (same.3 for.3))
 still_for (Once place interval g) (kept.Once window right) after for same =
     subst (IsFor (Once place interval g)) (sym same.2) (for.0, subst (AreFreeVariables g) (sym same.1.columns_are) for.1, same.1.interval_is ∙ for.2)
 still_for (Historically place interval g) (kept.Once window right) after for same =
     subst (IsFor (Historically place interval g)) (sym same.2) (for.0, subst (AreFreeVariables (denial g)) (sym same.1.columns_are) for.1, same.1.interval_is ∙ for.2)
 still_for (Since place interval g h) (kept.Since window left left_tables right) after for same =
     subst (IsFor (Since place interval g h)) (sym same.2)
-    (for.0, subst (AreFreeVariables h) (sym same.1.columns_are) for.1, same.1.interval_is ∙ for.2, subst (λ l. Asks g l left) (sym same.1.columns_are) for.3, for.4, for.5)
+    (for.0, subst (AreFreeVariables h) (sym same.1.columns_are) for.1, same.1.interval_is ∙ for.2, subst (λ l. AsksLeft g l left) (sym same.1.columns_are) for.3, for.4, for.5)
 still_for f m after for same = absurd for
 
 -- and so it goes on
 pub same_itself : (m : Memory) → IsSameMemory m m
-same_itself (kept.Prev slot operand) = (slot, refl, refl, refl)
+same_itself (kept.Prev slot operand) = (slot, refl, refl, λ fits. fits, refl)
 same_itself (kept.Once window right) = (window, record { interval_is = refl; columns_are = refl }, refl)
 same_itself (kept.Since window left left_tables right) = (window, record { interval_is = refl; columns_are = refl }, refl)
 
 pub same_then : (a b c : Memory) → IsSameMemory a b → IsSameMemory b c → IsSameMemory a c
 same_then (kept.Prev slot operand) b c first second =
-    let next : IsSameMemory (kept.Prev first.0 operand) c = subst (λ m. IsSameMemory m c) first.3 second in
-    (next.0, next.1 ∙ first.1, next.2 ∙ first.2, next.3)
+    let next : IsSameMemory (kept.Prev first.0 operand) c = subst (λ m. IsSameMemory m c) first.4 second in
+    (next.0, next.1 ∙ first.1, next.2 ∙ first.2, λ fits. subst (λ l. LastHasColumns l next.0.last) first.2 (next.3 (subst (λ l. LastHasColumns l first.0.last) (sym first.2) (first.3 fits))), next.4)
 same_then (kept.Once window right) b c first second =
     let next : IsSameMemory (kept.Once first.0 right) c = subst (λ m. IsSameMemory m c) first.2 second in
     (next.0, record { interval_is = next.1.interval_is ∙ first.1.interval_is; columns_are = next.1.columns_are ∙ first.1.columns_are }, next.2)

@@ -1,10 +1,10 @@
 -- Past states step by step.
-use Rattle.std.proofs.Common.{◌≡◌, ◌∙◌, ◌↔◌, ⊎_elim, ℕ, zero, suc, ◌+◌, ◌-◌, ◌<◌, ◌≤◌, IsTrue, List, [], ◌∷◌, ◌++◌, length, take, drop, reverse, get_or, All, Contains, Some, refl, sym, ap, subst, arith, append-nil, append_assoc, length-append}
+use Rattle.std.proofs.Common.{◌≡◌, ◌∙◌, ◌↔◌, ⊎_elim, ℕ, zero, suc, ◌+◌, ◌<◌, ◌≤◌, IsTrue, List, [], ◌∷◌, ◌++◌, length, drop, reverse, get_or, All, Contains, Some, refl, sym, ap, subst, arith, append-nil, append_assoc, length-append}
 use Rattle.std.specs.Prelude.{Bool, IsSome, not, slice_get}
 use Rattle.enf_value.specs.declared.terms.VarId.{VarId}
 use Rattle.std.proofs.lemmas.Option.{same_Some, none-some}
 use Rattle.std.proofs.lemmas.Bool.{and_parts}
-use Rattle.std.proofs.lemmas.List.{length-reverse, reverse-append}
+use Rattle.std.proofs.lemmas.List.{reverse-append}
 use Rattle.std.proofs.lemmas.List.Elements.{All-append, All-nil, All-cons, All-head, All-tail}
 use Rattle.enf_value.specs.declared.events.Event.{Event}
 use Rattle.enf_value.specs.declared.steps.Step.{Step}
@@ -18,6 +18,7 @@ use Rattle.valuations.specs.Columns.{among_or_not}
 use Rattle.valuations.specs.Just.{Binds}
 use Rattle.valuations.specs.Tables.{Relation, Has, AgreeOn}
 use Rattle.trace_meaning.specs.Continuation.{last_time}
+use Rattle.past_state.specs.Memories.{given_by}
 use Rattle.past_state.specs.Operators.{operators, all_operators, all_outermost}
 use Rattle.past_state.specs.Past.{Past, PastTables, IsPast, IsSound, TablesStand, AreOf, RunStands, CommitStands, AreEvaluated, AreSatisfied, ArePastTables, HasOpenColumns, BeginAt, BindsBound, IsEvaluated, IsGuard, IsSatisfied, IsTestOf, formulas, formula_of, tables_of}
 use Rattle.past_state.specs.Runs.{AllStand, AreInsideOut, AreOrdered, AllFit, Runs, outer_onto, AllCommitted, AreSameKinds}
@@ -28,7 +29,6 @@ use Rattle.past_state.proofs.MemoryLemmas.{Laws, fit_back, fit_front, fit_long, 
 use Rattle.past_state.proofs.OrderLemmas.{all_go}
 use Rattle.past_state.proofs.RunLemmas.{fit_run, stand_run, committed_run, still_all_for}
 use Rattle.past_state.proofs.HeldLemmas.{new_at}
-use Rattle.past_state.proofs.StackLemmas.{stack_below}
 use Rattle.past_state.proofs.RowLemmas.{iff_then, some_row}
 
 pub inside_out : (fs : List Formula) → AreInsideOut [] (reverse (all_operators fs))
@@ -115,7 +115,7 @@ pub fits_run : (events : List Event) (time : ℕ) (stack : List Relation) (opera
 fits_run events time stack [] [] final runs = tt
 fits_run events time stack [] (t ∷ steps) final runs = absurd runs
 fits_run events time stack (o ∷ operators) [] final runs = absurd runs
-fits_run events time stack (o ∷ operators) (t ∷ steps) final runs = (step_fits events stack o.memory t runs.0, fits_run events time (runs.1.0 ∷ drop o.taken stack) operators steps final runs.1.3)
+fits_run events time stack (o ∷ operators) (t ∷ steps) final runs = (step_fits events stack o.memory t runs.0, fits_run events time (given_by o.memory time t ∷ drop o.taken stack) operators steps final runs.1)
 
 -- ---- the tables of one guard
 
@@ -190,28 +190,27 @@ get_is [] i x below is = absurd (omega (arith, below))
 get_is (y ∷ xs) zero x below is = λ j. Some (sym is j)
 get_is (y ∷ xs) (suc i) x below is = get_is xs i x (omega (arith, below)) is
 
+pub enough_asked : (tables : PastTables) (number : ℕ) (g : PlacedGuard) (guards : List PlacedGuard) → ArePastTables tables → guards ≡ tables.guards → number < length tables.guards → g ≡ get_or guards number g
+    → g.start ≤ length tables.stack
+enough_asked tables number g guards are same below is = (guard_tables tables number g are (get_is tables.guards number g below (is ∙ ap (λ l. get_or l number g) same))).enough
+
 -- the guard at the place, and the part of the stack that is its own
-pub record Asked (tables : PastTables) (number : ℕ) (g : PlacedGuard) (items : List Relation) (count : ℕ) : Type 0 where
+pub record Asked (tables : PastTables) (number : ℕ) (g : PlacedGuard) (past : List Relation) : Type 0 where
   pub is : IsGuard tables.guards number g
   pub are : ArePastTables tables
-  pub enough : g.start ≤ count
-  pub part : reverse (take (count - g.start) items) ≡ tables_of g tables
+  pub part : past ≡ tables_of g tables
 
-pub asked : (tables : PastTables) (number : ℕ) (g : PlacedGuard) (guards : List PlacedGuard) (items : List Relation) (count : ℕ) → ArePastTables tables → guards ≡ tables.guards → number < length tables.guards
-    → g ≡ get_or guards number g → reverse items ≡ tables.stack → count ≡ length items → Asked tables number g items count
-asked tables number g guards items count are same below is turned counted =
-    let there : IsGuard tables.guards number g = get_is tables.guards number g below (is ∙ ap (λ l. get_or l number g) same) in
-    let enough : g.start ≤ length (reverse items) = subst (λ l. g.start ≤ length l) (sym turned) (guard_tables tables number g are there).enough in
-    record {
-      is = there;
-      are = are;
-      enough = omega (arith, enough, length-reverse items, counted);
-      part = ap (λ n. reverse (take (n - g.start) items)) counted ∙ stack_below items g.start enough ∙ ap (drop g.start) turned;
-    }
+pub asked : (tables : PastTables) (number : ℕ) (g : PlacedGuard) (guards : List PlacedGuard) (past : List Relation) → ArePastTables tables → guards ≡ tables.guards → number < length tables.guards
+    → g ≡ get_or guards number g → past ≡ tables_of g tables → Asked tables number g past
+asked tables number g guards past are same below is part = record {
+  is = get_is tables.guards number g below (is ∙ ap (λ l. get_or l number g) same);
+  are = are;
+  part = part;
+}
 
-pub can_evaluate : (tables : PastTables) (number : ℕ) (g : PlacedGuard) (items : List Relation) (count : ℕ) (v : Valuation) → Asked tables number g items count → BindsBound tables.guards number v
-    → CanEvaluate (formula_of g) g.guard.bound (reverse (take (count - g.start) items)) v
-can_evaluate tables number g items count v asked binds = record {
+pub can_evaluate : (tables : PastTables) (number : ℕ) (g : PlacedGuard) (past : List Relation) (v : Valuation) → Asked tables number g past → BindsBound tables.guards number v
+    → CanEvaluate (formula_of g) g.guard.bound (past) v
+can_evaluate tables number g past v asked binds = record {
   fresh = (guard_tables tables number g asked.are asked.is).sound.1;
   tabled = subst (FitOperators (outermost (formula_of g))) (sym asked.part) (guard_tables tables number g asked.are asked.is).fit;
   binds = binds g asked.is;
@@ -220,30 +219,30 @@ can_evaluate tables number g items count v asked binds = record {
 pub same_guard : (guards : List PlacedGuard) (number : ℕ) (g h : PlacedGuard) → IsGuard guards number g → IsGuard guards number h → g ≡ h
 same_guard guards number g h a b = same_Some g h (sym a ∙ b)
 
-pub are_open : (tables : PastTables) (number : ℕ) (g : PlacedGuard) (items : List Relation) (count : ℕ) (t : Relation) → Asked tables number g items count → AreOpen (formula_of g) g.guard.bound t.columns
+pub are_open : (tables : PastTables) (number : ℕ) (g : PlacedGuard) (past : List Relation) (t : Relation) → Asked tables number g past → AreOpen (formula_of g) g.guard.bound t.columns
     → HasOpenColumns tables number t
-are_open tables number g items count t asked opened h is = subst (λ k. AreOpen (formula_of k) k.guard.bound t.columns) (same_guard tables.guards number g h asked.is is) opened
+are_open tables number g past t asked opened h is = subst (λ k. AreOpen (formula_of k) k.guard.bound t.columns) (same_guard tables.guards number g h asked.is is) opened
 
-pub are_evaluated : (tables : PastTables) (number : ℕ) (g : PlacedGuard) (items : List Relation) (count : ℕ) (events : List Event) (v : Valuation) (t : Relation) → Asked tables number g items count
-    → HoldsFor events (reverse (take (count - g.start) items)) (formula_of g) g.guard.bound v t → AreEvaluated tables number events v t
-are_evaluated tables number g items count events v t asked holds h is =
+pub are_evaluated : (tables : PastTables) (number : ℕ) (g : PlacedGuard) (past : List Relation) (events : List Event) (v : Valuation) (t : Relation) → Asked tables number g past
+    → HoldsFor events (past) (formula_of g) g.guard.bound v t → AreEvaluated tables number events v t
+are_evaluated tables number g past events v t asked holds h is =
     subst (λ k. HoldsFor events (tables_of k tables) (formula_of k) k.guard.bound v t) (same_guard tables.guards number g h asked.is is)
     (subst (λ l. HoldsFor events l (formula_of g) g.guard.bound v t) asked.part holds)
 
-pub are_satisfied : PresentIsSatisfied → (tables : PastTables) (number : ℕ) (g : PlacedGuard) (items : List Relation) (count : ℕ) (events : List Event) (v : Valuation) (t : Relation) → Asked tables number g items count
-    → BindsBound tables.guards number v → AreOpen (formula_of g) g.guard.bound t.columns → HoldsFor events (reverse (take (count - g.start) items)) (formula_of g) g.guard.bound v t
+pub are_satisfied : PresentIsSatisfied → (tables : PastTables) (number : ℕ) (g : PlacedGuard) (past : List Relation) (events : List Event) (v : Valuation) (t : Relation) → Asked tables number g past
+    → BindsBound tables.guards number v → AreOpen (formula_of g) g.guard.bound t.columns → HoldsFor events (past) (formula_of g) g.guard.bound v t
     → AreSatisfied tables number events v t
-are_satisfied present tables number g items count events v t asked binds opened holds h is trace step same stand w agree bound =
+are_satisfied present tables number g past events v t asked binds opened holds h is trace step same stand w agree bound =
     evaluated_satisfied present tables number h events v t asked.are is
-    (are_open tables number g items count t asked opened h is) (binds h is)
-    (are_evaluated tables number g items count events v t asked holds h is) trace step same stand w agree bound
+    (are_open tables number g past t asked opened h is) (binds h is)
+    (are_evaluated tables number g past events v t asked holds h is) trace step same stand w agree bound
 
 -- ---- a test
 
-pub test_evaluated : (tables : PastTables) (number : ℕ) (g : PlacedGuard) (items : List Relation) (count : ℕ) (events : List Event) (v : Valuation) (t : Relation) (empty : Bool) → Asked tables number g items count
-    → IsTestOf tables.guards number → AreOpen (formula_of g) g.guard.bound t.columns → HoldsFor events (reverse (take (count - g.start) items)) (formula_of g) g.guard.bound v t
+pub test_evaluated : (tables : PastTables) (number : ℕ) (g : PlacedGuard) (past : List Relation) (events : List Event) (v : Valuation) (t : Relation) (empty : Bool) → Asked tables number g past
+    → IsTestOf tables.guards number → AreOpen (formula_of g) g.guard.bound t.columns → HoldsFor events (past) (formula_of g) g.guard.bound v t
     → (IsTrue empty ↔ (t.rows ≡ [])) → IsEvaluated tables number events v (not empty)
-test_evaluated tables number g items count events v t empty asked test opened holds tells h is =
+test_evaluated tables number g past events v t empty asked test opened holds tells h is =
     let none : (x : VarId) → Contains t.columns x → ⊥ = λ x there. let open_x = (opened.exact x).0 there in open_x.1 (test g asked.is x open_x.0) in
     subst (λ k. IsTrue (not empty) ↔ HoldsNow events (tables_of k tables) v (formula_of k)) (same_guard tables.guards number g h asked.is is)
     (iff_then (some_row t v empty tells none)
@@ -256,6 +255,3 @@ test_satisfied present tables number events v holds are test binds evaluated h i
     (subst (λ e. HoldsNow e (tables_of h tables) v (formula_of h) ↔ Sat (trace ++ step ∷ []) (length trace) v (formula_of h)) (ap (λ s. s.events) (new_at trace step) ∙ same)
     (present (trace ++ step ∷ []) (length trace) (tables_of h tables) v (formula_of h) (sound_at tables.guards number h are.sound is).0 (guard_stands tables number h trace step are is stand)
     (λ x free. binds h is x (test h is x free))))
-
-pub at_events : (others events : List Event) (tables : List Relation) (f : Formula) (bound : List VarId) (v : Valuation) (t : Relation) → others ≡ events → HoldsFor others tables f bound v t → HoldsFor events tables f bound v t
-at_events others events tables f bound v t same holds = subst (λ e. HoldsFor e tables f bound v t) same holds

@@ -1,5 +1,5 @@
 -- Rows as valuations, and what holds under them.
-use Rattle.std.proofs.Common.{◌≡◌, ◌∙◌, ◌↔◌, ℕ, suc, ◌+◌, ◌<◌, ◌≤◌, Bool, true, false, IsTrue, List, [], ◌∷◌, ◌++◌, length, take, drop, get_or, Contains, None, refl, sym, ap, subst, arith, drop-cons}
+use Rattle.std.proofs.Common.{◌≡◌, ◌∙◌, ◌↔◌, ℕ, suc, ◌+◌, ◌<◌, ◌≤◌, Bool, true, false, IsTrue, List, [], ◌∷◌, ◌++◌, length, take, drop, get_or, Contains, None, Result, Ok, Err, IfOk, refl, sym, ap, subst, arith, drop-cons}
 use Rattle.std.specs.Prelude.{not, IsSome}
 use Rattle.std.specs.FinMap as finite
 use Rattle.std.proofs.lemmas.Bool.{false≢true}
@@ -63,3 +63,7 @@ some_row t w false tells none = (
 
 pub iff_then : {P Q R : Type 0} → P ↔ Q → Q ↔ R → P ↔ R
 iff_then a b = (λ p. b.0 (a.0 p), λ r. a.1 (b.1 r))
+
+pub ok_both : {T E : Type 0} (r : Result T E) (P Q R : T → Type 0) → IfOk r P → IfOk r Q → ((x : T) → P x → Q x → R x) → IfOk r R
+ok_both (Ok x) P Q R p q both = both x p q
+ok_both (Err e) P Q R p q both = tt

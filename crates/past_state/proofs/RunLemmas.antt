@@ -1,5 +1,5 @@
 -- A step over all operators.
-use Rattle.std.proofs.Common.{◌≡◌, ◌∙◌, ◌↔◌, ◌⊎◌, inr, ⊎_elim, ℕ, zero, suc, ◌+◌, ◌-◌, ◌<◌, ◌≤◌, IsTrue, List, [], ◌∷◌, ◌++◌, length, take, drop, reverse, get_or, All, Contains, sym, ap, subst, arith}
+use Rattle.std.proofs.Common.{◌≡◌, ◌∙◌, ◌↔◌, inr, ⊎_elim, ℕ, zero, suc, ◌+◌, ◌-◌, ◌<◌, ◌≤◌, IsTrue, List, [], ◌∷◌, ◌++◌, length, take, drop, reverse, get_or, All, Contains, sym, ap, subst, arith}
 use Rattle.std.proofs.Math.Seq.{drop-append_seam}
 use Rattle.std.proofs.lemmas.List.{take_more, take_all, reverse-append}
 use Rattle.std.proofs.lemmas.List.Elements.{All-head, All-tail}
@@ -12,8 +12,8 @@ use Rattle.enf_formula.specs.Past.{is_past}
 use Rattle.monitorable_guard.specs.Evaluation.{FitOperators}
 use Rattle.monitorable_guard.specs.Present.{StandFor}
 use Rattle.trace_meaning.specs.Continuation.{last_time}
-use Rattle.valuations.specs.Tables.{Relation, IsTable}
-use Rattle.past_state.specs.Memories.{IsFor, AreStepTables, GivesNow, CanStep}
+use Rattle.valuations.specs.Tables.{Relation}
+use Rattle.past_state.specs.Memories.{IsFor, AreStepTables, CanStep, given_by}
 use Rattle.past_state.specs.Operators.{inner}
 use Rattle.past_state.specs.Runs.{AreFor, AllStand, outer_onto, AreInsideOut, Runs, AreOrdered, AllCommitted, AreSameKinds}
 use Rattle.past_state.specs.declared.memories.Memory.{Memory}
@@ -24,14 +24,12 @@ use Rattle.past_state.proofs.MemoryLemmas.{Laws, fit_back, fit_front, fit_long, 
 use Rattle.past_state.proofs.StackLemmas.{stack_below}
 
 -- the columns of what is given are the free variables
-given_columns : (f : Formula) (m : Memory) (time : ℕ) (t : StepTables) (given : Relation) → IsFor f m → GivesNow m time t given → (x : VarId) → Contains given.columns x ↔ IsFree x f
-given_columns (Prev place interval g) (kept.Prev slot operand) time t given for gives x = subst (λ l. Contains l x ↔ IsFree x g) (sym gives.0) (for.1.exact x)
-given_columns (Once place interval g) (kept.Once window right) time t given for gives x = subst (λ l. Contains l x ↔ IsFree x g) (sym gives.0) (for.1.exact x)
-given_columns (Historically place interval g) (kept.Once window right) time t given for gives x =
-    subst (λ l. Contains l x ↔ IsFree x g) (sym gives.0) (λ there. (denial_free g x).0 ((for.1.exact x).0 there), λ free. (for.1.exact x).1 ((denial_free g x).1 free))
-given_columns (Since place interval g h) (kept.Since window left left_tables right) time t given for gives x =
-    subst (λ l. Contains l x ↔ (IsFree x g ⊎ IsFree x h)) (sym gives.0) (λ there. inr ((for.1.exact x).0 there), λ either. (for.1.exact x).1 (⊎_elim (λ free. for.5 x free) (λ free. free) either))
-given_columns f m time t given for gives x = absurd for
+given_columns : (f : Formula) (m : Memory) (time : ℕ) (t : StepTables) → IsFor f m → (x : VarId) → Contains (given_by m time t).columns x ↔ IsFree x f
+given_columns (Prev place interval g) (kept.Prev slot operand) time t for x = for.1.exact x
+given_columns (Once place interval g) (kept.Once window right) time t for x = for.1.exact x
+given_columns (Historically place interval g) (kept.Once window right) time t for x = (λ there. (denial_free g x).0 ((for.1.exact x).0 there), λ free. (for.1.exact x).1 ((denial_free g x).1 free))
+given_columns (Since place interval g h) (kept.Since window left left_tables right) time t for x = (λ there. inr ((for.1.exact x).0 there), λ either. (for.1.exact x).1 (⊎_elim (λ free. for.5 x free) (λ free. free) either))
+given_columns f m time t for x = absurd for
 
 -- behind the operators of the operands stand the others
 behind_inner : (f : Formula) (before more : List Formula) → before ≡ inner f ++ more → drop (length (inner f)) before ≡ more
@@ -49,18 +47,15 @@ fit_run events time before stack (f ∷ fs) (o ∷ operators) (t ∷ steps) fina
     let rest : FitOperators (drop (length (inner f)) before) (drop o.taken stack) =
     subst (λ n. FitOperators (drop (length (inner f)) before) (drop n stack)) (sym for.1)
     (subst (λ l. FitOperators l (drop (length (inner f)) stack)) (sym (behind_inner f before order.0.0 is)) (fit_back (inner f) order.0.0 stack (subst (λ l. FitOperators l stack) is fit))) in
-    fit_run events time (f ∷ drop (length (inner f)) before) (runs.1.0 ∷ drop o.taken stack) fs operators steps final for.2 order.1 (given_columns f o.memory time t runs.1.0 for.0 runs.1.2, rest) runs.1.3
+    fit_run events time (f ∷ drop (length (inner f)) before) (given_by o.memory time t ∷ drop o.taken stack) fs operators steps final for.2 order.1 (given_columns f o.memory time t for.0, rest) runs.1
 
 -- one operator more
-pub run_more : (events : List Event) (time : ℕ) (stack : List Relation) (operators : List Operator) (steps : List StepTables) (middle : List Relation) (o : Operator) (t : StepTables) (given : Relation)
-    → Runs events time stack operators steps middle → AreStepTables events middle o.memory t → IsTable given → GivesNow o.memory time t given
-    → Runs events time stack (operators ++ o ∷ []) (steps ++ t ∷ []) (given ∷ drop o.taken middle)
-run_more events time stack [] [] middle o t given runs are table gives =
-    (subst (λ l. AreStepTables events l o.memory t) (sym runs) are, (given, table, gives, ap (λ l. given ∷ drop o.taken l) runs))
-run_more events time stack [] (s ∷ steps) middle o t given runs are table gives = absurd runs
-run_more events time stack (p ∷ operators) [] middle o t given runs are table gives = absurd runs
-run_more events time stack (p ∷ operators) (s ∷ steps) middle o t given runs are table gives =
-    (runs.0, (runs.1.0, runs.1.1, runs.1.2, run_more events time (runs.1.0 ∷ drop p.taken stack) operators steps middle o t given runs.1.3 are table gives))
+pub run_more : (events : List Event) (time : ℕ) (stack : List Relation) (operators : List Operator) (steps : List StepTables) (middle : List Relation) (o : Operator) (t : StepTables)
+    → Runs events time stack operators steps middle → AreStepTables events middle o.memory t → Runs events time stack (operators ++ o ∷ []) (steps ++ t ∷ []) (given_by o.memory time t ∷ drop o.taken middle)
+run_more events time stack [] [] middle o t runs are = (subst (λ l. AreStepTables events l o.memory t) (sym runs) are, ap (λ l. given_by o.memory time t ∷ drop o.taken l) runs)
+run_more events time stack [] (s ∷ steps) middle o t runs are = absurd runs
+run_more events time stack (p ∷ operators) [] middle o t runs are = absurd runs
+run_more events time stack (p ∷ operators) (s ∷ steps) middle o t runs are = (runs.0, run_more events time (given_by p.memory time s ∷ drop p.taken stack) operators steps middle o t runs.1 are)
 
 -- the part at the front
 pub for_front : (fs : List Formula) (operators : List Operator) (i : ℕ) → AreFor fs operators → AreFor (take i fs) (take i operators)
@@ -118,13 +113,14 @@ ready events time operators i o steps middle ordered below is runs =
       enough = subst (λ n. n ≤ length middle) (sym found.takes) (fit_long (inner found.formula) middle inside);
     }
 
-pub run_at : (events : List Event) (time : ℕ) (operators : List Operator) (i : ℕ) (o : Operator) (steps : List StepTables) (stack after : List Relation) (t : StepTables) (given : Relation) → i < length operators
-    → o ≡ get_or operators i o → o.taken ≤ length (reverse stack) → Runs events time [] (take i operators) steps (reverse stack) → AreStepTables events (reverse stack) o.memory t → IsTable given → GivesNow o.memory time t given
-    → after ≡ take (length stack - o.taken) stack ++ given ∷ [] → Runs events time [] (take (i + 1) operators) (steps ++ t ∷ []) (reverse after)
-run_at events time operators i o steps stack after t given below is enough runs are table gives e =
+pub run_at : (events : List Event) (time : ℕ) (operators : List Operator) (i : ℕ) (o : Operator) (steps : List StepTables) (stack after : List Relation) (t : StepTables) → i < length operators
+    → o ≡ get_or operators i o → o.taken ≤ length (reverse stack) → Runs events time [] (take i operators) steps (reverse stack) → AreStepTables events (reverse stack) o.memory t
+    → after ≡ take (length stack - o.taken) stack ++ given_by o.memory time t ∷ [] → Runs events time [] (take (i + 1) operators) (steps ++ t ∷ []) (reverse after)
+run_at events time operators i o steps stack after t below is enough runs are e =
+    let given : Relation = given_by o.memory time t in
     let top : reverse after ≡ given ∷ drop o.taken (reverse stack) = ap reverse e ∙ reverse-append (take (length stack - o.taken) stack) (given ∷ []) ∙ ap (λ l. given ∷ l) (stack_below stack o.taken enough) in
     subst (λ l. Runs events time [] l (steps ++ t ∷ []) (reverse after)) (ap (λ p. take i operators ++ p ∷ []) is ∙ sym (take_more operators i o below))
-    (subst (λ l. Runs events time [] (take i operators ++ o ∷ []) (steps ++ t ∷ []) l) (sym top) (run_more events time [] (take i operators) steps (reverse stack) o t given runs are table gives))
+    (subst (λ l. Runs events time [] (take i operators ++ o ∷ []) (steps ++ t ∷ []) l) (sym top) (run_more events time [] (take i operators) steps (reverse stack) o t runs are))
 
 pub run_all : (events : List Event) (time : ℕ) (operators : List Operator) (i : ℕ) (steps : List StepTables) (final : List Relation) → length operators ≤ i
     → Runs events time [] (take i operators) steps final → Runs events time [] operators steps final
@@ -151,8 +147,8 @@ module _ (laws : Laws) (trace : List Step) (step : Step) (later : last_time trac
       let rest : StandFor (trace ++ step ∷ []) (length trace) (drop (length (inner f)) before) (drop o.taken stack) =
       subst (λ n. StandFor (trace ++ step ∷ []) (length trace) (drop (length (inner f)) before) (drop n stack)) (sym for.1)
       (subst (λ l. StandFor (trace ++ step ∷ []) (length trace) l (drop (length (inner f)) stack)) (sym (behind_inner f before order.0.0 is)) (stand_back (trace ++ step ∷ []) (length trace) (inner f) order.0.0 stack both)) in
-      stand_run (f ∷ drop (length (inner f)) before) (runs.1.0 ∷ drop o.taken stack) fs operators steps final for.2 (All-tail (λ g. IsTrue (is_past g)) f fs past) order.1 stands.1
-      (given_stands laws trace step later f o.memory stack t runs.1.0 (All-head (λ g. IsTrue (is_past g)) f fs past) for.0 stands.0 inside runs.0 runs.1.2, rest) runs.1.3
+      stand_run (f ∷ drop (length (inner f)) before) (given_by o.memory step.time t ∷ drop o.taken stack) fs operators steps final for.2 (All-tail (λ g. IsTrue (is_past g)) f fs past) order.1 stands.1
+      (given_stands laws trace step later f o.memory stack t (All-head (λ g. IsTrue (is_past g)) f fs past) for.0 stands.0 inside runs.0, rest) runs.1
 
   pub committed_run : (before : List Formula) (stack : List Relation) (fs : List Formula) (operators : List Operator) (steps : List StepTables) (final : List Relation) (after : List Operator)
       → AreFor fs operators → AllPast fs → AreInsideOut before fs → AllStand trace fs operators → StandFor (trace ++ step ∷ []) (length trace) before stack
@@ -169,8 +165,8 @@ module _ (laws : Laws) (trace : List Step) (step : Step) (later : last_time trac
       subst (λ n. StandFor (trace ++ step ∷ []) (length trace) (drop (length (inner f)) before) (drop n stack)) (sym for.1)
       (subst (λ l. StandFor (trace ++ step ∷ []) (length trace) l (drop (length (inner f)) stack)) (sym (behind_inner f before order.0.0 is)) (stand_back (trace ++ step ∷ []) (length trace) (inner f) order.0.0 stack both)) in (
         committed_stands laws trace step later f o.memory stack t p.memory (All-head (λ g. IsTrue (is_past g)) f fs past) for.0 stands.0 inside runs.0 committed.0.1,
-        committed_run (f ∷ drop (length (inner f)) before) (runs.1.0 ∷ drop o.taken stack) fs operators steps final after for.2 (All-tail (λ g. IsTrue (is_past g)) f fs past) order.1 stands.1
-            (given_stands laws trace step later f o.memory stack t runs.1.0 (All-head (λ g. IsTrue (is_past g)) f fs past) for.0 stands.0 inside runs.0 runs.1.2, rest) runs.1.3 committed.1,
+        committed_run (f ∷ drop (length (inner f)) before) (given_by o.memory step.time t ∷ drop o.taken stack) fs operators steps final after for.2 (All-tail (λ g. IsTrue (is_past g)) f fs past) order.1 stands.1
+            (given_stands laws trace step later f o.memory stack t (All-head (λ g. IsTrue (is_past g)) f fs past) for.0 stands.0 inside runs.0, rest) runs.1 committed.1,
       )
 
 pub still_all_for : (fs : List Formula) (operators after : List Operator) → AreFor fs operators → AreSameKinds operators after → AreFor fs after

@@ -16,12 +16,18 @@ use Rattle.trace_meaning.specs.Continuation.{last_time}
 use Rattle.trace_meaning.specs.Laws.{LastIsTheNew}
 use Rattle.valuations.specs.Just.{Binds}
 use Rattle.valuations.specs.Tables.{Relation, Has}
-use Rattle.windows.specs.Laws.{NothingAtFirst, RememberedIsKept}
-use Rattle.windows.specs.Windows.{Window, AnswersNow, IsCommitted, Keeps, Remembers}
+use Rattle.windows.specs.Answers.{to_the_end}
+use Rattle.windows.specs.Kept.{HasPair}
+use Rattle.windows.specs.Laws.{LeastIsChosen, NothingAtFirst, RememberedIsKept}
+use Rattle.windows.specs.Windows.{Window, AnswersBy, HasRow, IsCommittedBy, Keeps, Remembers}
 use Rattle.past_state.specs.Held.{HeldAt}
+use Rattle.past_state.specs.Kept.{HasPairAt, KeptAt}
 use Rattle.past_state.specs.Laws.{AreTablesOf, IsNew, satisfied}
 use Rattle.past_state.specs.Stands.{WindowStands}
+use Rattle.past_state.specs.Survivors.{Survives}
+use Rattle.past_state.specs.declared.survivors.Survivors.{Survivors}
 use Rattle.past_state.proofs.HeldLemmas.{earlier_at, new_at, goes_on}
+use Rattle.past_state.proofs.KeptLemmas.{kept_now, kept_on}
 
 -- a formula that does not look ahead holds on the longer trace where it held
 pub same_sat : PastDecides → (trace : List Step) (step : Step) (f : Formula) → IsTrue (is_past f) → (v : Valuation) (k : ℕ) → k < length trace
@@ -57,28 +63,36 @@ held_since trace step interval F G = (
 then : {P Q R : Type 0} → P ↔ Q → Q ↔ R → P ↔ R
 then a b = (λ p. b.0 (a.0 p), λ r. a.1 (b.1 r))
 
-module _ (kept : RememberedIsKept) (last : LastIsTheNew) (trace : List Step) (step : Step) (interval : Interval) (F G F' G' : Valuation → ℕ → Type 0) (g : Formula) (window : Window) (surviving right : Relation)
+module _ (kept : RememberedIsKept) (chosen : LeastIsChosen) (last : LastIsTheNew) (trace : List Step) (step : Step) (interval : Interval) (F G F' G' : Valuation → ℕ → Type 0) (g : Formula) (window : Window) (survivors : Survivors) (right : Relation)
     (same_F : (v : Valuation) (k : ℕ) → k < length trace → F v k ↔ F' v k) (same_G : (v : Valuation) (k : ℕ) → k < length trace → G v k ↔ G' v k)
-    (later : last_time trace ≤ step.time) (stands : WindowStands trace interval F G g window) (tables : AreTablesOf trace window F' G' surviving right) where
+    (later : last_time trace ≤ step.time) (stands : WindowStands trace interval F G g window) (tables : AreTablesOf trace window F' G' survivors right) where
   -- at a time from the step's on
   goes : (time : ℕ) → step.time ≤ time → (v : Valuation) → Binds v window.columns → (Now : Type 0)
-      → Now ↔ ((IsIn interval (time - step.time) × Has right v) ⊎ (Remembers window time v × Has surviving v))
+      → Now ↔ ((IsIn interval (time - step.time) × Has right v) ⊎ (Remembers window time v × Survives survivors v))
       → Now ↔ HeldAt (trace ++ step ∷ []) interval time (F' v) (G' v)
   goes time from v binds Now unfolded =
       let up_to = stands.up_to in
-      goes_on trace step interval time (F v) (G v) (F' v) (G' v) (same_F v) (same_G v) surviving right v (Remembers window time v) (Keeps window window.last v) Now
+      goes_on trace step interval time (F v) (G v) (F' v) (G' v) (same_F v) (same_G v) survivors right v (Remembers window time v) (Keeps window window.last v) Now
       (kept window time v (omega arith)) unfolded (stands.gives time (omega arith) v binds) (tables.survives v binds) (tables.is_right v binds)
 
-  pub answered : (v : Valuation) → Binds v window.columns → AnswersNow window step.time surviving right v ↔ HeldSince (trace ++ step ∷ []) (length trace) interval (F' v) (G' v)
+  pub answered : (v : Valuation) → Binds v window.columns → AnswersBy window step.time (Survives survivors) right v ↔ HeldSince (trace ++ step ∷ []) (length trace) interval (F' v) (G' v)
   answered v binds =
       let same : 0 ≡ step.time - step.time = omega arith in
       then
-      (goes step.time (omega arith) v binds (AnswersNow window step.time surviving right v)
-      (subst (λ i. AnswersNow window step.time surviving right v ↔ ((IsIn i (step.time - step.time) × Has right v) ⊎ (Remembers window step.time v × Has surviving v))) stands.interval_is
-      (subst (λ d. AnswersNow window step.time surviving right v ↔ ((IsIn window.interval d × Has right v) ⊎ (Remembers window step.time v × Has surviving v))) same (λ h. h, λ h. h))))
+      (goes step.time (omega arith) v binds (AnswersBy window step.time (Survives survivors) right v)
+      (subst (λ i. AnswersBy window step.time (Survives survivors) right v ↔ ((IsIn i (step.time - step.time) × Has right v) ⊎ (Remembers window step.time v × Survives survivors v))) stands.interval_is
+      (subst (λ d. AnswersBy window step.time (Survives survivors) right v ↔ ((IsIn window.interval d × Has right v) ⊎ (Remembers window step.time v × Survives survivors v))) same (λ h. h, λ h. h))))
       (held_since trace step interval (F' v) (G' v))
 
-  pub still_stands : (after : Window) → IsCommitted window step.time surviving right after → WindowStands (trace ++ step ∷ []) interval F' G' g after
+  -- what the window keeps behind the step
+  keeps_on : (after : Window) (v : Valuation) → IsCommittedBy window step.time (Survives survivors) right after → Binds v window.columns
+      → (time : ℕ) → HasRow after v time ↔ KeptAt (trace ++ step ∷ []) window.interval (F' v) (G' v) time
+  keeps_on after v committed binds =
+      let held = subst (λ i. (time : ℕ) → HasRow window v time ↔ KeptAt trace i (F v) (G v) time) (sym stands.interval_is) (stands.kept v binds) in
+      kept_on chosen trace step (F v) (G v) (F' v) (G' v) (same_F v) (same_G v) (last trace step) later window after (Survives survivors) right v committed held
+      (λ time has. tables.survives v binds (kept_now (last_time trace) (HasPairAt trace (F v) (G v)) window v time has stands.up_to ((held time).0 has).1)) (tables.is_right v binds)
+
+  pub still_stands : (after : Window) → IsCommittedBy window step.time (Survives survivors) right after → WindowStands (trace ++ step ∷ []) interval F' G' g after
   still_stands after committed = record {
     interval_is = committed.interval_is ∙ stands.interval_is;
     columns_are = λ x. subst (λ l. Contains l x ↔ IsFree x g) (sym committed.columns_are) (stands.columns_are x);
@@ -86,7 +100,8 @@ module _ (kept : RememberedIsKept) (last : LastIsTheNew) (trace : List Step) (st
     gives = λ time from v binds.
         let from_step : step.time ≤ time = subst (λ t. t ≤ time) (last trace step) from in
         goes time from_step v (subst (Binds v) committed.columns_are binds) (Remembers after time v)
-        (subst (λ i. Remembers after time v ↔ ((IsIn i (time - step.time) × Has right v) ⊎ (Remembers window time v × Has surviving v))) stands.interval_is (committed.remembers time from_step v));
+        (subst (λ i. Remembers after time v ↔ ((IsIn i (time - step.time) × Has right v) ⊎ (Remembers window time v × Survives survivors v))) stands.interval_is (committed.remembers time from_step v));
+    kept = λ v binds. subst (λ i. (time : ℕ) → HasRow after v time ↔ KeptAt (trace ++ step ∷ []) i (F' v) (G' v) time) stands.interval_is (keeps_on after v committed (subst (Binds v) committed.columns_are binds));
   }
 
 -- a window before the first step stands for no trace yet
@@ -99,6 +114,11 @@ begins nothing interval F G g columns window free new = record {
   gives = λ time from v binds. (
     λ h. absurd (nothing window.interval time v ((new.stands.remembers time (omega (arith, new.last_is)) v).0 h)),
     λ held. absurd (held (λ h. omega (arith, h.1))),
+  );
+  kept = λ v binds time. (
+    λ h. absurd (nothing (to_the_end window.interval) window.last v ((new.stands.keeps window.last (omega arith) v).0
+        (kept_now window.last (HasPair [] v) window v time h (omega arith) ((new.stands.kept v time).0 h).1))),
+    λ k. absurd (k.0 (λ h. omega (arith, h.1))),
   );
 }
 

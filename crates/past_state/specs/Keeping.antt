@@ -1,8 +1,9 @@
 -- What must hold of an operator on the past so that what it needs can be kept.
 use Rattle.std.specs.Prelude.{◌≡◌, ◌⊎◌, ℕ, List, [], ◌++◌, Contains}
 use Rattle.enf_value.specs.declared.terms.VarId.{VarId}
-use Rattle.enf_formula.specs.Formulas.{Formula, Prev, Once, Historically, Since}
-use Rattle.enf_formula.specs.FreeVariables.{IsFree}
+use Rattle.enf_formula.specs.Formulas.{Formula, Prev, Once, Historically, Since, tree_of}
+use Rattle.enf_formula.specs.FreeVariables.{IsFree, AreFreeVariables}
+use Rattle.monitorable_guard.specs.Guards.{BoundFormula}
 use Rattle.monitorable_guard.specs.Safety.{Safe, BindsFresh, Nothing, With, denial}
 use Rattle.past_state.specs.Memories.{IsFor, IsUpToTimeOf, MemoryStands}
 use Rattle.past_state.specs.Runs.{AreFor, AllStand, AreUpToTimeOf}
@@ -22,6 +23,12 @@ CanKeep (Historically place interval g) = IsFresh (denial g) × Safe (denial g) 
 CanKeep (Since place interval g h) = IsFresh h × BindsFresh g (λ x. IsFree x h) × ((x : VarId) → IsFree x g
     → IsFree x h) × Safe h Nothing × Safe g (With Nothing h)
 CanKeep f = Unit {0}
+
+-- the guard is that of the formula with nothing bound, and has these columns
+pub record IsAlone (f : Formula) (columns : List VarId) (guard : BoundFormula) : Type 0 where
+  pub formula_is : tree_of guard.formula ≡ f
+  pub bound_is : guard.bound ≡ []
+  pub free : AreFreeVariables f columns
 
 -- what is kept for the operator before the first step
 pub record IsBegun (f : Formula) (m : Memory) : Type 0 where

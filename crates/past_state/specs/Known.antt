@@ -1,43 +1,29 @@
 -- Where the values in the tables of a step come from, whatever was committed before.
-use Rattle.std.specs.Prelude.{◌≡◌, ◌⊎◌, ℕ, List, length, Contains, Option, None, Some}
+use Rattle.std.specs.Prelude.{◌⊎◌, ℕ, List, Contains, Option, None, Some}
 use Rattle.enf_value.specs.Valuations.{Valuation}
 use Rattle.enf_value.specs.declared.events.Event.{Event}
-use Rattle.enf_value.specs.declared.terms.VarId.{VarId}
 use Rattle.enf_value.specs.declared.values.Value.{Value}
 use Rattle.enf_formula.specs.Formulas.{Formula}
 use Rattle.monitorable_guard.specs.Evaluation.{IsTabled, HasKnownValues}
 use Rattle.monitorable_guard.specs.Sources.{IsArgument, IsConstant}
-use Rattle.valuations.specs.Tables.{Relation, Has, valuation_of}
-use Rattle.windows.specs.Windows.{Keeps}
+use Rattle.valuations.specs.Tables.{Relation}
 use Rattle.windows.specs.declared.steps.LastStep.{LastStep}
 use Rattle.past_state.specs.Past.{Past, PastTables, AreOf, IsPast, IsGuard, formulas, formula_of, tables_of}
-use Rattle.past_state.specs.Runs.{AreUpToTimeOf}
 use Rattle.past_state.specs.declared.guards.PlacedGuard.{PlacedGuard}
 use Rattle.past_state.specs.declared.memories.Memory.{Memory}
 use Rattle.past_state.specs.declared.memories.Memory.TheVariants as kept
 use Rattle.past_state.specs.declared.operators.Operator.{Operator}
 
--- the columns of the rows that are kept for an operator
-abbrev pub columns_of : Memory → List VarId
-columns_of (kept.Prev slot operand) = slot.columns
-columns_of (kept.Once window right) = window.columns
-columns_of (kept.Since window left left_tables right) = window.columns
+-- the row is one of the last step
+abbrev pub IsInLast : Option LastStep → List Value → Type 0
+IsInLast None row = ⊥
+IsInLast (Some last) row = Contains last.rows.rows row
 
--- the valuation is among the rows of the last step
-abbrev pub IsInLast : Option LastStep → Valuation → Type 0
-IsInLast None v = ⊥
-IsInLast (Some last) v = Has last.rows v
-
--- the valuation is among the rows that are kept: those of the last step, or those that can still be answered
-abbrev pub KeepsFor : Memory → Valuation → Type 0
-KeepsFor (kept.Prev slot operand) v = IsInLast slot.last v
-KeepsFor (kept.Once window right) v = Keeps window window.last v
-KeepsFor (kept.Since window left left_tables right) v = Keeps window window.last v
-
--- the row is kept for the operator
-pub record KeepsRow (m : Memory) (row : List Value) : Type 0 where
-  pub fits : length row ≡ length (columns_of m)
-  pub keeps : KeepsFor m (valuation_of (columns_of m) row)
+-- the row is kept for the operator: it is one of the last step, or it stands in the window with its times
+abbrev pub KeepsRow : Memory → List Value → Type 0
+KeepsRow (kept.Prev slot operand) row = IsInLast slot.last row
+KeepsRow (kept.Once window right) row = (times : List ℕ) × Contains window.kept (row, times)
+KeepsRow (kept.Since window left left_tables right) row = (times : List ℕ) × Contains window.kept (row, times)
 
 -- a value of a row that is kept for one of the operators
 abbrev pub IsKeptValue : List Operator → Value → Type 0
@@ -58,7 +44,7 @@ abbrev pub IsKnownOfGuard : PastTables → ℕ → List Event → Valuation → 
 IsKnownOfGuard tables number events v t = (g : PlacedGuard) → IsGuard tables.guards number g
     → HasKnownValues events (tables_of g tables) (formula_of g) g.guard.bound v t
 
--- so it is with the tables of each step that is not earlier than what is kept
+-- so it is with the tables of each step
 abbrev pub TablesAreKnown : Type 0
 TablesAreKnown = (past : Past) (time : ℕ) (events : List Event) (tables : PastTables) → IsPast past
-    → AreUpToTimeOf time past.operators → AreOf past time events tables → AreKnown past events tables
+    → AreOf past time events tables → AreKnown past events tables

@@ -13,8 +13,10 @@ use Rattle.trace_meaning.specs.Continuation.{last_time}
 use Rattle.valuations.specs.Just.{Binds}
 use Rattle.valuations.specs.Tables.{Relation, Has}
 use Rattle.windows.specs.Slots.{Slot, GivesLast, with_rows}
-use Rattle.windows.specs.Windows.{Window, AnswersNow, IsCommitted, Keeps, StandsFor}
+use Rattle.windows.specs.Windows.{Window, AnswersBy, IsCommittedBy, Keeps, StandsFor}
 use Rattle.past_state.specs.Stands.{WindowStands, SlotStands}
+use Rattle.past_state.specs.Survivors.{Survives}
+use Rattle.past_state.specs.declared.survivors.Survivors.{Survivors}
 
 -- a formula at a position
 abbrev pub satisfied : List Step → Formula → Valuation → ℕ → Type 0
@@ -24,14 +26,13 @@ satisfied trace f v i = Sat trace i v f
 abbrev pub everywhere : Valuation → ℕ → Type 0
 everywhere v = Anywhere
 
--- the tables of a window at the step that comes behind the trace: of the rows that are kept, those for which F holds
--- there; and those for which G holds there
-pub record AreTablesOf (trace : List Step) (window : Window) (F G : Valuation → ℕ → Type 0) (surviving right : Relation)
-    : Type 0 where
-  pub surviving_columns : surviving.columns ≡ window.columns
+-- what a window is told at the step that comes behind the trace: of the rows that are kept just those survive for which F
+-- holds there, and just those are right for which G holds there
+pub record AreTablesOf (trace : List Step) (window : Window) (F G : Valuation → ℕ → Type 0) (survivors : Survivors)
+    (right : Relation) : Type 0 where
   pub right_columns : right.columns ≡ window.columns
-  pub survives : (v : Valuation) → Binds v window.columns
-      → Has surviving v ↔ (Keeps window window.last v × F v (length trace))
+  pub survives : (v : Valuation) → Binds v window.columns → Keeps window window.last v
+      → Survives survivors v ↔ F v (length trace)
   pub is_right : (v : Valuation) → Binds v window.columns → Has right v ↔ G v (length trace)
 
 -- the slot with the step committed
@@ -65,37 +66,37 @@ OnceBegins = (interval : Interval) (g : Formula) (columns : List VarId) (window 
 -- then stands for the longer trace
 abbrev pub SinceAnswers : Type 0
 SinceAnswers = (trace : List Step) (step : Step) (place : ℕ) (interval : Interval) (f g : Formula) (window : Window)
-    (surviving right : Relation) → IsTrue (is_past f) → IsTrue (is_past g) → last_time trace ≤ step.time
+    (survivors : Survivors) (right : Relation) → IsTrue (is_past f) → IsTrue (is_past g) → last_time trace ≤ step.time
     → SinceStands trace interval f g window
-    → AreTablesOf trace window (satisfied (trace ++ step ∷ []) f) (satisfied (trace ++ step ∷ []) g) surviving right
+    → AreTablesOf trace window (satisfied (trace ++ step ∷ []) f) (satisfied (trace ++ step ∷ []) g) survivors right
     → (v : Valuation) → Binds v window.columns
-    → AnswersNow window step.time surviving right v
+    → AnswersBy window step.time (Survives survivors) right v
     ↔ Sat (trace ++ step ∷ []) (length trace) v (Since place interval f g)
 
 abbrev pub SinceGoesOn : Type 0
 SinceGoesOn = (trace : List Step) (step : Step) (interval : Interval) (f g : Formula) (window : Window)
-    (surviving right : Relation) → IsTrue (is_past f) → IsTrue (is_past g) → last_time trace ≤ step.time
+    (survivors : Survivors) (right : Relation) → IsTrue (is_past f) → IsTrue (is_past g) → last_time trace ≤ step.time
     → SinceStands trace interval f g window
-    → AreTablesOf trace window (satisfied (trace ++ step ∷ []) f) (satisfied (trace ++ step ∷ []) g) surviving right
-    → (after : Window) → IsCommitted window step.time surviving right after
+    → AreTablesOf trace window (satisfied (trace ++ step ∷ []) f) (satisfied (trace ++ step ∷ []) g) survivors right
+    → (after : Window) → IsCommittedBy window step.time (Survives survivors) right after
     → SinceStands (trace ++ step ∷ []) interval f g after
 
 -- the same of `once`
 abbrev pub OnceAnswers : Type 0
 OnceAnswers = (trace : List Step) (step : Step) (place : ℕ) (interval : Interval) (g : Formula) (window : Window)
-    (surviving right : Relation) → IsTrue (is_past g) → last_time trace ≤ step.time
+    (survivors : Survivors) (right : Relation) → IsTrue (is_past g) → last_time trace ≤ step.time
     → OnceStands trace interval g window
-    → AreTablesOf trace window everywhere (satisfied (trace ++ step ∷ []) g) surviving right
+    → AreTablesOf trace window everywhere (satisfied (trace ++ step ∷ []) g) survivors right
     → (v : Valuation) → Binds v window.columns
-    → AnswersNow window step.time surviving right v
+    → AnswersBy window step.time (Survives survivors) right v
     ↔ Sat (trace ++ step ∷ []) (length trace) v (Once place interval g)
 
 abbrev pub OnceGoesOn : Type 0
 OnceGoesOn = (trace : List Step) (step : Step) (interval : Interval) (g : Formula) (window : Window)
-    (surviving right : Relation) → IsTrue (is_past g) → last_time trace ≤ step.time
+    (survivors : Survivors) (right : Relation) → IsTrue (is_past g) → last_time trace ≤ step.time
     → OnceStands trace interval g window
-    → AreTablesOf trace window everywhere (satisfied (trace ++ step ∷ []) g) surviving right
-    → (after : Window) → IsCommitted window step.time surviving right after
+    → AreTablesOf trace window everywhere (satisfied (trace ++ step ∷ []) g) survivors right
+    → (after : Window) → IsCommittedBy window step.time (Survives survivors) right after
     → OnceStands (trace ++ step ∷ []) interval g after
 
 -- `historically g` fails where `once` of the denial of g holds, so that it has that window

@@ -3,8 +3,8 @@ use Rattle.std.specs.Prelude.{◌≡◌, ℕ, List, [], ◌∷◌, ◌++◌, len
 use Rattle.enf_value.specs.declared.events.Event.{Event}
 use Rattle.enf_value.specs.declared.steps.Step.{Step}
 use Rattle.enf_formula.specs.Formulas.{Formula}
-use Rattle.valuations.specs.Tables.{Relation, IsTable}
-use Rattle.past_state.specs.Memories.{IsFor, AreStepTables, FitMemory, GivesNow}
+use Rattle.valuations.specs.Tables.{Relation}
+use Rattle.past_state.specs.Memories.{IsFor, AreStepTables, FitMemory, given_by}
 use Rattle.past_state.specs.Memories.{IsUpToTimeOf, MemoryStands, IsCommittedTo, IsSameMemory}
 use Rattle.past_state.specs.Operators.{inner}
 use Rattle.past_state.specs.declared.memories.StepTables.{StepTables}
@@ -41,8 +41,7 @@ Runs events time stack [] [] final = stack ≡ final
 Runs events time stack [] (t ∷ steps) final = ⊥
 Runs events time stack (o ∷ operators) [] final = ⊥
 Runs events time stack (o ∷ operators) (t ∷ steps) final = AreStepTables events stack o.memory t
-    × ((given : Relation) × IsTable given × GivesNow o.memory time t given
-    × Runs events time (given ∷ drop o.taken stack) operators steps final)
+    × Runs events time (given_by o.memory time t ∷ drop o.taken stack) operators steps final
 
 -- operators of some formulas, each behind those of its operands
 pub record AreOrdered (operators : List Operator) : Type 0 where

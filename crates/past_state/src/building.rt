@@ -1,17 +1,20 @@
 //! What is kept for the operators on the past of a formula, before the first step.
-ghost use Rattle.std.specs.Prelude.{◌≡◌, [], ◌∷◌, ◌++◌, IfOk, All, ℕ, length, reverse, Contains};
+ghost use Rattle.std.specs.Prelude.{◌≡◌, [], ◌∷◌, ◌⊎◌, ◌++◌, IfOk, IfSome, All, ℕ, length, reverse, Contains};
 ghost use Rattle.enf_formula.specs.Formulas as tree;
 ghost use Rattle.enf_formula.specs.Formulas.{tree_of};
 ghost use Rattle.enf_formula.specs.FreeVariables.{IsFree};
 ghost use Rattle.enf_value.specs.declared.terms.VarId.{VarId as Variable};
 ghost use Rattle.monitorable_guard.specs.Present.{outermost};
 ghost use Rattle.monitorable_guard.specs.Safety.{Safe, BindsFresh, Nothing, With, denial};
-ghost use Rattle.past_state.specs.Keeping.{IsFresh, CanKeep, IsBegun, PushesFor};
+ghost use Rattle.past_state.specs.Keeping.{IsFresh, CanKeep, IsAlone, IsBegun, PushesFor};
+ghost use Rattle.past_state.specs.Lefts.{AsksLeft};
 ghost use Rattle.past_state.specs.Operators.{operators};
 
 use crate::laws::{once, prev, since};
+use crate::left::Left;
 use crate::memories::Memory;
 use crate::operators::Operator;
+use crate::shared_guard::SharedGuard;
 use enf_formula::Formula;
 use enf_value::intervals::Interval;
 use enf_value::memory::NoMemory;
@@ -22,6 +25,7 @@ use std::alloc::Global;
 use windows::{PrevSlot, SinceWindow};
 
 // Puts the operators of the formula last, each behind those of its operands, and counts the outermost ones.
+#[cycle(pushing)]
 pub fn push_operators(
     alloc: Global,
     formula: &Formula,
@@ -46,21 +50,9 @@ pub fn push_operators(
         Formula::Not(_, f) | Formula::Exists(_, _, f) | Formula::Forall(_, _, f) => {
             push_operators(alloc, f, out)
         }
-        Formula::And(_, f, g) => {
-            let right = push_operators(alloc, g, out)?;
-            let left = push_operators(alloc, f, out)?;
-            Ok(left + right)
-        }
-        Formula::Or(_, f, g) => {
-            let right = push_operators(alloc, g, out)?;
-            let left = push_operators(alloc, f, out)?;
-            Ok(left + right)
-        }
-        Formula::Implies(_, f, g) => {
-            let right = push_operators(alloc, g, out)?;
-            let left = push_operators(alloc, f, out)?;
-            Ok(left + right)
-        }
+        Formula::And(_, f, g) => push_both(alloc, f, g, out),
+        Formula::Or(_, f, g) => push_both(alloc, f, g, out),
+        Formula::Implies(_, f, g) => push_both(alloc, f, g, out),
         Formula::Prev(_, interval, f) => {
             let taken = push_operators(alloc, f, out)?;
             push_one(taken, prev_memory(alloc, *interval, f)?, out)
@@ -76,13 +68,30 @@ pub fn push_operators(
         Formula::Since(_, interval, f, g) => {
             let right = push_operators(alloc, g, out)?;
             let left = push_operators(alloc, f, out)?;
-            push_one(
-                left + right,
-                since_memory(alloc, *interval, f, g, left)?,
-                out,
-            )
+            let memory = since_memory(alloc, *interval, f, g, left)?;
+            push_one(left + right, memory, out)
         }
     }
+}
+
+// The same of two formulas, as the operands of one.
+#[cycle(pushing)]
+fn push_both(
+    alloc: Global,
+    f: &Formula,
+    g: &Formula,
+    out: &mut Vec<Operator>,
+) -> Result<usize, NoMemory>
+    requires left { All CanKeep (operators (tree_of f.now)) }
+    requires right { All CanKeep (operators (tree_of g.now)) }
+    ensures count { IfOk result (λ count. count
+        ≡ length (outermost (tree_of f.now) ++ outermost (tree_of g.now))) }
+    ensures pushed { IfOk result (λ _. PushesFor
+        (reverse (operators (tree_of f.now) ++ operators (tree_of g.now))) out.old.items out.new.items) }
+{
+    let right = push_operators(alloc, g, out)?;
+    let left = push_operators(alloc, f, out)?;
+    Ok(left + right)
 }
 
 fn push_one(taken: usize, memory: Memory, out: &mut Vec<Operator>) -> Result<usize, NoMemory>
@@ -101,7 +110,7 @@ fn prev_memory(alloc: Global, interval: Interval, operand: &Formula) -> Result<M
     prev();
     safe_with_listed();
     let columns = operand.free_vars(alloc)?;
-    let operand = guard_of(alloc, operand, &Vars::new(alloc))?;
+    let operand = shared_guard_of(alloc, operand, &Vars::new(alloc))?;
     let slot = PrevSlot::new(interval, columns);
     Ok(Memory::Prev { slot, operand })
 }
@@ -114,7 +123,7 @@ fn once_memory(alloc: Global, interval: Interval, operand: &Formula) -> Result<M
     once();
     safe_with_listed();
     let columns = operand.free_vars(alloc)?;
-    let right = guard_of(alloc, operand, &Vars::new(alloc))?;
+    let right = shared_guard_of(alloc, operand, &Vars::new(alloc))?;
     let window = SinceWindow::new(alloc, interval, columns);
     Ok(Memory::Once { window, right })
 }
@@ -150,8 +159,8 @@ fn since_memory(
     since();
     safe_with_listed();
     let columns = right.free_vars(alloc)?;
-    let left = guard_of(alloc, left, &columns)?;
-    let right = guard_of(alloc, right, &Vars::new(alloc))?;
+    let left = left_of(alloc, left, &columns)?;
+    let right = shared_guard_of(alloc, right, &Vars::new(alloc))?;
     let window = SinceWindow::new(alloc, interval, columns);
     Ok(Memory::Since {
         window,
@@ -159,6 +168,37 @@ fn since_memory(
         left_tables,
         right,
     })
+}
+
+// How the left side of a `since` is asked of rows of these columns.
+fn left_of(alloc: Global, left: &Formula, columns: &Vars) -> Result<Left, NoMemory>
+    requires safe { Safe (tree_of left.now) (Contains columns.now) }
+    requires fresh { BindsFresh (tree_of left.now)
+        (λ x. Contains columns.now x ⊎ IsFree x (tree_of left.now)) }
+    ensures { IfOk result (AsksLeft (tree_of left.now) columns.now) }
+{
+    match left {
+        Formula::True(_) => Ok(Left::All),
+        Formula::Not(_, denied) => match guard_alone(alloc, denied, columns)? {
+            Some(guard) => Ok(Left::Denied(SharedGuard::new(alloc, guard)?)),
+            None => Ok(Left::Asked(shared_guard_of(alloc, left, columns)?)),
+        },
+        _ => Ok(Left::Asked(shared_guard_of(alloc, left, columns)?)),
+    }
+}
+
+// The guard of the formula with nothing bound, where it is one and has just these columns.
+fn guard_alone(alloc: Global, formula: &Formula, columns: &Vars) -> Result<Option<Guard>, NoMemory>
+    ensures { IfOk result (λ found. IfSome found (IsAlone (tree_of formula.now) columns.now)) }
+{
+    if formula.free_vars(alloc)? != *columns {
+        return Ok(None);
+    }
+    match Guard::of(alloc, formula.duplicate(alloc)?, &Vars::new(alloc)) {
+        Ok(guard) => Ok(Some(guard)),
+        Err(GuardRefusal::NoMemory) => Err(NoMemory),
+        Err(GuardRefusal::Unguarded { .. }) => Ok(None),
+    }
 }
 
 // What `once` takes in the place of `historically`.
@@ -180,6 +220,15 @@ fn denial_of(alloc: Global, formula: &Formula) -> Result<Formula, NoMemory>
             Ok(Formula::Not(formula.place(), denied))
         }
     }
+}
+
+// The same for what is kept, whose copies share it.
+fn shared_guard_of(alloc: Global, formula: &Formula, bound: &Vars) -> Result<SharedGuard, NoMemory>
+    requires { Safe (tree_of formula.now) (Contains bound.now) }
+    ensures formula { IfOk result (λ g. tree_of g.formula ≡ tree_of formula.now) }
+    ensures bound { IfOk result (λ g. g.bound ≡ bound.now) }
+{
+    SharedGuard::new(alloc, guard_of(alloc, formula, bound)?)
 }
 
 // The guard of a formula that can be evaluated with these variables bound.

@@ -6,7 +6,7 @@ ghost use Rattle.past_state.specs.Past.{RunStands, CommitStands};
 use enf_formula::laws::{dependence, is_classical};
 use monitorable_guard::laws::present_is_satisfied;
 use trace_meaning::laws::trace_grows;
-use windows::laws::{step_by_step, windows_stand};
+use windows::laws::{rows_are_chosen, step_by_step, windows_stand};
 
 /// A window of `since`, from no step on.
 pub fn since()
@@ -18,6 +18,7 @@ pub fn since()
     trace_grows();
     step_by_step();
     windows_stand();
+    rows_are_chosen();
 }
 
 /// A window of `once`, and that of `historically`.
@@ -32,6 +33,7 @@ pub fn once()
     trace_grows();
     step_by_step();
     windows_stand();
+    rows_are_chosen();
 }
 
 /// A slot of `prev`, from no step on.
@@ -60,6 +62,4 @@ pub fn steps_stand()
 /// guards, or of a row that is kept.
 pub fn tables_are_known()
     ensures { TablesAreKnown }
-{
-    windows_stand();
-}
+{}

@@ -1,13 +1,14 @@
 //! The operators on the past of guards, from the inside out.
-ghost use Rattle.std.specs.Prelude.{◌≡◌, [], IfOk, OnOk, reverse};
+ghost use Rattle.std.specs.Prelude.{◌≡◌, [], IfOk, OnOk};
+ghost use Rattle.past_state.specs.Asked.{CanAskEach, tables_at};
 ghost use Rattle.past_state.specs.Runs.{AreOrdered, AreUpToTimeOf, Runs, AllFit, AllCommitted, AreSameKinds};
 
+use crate::asking::Asked;
 use crate::memories::{Memory, StepTables};
-use enf_value::event_sets::EventSet;
 use enf_value::memory::NoMemory;
 use monitorable_guard::StepEvents;
 use std::alloc::Global;
-use valuations::Table;
+use std::rc::Rc;
 
 /// An operator on the past, with how many tables it takes: those of the outermost operators of its operands.
 #[derive(Debug, Drop)]
@@ -16,11 +17,17 @@ pub struct Operator {
     pub memory: Memory,
 }
 
-/// What a step brings to each operator, and the tables of the outermost operators, the first of which stands last.
+/// The operators of guards, from the inside out.
+#[derive(Debug, Drop)]
+pub struct Operators {
+    pub items: Vec<Operator>,
+}
+
+/// What a step brings to each operator, and the numbers of the outermost operators, the first one's last.
 #[derive(Debug, Drop)]
 pub struct Ran {
     pub steps: Vec<StepTables>,
-    pub stack: Vec<Table>,
+    pub places: Vec<usize>,
 }
 
 /// Evaluates the operators at a step, each behind those of its operands.
@@ -28,30 +35,44 @@ pub fn run(
     alloc: Global,
     operators: &[Operator],
     time: u64,
-    events: &EventSet,
+    events: &StepEvents<'_>,
 ) -> Result<Ran, NoMemory>
     requires ordered { AreOrdered operators.now }
     requires later { AreUpToTimeOf time operators.now }
-    ensures { IfOk result (λ ran. Runs events.now time [] operators.now ran.steps.items
-        (reverse ran.stack.items)) }
+    ensures runs { IfOk result (λ ran. Runs events.now time [] operators.now ran.steps.items
+        (tables_at operators.now ran.steps.items time ran.places.items)) }
+    ensures asked { IfOk result (λ ran. CanAskEach operators.now ran.steps.items time ran.places.items) }
 {
-    let step_events = StepEvents::of(alloc, events)?;
     let mut steps = Vec::new(alloc);
-    let mut stack = Vec::new(alloc);
+    let mut places = Vec::new(alloc);
     for operator in operators {
-        let step = operator
-            .memory
-            .step_tables(alloc, &step_events, stack.as_slice())?;
-        let answer = operator.memory.answer(alloc, time, &step)?;
-        stack.truncate(stack.len() - operator.taken);
-        stack.push(answer)?;
+        let past = Asked::of(operators, steps.as_slice(), places.as_slice(), time);
+        let step = operator.memory.step_tables(alloc, events, &past)?;
+        places.truncate(places.len() - operator.taken);
+        places.push(steps.len())?;
         steps.push(step)?;
     }
-    Ok(Ran { steps, stack })
+    Ok(Ran { steps, places })
 }
 
-/// Makes the step the last one of each operator.
-pub fn commit_each(
+/// Makes the step the last one of each operator, in a copy where others share them.
+pub fn commit_shared(
+    operators: &mut Rc<Operators>,
+    time: u64,
+    steps: Vec<StepTables>,
+) -> Result<(), NoMemory>
+    requires later { AreUpToTimeOf time operators.old.value.items.items }
+    requires fits { AllFit operators.old.value.items.items steps.items }
+    ensures ok { OnOk result (AllCommitted time operators.old.value.items.items steps.items
+        operators.new.value.items.items) }
+    ensures kinds { AreSameKinds operators.old.value.items.items operators.new.value.items.items }
+{
+    let operators = Rc::make_mut(operators)?;
+    commit_each(&mut operators.items, time, steps)
+}
+
+// The same of operators that nothing shares.
+fn commit_each(
     operators: &mut Vec<Operator>,
     time: u64,
     steps: Vec<StepTables>,

@@ -2,11 +2,11 @@
 ghost use Rattle.std.specs.Prelude.{◌≡◌, ◌≤◌, ℕ, [], IfOk, OnOk, All};
 ghost use Rattle.valuations.specs.Tables.{IsTable};
 
+use crate::asking::Asked;
 use crate::guards::{PlacedGuard, place_all, push_all};
 use crate::laws::{steps_stand, tables_are_known};
 use crate::memories::StepTables;
-use crate::operators::{Operator, commit_each, run};
-use crate::stack::Stack;
+use crate::operators::{Operators, commit_shared, run};
 use enf_value::event_sets::EventSet;
 use enf_value::memory::NoMemory;
 use monitorable_guard::laws::present_is_satisfied;
@@ -19,8 +19,8 @@ use valuations::{Table, Valuation};
 /// What the operators on the past of some guards remember of the steps up to the last one.
 #[derive(Drop)]
 pub struct PastState {
-    guards: Rc<Vec<PlacedGuard>>,
-    operators: Vec<Operator>,
+    pub(crate) guards: Rc<Vec<PlacedGuard>>,
+    pub(crate) operators: Rc<Operators>,
 }
 
 impl Model for PastState {
@@ -31,11 +31,11 @@ impl Model for PastState {
 
     ghost coded = { past_code };
 
-    ghost view = { λ s. record { guards = s.guards.value.items; operators = s.operators.items } };
+    ghost view = { λ s. record { guards = s.guards.value.items; operators = s.operators.value.items.items } };
 
     ghost invariant = { λ s. IsPast (record {
       guards = s.guards.value.items;
-      operators = s.operators.items;
+      operators = s.operators.value.items.items;
     }) };
 }
 
@@ -43,13 +43,15 @@ impl Model for PastState {
 #[derive(Drop)]
 pub struct Tables {
     guards: Rc<Vec<PlacedGuard>>,
+    operators: Rc<Operators>,
+    time: u64,
     steps: Vec<StepTables>,
-    // the first operator's table stands last
-    stack: Vec<Table>,
+    // the numbers of the guards' outermost operators, the first one's last
+    places: Vec<usize>,
 }
 
 impl Model for Tables {
-    ghost use Rattle.std.specs.Prelude.{reverse};
+    ghost use Rattle.past_state.specs.Asked.{CanAskEach, tables_at};
     ghost use Rattle.past_state.specs.Past.{PastTables, ArePastTables};
     ghost use Rattle.past_state.specs.PastCodes.{tables_code};
 
@@ -60,14 +62,14 @@ impl Model for Tables {
     ghost view = { λ t. record {
       guards = t.guards.value.items;
       steps = t.steps.items;
-      stack = reverse t.stack.items;
+      stack = tables_at t.operators.value.items.items t.steps.items t.time t.places.items;
     } };
 
     ghost invariant = { λ t. ArePastTables (record {
       guards = t.guards.value.items;
       steps = t.steps.items;
-      stack = reverse t.stack.items;
-    }) };
+      stack = tables_at t.operators.value.items.items t.steps.items t.time t.places.items;
+    }) × CanAskEach t.operators.value.items.items t.steps.items t.time t.places.items };
 }
 
 impl PastState {
@@ -88,6 +90,7 @@ impl PastState {
         let counts = push_all(alloc, guards, &mut operators)?;
         let placed = place_all(alloc, guards, counts)?;
         let guards = Rc::new(alloc, placed)?;
+        let operators = Rc::new(alloc, Operators { items: operators })?;
         Ok(PastState { guards, operators })
     }
 
@@ -98,32 +101,57 @@ impl PastState {
         ensures stand { IfOk result (TablesWillStand self.now time events.now) }
         ensures known { IfOk result (AreKnown self.now events.now) }
     {
+        let events = StepEvents::of(alloc, events)?;
+        self.tables_at(alloc, time, &events)
+    }
+
+    /// The same of events that were put in order once for the step.
+    pub fn tables_at(
+        &self,
+        alloc: Global,
+        time: u64,
+        events: &StepEvents<'_>,
+    ) -> Result<Tables, NoMemory>
+        requires { AreUpToTimeOf time self.now.operators }
+        ensures are { IfOk result (AreOf self.now time events.now) }
+        ensures stand { IfOk result (TablesWillStand self.now time events.now) }
+        ensures known { IfOk result (AreKnown self.now events.now) }
+    {
         steps_stand();
         tables_are_known();
-        let ran = run(alloc, self.operators.as_slice(), time, events)?;
+        let ran = run(alloc, self.operators.items.as_slice(), time, events)?;
         Ok(Tables {
             guards: self.guards.clone()?,
+            operators: self.operators.clone()?,
+            time,
             steps: ran.steps,
-            stack: ran.stack,
+            places: ran.places,
         })
     }
 
     /// Makes the step of these tables the last one.
-    pub fn commit(&mut self, time: u64, _events: &EventSet, tables: Tables) -> Result<(), NoMemory>
+    pub fn commit(&mut self, time: u64, events: &EventSet, tables: Tables) -> Result<(), NoMemory>
         requires later { AreUpToTimeOf time self.old.operators }
-        requires are { AreOf self.old time _events.now tables }
+        requires are { AreOf self.old time events.now tables }
         ensures ok { OnOk result (PastCommitted self.old time tables.steps self.new) }
         ensures up_to { OnOk result ((later : ℕ) → time ≤ later
             → AreUpToTimeOf later self.new.operators) }
-        ensures stands { OnOk result (CommittedWillStand self.old time _events.now tables self.new) }
+        ensures stands { OnOk result (CommittedWillStand self.old time events.now tables self.new) }
     {
         steps_stand();
-        commit_each(&mut self.operators, time, tables.steps)
+        // where no other tables share the operators, they are written in place
+        let Tables {
+            operators,
+            steps,
+            ..
+        } = tables;
+        drop(operators);
+        commit_shared(&mut self.operators, time, steps)
     }
 }
 
 impl Tables {
-    ghost use Rattle.std.specs.Prelude.{◌<◌, length};
+    ghost use Rattle.std.specs.Prelude.{◌<◌, length, drop};
     ghost use Rattle.past_state.specs.Known.{IsKnownOfGuard};
     ghost use Rattle.past_state.specs.Past.{BindsBound, HasOpenColumns, AreEvaluated, AreSatisfied, IsTestOf, IsEvaluated, IsSatisfied};
 
@@ -144,12 +172,30 @@ impl Tables {
         ensures satisfied { IfOk result (AreSatisfied self.now guard events.now v.now) }
         ensures known { IfOk result (IsKnownOfGuard self.now guard events.now v.now) }
     {
+        let events = StepEvents::of(alloc, events)?;
+        self.rows_at(alloc, guard, &events, v)
+    }
+
+    /// The same at events that were put in order once for the step.
+    pub fn rows_at(
+        &self,
+        alloc: Global,
+        guard: u32,
+        events: &StepEvents<'_>,
+        v: &Valuation,
+    ) -> Result<Table, NoMemory>
+        requires within { guard < length self.now.guards }
+        requires binds { BindsBound self.now.guards guard v.now }
+        ensures table { IfOk result IsTable }
+        ensures columns { IfOk result (HasOpenColumns self.now guard) }
+        ensures evaluated { IfOk result (AreEvaluated self.now guard events.now v.now) }
+        ensures satisfied { IfOk result (AreSatisfied self.now guard events.now v.now) }
+        ensures known { IfOk result (IsKnownOfGuard self.now guard events.now v.now) }
+    {
         present_is_satisfied();
         let placed = &self.guards[guard as usize];
-        let below = &self.stack[..self.stack.len() - placed.start];
-        let past = Stack { tables: below };
-        let step_events = StepEvents::of(alloc, events)?;
-        placed.guard.evaluate_at(alloc, &step_events, &past, v)
+        let past = self.behind(placed.start);
+        placed.guard.evaluate_at(alloc, events, &past, v)
     }
 
     /// Whether the valuation satisfies the guard, all of whose free variables are bound, at the step.
@@ -166,12 +212,42 @@ impl Tables {
         ensures evaluated { IfOk result (IsEvaluated self.now guard events.now v.now) }
         ensures satisfied { IfOk result (IsSatisfied self.now guard events.now v.now) }
     {
+        let events = StepEvents::of(alloc, events)?;
+        self.holds_at(alloc, guard, &events, v)
+    }
+
+    /// The same at events that were put in order once for the step.
+    pub fn holds_at(
+        &self,
+        alloc: Global,
+        guard: u32,
+        events: &StepEvents<'_>,
+        v: &Valuation,
+    ) -> Result<bool, NoMemory>
+        requires within { guard < length self.now.guards }
+        requires binds { BindsBound self.now.guards guard v.now }
+        requires test { IsTestOf self.now.guards guard }
+        ensures evaluated { IfOk result (IsEvaluated self.now guard events.now v.now) }
+        ensures satisfied { IfOk result (IsSatisfied self.now guard events.now v.now) }
+    {
         present_is_satisfied();
         let placed = &self.guards[guard as usize];
-        let below = &self.stack[..self.stack.len() - placed.start];
-        let past = Stack { tables: below };
-        let step_events = StepEvents::of(alloc, events)?;
-        let rows = placed.guard.evaluate_at(alloc, &step_events, &past, v)?;
+        let past = self.behind(placed.start);
+        let rows = placed.guard.evaluate_at(alloc, events, &past, v)?;
         Ok(!rows.is_empty())
+    }
+
+    // The operators behind the first ones.
+    fn behind(&self, start: usize) -> Asked<'_>
+        requires { start ≤ length self.now.stack }
+        ensures { result ≡ drop start self.now.stack }
+    {
+        Asked::of(
+            self.operators.items.as_slice(),
+            self.steps.as_slice(),
+            self.places.as_slice(),
+            self.time,
+        )
+        .behind(start)
     }
 }

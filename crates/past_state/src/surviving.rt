@@ -1,28 +1,53 @@
-//! The rows of a table under which a guard holds.
+//! The rows under which a guard holds: all, or those of a table.
 ghost use Rattle.std.specs.Prelude.{◌≡◌, ◌↔◌, ◌⊎◌, [], IfOk, IsTrue, Contains, length};
 ghost use Rattle.enf_formula.specs.Formulas.{tree_of};
-ghost use Rattle.enf_formula.specs.FreeVariables.{IsFree};
+ghost use Rattle.enf_formula.specs.FreeVariables.{IsFree, AreFreeVariables};
 ghost use Rattle.enf_value.specs.Membership.{HasNoRepeats};
 ghost use Rattle.enf_value.specs.Valuations.{Valuation as Bound};
 ghost use Rattle.enf_value.specs.declared.terms.VarId.{VarId as Variable};
 ghost use Rattle.monitorable_guard.specs.Evaluation.{FitOperators};
 ghost use Rattle.monitorable_guard.specs.Present.{HoldsNow, outermost};
 ghost use Rattle.monitorable_guard.specs.Safety.{BindsFresh};
+ghost use Rattle.past_state.specs.Sources.{AllComeFrom};
+ghost use Rattle.valuations.specs.Just.{Binds};
 ghost use Rattle.valuations.specs.Tables.{IsTable, Has, AgreeOn, valuation_of};
 
+use crate::shared_guard::SharedGuard;
 use enf_value::items::Duplicate;
 use enf_value::memory::NoMemory;
 use enf_value::rows::Row;
 use enf_value::terms::VarId;
-use monitorable_guard::{Guard, Past, StepEvents};
+use monitorable_guard::{Past, StepEvents};
 use std::alloc::Global;
 use valuations::{Table, Valuation};
+
+// The rows under which a guard with no variable bound holds.
+pub fn all_rows<P: Past>(
+    alloc: Global,
+    guard: &SharedGuard,
+    events: &StepEvents<'_>,
+    past: &P,
+) -> Result<Table, NoMemory>
+    requires bound { guard.now.bound ≡ [] }
+    requires fresh { BindsFresh (tree_of guard.now.formula)
+        (λ x. Contains guard.now.bound x ⊎ IsFree x (tree_of guard.now.formula)) }
+    requires tabled { FitOperators (outermost (tree_of guard.now.formula)) (P.tables past.now) }
+    ensures table { IfOk result IsTable }
+    ensures free { IfOk result (λ t. AreFreeVariables (tree_of guard.now.formula) t.columns) }
+    ensures rows { IfOk result (λ t. (v : Bound) → Binds v t.columns
+        → Has t v ↔ HoldsNow events.now (P.tables past.now) v (tree_of guard.now.formula)) }
+    ensures known { IfOk result
+        (AllComeFrom events.now (P.tables past.now) (tree_of guard.now.formula)) }
+{
+    let guard = guard.guard();
+    guard.evaluate_at(alloc, events, past, &Valuation::empty(alloc))
+}
 
 // Of the rows, whose columns are the guard's bound variables and all that are free in it, those under which it holds.
 pub fn surviving_rows<P: Past>(
     alloc: Global,
     rows: &Table,
-    guard: &Guard,
+    guard: &SharedGuard,
     events: &StepEvents<'_>,
     past: &P,
 ) -> Result<Table, NoMemory>
@@ -65,7 +90,7 @@ fn holds_under<P: Past>(
     alloc: Global,
     columns: &[VarId],
     row: &Row,
-    guard: &Guard,
+    guard: &SharedGuard,
     events: &StepEvents<'_>,
     past: &P,
 ) -> Result<bool, NoMemory>
@@ -80,6 +105,6 @@ fn holds_under<P: Past>(
         → IsTrue holds ↔ HoldsNow events.now (P.tables past.now) w (tree_of guard.now.formula)) }
 {
     let v = row_valuation(alloc, columns, row)?;
-    let rows = guard.evaluate_at(alloc, events, past, &v)?;
+    let rows = guard.guard().evaluate_at(alloc, events, past, &v)?;
     Ok(!rows.is_empty())
 }

@@ -1,5 +1,5 @@
 -- Whether steps over one variable give a number can be computed.
-use Rattle.std.proofs.Common.{◌≡◌, ◌∙◌, ⊎_elim, ℕ, ◌-◌, ◌≤◌, Bool, true, false, ◌&&◌, ◌||◌, List, [], ◌∷◌, ◌++◌, length, map, Contains, Option, None, Some, refl, sym, ap, subst, arith, append_assoc, append-nil}
+use Rattle.std.proofs.Common.{◌≡◌, ◌∙◌, ⊎_elim, ℕ, ◌-◌, ◌≤◌, Bool, true, false, not, ◌&&◌, ◌||◌, List, [], ◌∷◌, ◌++◌, length, map, Contains, Option, None, Some, refl, sym, ap, subst, arith, append_assoc, append-nil}
 use Rattle.std.specs.Bool.{Decides}
 use Rattle.std.specs.List.{list_any}
 use Rattle.std.specs.Prelude.{nat_eq}
@@ -7,17 +7,22 @@ use Rattle.std.proofs.Math.Dec.{leb}
 use Rattle.std.proofs.lemmas.Bool.{false≢true}
 use Rattle.std.proofs.lemmas.Bool.Decides.{Decides-and, Decides-or, Decides-like, Decides-eqb, leb_tells}
 use Rattle.std.proofs.lemmas.List.{map-append}
+use Rattle.std.proofs.lemmas.List.Elements.{Contains-append_right}
 use Rattle.enf_value.specs.Decided.{list_any-Decides}
 use Rattle.enf_value.specs.Membership.{HasNoRepeats, IsIn, IsUpTo}
 use Rattle.enf_value.specs.declared.intervals.Interval.{Interval}
 use Rattle.enf_value.specs.declared.values.Value.{Value}
 use Rattle.valuations.specs.Columns.{none_in_nil, here, later, first_or_later}
 use Rattle.valuations.specs.RowLaws.{agrees_itself, agrees_once}
-use Rattle.valuations.specs.Tables.{Has}
-use Rattle.windows.specs.Answers.{Answers}
-use Rattle.windows.specs.Cases.{columns, row, number, table, Entry, step_of, last_at}
+use Rattle.enf_value.specs.Valuations.{Valuation}
+use Rattle.valuations.specs.Tables.{Agrees, Has}
+use Rattle.windows.specs.Answers.{Answers, IsHeld}
+use Rattle.windows.specs.Cases.{columns, row, number, table, Entry, IsKept, step_of, last_at, with_1}
+use Rattle.windows.specs.Kept.{ChosenBy, HasPair}
 use Rattle.windows.specs.Slots.{GivesLast}
-use Rattle.windows.proofs.HeldLemmas.{nothing_at_first, one_step_more}
+use Rattle.windows.specs.Windows.{RemembersIn}
+use Rattle.windows.specs.declared.steps.CommittedStep.{CommittedStep}
+use Rattle.windows.proofs.HeldLemmas.{held_more, none_held}
 
 leb-Decides : (a b : ℕ) → Decides (leb a b) (a ≤ b)
 leb-Decides a b = ⊎_elim (λ yes. (λ e. yes.1, λ h. yes.0)) (λ no. (λ e. absurd (false≢true (sym no.0 ∙ e)), λ h. absurd (omega (arith, no.1)))) (leb_tells a b)
@@ -36,7 +41,7 @@ is_in interval d = leb interval.low d && is_up_to interval.high d
 pub is_in-Decides : (interval : Interval) (d : ℕ) → Decides (is_in interval d) (IsIn interval d)
 is_in-Decides interval d = Decides-and _ _ (leb-Decides interval.low d) (is_up_to-Decides interval.high d)
 
-distinct : HasNoRepeats columns
+pub distinct : HasNoRepeats columns
 distinct = (none_in_nil _, tt)
 
 same_number : (m n : ℕ) → row m ≡ row n → m ≡ n
@@ -46,7 +51,7 @@ in_rows : (ns : List ℕ) (n : ℕ) → Contains ns n → Contains (map row ns) 
 in_rows [] n there = absurd (none_in_nil n there)
 in_rows (m ∷ ns) n there = ⊎_elim (λ same. (0, omega arith, λ i. row (same i))) (λ behind. later (row n) (row m) (map row ns) (in_rows ns n behind)) (first_or_later n m ns there)
 
-from_rows : (ns : List ℕ) (r : List Value) → Contains (map row ns) r → (n : ℕ) × Contains ns n × (r ≡ row n)
+pub from_rows : (ns : List ℕ) (r : List Value) → Contains (map row ns) r → (n : ℕ) × Contains ns n × (r ≡ row n)
 from_rows [] r there = absurd (none_in_nil r there)
 from_rows (m ∷ ns) r there =
     ⊎_elim (λ same. (m, here m ns, sym same)) (λ behind. let found = from_rows ns r behind in (found.0, later found.0 m ns found.1, found.2)) (first_or_later r (row m) (map row ns) there)
@@ -63,28 +68,103 @@ has-Decides ns n =
     (list_any-Decides nat_eq (λ a b. Decides-eqb a b) ns n)
 
 -- one pass over the steps
-abbrev pub walk : Interval → ℕ → ℕ → Bool → List Entry → Bool
-walk interval time n held [] = held
-walk interval time n held (e ∷ entries) =
-    walk interval time n ((is_in interval (time - e.time) && has e.right n) || (held && has e.surviving n)) entries
+abbrev pub walk : (ℕ → Bool) → ℕ → Bool → List Entry → Bool
+walk counts n held [] = held
+walk counts n held (e ∷ entries) = walk counts n ((counts e.time && has e.right n) || (held && has e.surviving n)) entries
 
-walk-Decides : (interval : Interval) (time n : ℕ) (held : Bool) (before entries : List Entry)
-    → Decides held (Answers interval time (map step_of before) (number n))
-    → Decides (walk interval time n held entries) (Answers interval time (map step_of (before ++ entries)) (number n))
-walk-Decides interval time n held before [] d = subst (λ l. Decides held (Answers interval time (map step_of l) (number n))) (sym (append-nil before)) d
-walk-Decides interval time n held before (e ∷ entries) d =
-    let more = one_step_more interval time (map step_of before) (step_of e) (number n) in
-    let held' : Bool = (is_in interval (time - e.time) && has e.right n) || (held && has e.surviving n) in
-    let decided : Decides held' (Answers interval time (map step_of before ++ step_of e ∷ []) (number n)) =
-    Decides-like held' more.1 more.0
-    (Decides-or _ _ (Decides-and _ _ (is_in-Decides interval (time - e.time)) (has-Decides e.right n)) (Decides-and _ _ d (has-Decides e.surviving n))) in
-    subst (λ l. Decides (walk interval time n held' entries) (Answers interval time (map step_of l) (number n))) (append_assoc before (e ∷ []) entries)
-    (walk-Decides interval time n held' (before ++ e ∷ []) entries
-    (subst (λ l. Decides held' (Answers interval time l (number n))) (sym (map-append step_of before (e ∷ []))) decided))
+module _ (C : ℕ → Type 0) (counts : ℕ → Bool) (decided : (t : ℕ) → Decides (counts t) (C t)) (n : ℕ) where
+  walk-Decides : (held : Bool) (before entries : List Entry) → Decides held (IsHeld C (map step_of before) (number n))
+      → Decides (walk counts n held entries) (IsHeld C (map step_of (before ++ entries)) (number n))
+  walk-Decides held before [] d = subst (λ l. Decides held (IsHeld C (map step_of l) (number n))) (sym (append-nil before)) d
+  walk-Decides held before (e ∷ entries) d =
+      let more = held_more C (map step_of before) (step_of e) (number n) in
+      let held' : Bool = (counts e.time && has e.right n) || (held && has e.surviving n) in
+      let with_e : Decides held' (IsHeld C (map step_of before ++ step_of e ∷ []) (number n)) =
+      Decides-like held' more.1 more.0 (Decides-or _ _ (Decides-and _ _ (decided e.time) (has-Decides e.right n)) (Decides-and _ _ d (has-Decides e.surviving n))) in
+      subst (λ l. Decides (walk counts n held' entries) (IsHeld C (map step_of l) (number n))) (append_assoc before (e ∷ []) entries)
+      (walk-Decides held' (before ++ e ∷ []) entries (subst (λ l. Decides held' (IsHeld C l (number n))) (sym (map-append step_of before (e ∷ []))) with_e))
+
+  held-Decides : (entries : List Entry) → Decides (walk counts n false entries) (IsHeld C (map step_of entries) (number n))
+  held-Decides entries = walk-Decides false [] entries (λ e. absurd (false≢true e), λ h. absurd (none_held C (number n) h))
 
 pub given-Decides : (interval : Interval) (time n : ℕ) (entries : List Entry)
-    → Decides (walk interval time n false entries) (Answers interval time (map step_of entries) (number n))
-given-Decides interval time n entries = walk-Decides interval time n false [] entries (λ e. absurd (false≢true e), λ h. absurd (nothing_at_first interval time (number n) h))
+    → Decides (walk (λ t. is_in interval (time - t)) n false entries) (Answers interval time (map step_of entries) (number n))
+given-Decides interval time n entries = held-Decides (λ t. IsIn interval (time - t)) (λ t. is_in interval (time - t)) (λ t. is_in-Decides interval (time - t)) n entries
+
+-- ---- what has to be kept
+
+abbrev pub pair : List Entry → ℕ → ℕ → Bool
+pair entries n time = walk (λ t. nat_eq t time) n false entries
+
+pub pair-Decides : (entries : List Entry) (n time : ℕ) → Decides (pair entries n time) (HasPair (map step_of entries) (number n) time)
+pair-Decides entries n time = held-Decides (λ t. t ≡ time) (λ t. nat_eq t time) (λ t. Decides-eqb t time) n entries
+
+from_map : (entries : List Entry) (s : CommittedStep) → Contains (map step_of entries) s → (e : Entry) × Contains entries e × (step_of e ≡ s)
+from_map [] s there = absurd (none_in_nil s there)
+from_map (e ∷ entries) s there =
+    ⊎_elim (λ same. (e, here e entries, same)) (λ behind. let found = from_map entries s behind in (found.0, later found.0 e entries found.1, found.2)) (first_or_later s (step_of e) (map step_of entries) there)
+
+-- a time at which it was right is the time of one of them
+time_among : (entries : List Entry) (v : Valuation) (time : ℕ) → HasPair (map step_of entries) v time → (e : Entry) × Contains entries e × (e.time ≡ time)
+time_among entries v time held =
+    let found = from_map entries held.step (subst (λ l. Contains l held.step) (sym held.split) (Contains-append_right held.before (held.step ∷ held.after) held.step (here held.step held.after))) in
+    (found.0, found.1, ap (λ s. s.time) found.2 ∙ held.counts)
+
+abbrev pub each : (ℕ → Bool) → List Entry → Bool
+each p [] = true
+each p (e ∷ entries) = p e.time && each p entries
+
+each-Decides : (p : ℕ → Bool) (Q : ℕ → Type 0) → ((t : ℕ) → Decides (p t) (Q t)) → (entries : List Entry) → Decides (each p entries) ((e : Entry) → Contains entries e → Q e.time)
+each-Decides p Q decided [] = (λ yes e there. absurd (none_in_nil e there), λ all. refl)
+each-Decides p Q decided (e ∷ entries) =
+    Decides-like (each p (e ∷ entries))
+    (λ both other there. ⊎_elim (λ same. subst (λ x. Q x.time) same both.0) (λ behind. both.1 other behind) (first_or_later other e entries there))
+    (λ all. (all e (here e entries), λ other there. all other (later other e entries there)))
+    (Decides-and _ _ (decided e.time) (each-Decides p Q decided entries))
+
+Decides-implies : {P Q : Type 0} (a b : Bool) → Decides a P → Decides b Q → Decides (not a || b) (P → Q)
+Decides-implies true b first second = (λ yes p. second.0 yes, λ f. second.1 (f (first.0 refl)))
+Decides-implies false b first second = (λ yes p. absurd (false≢true (first.1 p)), λ f. refl)
+
+abbrev pub chosen : Option ℕ → ℕ → ℕ → List Entry → ℕ → ℕ → Bool
+chosen None low last entries n time = each (λ i. not (pair entries n i) || leb time i) entries
+chosen (Some high) low last entries n time =
+    leb (last - time) high && (not (leb low (last - time)) || each (λ i. not (pair entries n i) || (not (leb low (last - i)) || leb i time)) entries)
+
+-- it is enough to look at the times of the steps
+at_times : (entries : List Entry) (n : ℕ) (p : ℕ → Bool) (Q : ℕ → Type 0) → ((t : ℕ) → Decides (p t) (Q t))
+    → Decides (each (λ i. not (pair entries n i) || p i) entries) ((i : ℕ) → HasPair (map step_of entries) (number n) i → Q i)
+at_times entries n p Q decided =
+    Decides-like (each (λ i. not (pair entries n i) || p i) entries)
+    (λ all i held. let e = time_among entries (number n) i held in subst Q e.2 (all e.0 e.1 (subst (HasPair (map step_of entries) (number n)) (sym e.2) held)))
+    (λ all e there. all e.time)
+    (each-Decides (λ i. not (pair entries n i) || p i) (λ i. HasPair (map step_of entries) (number n) i → Q i) (λ i. Decides-implies (pair entries n i) (p i) (pair-Decides entries n i) (decided i)) entries)
+
+chosen-Decides : (high : Option ℕ) (low last : ℕ) (entries : List Entry) (n time : ℕ) → Decides (chosen high low last entries n time) (ChosenBy high low last (HasPair (map step_of entries) (number n)) time)
+chosen-Decides None low last entries n time = at_times entries n (λ i. leb time i) (λ i. time ≤ i) (λ i. leb-Decides time i)
+chosen-Decides (Some high) low last entries n time =
+    Decides-and _ _ (leb-Decides (last - time) high)
+    (Decides-implies (leb low (last - time)) _ (leb-Decides low (last - time))
+    (at_times entries n (λ i. not (leb low (last - i)) || leb i time) (λ i. low ≤ last - i → i ≤ time) (λ i. Decides-implies (leb low (last - i)) (leb i time) (leb-Decides low (last - i)) (leb-Decides i time))))
+
+pub kept-Decides : (interval : Interval) (last : ℕ) (entries : List Entry) (n time : ℕ)
+    → Decides (pair entries n time && chosen interval.high interval.low last entries n time) (IsKept interval last entries n time)
+kept-Decides interval last entries n time = Decides-and _ _ (pair-Decides entries n time) (chosen-Decides interval.high interval.low last entries n time)
+
+-- ---- a window of one row
+
+pub only_row : (time : ℕ) (e : List Value × List ℕ) → Contains (with_1 (record { low = 0; high = None }) time).kept e → (e.0 ≡ row 1) × (e.1 ≡ time ∷ [])
+only_row time e there = ⊎_elim (λ same. (ap (λ x. x.0) (sym same), ap (λ x. x.1) (sym same))) (λ none. absurd (none_in_nil e none)) (first_or_later e (row 1, time ∷ []) [] there)
+
+pub remembered-Decides : (by interval : Interval) (time at n : ℕ) → Decides (is_in by (at - time) && nat_eq 1 n) (RemembersIn by (with_1 interval time) at (number n))
+remembered-Decides by interval time at n =
+    Decides-like (is_in by (at - time) && nat_eq 1 n)
+    (λ both. (time, both.0, (row 1, time ∷ [], (0, omega arith, refl), here time [], subst (λ m. Agrees (number m) columns (row 1)) both.1 (agrees_itself columns (row 1) distinct refl))))
+    (λ h. let entry = only_row time (h.2.0, h.2.1) h.2.2 in (
+      subst (λ t. IsIn by (at - t)) (⊎_elim (λ same. sym same) (λ none. absurd (none_in_nil h.0 none)) (first_or_later h.0 time [] (subst (λ l. Contains l h.0) entry.1 h.2.3))) h.1,
+      same_number 1 n (agrees_once (number n) columns (row 1) (row n) distinct refl refl (subst (Agrees (number n) columns) entry.0 h.2.4) (agrees_itself columns (row n) distinct refl)),
+    ))
+    (Decides-and _ _ (is_in-Decides by (at - time)) (Decides-eqb 1 n))
 
 pub last-Decides : (interval : Interval) (time n earlier : ℕ) (ns : List ℕ)
     → Decides (is_in interval (time - earlier) && has ns n) (GivesLast interval time (last_at earlier ns) (number n))

@@ -1,11 +1,13 @@
 -- Rows with their times.
-use Rattle.std.proofs.Common.{◌≡◌, ◌∙◌, ◌↔◌, ◌⊎◌, inl, inr, ⊎_elim, ℕ, zero, suc, ◌+◌, ◌-◌, ◌<◌, ◌≤◌, Bool, true, false, List, [], ◌∷◌, ◌++◌, length, take, get_or, All, Contains, Option, None, Some, refl, sym, ap, subst, arith}
+use Rattle.std.proofs.Common.{◌≡◌, ◌∙◌, ◌↔◌, ◌⊎◌, inl, inr, ⊎_elim, ℕ, zero, suc, ◌+◌, ◌-◌, ◌<◌, ◌≤◌, Bool, true, false, true≢false, List, [], ◌∷◌, ◌++◌, length, map, take, drop, get_or, All, Contains, Option, None, Some, refl, sym, ap, subst, arith}
 use Rattle.std.proofs.lemmas.Bool.{false≢true}
-use Rattle.std.proofs.lemmas.List.Elements.{All-contains, All-nil, All-push, Contains-append_cases, Contains-append_left, Contains-append_right, Contains-get_or, Contains-push}
+use Rattle.std.proofs.lemmas.List.Elements.{All-contains, All-from_recursion, All-nil, All-push, Contains-append_cases, Contains-append_left, Contains-append_right, Contains-get_or, Contains-push}
+use Rattle.std.proofs.lemmas.Map.Keys.{IsDistinct-head, IsDistinct-tail}
 use Rattle.std.proofs.lemmas.Option.{same_Some, none-some}
 use Rattle.std.proofs.lemmas.Slice.Eq.{slice_eq-Decides}
 use Rattle.std.specs.Bool.{Decides}
-use Rattle.std.specs.Prelude.{position, is_some, slice_get, swap_remove, IfSome, IsSome, IsTrue, cond}
+use Rattle.std.specs.Prelude.{position, is_some, slice_get, swap_remove, IfSome, IsTrue, cond}
+use Rattle.std.specs.List.{IsDistinct}
 use Rattle.std.specs.List.Sorted.{IsPermutation}
 use Rattle.std.specs.Map.Calls.{RetainsPairs}
 use Rattle.std.proofs.lemmas.List.{take_more}
@@ -18,14 +20,17 @@ use Rattle.indexmap.specs.IndexMap.{get_by, insert_entry}
 use Rattle.indexmap.proofs.CallerLemmas.{insert_entry-new}
 use Rattle.std.specs.HashMap.{HashMap}
 use Rattle.enf_value.specs.Decided.{value_eq-Decides}
+use Rattle.enf_value.specs.Membership.{HasNoRepeats}
 use Rattle.enf_value.specs.contracts.rows.RowPartialEq.TheImpl as rows
 use Rattle.enf_value.specs.contracts.values.ValuePartialEq.TheImpl as values
 use Rattle.enf_value.specs.declared.intervals.Interval.{Interval}
 use Rattle.enf_value.specs.declared.values.Value.{Value}
 use Rattle.enf_value.specs.declared.values.Value.TheVariants.{Num, Text}
 use Rattle.valuations.specs.Columns.{here, later, first_or_later, none_in_nil}
-use Rattle.windows.specs.Pairs.{AddsTime, AddsTimes, AreKept, DropsEnded, Gives, HasTime, IsEnded, IsServed, IsSomeIn, KeepsRows, RiseTo}
-use Rattle.windows.proofs.TimeLemmas.{rise_later}
+use Rattle.windows.specs.Pairs.{AddAtMost, AddsAtMost, AddsTime, AddsTimes, AreKept, AreLeast, Forgets, ForgetsTimes, Gives, HasGiven, HasTime, IsAnyRow, IsSettled, IsSomeIn, KeepsRows}
+use Rattle.windows.specs.Times.{IsEnded, IsLeast, IsServed, RiseTo}
+use Rattle.windows.proofs.LeastLemmas.{one_entry}
+use Rattle.windows.proofs.TimeLemmas.{all_from, itself, least_live, least_near, rise_later}
 
 -- ---- the derived `==` of rows
 
@@ -81,72 +86,158 @@ pub served_by : (high : Option ℕ) (low now : ℕ) (P Q : ℕ → Type 0) (time
 served_by None low now P Q time weaker served = (served.0, served.1, weaker served.0 served.2)
 served_by (Some high) low now P Q time weaker served = (served.0, served.1, served.2, weaker served.0 served.3)
 
-pub served_itself : (high : Option ℕ) (low now : ℕ) (P : ℕ → Type 0) (time : ℕ) → P time → IsServed high low now P time
-served_itself None low now P time there = (time, omega arith, there)
-served_itself (Some high) low now P time there = (time, omega arith, inl refl, there)
-
 -- what serves in the place of one that serves does so too
-pub served_again : (high : Option ℕ) (low now : ℕ) (P Q : ℕ → Type 0) (time : ℕ) → ((other : ℕ) → P other → IsServed high low now Q other) → IsServed high low now P time → IsServed high low now Q time
-served_again None low now P Q time serves served =
-    let by = serves served.0 served.2 in (by.0, omega (arith, by.1, served.1), by.2)
-served_again (Some high) low now P Q time serves served =
-    let by = serves served.0 served.3 in (
+pub served_on : (high : Option ℕ) (low now : ℕ) (P Q : ℕ → Type 0) (time : ℕ) → ((other : ℕ) → P other → IsServed high low now Q other ⊎ IsEnded high now other) → IsServed high low now P time
+    → IsServed high low now Q time ⊎ IsEnded high now time
+served_on None low now P Q time serves served =
+    ⊎_elim (λ by. inl (by.0, omega (arith, by.1, served.1), by.2)) (λ ended. absurd ended) (serves served.0 served.2)
+served_on (Some high) low now P Q time serves served =
+    ⊎_elim (λ by. inl (
       by.0,
       omega (arith, by.1, served.1),
       ⊎_elim (λ same. ⊎_elim (λ first. inl (same ∙ first)) (λ far. inr (subst (λ t. low ≤ now - t) (sym same) far)) served.2) (λ far. inr far) by.2,
       by.3,
-    )
+    )) (λ ended. inr (omega (arith, ended, served.1))) (serves served.0 served.3)
 
--- ---- a time is added to a row
-
-pub row_added : (interval : Interval) (now : ℕ) (row : List Value) (es after : List (List Value × SmallVec ℕ)) (old new : SmallVec ℕ) → SetsAt es after row old new → AddsTime interval now old.items new.items
-    → AddsTimes interval now (λ other. other ≡ row) es after
-row_added interval now row es after old new sets adds = record {
-  from = λ other time has. ⊎_elim (λ before. inl (has.0, before, has.2)) (λ same.
-      let same_row : other ≡ row = ap (λ e. e.0) same in
-      ⊎_elim (λ b. inl (subst (λ r. HasTime es r time) (sym same_row) (old, sets.was, b))) (λ is. inr (is, same_row)) (adds.from time (subst (λ t. Contains t.items time) (ap (λ e. e.1) same) has.2)))
-      (sets.from (other, has.0) has.1);
-  serves = λ other time has. ⊎_elim (λ stays. served_itself interval.high interval.low now (HasTime after other) time (has.0, stays, has.2)) (λ same.
-      let same_row : other ≡ row = ap (λ e. e.0) same in
-      served_by interval.high interval.low now (Contains new.items) (HasTime after other) time (λ t there. subst (λ r. HasTime after r t) (sym same_row) (new, sets.is, there))
-      (adds.serves time (subst (λ t. Contains t.items time) (ap (λ e. e.1) same) has.2)))
-      (sets.rest (other, has.0) has.1);
-  added = λ other same. served_by interval.high interval.low now (Contains new.items) (HasTime after other) now (λ t there. subst (λ r. HasTime after r t) (sym same) (new, sets.is, there)) adds.added;
-}
-
-pub row_first : (interval : Interval) (now : ℕ) (row : List Value) (es after : List (List Value × SmallVec ℕ)) (new : SmallVec ℕ) → after ≡ es ++ (row, new) ∷ [] → new.items ≡ now ∷ []
-    → AddsTimes interval now (λ other. other ≡ row) es after
-row_first interval now row es after new grown one = record {
-  from = λ other time has. ⊎_elim (λ before. inl (has.0, before, has.2)) (λ last.
-      let same : (row, new) ≡ (other, has.0) = ⊎_elim (λ h. h) (λ b. absurd (none_in_nil (other, has.0) b)) (first_or_later (other, has.0) (row, new) [] last) in
-      let at : Contains (now ∷ []) time = subst (λ l. Contains l time) (ap (λ e. e.1.items) (sym same) ∙ one) has.2 in
-      inr (⊎_elim (λ h. sym h) (λ b. absurd (none_in_nil time b)) (first_or_later time now [] at), ap (λ e. e.0) (sym same)))
-      (Contains-append_cases es ((row, new) ∷ []) (other, has.0) (subst (λ l. Contains l (other, has.0)) grown has.1));
-  serves = λ other time has. served_itself interval.high interval.low now (HasTime after other) time
-      (has.0, subst (λ l. Contains l (other, has.0)) (sym grown) (Contains-append_left es ((row, new) ∷ []) (other, has.0) has.1), has.2);
-  added = λ other same. served_itself interval.high interval.low now (HasTime after other) now
-      (subst (λ r. HasTime after r now) (sym same) (new, subst (λ l. Contains l (row, new)) (sym grown) (Contains-push es (row, new)), subst (λ l. Contains l now) (sym one) (here now [])));
-}
+pub not_ended_now : (high : Option ℕ) (now : ℕ) → IsEnded high now now → ⊥
+not_ended_now None now ended = ended
+not_ended_now (Some high) now ended = omega (arith, ended)
 
 -- ---- rows that are so long, with times that rise
 
 abbrev Fit : ℕ → ℕ → List Value × SmallVec ℕ → Type 0
-Fit long last e = (length e.0 ≡ long) × RiseTo last e.1.items
+Fit long last e = (length e.0 ≡ long) × RiseTo last e.1.items × (0 < length e.1.items)
 
-pub rise_of : (long last : ℕ) (es : List (List Value × SmallVec ℕ)) (row : List Value) (times : SmallVec ℕ) → AreKept long last es → Contains es (row, times) → RiseTo last times.items
-rise_of long last es row times kept there = (All-contains (Fit long last) es (row, times) kept there).1
+pub fit_of : (long last : ℕ) (es : List (List Value × SmallVec ℕ)) (row : List Value) (times : SmallVec ℕ) → AreKept long last es → Contains es (row, times)
+    → (length row ≡ long) × RiseTo last times.items × (0 < length times.items)
+fit_of long last es row times kept there = All-contains (Fit long last) es (row, times) kept.fit there
 
-all_from : {X : Type 0} (P : X → Type 0) (xs : List X) → ((x : X) → Contains xs x → P x) → All P xs
-all_from P xs each k d below = each (get_or xs k d) (Contains-get_or xs k d below)
+pub least_of : (interval : Interval) (last : ℕ) (es : List (List Value × SmallVec ℕ)) (row : List Value) (times : SmallVec ℕ) → AreLeast interval last es → Contains es (row, times) → IsLeast interval.high interval.low last times.items
+least_of interval last es row times least there = All-contains (λ e. IsLeast interval.high interval.low last e.1.items) es (row, times) least there
 
-pub kept_set : (long last : ℕ) (row : List Value) (es after : List (List Value × SmallVec ℕ)) (old new : SmallVec ℕ) → AreKept long last es → SetsAt es after row old new → RiseTo last new.items → AreKept long last after
-kept_set long last row es after old new kept sets rise = all_from (Fit long last) after (λ e there.
-    ⊎_elim (λ before. All-contains (Fit long last) es e kept before)
-    (λ same. subst (Fit long last) (sym same) ((All-contains (Fit long last) es (row, old) kept sets.was).0, rise)) (sets.from e there))
+pub set_keys : (es : List (List Value × SmallVec ℕ)) (place : ℕ) (new : SmallVec ℕ) → map (λ e. e.0) (set_value_at es place new) ≡ map (λ e. e.0) es
+set_keys [] place new = refl
+set_keys (e ∷ es) zero new = refl
+set_keys (e ∷ es) (suc place) new = ap (λ l. e.0 ∷ l) (set_keys es place new)
 
-pub kept_first : (long last : ℕ) (row : List Value) (es after : List (List Value × SmallVec ℕ)) (new : SmallVec ℕ) → AreKept long last es → length row ≡ long → after ≡ es ++ (row, new) ∷ [] → new.items ≡ last ∷ [] → AreKept long last after
-kept_first long last row es after new kept fits grown one =
-    subst (AreKept long last) (sym grown) (All-push (Fit long last) es (row, new) kept (fits, subst (RiseTo last) (sym one) (omega arith, All-nil _, tt)))
+pub kept_set : (long last : ℕ) (row : List Value) (es : List (List Value × SmallVec ℕ)) (place : ℕ) (old new : SmallVec ℕ) → AreKept long last es → SetsAt es (set_value_at es place new) row old new → RiseTo last new.items
+    → 0 < length new.items → AreKept long last (set_value_at es place new)
+kept_set long last row es place old new kept sets rise some = record {
+  fit = all_from (Fit long last) (set_value_at es place new) (λ e there. ⊎_elim (λ before. All-contains (Fit long last) es e kept.fit before)
+      (λ same. subst (Fit long last) (sym same) ((All-contains (Fit long last) es (row, old) kept.fit sets.was).0, rise, some)) (sets.from e there));
+  unique = subst HasNoRepeats (sym (set_keys es place new)) kept.unique;
+}
+
+pub least_set : (interval : Interval) (last : ℕ) (row : List Value) (es after : List (List Value × SmallVec ℕ)) (old new : SmallVec ℕ) → AreLeast interval last es → SetsAt es after row old new
+    → IsLeast interval.high interval.low last new.items → AreLeast interval last after
+least_set interval last row es after old new least sets is = all_from (λ e. IsLeast interval.high interval.low last e.1.items) after (λ e there.
+    ⊎_elim (λ before. All-contains (λ x. IsLeast interval.high interval.low last x.1.items) es e least before) (λ same. subst (λ x. IsLeast interval.high interval.low last x.1.items) (sym same) is) (sets.from e there))
+
+pub kept_first : (long last : ℕ) (row : List Value) (es after : List (List Value × SmallVec ℕ)) (new : SmallVec ℕ) → AreKept long last es → length row ≡ long → after ≡ es ++ (row, new) ∷ [] → new.items ≡ last ∷ []
+    → HasNoRepeats (map (λ e. e.0) after) → AreKept long last after
+kept_first long last row es after new kept fits grown one unique = record {
+  fit = subst (All (Fit long last)) (sym grown) (All-push (Fit long last) es (row, new) kept.fit (fits, subst (RiseTo last) (sym one) (omega arith, All-nil _, tt), subst (λ l. 0 < length l) (sym one) (omega arith)));
+  unique = unique;
+}
+
+pub least_first : (interval : Interval) (last : ℕ) (row : List Value) (es after : List (List Value × SmallVec ℕ)) (new : SmallVec ℕ) → AreLeast interval last es → after ≡ es ++ (row, new) ∷ [] → new.items ≡ last ∷ [] → AreLeast interval last after
+least_first interval last row es after new least grown one =
+    subst (AreLeast interval last) (sym grown) (All-push (λ e. IsLeast interval.high interval.low last e.1.items) es (row, new) least (subst (IsLeast interval.high interval.low last) (sym one) (alone interval.high)))
+  where
+    alone : (high : Option ℕ) → IsLeast high interval.low last (last ∷ [])
+    alone None = refl
+    alone (Some high) = (omega arith, All-nil _)
+
+-- rows that stay fit as before
+pub kept_fewer : (long last : ℕ) (es after : List (List Value × SmallVec ℕ)) → AreKept long last es → ((e : List Value × SmallVec ℕ) → Contains after e → Contains es e) → HasNoRepeats (map (λ e. e.0) after) → AreKept long last after
+kept_fewer long last es after kept among unique = record { fit = all_from (Fit long last) after (λ e there. All-contains (Fit long last) es e kept.fit (among e there)); unique = unique }
+
+pub least_fewer : (interval : Interval) (last : ℕ) (es after : List (List Value × SmallVec ℕ)) → AreLeast interval last es → ((e : List Value × SmallVec ℕ) → Contains after e → Contains es e) → AreLeast interval last after
+least_fewer interval last es after least among = all_from (λ e. IsLeast interval.high interval.low last e.1.items) after (λ e there. All-contains (λ x. IsLeast interval.high interval.low last x.1.items) es e least (among e there))
+
+pub kept_later : (long last now : ℕ) (es : List (List Value × SmallVec ℕ)) → last ≤ now → AreKept long last es → AreKept long now es
+kept_later long last now es below kept = record {
+  fit = all_from (Fit long now) es (λ e there. let fit = All-contains (Fit long last) es e kept.fit there in (fit.0, rise_later last now e.1.items below fit.1, fit.2));
+  unique = kept.unique;
+}
+
+-- keys that the map tells apart do not repeat
+pub unique_from : (es : List (List Value × SmallVec ℕ)) → IsDistinct rows.eq-value.it (keys_of es) → HasNoRepeats (map (λ e. e.0) es)
+unique_from [] distinct = tt
+unique_from (e ∷ es) distinct = (
+  λ there. true≢false (sym ((derived_row_eq-Decides e.0 e.0).1 refl)
+      ∙ All-contains (λ y. rows.eq-value.it e.0 y ≡ false) (keys_of es) e.0 (All-from_recursion (λ y. rows.eq-value.it e.0 y ≡ false) (keys_of es) (IsDistinct-head rows.eq-value.it e.0 (keys_of es) distinct)) there),
+  unique_from es (IsDistinct-tail rows.eq-value.it e.0 (keys_of es) distinct),
+)
+
+-- ---- a time is added to a row
+
+module _ (interval : Interval) (now : ℕ) (row : List Value) (es after : List (List Value × SmallVec ℕ)) (old new : SmallVec ℕ) (sets : SetsAt es after row old new) where
+  -- what holds of the times of each entry after it, by what held before or holds of the new ones
+  from_set : (C : List ℕ → ℕ → Type 0) (D : Type 0) (other : List Value) (time : ℕ) → (times : SmallVec ℕ) × Contains after (other, times) × C times.items time → (C new.items time → C old.items time ⊎ D)
+      → ((times : SmallVec ℕ) × Contains es (other, times) × C times.items time) ⊎ (D × (other ≡ row))
+  from_set C D other time has adds = ⊎_elim (λ before. inl (has.0, before, has.2)) (λ same.
+      let same_row : other ≡ row = ap (λ e. e.0) same in
+      ⊎_elim (λ b. inl (subst (λ r. (times : SmallVec ℕ) × Contains es (r, times) × C times.items time) (sym same_row) (old, sets.was, b))) (λ d. inr (d, same_row)) (adds (subst (λ t. C t.items time) (ap (λ e. e.1) same) has.2)))
+      (sets.from (other, has.0) has.1)
+
+  serves_set : (other : List Value) (time : ℕ) → HasTime es other time
+      → ((t : ℕ) → Contains old.items t → IsServed interval.high interval.low now (Contains new.items) t ⊎ IsEnded interval.high now t)
+      → IsServed interval.high interval.low now (HasTime after other) time ⊎ IsEnded interval.high now time
+  serves_set other time has serves = ⊎_elim (λ stays. inl (itself interval.high interval.low now (HasTime after other) time (has.0, stays, has.2))) (λ same.
+      let same_row : other ≡ row = ap (λ e. e.0) same in
+      ⊎_elim
+      (λ by. inl (served_by interval.high interval.low now (Contains new.items) (HasTime after other) time (λ t there. subst (λ r. HasTime after r t) (sym same_row) (new, sets.is, there)) by)) (λ ended. inr ended)
+      (serves time (subst (λ t. Contains t.items time) (ap (λ e. e.1) same) has.2)))
+      (sets.rest (other, has.0) has.1)
+
+  pub row_at_most : AddsAtMost now old.items new.items → AddAtMost now (λ other. other ≡ row) es after
+  row_at_most adds = record {
+    from = λ other time has. from_set Contains (time ≡ now) other time has (adds.from time);
+    behind = λ other time has. from_set (λ l t. Contains (drop 1 l) t) (time ≡ now) other time has (adds.behind time);
+  }
+
+  pub row_added : AddsTime interval now old.items new.items → AddsTimes interval now (λ other. other ≡ row) es after
+  row_added adds = record {
+    serves = λ other time has. serves_set other time has adds.serves;
+    added = λ other same. served_by interval.high interval.low now (Contains new.items) (HasTime after other) now (λ t there. subst (λ r. HasTime after r t) (sym same) (new, sets.is, there)) adds.added;
+  }
+
+  -- or some are left out
+  pub row_forgets : (high : ℕ) → interval.high ≡ Some high → ForgetsTimes high interval.low now old.items new.items → Forgets interval now es after
+  row_forgets high is forgets = record {
+    from = λ other time has. ⊎_elim (λ before. before) (λ none. absurd none.0) (from_set Contains ⊥ other time has (λ there. inl (forgets.from time there)));
+    behind = λ other time has. ⊎_elim (λ before. before) (λ none. absurd none.0) (from_set (λ l t. Contains (drop 1 l) t) ⊥ other time has (λ there. inl (forgets.behind time there)));
+    serves = λ other time has. serves_set other time has (λ t there. subst (λ h. IsServed h interval.low now (Contains new.items) t ⊎ IsEnded h now t) (sym is) (forgets.serves t there));
+  }
+
+  pub row_settled : (high : ℕ) → HasNoRepeats (map (λ e. e.0) after) → RiseTo now new.items → IsLeast (Some high) interval.low now new.items → IsSettled high interval.low now after row
+  row_settled high unique rise least = λ time. (
+    λ has. least_live high interval.low now new.items rise least time (subst (λ t. Contains t.items time) (one_entry after unique row has.0 new has.1 sets.is) has.2),
+    λ has. least_near high interval.low now new.items least time (subst (λ t. Contains (drop 1 t.items) time) (one_entry after unique row has.0 new has.1 sets.is) has.2),
+  )
+
+module _ (interval : Interval) (now : ℕ) (row : List Value) (es after : List (List Value × SmallVec ℕ)) (new : SmallVec ℕ) (grown : after ≡ es ++ (row, new) ∷ []) (one : new.items ≡ now ∷ []) where
+  first_from : (other : List Value) (times : SmallVec ℕ) → Contains after (other, times) → Contains es (other, times) ⊎ ((times.items ≡ now ∷ []) × (other ≡ row))
+  first_from other times there = ⊎_elim (λ before. inl before) (λ last.
+      let same : (row, new) ≡ (other, times) = ⊎_elim (λ h. h) (λ b. absurd (none_in_nil (other, times) b)) (first_or_later (other, times) (row, new) [] last) in
+      inr (ap (λ e. e.1.items) (sym same) ∙ one, ap (λ e. e.0) (sym same)))
+      (Contains-append_cases es ((row, new) ∷ []) (other, times) (subst (λ l. Contains l (other, times)) grown there))
+
+  pub first_at_most : AddAtMost now (λ other. other ≡ row) es after
+  first_at_most = record {
+    from = λ other time has. ⊎_elim (λ before. inl (has.0, before, has.2))
+        (λ first. inr (⊎_elim (λ h. sym h) (λ b. absurd (none_in_nil time b)) (first_or_later time now [] (subst (λ l. Contains l time) first.0 has.2)), first.1)) (first_from other has.0 has.1);
+    behind = λ other time has. ⊎_elim (λ before. inl (has.0, before, has.2)) (λ first. absurd (none_in_nil time (subst (λ l. Contains (drop 1 l) time) first.0 has.2))) (first_from other has.0 has.1);
+  }
+
+  pub row_first : AddsTimes interval now (λ other. other ≡ row) es after
+  row_first = record {
+    serves = λ other time has. inl (itself interval.high interval.low now (HasTime after other) time
+        (has.0, subst (λ l. Contains l (other, has.0)) (sym grown) (Contains-append_left es ((row, new) ∷ []) (other, has.0) has.1), has.2));
+    added = λ other same. itself interval.high interval.low now (HasTime after other) now
+        (subst (λ r. HasTime after r now) (sym same) (new, subst (λ l. Contains l (row, new)) (sym grown) (Contains-push es (row, new)), subst (λ l. Contains l now) (sym one) (here now [])));
+  }
 
 pub missing : {X Y : Type 0} (r : Option X) (o : Option Y) → ((x : X) → r ≡ Some x → ⊥) → is_some r ≡ is_some o → o ≡ None
 missing None None not_some same = refl
@@ -160,29 +251,52 @@ grown_by m row key times after none same is = is ∙ ap (λ k. insert_entry rows
 
 -- ---- rows of a list, one after another
 
+pub at_most_none : (now : ℕ) (R : List Value → Type 0) (es : List (List Value × SmallVec ℕ)) → AddAtMost now R es es
+at_most_none now R es = record { from = λ row time has. inl has; behind = λ row time has. inl has }
+
+pub at_most_then : (now : ℕ) (R : List Value → Type 0) (row : List Value) (es middle after : List (List Value × SmallVec ℕ)) → R row → AddAtMost now R es middle → AddAtMost now (λ other. other ≡ row) middle after → AddAtMost now R es after
+at_most_then now R row es middle after holds first second = record {
+  from = λ other time has. ⊎_elim (first.from other time) (λ added. inr (added.0, subst R (sym added.1) holds)) (second.from other time has);
+  behind = λ other time has. ⊎_elim (first.behind other time) (λ added. inr (added.0, subst R (sym added.1) holds)) (second.behind other time has);
+}
+
 pub adds_nothing : (interval : Interval) (now : ℕ) (es : List (List Value × SmallVec ℕ)) → AddsTimes interval now (Contains []) es es
 adds_nothing interval now es = record {
-  from = λ row time has. inl has;
-  serves = λ row time has. served_itself interval.high interval.low now (HasTime es row) time has;
+  serves = λ row time has. inl (itself interval.high interval.low now (HasTime es row) time has);
   added = λ row there. absurd (none_in_nil row there);
 }
 
 pub adds_then : (interval : Interval) (now : ℕ) (done : List (List Value)) (row : List Value) (es middle after : List (List Value × SmallVec ℕ)) → AddsTimes interval now (Contains done) es middle
     → AddsTimes interval now (λ other. other ≡ row) middle after → AddsTimes interval now (Contains (done ++ row ∷ [])) es after
 adds_then interval now done row es middle after first second = record {
-  from = λ other time has. ⊎_elim
-      (λ mid. ⊎_elim (λ before. inl before) (λ added. inr (added.0, Contains-append_left done (row ∷ []) other added.1)) (first.from other time mid))
-      (λ added. inr (added.0, subst (Contains (done ++ row ∷ [])) (sym added.1) (Contains-push done row)))
-      (second.from other time has);
-  serves = λ other time has. served_again interval.high interval.low now (HasTime middle other) (HasTime after other) time (second.serves other) (first.serves other time has);
+  serves = λ other time has. ⊎_elim (served_on interval.high interval.low now (HasTime middle other) (HasTime after other) time (second.serves other)) (λ ended. inr ended) (first.serves other time has);
   added = λ other there. ⊎_elim
-      (λ before. served_again interval.high interval.low now (HasTime middle other) (HasTime after other) now (second.serves other) (first.added other before))
+      (λ before. ⊎_elim (λ by. by) (λ ended. absurd (not_ended_now interval.high now ended))
+      (served_on interval.high interval.low now (HasTime middle other) (HasTime after other) now (second.serves other) (first.added other before)))
       (λ last. second.added other (⊎_elim (λ same. sym same) (λ none. absurd (none_in_nil other none)) (first_or_later other row [] last)))
       (Contains-append_cases done (row ∷ []) other there);
 }
 
+pub forgets_nothing : (interval : Interval) (now : ℕ) (es : List (List Value × SmallVec ℕ)) → Forgets interval now es es
+forgets_nothing interval now es = record {
+  from = λ row time has. has;
+  behind = λ row time has. has;
+  serves = λ row time has. inl (itself interval.high interval.low now (HasTime es row) time has);
+}
+
+pub forgets_then : (interval : Interval) (now : ℕ) (es middle after : List (List Value × SmallVec ℕ)) → Forgets interval now es middle → Forgets interval now middle after → Forgets interval now es after
+forgets_then interval now es middle after first second = record {
+  from = λ row time has. first.from row time (second.from row time has);
+  behind = λ row time has. first.behind row time (second.behind row time has);
+  serves = λ row time has. ⊎_elim (served_on interval.high interval.low now (HasTime middle row) (HasTime after row) time (second.serves row)) (λ ended. inr ended) (first.serves row time has);
+}
+
+-- a row that is settled stays so
+pub settled_then : (high : ℕ) (interval : Interval) (now : ℕ) (row : List Value) (middle after : List (List Value × SmallVec ℕ)) → Forgets interval now middle after → IsSettled high interval.low now middle row → IsSettled high interval.low now after row
+settled_then high interval now row middle after second settled = λ time. (λ has. (settled time).0 (second.from row time has), λ has. (settled time).1 (second.behind row time has))
+
 pub keeps_all : (es : List (List Value × SmallVec ℕ)) → KeepsRows (λ row. Contains [] row → ⊥) es es
-keeps_all es = record { among = λ e there. there; exact = λ row time. (λ has. (has, λ there. none_in_nil row there), λ both. both.0) }
+keeps_all es = record { among = λ e there. there; exact = λ row time. (λ has. (has, λ there. none_in_nil row there), λ both. both.0); unique = λ unique. unique }
 
 pub keeps_then : (done : List (List Value)) (row : List Value) (es middle after : List (List Value × SmallVec ℕ)) → KeepsRows (λ other. Contains done other → ⊥) es middle
     → KeepsRows (λ other. other ≡ row → ⊥) middle after → KeepsRows (λ other. Contains (done ++ row ∷ []) other → ⊥) es after
@@ -196,6 +310,7 @@ keeps_then done row es middle after first second = record {
       λ same. both.1 (subst (Contains (done ++ row ∷ [])) (sym same) (Contains-push done row)),
     ),
   );
+  unique = λ unique. second.unique (first.unique unique);
 }
 
 -- in a list, up to a place
@@ -239,32 +354,63 @@ absent test (f ∷ es) none e there passes = by (test f.0) refl none (λ rest be
     by true is found others = none-some f.1 (sym found)
     by false is rest others = ⊎_elim (λ same. false≢true (sym is ∙ ap (λ x. test x.0) same ∙ passes)) (others rest) (first_or_later e f es there)
 
-pub forgets_at : (row : List Value) (es after : List (List Value × SmallVec ℕ)) (place : ℕ) (t : TakesAt es after place) → Some place ≡ position (rows.eq-value.it row) (keys_of es)
-    → lookup (rows.eq-value.it t.taken.0) after ≡ None → KeepsRows (λ other. other ≡ row → ⊥) es after
-forgets_at row es after place t found gone =
-    let at = position-Some (rows.eq-value.it row) (keys_of es) place t.taken.0 (sym found) in
-    let is_row : row ≡ t.taken.0 = (derived_row_eq-Decides row t.taken.0).0 (ap (λ k. rows.eq-value.it row k) (ap (λ e. e.0) t.at ∙ sym (key_at es place t.taken)) ∙ at.1) in record {
-      among = λ e there. Contains-permutation (t.taken ∷ after) es e (IsPermutation-sym es (t.taken ∷ after) t.others) (later e t.taken after there);
-      exact = λ other time. (
-        λ has. (
-          (has.0, Contains-permutation (t.taken ∷ after) es (other, has.0) (IsPermutation-sym es (t.taken ∷ after) t.others) (later (other, has.0) t.taken after has.1), has.2),
-          λ same. absent (rows.eq-value.it t.taken.0) after gone (other, has.0) has.1 ((derived_row_eq-Decides t.taken.0 other).1 (sym is_row ∙ sym same)),
-        ),
-        λ both. ⊎_elim (λ same. absurd (both.1 (sym (ap (λ e. e.0) same) ∙ sym is_row))) (λ behind. (both.0.0, behind, both.0.2))
-            (first_or_later (other, both.0.0) t.taken after (Contains-permutation es (t.taken ∷ after) (other, both.0.0) t.others both.0.1)),
-      );
-    }
+module _ (row : List Value) (es after : List (List Value × SmallVec ℕ)) (place : ℕ) (t : TakesAt es after place) where
+  among_taken : (e : List Value × SmallVec ℕ) → Contains after e → Contains es e
+  among_taken e there = Contains-permutation (t.taken ∷ after) es e (IsPermutation-sym es (t.taken ∷ after) t.others) (later e t.taken after there)
+
+  taken_or_stays : (e : List Value × SmallVec ℕ) → Contains es e → (t.taken ≡ e) ⊎ Contains after e
+  taken_or_stays e there = first_or_later e t.taken after (Contains-permutation es (t.taken ∷ after) e t.others there)
+
+  is_taken : Some place ≡ position (rows.eq-value.it row) (keys_of es) → row ≡ t.taken.0
+  is_taken found =
+      let at = position-Some (rows.eq-value.it row) (keys_of es) place t.taken.0 (sym found) in
+      (derived_row_eq-Decides row t.taken.0).0 (ap (λ k. rows.eq-value.it row k) (ap (λ e. e.0) t.at ∙ sym (key_at es place t.taken)) ∙ at.1)
+
+  gone : Some place ≡ position (rows.eq-value.it row) (keys_of es) → lookup (rows.eq-value.it t.taken.0) after ≡ None → (times : SmallVec ℕ) → Contains after (row, times) → ⊥
+  gone found none times there = absent (rows.eq-value.it t.taken.0) after none (row, times) there ((derived_row_eq-Decides t.taken.0 row).1 (sym (is_taken found)))
+
+  pub forgets_at : Some place ≡ position (rows.eq-value.it row) (keys_of es) → lookup (rows.eq-value.it t.taken.0) after ≡ None → HasNoRepeats (map (λ e. e.0) after) → KeepsRows (λ other. other ≡ row → ⊥) es after
+  forgets_at found none unique = record {
+    among = among_taken;
+    exact = λ other time. (
+      λ has. ((has.0, among_taken (other, has.0) has.1, has.2), λ same. gone found none has.0 (subst (λ r. Contains after (r, has.0)) same has.1)),
+      λ both. ⊎_elim (λ same. absurd (both.1 (sym (ap (λ e. e.0) same) ∙ sym (is_taken found)))) (λ behind. (both.0.0, behind, both.0.2)) (taken_or_stays (other, both.0.0) both.0.1),
+    );
+    unique = λ before. unique;
+  }
+
+  -- it goes out with times that are all past the end
+  pub ended_at : (interval : Interval) (now : ℕ) → ((time : ℕ) → Contains t.taken.1.items time → IsEnded interval.high now time) → Forgets interval now es after
+  ended_at interval now ended = record {
+    from = λ other time has. (has.0, among_taken (other, has.0) has.1, has.2);
+    behind = λ other time has. (has.0, among_taken (other, has.0) has.1, has.2);
+    serves = λ other time has. ⊎_elim (λ same. inr (ended time (subst (λ x. Contains x.1.items time) (sym same) has.2))) (λ stays. inl (itself interval.high interval.low now (HasTime after other) time (has.0, stays, has.2)))
+        (taken_or_stays (other, has.0) has.1);
+  }
+
+  pub settled_at : (high low now : ℕ) → Some place ≡ position (rows.eq-value.it row) (keys_of es) → lookup (rows.eq-value.it t.taken.0) after ≡ None → IsSettled high low now after row
+  settled_at high low now found none = λ time. (λ has. absurd (gone found none has.0 has.1), λ has. absurd (gone found none has.0 has.1))
+
+  pub kept_at : (long last : ℕ) → HasNoRepeats (map (λ e. e.0) after) → AreKept long last es → AreKept long last after
+  kept_at long last unique kept = kept_fewer long last es after kept among_taken unique
 
 pub forgets_missing : (row : List Value) (es : List (List Value × SmallVec ℕ)) → lookup (rows.eq-value.it row) es ≡ None → KeepsRows (λ other. other ≡ row → ⊥) es es
 forgets_missing row es none = record {
   among = λ e there. there;
   exact = λ other time. (λ has. (has, λ same. absent (rows.eq-value.it row) es none (other, has.0) has.1 ((derived_row_eq-Decides row other).1 (sym same))), λ both. both.0);
+  unique = λ unique. unique;
 }
+
+pub settled_missing : (high low now : ℕ) (row : List Value) (es : List (List Value × SmallVec ℕ)) → lookup (rows.eq-value.it row) es ≡ None → IsSettled high low now es row
+settled_missing high low now row es none = λ time. (λ has. absurd (not_there has.0 has.1), λ has. absurd (not_there has.0 has.1))
+  where
+    not_there : (times : SmallVec ℕ) → Contains es (row, times) → ⊥
+    not_there times there = absent (rows.eq-value.it row) es none (row, times) there ((derived_row_eq-Decides row row).1 refl)
 
 -- ---- what a table keeps
 
-module _ {F : Type 0} (T : F → List Value → SmallVec ℕ → Bool → SmallVec ℕ → F → Type 0) (S : List Value → Type 0) (f : F)
-    (says : (k : List Value) (v : SmallVec ℕ) (b : Bool) (w : SmallVec ℕ) (g : F) → T f k v b w g → (IsTrue b ↔ S k) × (w ≡ v) × (g ≡ f)) where
+module _ {F : Type 0} (T : F → List Value → SmallVec ℕ → Bool → SmallVec ℕ → F → Type 0) (S : List Value → Type 0) (X : Type 0) (f : F)
+    (says : (k : List Value) (v : SmallVec ℕ) (b : Bool) (w : SmallVec ℕ) (g : F) → T f k v b w g → (IsTrue b ↔ S k) × (w ≡ v) × (g ≡ f) × X) where
   stays : (es kept : List (List Value × SmallVec ℕ)) → RetainsPairs T f es kept → (e : List Value × SmallVec ℕ) → Contains kept e ↔ (Contains es e × S e.0)
   stays [] kept h e = (λ there. absurd (none_in_nil e (subst (λ l. Contains l e) h there)), λ both. absurd (none_in_nil e both.0))
   stays (x ∷ es) kept h e =
@@ -281,18 +427,20 @@ module _ {F : Type 0} (T : F → List Value → SmallVec ℕ → Bool → SmallV
         λ both. subst (λ l. Contains l e) (sym left) (⊎_elim (λ same. absurd (false≢true (tells.1 (subst (λ y. S y.0) (sym same) both.1)))) (λ behind. rest.1 (behind, both.1)) (first_or_later e x es both.0)),
       )
 
-  pub keeps_said : (es kept : List (List Value × SmallVec ℕ)) → RetainsPairs T f es kept → KeepsRows S es kept
-  keeps_said es kept h = record {
+  -- and what is known once the first is asked for
+  pub known_said : (es kept : List (List Value × SmallVec ℕ)) → RetainsPairs T f es kept → IsAnyRow es → X
+  known_said [] kept h any = absurd (none_in_nil any.0 any.1)
+  known_said (e ∷ es) kept h any = (says e.0 e.1 h.0 h.1 h.2 h.4).3
+
+  pub keeps_said : (es kept : List (List Value × SmallVec ℕ)) → RetainsPairs T f es kept → HasNoRepeats (map (λ e. e.0) kept) → KeepsRows S es kept
+  keeps_said es kept h unique = record {
+    unique = λ before. unique;
     among = λ e there. ((stays es kept h e).0 there).0;
     exact = λ row time. (
       λ has. let both = (stays es kept h (row, has.0)).0 has.1 in ((has.0, both.0, has.2), both.1),
       λ both. (both.0.0, (stays es kept h (row, both.0.0)).1 (both.0.1, both.1), both.0.2),
     );
   }
-
--- rows that stay fit as before
-pub kept_fewer : (long last : ℕ) (es after : List (List Value × SmallVec ℕ)) → AreKept long last es → ((e : List Value × SmallVec ℕ) → Contains after e → Contains es e) → AreKept long last after
-kept_fewer long last es after kept among = all_from (Fit long last) after (λ e there. All-contains (Fit long last) es e kept (among e there))
 
 pub some_at : {X : Type 0} (r : Option X) (x : X) (P : X → Type 0) → r ≡ Some x → IfSome r P → P x
 some_at None x P is holds = absurd (none-some x is)
@@ -302,49 +450,67 @@ pub item_there : (rows : List (List Value)) (i : ℕ) (row : List Value) → i <
 item_there rows i row below is = subst (Contains rows) (sym is) (Contains-get_or rows i row below)
 
 pub survive_all : (es : List (List Value × SmallVec ℕ)) → KeepsRows (λ row. Unit {0}) es es
-survive_all es = record { among = λ e there. there; exact = λ row time. (λ has. (has, tt), λ both. both.0) }
+survive_all es = record { among = λ e there. there; exact = λ row time. (λ has. (has, tt), λ both. both.0); unique = λ unique. unique }
 
 -- ---- what is given at a time
 
-pub gives_none : (interval : Interval) (now : ℕ) (S : List Value → Type 0) (out : List (List Value)) (row : List Value) → Contains out row ↔ (Contains out row ⊎ Gives interval now S [] row)
-gives_none interval now S out row = (λ there. inl there, λ either. ⊎_elim (λ there. there) (λ g. absurd (none_in_nil (row, g.0.0) g.0.1)) either)
+-- the rows that are out, and those that the rest of the entries give
+module _ (interval : Interval) (now : ℕ) (S : List Value → Type 0) (All : List Value → Type 0) (e : List Value × SmallVec ℕ) (left rest : List (List Value × SmallVec ℕ)) (is : left ≡ e ∷ rest) (out : List (List Value))
+    (so_far : (row : List Value) → (Contains out row ⊎ Gives interval now S left row) ↔ All row) where
+  given_later : (row : List Value) → Gives interval now S rest row → Gives interval now S left row
+  given_later row g = ((g.0.0, subst (λ l. Contains l (row, g.0.0)) (sym is) (later (row, g.0.0) e rest g.0.1), g.0.2), g.1)
 
-module _ (interval : Interval) (now : ℕ) (S : List Value → Type 0) (old : List (List Value)) (done : List (List Value × SmallVec ℕ)) (e : List Value × SmallVec ℕ) (out : List (List Value))
-    (so_far : (row : List Value) → Contains out row ↔ (Contains old row ⊎ Gives interval now S done row)) where
+  first_or_rest : (row : List Value) (times : SmallVec ℕ) → Contains left (row, times) → (e ≡ (row, times)) ⊎ Contains rest (row, times)
+  first_or_rest row times there = first_or_later (row, times) e rest (subst (λ l. Contains l (row, times)) is there)
+
   pub gives_more : (after : List (List Value)) (key : List Value) → key ≡ e.0 → IsSomeIn interval now e.1.items → S e.0 → after ≡ out ++ key ∷ []
-      → (row : List Value) → Contains after row ↔ (Contains old row ⊎ Gives interval now S (done ++ e ∷ []) row)
-  gives_more after key is some survives grown row = (
-    λ there. ⊎_elim
-        (λ before. ⊎_elim (λ o. inl o) (λ g. inr ((g.0.0, Contains-append_left done (e ∷ []) (row, g.0.0) g.0.1, g.0.2), g.1)) ((so_far row).0 before))
-        (λ last. let same : key ≡ row = ⊎_elim (λ h. h) (λ none. absurd (none_in_nil row none)) (first_or_later row key [] last) in
-        inr (subst (λ r. Gives interval now S (done ++ e ∷ []) r) (sym is ∙ same) ((e.1, Contains-push done e, some), survives)))
-        (Contains-append_cases out (key ∷ []) row (subst (λ l. Contains l row) grown there)),
-    λ either. subst (λ l. Contains l row) (sym grown) (⊎_elim
-        (λ o. Contains-append_left out (key ∷ []) row ((so_far row).1 (inl o)))
-        (λ g. ⊎_elim
-        (λ before. Contains-append_left out (key ∷ []) row ((so_far row).1 (inr ((g.0.0, before, g.0.2), g.1))))
-        (λ last. let same : e ≡ (row, g.0.0) = ⊎_elim (λ h. h) (λ none. absurd (none_in_nil (row, g.0.0) none)) (first_or_later (row, g.0.0) e [] last) in
-        subst (Contains (out ++ key ∷ [])) (is ∙ ap (λ x. x.0) same) (Contains-push out key))
-        (Contains-append_cases done (e ∷ []) (row, g.0.0) g.0.1))
-        either),
+      → (row : List Value) → (Contains after row ⊎ Gives interval now S rest row) ↔ All row
+  gives_more after key same some survives grown row = (
+    λ either. ⊎_elim
+        (λ there. ⊎_elim (λ before. (so_far row).0 (inl before))
+        (λ last. let is_row : key ≡ row = ⊎_elim (λ h. h) (λ none. absurd (none_in_nil row none)) (first_or_later row key [] last) in
+        (so_far row).0 (inr (subst (Gives interval now S left) (sym same ∙ is_row) ((e.1, subst (λ l. Contains l e) (sym is) (here e rest), some), survives))))
+        (Contains-append_cases out (key ∷ []) row (subst (λ l. Contains l row) grown there)))
+        (λ g. (so_far row).0 (inr (given_later row g))) either,
+    λ all. ⊎_elim (λ before. inl (subst (λ l. Contains l row) (sym grown) (Contains-append_left out (key ∷ []) row before)))
+        (λ g. ⊎_elim (λ first. inl (subst (λ l. Contains l row) (sym grown) (subst (Contains (out ++ key ∷ [])) (same ∙ ap (λ x. x.0) first) (Contains-push out key)))) (λ behind. inr ((g.0.0, behind, g.0.2), g.1)) (first_or_rest row g.0.0 g.0.1))
+        ((so_far row).1 all),
   )
 
-  pub gives_no_more : (after : List (List Value)) → (IsSomeIn interval now e.1.items × S e.0 → ⊥) → after ≡ out → (row : List Value) → Contains after row ↔ (Contains old row ⊎ Gives interval now S (done ++ e ∷ []) row)
-  gives_no_more after not_it same row = (
-    λ there. ⊎_elim (λ o. inl o) (λ g. inr ((g.0.0, Contains-append_left done (e ∷ []) (row, g.0.0) g.0.1, g.0.2), g.1)) ((so_far row).0 (subst (λ l. Contains l row) same there)),
-    λ either. subst (λ l. Contains l row) (sym same) (⊎_elim
-        (λ o. (so_far row).1 (inl o))
-        (λ g. ⊎_elim
-        (λ before. (so_far row).1 (inr ((g.0.0, before, g.0.2), g.1)))
-        (λ last. let is : e ≡ (row, g.0.0) = ⊎_elim (λ h. h) (λ none. absurd (none_in_nil (row, g.0.0) none)) (first_or_later (row, g.0.0) e [] last) in
-        absurd (not_it (subst (λ x. IsSomeIn interval now x.1.items × S x.0) (sym is) (g.0.2, g.1))))
-        (Contains-append_cases done (e ∷ []) (row, g.0.0) g.0.1))
-        either),
+  pub gives_no_more : (IsSomeIn interval now e.1.items × S e.0 → ⊥) → (row : List Value) → (Contains out row ⊎ Gives interval now S rest row) ↔ All row
+  gives_no_more not_it row = (
+    λ either. (so_far row).0 (⊎_elim (λ before. inl before) (λ g. inr (given_later row g)) either),
+    λ all. ⊎_elim (λ before. inl before)
+        (λ g. ⊎_elim (λ first. absurd (not_it (subst (λ x. IsSomeIn interval now x.1.items × S x.0) (sym first) (g.0.2, g.1)))) (λ behind. inr ((g.0.0, behind, g.0.2), g.1)) (first_or_rest row g.0.0 g.0.1))
+        ((so_far row).1 all),
   )
 
-pub not_missing : {X : Type 0} (r : Option X) → ((x : X) → r ≡ Some x → ⊥) → IsSome r → ⊥
-not_missing None not_some is = absurd (false≢true is)
-not_missing (Some x) not_some is = not_some x refl
+pub gives_all : (interval : Interval) (now : ℕ) (S : List Value → Type 0) (All : List Value → Type 0) (left : List (List Value × SmallVec ℕ)) (out : List (List Value)) → left ≡ []
+    → ((row : List Value) → (Contains out row ⊎ Gives interval now S left row) ↔ All row) → (row : List Value) → Contains out row ↔ All row
+gives_all interval now S All left out is so_far row = (
+  λ there. (so_far row).0 (inl there),
+  λ all. ⊎_elim (λ there. there) (λ g. absurd (none_in_nil (row, g.0.0) (subst (λ l. Contains l (row, g.0.0)) is g.0.1))) ((so_far row).1 all),
+)
+
+-- what is known once some row is given
+pub given_more : (interval : Interval) (now : ℕ) (X Given : Type 0) (e : List Value × SmallVec ℕ) (left rest : List (List Value × SmallVec ℕ)) → left ≡ e ∷ rest → (IsSomeIn interval now e.1.items → X)
+    → (Given → X ⊎ HasGiven interval now left) → Given → X ⊎ HasGiven interval now rest
+given_more interval now X Given e left rest is first before given = ⊎_elim (λ known. inl known)
+    (λ g. ⊎_elim (λ same. inl (first (subst (λ x. IsSomeIn interval now x.1.items) (sym same) g.1.0.2))) (λ behind. inr (g.0, ((g.1.0.0, behind, g.1.0.2), tt)))
+    (first_or_later (g.0, g.1.0.0) e rest (subst (λ l. Contains l (g.0, g.1.0.0)) is g.1.0.1))) (before given)
+
+-- the first of the rest is put last
+pub moves_on : (All : List Value → Type 0) (x : List Value) (left rest out after : List (List Value)) (key : List Value) → left ≡ x ∷ rest → key ≡ x → after ≡ out ++ key ∷ []
+    → ((row : List Value) → (Contains out row ⊎ Contains left row) ↔ All row) → (row : List Value) → (Contains after row ⊎ Contains rest row) ↔ All row
+moves_on All x left rest out after key is same grown so_far row = (
+  λ either. (so_far row).0 (⊎_elim
+      (λ there. ⊎_elim (λ before. inl before) (λ last. inr (subst (λ l. Contains l row) (sym is) (⊎_elim (λ h. (0, omega arith, sym same ∙ h)) (λ none. absurd (none_in_nil row none)) (first_or_later row key [] last))))
+      (Contains-append_cases out (key ∷ []) row (subst (λ l. Contains l row) grown there)))
+      (λ behind. inr (subst (λ l. Contains l row) (sym is) (later row x rest behind))) either),
+  λ all. ⊎_elim (λ before. inl (subst (λ l. Contains l row) (sym grown) (Contains-append_left out (key ∷ []) row before)))
+      (λ there. ⊎_elim (λ first. inl (subst (λ l. Contains l row) (sym grown) (subst (Contains (out ++ key ∷ [])) (same ∙ first) (Contains-push out key)))) (λ behind. inr behind)
+      (first_or_later row x rest (subst (λ l. Contains l row) is there))) ((so_far row).1 all),
+)
 
 -- rows that are put last
 pub grows : (old done : List (List Value)) (row : List Value) (out after : List (List Value)) (key : List Value) → ((r : List Value) → Contains out r ↔ (Contains old r ⊎ Contains done r)) → key ≡ row → after ≡ out ++ key ∷ []
@@ -360,27 +526,6 @@ grows old done row out after key so_far is grown r = (
       (λ last. Contains-append_right out (key ∷ []) r (subst (λ k. Contains (k ∷ []) r) (sym is) last)) (Contains-append_cases done (row ∷ []) r d))
       either),
 )
-
-pub kept_later : (long last now : ℕ) (es : List (List Value × SmallVec ℕ)) → last ≤ now → AreKept long last es → AreKept long now es
-kept_later long last now es below kept = all_from (Fit long now) es (λ e there. let fit = All-contains (Fit long last) es e kept there in (fit.0, rise_later last now e.1.items below fit.1))
-
--- ---- what is past the end
-
-pub drops_none : (high : Option ℕ) (now : ℕ) (es : List (List Value × SmallVec ℕ)) → DropsEnded high now es es
-drops_none high now es = record { among = λ e there. there; rest = λ row time has. inl has }
-
-pub drops_then : (high : Option ℕ) (now : ℕ) (es middle after : List (List Value × SmallVec ℕ)) → DropsEnded high now es middle → DropsEnded high now middle after → DropsEnded high now es after
-drops_then high now es middle after first second = record {
-  among = λ e there. first.among e (second.among e there);
-  rest = λ row time has. ⊎_elim (λ mid. second.rest row time mid) (λ ended. inr ended) (first.rest row time has);
-}
-
-pub drops_at : (high : Option ℕ) (now : ℕ) (es after : List (List Value × SmallVec ℕ)) (place : ℕ) (t : TakesAt es after place) → ((time : ℕ) → Contains t.taken.1.items time → IsEnded high now time) → DropsEnded high now es after
-drops_at high now es after place t ended = record {
-  among = λ e there. Contains-permutation (t.taken ∷ after) es e (IsPermutation-sym es (t.taken ∷ after) t.others) (later e t.taken after there);
-  rest = λ row time has. ⊎_elim (λ same. inr (ended time (subst (λ x. Contains x.1.items time) (sym same) has.2))) (λ behind. inl (has.0, behind, has.2))
-      (first_or_later (row, has.0) t.taken after (Contains-permutation es (t.taken ∷ after) (row, has.0) t.others has.1));
-}
 
 -- the times at a place
 pub times_at : (es : List (List Value × SmallVec ℕ)) (place : ℕ) (d : List Value × SmallVec ℕ) (times : SmallVec ℕ) → place < length es → slice_get (values_of es) place ≡ Some times → (get_or es place d).1 ≡ times

@@ -26,7 +26,7 @@ single_split (m ∷ middle) after x y e = absurd (omega (arith, ap length e, len
 front_all : {X : Type 0} (P : X → Type 0) (xs ys : List X) → All P (xs ++ ys) → All P xs
 front_all P xs ys all k d within = All-contains P (xs ++ ys) (get_or xs k d) all (Contains-append_left xs ys (get_or xs k d) (Contains-get_or xs k d within))
 
-none_held : (C : ℕ → Type 0) (v : Valuation) → IsHeld C [] v → ⊥
+pub none_held : (C : ℕ → Type 0) (v : Valuation) → IsHeld C [] v → ⊥
 none_held C v h = omega (arith, ap length h.split, length-append h.before (h.step ∷ h.after))
 
 held_from : (C : ℕ → Type 0) (steps : List CommittedStep) (step : CommittedStep) (v : Valuation)

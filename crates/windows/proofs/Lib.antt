@@ -1,4 +1,7 @@
 pub mod HeldLemmas
+pub mod LeastLemmas
+pub mod PairLemmas
+pub mod RestoreLemmas
 pub mod CarryingLemmas
 pub mod SlotLemmas
 pub mod CaseLemmas
@@ -6,3 +9,11 @@ pub mod WalkLemmas
 pub mod WindowLemmas
 pub mod TimeLemmas
 pub mod EntryLemmas
+pub mod QueueLemmas
+pub mod ExpiryLemmas
+pub mod StandLemmas
+pub mod QueryLemmas
+pub mod AskingLemmas
+pub mod SmallWindow
+pub mod CopyLemmas
+pub mod UnderLemmas

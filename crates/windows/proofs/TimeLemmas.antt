@@ -1,96 +1,187 @@
 -- The times of one row.
-use Rattle.std.proofs.Common.{◌≡◌, ◌∙◌, inl, inr, ⊎_elim, ℕ, zero, suc, ◌+◌, ◌-◌, ◌<◌, ◌≤◌, ◌==◌, false, List, [], ◌∷◌, ◌++◌, length, take, get_or, Contains, None, Some, refl, sym, ap, subst, arith}
-use Rattle.std.proofs.lemmas.Bool.{false≢true}
-use Rattle.std.proofs.lemmas.List.Elements.{All-contains, All-nil, All-push, Contains-append_cases, Contains-append_left, Contains-push}
-use Rattle.std.specs.Prelude.{remove, slice_get}
+use Rattle.std.proofs.Common.{◌≡◌, ◌∙◌, ◌⊎◌, inl, inr, ⊎_elim, ℕ, zero, suc, ◌+◌, ◌-◌, ◌<◌, ◌≤◌, List, [], ◌∷◌, ◌++◌, length, take, drop, get_or, All, Contains, Option, None, Some, refl, sym, ap, subst, arith}
+use Rattle.std.proofs.lemmas.List.Elements.{All-contains, All-nil, All-push, Contains-append_cases, Contains-append_left, Contains-get_or, Contains-push}
+use Rattle.std.specs.Prelude.{slice_get}
 use Rattle.std.proofs.lemmas.Option.{same_Some, none-some}
 use Rattle.enf_value.specs.declared.intervals.Interval.{Interval}
 use Rattle.valuations.specs.Columns.{here, later, first_or_later, none_in_nil, there_from_get}
 use Rattle.enf_value.specs.Membership.{IsIn}
-use Rattle.std.proofs.lemmas.List.{take_all, take_more}
-use Rattle.windows.specs.Pairs.{AddsTime, ForgetsPassed, IsServed, IsSomeIn, RiseTo}
+use Rattle.std.proofs.lemmas.List.{drop_all, drop_more, take_all, take_more}
+use Rattle.windows.specs.Pairs.{AddsAtMost, AddsTime, ForgetsTimes, IsSomeIn}
+use Rattle.windows.specs.Times.{IsEnded, IsLeast, IsServed, RiseTo}
+
+pub all_from : {X : Type 0} (P : X → Type 0) (xs : List X) → ((x : X) → Contains xs x → P x) → All P xs
+all_from P xs each k d below = each (get_or xs k d) (Contains-get_or xs k d below)
+
+equal_or_below : (a b : ℕ) → a ≤ b → (a ≡ b) ⊎ (a < b)
+equal_or_below zero zero below = inl refl
+equal_or_below zero (suc b) below = inr (omega arith)
+equal_or_below (suc a) zero below = absurd (omega (arith, below))
+equal_or_below (suc a) (suc b) below = ⊎_elim (λ same. inl (ap suc same)) (λ less. inr (omega (arith, less))) (equal_or_below a b (omega (arith, below)))
+
+-- ---- times that rise
 
 -- none is later than the last
 pub up_to : (last : ℕ) (times : List ℕ) (time : ℕ) → RiseTo last times → Contains times time → time ≤ last
 up_to last [] time rise there = absurd (none_in_nil time there)
-up_to last (t ∷ times) time rise there = ⊎_elim (λ same. omega (arith, rise.0)) (λ behind. up_to last times time rise.2 behind) (first_or_later time t times there)
+up_to last (t ∷ times) time rise there = ⊎_elim (λ same. omega (arith, rise.0, same)) (λ behind. up_to last times time rise.2 behind) (first_or_later time t times there)
 
 pub rise_later : (last now : ℕ) (times : List ℕ) → last ≤ now → RiseTo last times → RiseTo now times
 rise_later last now [] below rise = tt
-rise_later last now (t ∷ times) below rise = (omega (arith, rise.0), rise.1, rise_later last now times below rise.2)
+rise_later last now (t ∷ times) below rise = (omega (arith, rise.0, below), rise.1, rise_later last now times below rise.2)
 
 -- the time now goes last
-pub rise_push : (now : ℕ) (times : List ℕ) → RiseTo now times → RiseTo now (times ++ now ∷ [])
-rise_push now [] rise = (omega arith, All-nil _, tt)
-rise_push now (t ∷ times) rise = (rise.0, All-push (λ l. t ≤ l) times now rise.1 rise.0, rise_push now times rise.2)
+pub rise_push : (now : ℕ) (times : List ℕ) → RiseTo now times → (Contains times now → ⊥) → RiseTo now (times ++ now ∷ [])
+rise_push now [] rise absent = (omega arith, All-nil _, tt)
+rise_push now (t ∷ times) rise absent = (
+  rise.0,
+  All-push (λ l. t < l) times now rise.1 (⊎_elim (λ same. absurd (absent (0, omega arith, same))) (λ less. less) (equal_or_below t now rise.0)),
+  rise_push now times rise.2 (λ behind. absent (later now t times behind)),
+)
 
--- ---- what is passed is forgotten
+-- ---- the least times
 
-pub forgets_none : (low now : ℕ) (times : List ℕ) → ForgetsPassed low now times times
-forgets_none low now times = record { from = λ time there. there; serves = λ time there. (time, omega arith, inl refl, there) }
+-- none of them is past the end, and none but the first is far enough
+pub least_live : (high low now : ℕ) (times : List ℕ) → RiseTo now times → IsLeast (Some high) low now times → (time : ℕ) → Contains times time → now - time ≤ high
+least_live high low now [] rise least time there = absurd least
+least_live high low now (t ∷ times) rise least time there = ⊎_elim (λ same. omega (arith, least.0, same)) (λ behind.
+    let above : t < time = All-contains (λ l. t < l) times time rise.1 behind in omega (arith, least.0, above)) (first_or_later time t times there)
 
--- the first of two, where the second is far enough
-pub rise_tail : (now : ℕ) (times : List ℕ) → 2 ≤ length times → RiseTo now times → RiseTo now (remove times 0)
-rise_tail now [] long rise = tt
-rise_tail now (t ∷ times) long rise = rise.2
+pub least_near : (high low now : ℕ) (times : List ℕ) → IsLeast (Some high) low now times → (time : ℕ) → Contains (drop 1 times) time → now - time < low
+least_near high low now [] least time there = absurd least
+least_near high low now (t ∷ times) least time there = All-contains (λ l. now - l < low) times time least.1 there
 
-pub forgets_first : (low now : ℕ) (before times : List ℕ) (d : ℕ) → 2 ≤ length times → low ≤ now - get_or times 1 d → RiseTo now times
-    → ForgetsPassed low now before times → ForgetsPassed low now before (remove times 0)
-forgets_first low now before [] d long far rise forgets = absurd (omega (arith, long))
-forgets_first low now before (t ∷ []) d long far rise forgets = absurd (omega (arith, long))
-forgets_first low now before (t ∷ u ∷ times) d long far rise forgets = record {
-  from = λ time there. forgets.from time (later time t (u ∷ times) there);
-  serves = λ time there. let by = forgets.serves time there in
-      ⊎_elim (λ first. (u, omega (arith, by.1, first_le, first), inr far, here u times)) (λ behind. (by.0, by.1, by.2, behind)) (first_or_later by.0 t (u ∷ times) by.3);
-}
-  where
-    first_le : t ≤ u
-    first_le = All-contains (λ l. t ≤ l) (u ∷ times) u rise.1 (here u times)
+-- and so they are the least
+pub least_from : (high low now : ℕ) (times : List ℕ) → 0 < length times → ((time : ℕ) → Contains times time → now - time ≤ high) → ((time : ℕ) → Contains (drop 1 times) time → now - time < low)
+    → IsLeast (Some high) low now times
+least_from high low now [] some live near = omega (arith, some)
+least_from high low now (t ∷ times) some live near = (live t (here t times), all_from (λ l. now - l < low) times near)
 
--- ---- a time is added
+pub some_least : (high : Option ℕ) (low now : ℕ) (times : List ℕ) → IsLeast high low now times → 0 < length times
+some_least None low now [] least = absurd least
+some_least (Some high) low now [] least = absurd least
+some_least high low now (t ∷ times) least = omega arith
 
-pub adds_by : (interval : Interval) (now : ℕ) (before after : List ℕ) → (high : ℕ) → interval.high ≡ Some high → ForgetsPassed interval.low now (before ++ now ∷ []) after → AddsTime interval now before after
-adds_by interval now before after high is forgets = record {
-  from = λ time there. ⊎_elim (λ b. inl b) (λ n. ⊎_elim (λ e. inr (sym e)) (λ b. absurd (none_in_nil time b)) (first_or_later time now [] n)) (Contains-append_cases before (now ∷ []) time (forgets.from time there));
-  serves = λ time there. subst (λ h. IsServed h interval.low now (Contains after) time) (sym is) (forgets.serves time (Contains-append_left before (now ∷ []) time there));
-  added = subst (λ h. IsServed h interval.low now (Contains after) now) (sym is) (forgets.serves now (Contains-push before now));
-}
-
--- the time is there already
-pub adds_none : (interval : Interval) (now : ℕ) (before after : List ℕ) → (high : ℕ) → interval.high ≡ Some high → Contains before now → after ≡ before → AddsTime interval now before after
-adds_none interval now before after high is there same = subst (AddsTime interval now before) (sym same) (record {
-  from = λ time b. inl b;
-  serves = λ time b. subst (λ h. IsServed h interval.low now (Contains before) time) (sym is) (time, omega arith, inl refl, b);
-  added = subst (λ h. IsServed h interval.low now (Contains before) now) (sym is) (now, omega arith, inl refl, there);
-})
-
--- an interval without end
-pub adds_earliest : (interval : Interval) (now : ℕ) (before after : List ℕ) → interval.high ≡ None → before ≡ [] → after ≡ before ++ now ∷ [] → AddsTime interval now before after
-adds_earliest interval now before after is empty grown = record {
-  from = λ time there. inr (⊎_elim (λ e. sym e) (λ b. absurd (none_in_nil time b)) (first_or_later time now [] (subst (λ l. Contains l time) one there)));
-  serves = λ time b. absurd (none_in_nil time (subst (λ l. Contains l time) empty b));
-  added = subst (λ h. IsServed h interval.low now (Contains after) now) (sym is) (now, omega arith, subst (λ l. Contains l now) (sym one) (here now []));
-}
-  where
-    one : after ≡ now ∷ []
-    one = grown ∙ ap (λ l. l ++ now ∷ []) empty
-
-first_of : (times : List ℕ) → 0 < length times → (time : ℕ) × Contains times time
+pub first_of : (times : List ℕ) → 0 < length times → (time : ℕ) × Contains times time
 first_of [] some = absurd (omega (arith, some))
 first_of (t ∷ times) some = (t, here t times)
 
-pub adds_no_later : (interval : Interval) (now : ℕ) (before after : List ℕ) → interval.high ≡ None → 0 < length before → RiseTo now before → after ≡ before → AddsTime interval now before after
-adds_no_later interval now before after is some rise same =
-    let first = first_of before some in
-    subst (AddsTime interval now before) (sym same) (record {
-      from = λ time b. inl b;
-      serves = λ time b. subst (λ h. IsServed h interval.low now (Contains before) time) (sym is) (time, omega arith, b);
-      added = subst (λ h. IsServed h interval.low now (Contains before) now) (sym is) (first.0, up_to now before first.0 rise first.1, first.1);
-    })
+-- ---- what is passed is forgotten
 
-pub not_empty : (times : List ℕ) → (length times == 0) ≡ false → 0 < length times
-not_empty [] e = absurd (false≢true (sym e))
-not_empty (t ∷ times) e = omega arith
+forgets_none : (high low now : ℕ) (times : List ℕ) → ForgetsTimes high low now times times
+forgets_none high low now times = record { from = λ time there. there; behind = λ time there. there; serves = λ time there. inl (time, omega arith, inl refl, there) }
+
+forgets_first : (high low now : ℕ) (before : List ℕ) (a b : ℕ) (times : List ℕ) → a < b → (high < now - a) ⊎ (low ≤ now - b) → ForgetsTimes high low now before (a ∷ b ∷ times)
+    → ForgetsTimes high low now before (b ∷ times)
+forgets_first high low now before a b times rises passed forgets = record {
+  from = λ time there. forgets.from time (later time a (b ∷ times) there);
+  behind = λ time there. forgets.behind time (later time b times there);
+  serves = λ time there. ⊎_elim
+      (λ by. ⊎_elim
+      (λ first. ⊎_elim (λ ended. inr (omega (arith, by.1, first, ended))) (λ far. inl (b, omega (arith, by.1, first, rises), inr far, here b times)) passed)
+      (λ behind. inl (by.0, by.1, by.2, behind)) (first_or_later by.0 a (b ∷ times) by.3))
+      (λ ended. inr ended) (forgets.serves time there);
+}
+
+-- how far the front is passed
+pub record Passes (high low now : ℕ) (times left : List ℕ) : Type 0 where
+  pub rise : RiseTo now left
+  pub forgets : ForgetsTimes high low now times left
+
+pub passes_none : (high low now : ℕ) (times : List ℕ) → RiseTo now times → Passes high low now times times
+passes_none high low now times rise = record { rise = rise; forgets = forgets_none high low now times }
+
+two_at : (times : List ℕ) (i d e : ℕ) → i + 1 < length times → drop i times ≡ get_or times i d ∷ get_or times (i + 1) e ∷ drop (i + 1 + 1) times
+two_at times i d e below = drop_more times i d (omega (arith, below)) ∙ ap (λ l. get_or times i d ∷ l) (drop_more times (i + 1) e below)
+
+pub passes_more : (high low now : ℕ) (times : List ℕ) (i d e : ℕ) → i + 1 < length times → (high < now - get_or times i d) ⊎ (low ≤ now - get_or times (i + 1) e)
+    → Passes high low now times (drop i times) → Passes high low now times (drop (i + 1) times)
+passes_more high low now times i d e below passed passes =
+    let two = two_at times i d e below in
+    let next = drop_more times (i + 1) e below in
+    let rise = subst (RiseTo now) two passes.rise in record {
+      rise = subst (RiseTo now) (sym next) rise.2;
+      forgets = subst (ForgetsTimes high low now times) (sym next)
+          (forgets_first high low now times (get_or times i d) (get_or times (i + 1) e) (drop (i + 1 + 1) times)
+          (All-contains (λ l. get_or times i d < l) (get_or times (i + 1) e ∷ drop (i + 1 + 1) times) (get_or times (i + 1) e) rise.1 (here _ _)) passed
+          (subst (ForgetsTimes high low now times) two passes.forgets));
+    }
+
+-- one that is not past the end has one that is left
+live_left : (high low now : ℕ) (times left : List ℕ) → ForgetsTimes high low now times left → (time : ℕ) × Contains times time × (now - time ≤ high) → (time : ℕ) × Contains left time × (now - time ≤ high)
+live_left high low now times left forgets live =
+    ⊎_elim (λ by. (by.0, by.3, omega (arith, by.1, live.2))) (λ ended. absurd (omega (arith, ended, live.2))) (forgets.serves live.0 live.1)
+
+-- the last alone
+pub passes_all : (high low now : ℕ) (times : List ℕ) (i : ℕ) → i < length times → length times ≤ i + 1 → Passes high low now times (drop i times) → (time : ℕ) × Contains times time × (now - time ≤ high)
+    → IsLeast (Some high) low now (drop i times)
+passes_all high low now times i within all passes live =
+    let one : drop i times ≡ get_or times i 0 ∷ [] = drop_more times i 0 within ∙ ap (λ l. get_or times i 0 ∷ l) (drop_all (i + 1) times all) in
+    let left = live_left high low now times (drop i times) passes.forgets live in
+    subst (IsLeast (Some high) low now) (sym one)
+    (⊎_elim (λ same. omega (arith, same, left.2)) (λ none. absurd (none_in_nil left.0 none)) (first_or_later left.0 (get_or times i 0) [] (subst (λ l. Contains l left.0) one left.1)), All-nil _)
+
+-- the first is not past the end, and the second not far enough
+pub passes_enough : (high low now : ℕ) (times : List ℕ) (i d e : ℕ) → i + 1 < length times → now - get_or times i d ≤ high → now - get_or times (i + 1) e < low → Passes high low now times (drop i times)
+    → IsLeast (Some high) low now (drop i times)
+passes_enough high low now times i d e below live near passes =
+    let two = two_at times i d e below in
+    let rise = subst (RiseTo now) two passes.rise in
+    subst (IsLeast (Some high) low now) (sym two) (
+      live,
+      all_from (λ l. now - l < low) (get_or times (i + 1) e ∷ drop (i + 1 + 1) times) (λ time there.
+          ⊎_elim (λ same. omega (arith, same, near)) (λ behind.
+          let above : get_or times (i + 1) e < time = All-contains (λ l. get_or times (i + 1) e < l) (drop (i + 1 + 1) times) time rise.2.1 behind in omega (arith, above, near))
+          (first_or_later time (get_or times (i + 1) e) (drop (i + 1 + 1) times) there)),
+    )
+
+-- ---- a time is added
+
+pub adds_at_most_none : (now : ℕ) (times after : List ℕ) → after ≡ times → AddsAtMost now times after
+adds_at_most_none now times after same = subst (AddsAtMost now times) (sym same) (record { from = λ time there. inl there; behind = λ time there. inl there })
+
+pushed : (now : ℕ) (times : List ℕ) (time : ℕ) → Contains (times ++ now ∷ []) time → Contains times time ⊎ (time ≡ now)
+pushed now times time there = ⊎_elim (λ before. inl before) (λ last. inr (⊎_elim (λ same. sym same) (λ none. absurd (none_in_nil time none)) (first_or_later time now [] last))) (Contains-append_cases times (now ∷ []) time there)
+
+pushed_behind : (now : ℕ) (times : List ℕ) (time : ℕ) → Contains (drop 1 (times ++ now ∷ [])) time → Contains (drop 1 times) time ⊎ (time ≡ now)
+pushed_behind now [] time there = absurd (none_in_nil time there)
+pushed_behind now (t ∷ times) time there = pushed now times time there
+
+pub adds_at_most : (high low now : ℕ) (before after : List ℕ) → ForgetsTimes high low now (before ++ now ∷ []) after → AddsAtMost now before after
+adds_at_most high low now before after forgets = record {
+  from = λ time there. pushed now before time (forgets.from time there);
+  behind = λ time there. pushed_behind now before time (forgets.behind time there);
+}
+
+pub adds_by : (interval : Interval) (now : ℕ) (before after : List ℕ) (high : ℕ) → interval.high ≡ Some high → ForgetsTimes high interval.low now (before ++ now ∷ []) after → AddsTime interval now before after
+adds_by interval now before after high is forgets = record {
+  serves = λ time there. subst (λ h. IsServed h interval.low now (Contains after) time ⊎ IsEnded h now time) (sym is) (forgets.serves time (Contains-append_left before (now ∷ []) time there));
+  added = subst (λ h. IsServed h interval.low now (Contains after) now) (sym is) (⊎_elim (λ by. by) (λ ended. absurd (omega (arith, ended))) (forgets.serves now (Contains-push before now)));
+}
+
+pub itself : (high : Option ℕ) (low now : ℕ) (P : ℕ → Type 0) (time : ℕ) → P time → IsServed high low now P time
+itself None low now P time there = (time, omega arith, there)
+itself (Some high) low now P time there = (time, omega arith, inl refl, there)
+
+-- the time is there already
+pub adds_none : (interval : Interval) (now : ℕ) (before after : List ℕ) → Contains before now → after ≡ before → AddsTime interval now before after
+adds_none interval now before after there same = subst (AddsTime interval now before) (sym same) (record {
+  serves = λ time b. inl (itself interval.high interval.low now (Contains before) time b);
+  added = itself interval.high interval.low now (Contains before) now there;
+})
+
+-- an interval without end has an earlier one
+pub adds_no_later : (interval : Interval) (now : ℕ) (before after : List ℕ) → ((high : ℕ) → interval.high ≡ Some high → ⊥) → RiseTo now before → IsLeast interval.high interval.low now before → after ≡ before → AddsTime interval now before after
+adds_no_later interval now before after endless rise least same =
+    let first = first_of before (some_least interval.high interval.low now before least) in
+    subst (AddsTime interval now before) (sym same) (record {
+      serves = λ time b. inl (itself interval.high interval.low now (Contains before) time b);
+      added = subst (λ h. IsServed h interval.low now (Contains before) now) (sym (no_end interval.high endless)) (first.0, up_to now before first.0 rise first.1, first.1);
+    })
+  where
+    no_end : (high : Option ℕ) → ((x : ℕ) → high ≡ Some x → ⊥) → high ≡ None
+    no_end None not_some = refl
+    no_end (Some x) not_some = absurd (not_some x refl)
 
 -- ---- a time at a distance in the interval
 
@@ -110,7 +201,7 @@ rise_latest last (u ∷ []) d rise time there = ⊎_elim (λ same. omega (arith,
 rise_latest last (u ∷ w ∷ times) d rise time there =
     let place : suc (length times) ≡ length (u ∷ w ∷ times) - 1 = omega arith in
     let inner : length (w ∷ times) - 1 ≡ length times = omega arith in
-    let first : u ≤ w = All-contains (λ l. u ≤ l) (w ∷ times) w rise.1 (here w times) in
+    let first : u < w = All-contains (λ l. u < l) (w ∷ times) w rise.1 (here w times) in
     let later_ones : (t : ℕ) → Contains (w ∷ times) t → t ≤ get_or (w ∷ times) (length times) d = (λ t behind. subst (λ n. t ≤ get_or (w ∷ times) n d) inner (rise_latest last (w ∷ times) d rise.2 t behind)) in
     subst (λ n. time ≤ get_or (u ∷ w ∷ times) n d) place
     (⊎_elim (λ same. let far = later_ones w (here w times) in omega (arith, same, first, far)) (λ behind. later_ones time behind) (first_or_later time u (w ∷ times) there))

@@ -7,7 +7,9 @@ use Rattle.enf_value.specs.declared.values.Value.{Value}
 use Rattle.enf_value.specs.declared.values.Value.TheVariants.{Num}
 use Rattle.valuations.specs.Tables.{Relation, valuation_of}
 use Rattle.windows.specs.Answers.{Answers, at}
+use Rattle.windows.specs.Kept.{Kept}
 use Rattle.windows.specs.Slots.{GivesLast, with_rows}
+use Rattle.windows.specs.Windows.{Window, Keeps, Remembers}
 use Rattle.windows.specs.declared.steps.CommittedStep.{CommittedStep}
 use Rattle.windows.specs.declared.steps.LastStep.{LastStep}
 
@@ -82,6 +84,43 @@ at_one_time = entry 4 [] (1 ∷ []) ∷ entry 4 (1 ∷ []) [] ∷ []
 -- 1 is right at time 3 alone, and does not survive there
 abbrev pub right_now : List Entry
 right_now = entry 0 (1 ∷ []) [] ∷ entry 3 [] (1 ∷ []) ∷ []
+
+-- the steps, the last of which was at the time `last`, ask for the number to be kept with the time
+abbrev pub IsKept : Interval → ℕ → List Entry → ℕ → ℕ → Type 0
+IsKept interval last entries n time = Kept interval last (map step_of entries) (number n) time
+
+abbrev pub IsNotKept : Interval → ℕ → List Entry → ℕ → ℕ → Type 0
+IsNotKept interval last entries n time = IsKept interval last entries n time → ⊥
+
+-- the first step of two at time 4 is right for 1, which does not survive the second
+abbrev pub dies_at_once : List Entry
+dies_at_once = entry 4 [] (1 ∷ []) ∷ entry 4 [] [] ∷ []
+
+-- a window with the number 1, right at this time
+abbrev pub with_1 : Interval → ℕ → Window
+with_1 interval time = record { interval = interval; columns = columns; last = time; kept = (row 1, time ∷ []) ∷ [] }
+
+-- it remembers the number at a later time
+abbrev pub IsRemembered : Interval → ℕ → ℕ → ℕ → Type 0
+IsRemembered interval time later n = Remembers (with_1 interval time) later (number n)
+
+abbrev pub IsNotRemembered : Interval → ℕ → ℕ → ℕ → Type 0
+IsNotRemembered interval time later n = IsRemembered interval time later n → ⊥
+
+-- and keeps it for that time or a later one
+abbrev pub IsKeptFor : Interval → ℕ → ℕ → ℕ → Type 0
+IsKeptFor interval time later n = Keeps (with_1 interval time) later (number n)
+
+abbrev pub IsNotKeptFor : Interval → ℕ → ℕ → ℕ → Type 0
+IsNotKeptFor interval time later n = IsKeptFor interval time later n → ⊥
+
+-- 1 is right at time 3, the only step
+abbrev pub right_at_3 : List CommittedStep
+right_at_3 = step_of (entry 3 [] (1 ∷ [])) ∷ []
+
+-- that window at a later time
+abbrev pub at_last : ℕ → Window → Window
+at_last last window = record window { last = last }
 
 -- the last step, of these numbers at this time, gives the number
 abbrev pub IsGivenBy : Interval → ℕ → Option LastStep → ℕ → Type 0

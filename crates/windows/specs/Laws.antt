@@ -5,8 +5,11 @@ use Rattle.enf_value.specs.Valuations.{Valuation}
 use Rattle.enf_value.specs.declared.intervals.Interval.{Interval}
 use Rattle.valuations.specs.Tables.{Has, Relation}
 use Rattle.windows.specs.Answers.{Answers, HasColumns, Lasts, at}
-use Rattle.windows.specs.Windows.{Window, Remembers, Keeps, IsCommitted, GoesOnStanding}
+use Rattle.windows.specs.Kept.{ChosenBy}
+use Rattle.windows.specs.Windows.{Window, HasRow, KeepsLeast, Remembers, Keeps}
+use Rattle.windows.specs.Windows.{AnswersBy, IsCommittedBy, IsWalkedNow, GoesOnStanding, SurvivesFor, TellsFor}
 use Rattle.windows.specs.declared.steps.CommittedStep.{CommittedStep}
+use Rattle.windows.specs.declared.surviving.Surviving.{Surviving}
 
 -- no step answers nothing
 abbrev pub NothingAtFirst : Type 0
@@ -28,8 +31,22 @@ abbrev pub RememberedIsKept : Type 0
 RememberedIsKept = (window : Window) (time : ℕ) (v : Valuation) → window.last ≤ time → Remembers window time v
     → Keeps window window.last v
 
--- with a step committed that is not earlier, and has tables of its columns, a window stands for the longer list
+-- with a step committed that is not earlier, and has tables of its columns, of which one tells which of the kept rows
+-- survive, a window stands for the longer list
 abbrev pub CommittedStands : Type 0
-CommittedStands = (before : Window) (time : ℕ) (surviving right : Relation) (after : Window) → before.last ≤ time
-    → HasColumns before.columns (at time surviving right) → IsCommitted before time surviving right after
+CommittedStands = (before : Window) (time : ℕ) (s : Surviving) (surviving right : Relation) (after : Window)
+    → before.last ≤ time → HasColumns before.columns (at time surviving right)
+    → TellsFor before (SurvivesFor s) surviving → IsCommittedBy before time (SurvivesFor s) right after
     → GoesOnStanding before time surviving right after
+
+-- and what it answers at such a step is what the longer list answers
+abbrev pub AnsweredIsWalked : Type 0
+AnsweredIsWalked = (window : Window) (time : ℕ) (s : Surviving) (surviving right t : Relation)
+    → window.last ≤ time → TellsFor window (SurvivesFor s) surviving
+    → ((v : Valuation) → Has t v ↔ AnswersBy window time (SurvivesFor s) right v)
+    → IsWalkedNow window time surviving right t
+
+-- each time that a row has is chosen among those that it has
+abbrev pub LeastIsChosen : Type 0
+LeastIsChosen = (window : Window) → KeepsLeast window → (v : Valuation) (time : ℕ) → HasRow window v time
+    → ChosenBy window.interval.high window.interval.low window.last (HasRow window v) time

@@ -35,3 +35,8 @@ pub record IsSlot (slot : Slot) : Type 0 where
 abbrev pub GivesLast : Interval → ℕ → Option LastStep → Valuation → Type 0
 GivesLast interval time None v = ⊥
 GivesLast interval time (Some last) v = IsIn interval (time - last.time) × Has last.rows v
+
+-- the valuation is among the rows of the last step, at its time
+abbrev pub HasLast : Option LastStep → Valuation → ℕ → Type 0
+HasLast None v time = ⊥
+HasLast (Some last) v time = (time ≡ last.time) × Has last.rows v

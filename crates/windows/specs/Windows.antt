@@ -1,5 +1,5 @@
 -- What an operator `since` on the past has to remember, and for which committed steps it stands.
-use Rattle.std.specs.Prelude.{◌≡◌, ◌↔◌, ◌⊎◌, ℕ, ◌-◌, ◌≤◌, List, map, All, Contains, length}
+use Rattle.std.specs.Prelude.{◌≡◌, ◌↔◌, ◌⊎◌, ℕ, ◌-◌, ◌≤◌, List, map, All, Contains, length, Some}
 use Rattle.smallvec.specs.SmallVec.{SmallVec}
 use Rattle.enf_value.specs.Membership.{HasNoRepeats, IsIn}
 use Rattle.enf_value.specs.Valuations.{Valuation}
@@ -8,7 +8,10 @@ use Rattle.enf_value.specs.declared.terms.VarId.{VarId}
 use Rattle.enf_value.specs.declared.values.Value.{Value}
 use Rattle.valuations.specs.Tables.{Relation, IsTable, Agrees, Has}
 use Rattle.windows.specs.Answers.{Answers, AreUpTo, HasColumns, to_the_end, with_step}
-use Rattle.windows.specs.Pairs.{AreKept}
+use Rattle.windows.specs.Kept.{HasPair, Kept}
+use Rattle.windows.specs.Pairs.{AreKept, AreLeast}
+use Rattle.windows.specs.Queues.{Queue, AreInReach, AreQueued, AreUpToTime}
+use Rattle.windows.specs.Times.{IsEnded, IsLeast, IsServed, RiseTo}
 use Rattle.windows.specs.declared.steps.CommittedStep.{CommittedStep}
 use Rattle.windows.specs.declared.surviving.Surviving.{Surviving}
 use Rattle.windows.specs.declared.surviving.Surviving.TheVariants.{All as Whole, Only, AllBut}
@@ -24,15 +27,33 @@ pub record Window : Type 0 where
 abbrev pub kept_of : List (List Value × SmallVec ℕ) → List (List Value × List ℕ)
 kept_of entries = map (λ e. (e.0, e.1.items)) entries
 
--- the columns are distinct, each row is as long as they, and its times rise up to the last one
-pub record IsWindow (columns : List VarId) (last : ℕ) (entries : List (List Value × SmallVec ℕ)) : Type 0 where
+-- the columns are distinct, the rows are as long as they, and of the times of each just the least are kept; where the
+-- interval has an end, the queue has the step of each time that is kept, and no step that is past the end
+pub record IsWindow (interval : Interval) (columns : List VarId) (last : ℕ) (entries : List (List Value × SmallVec ℕ))
+    (queue : Queue) : Type 0 where
   pub distinct : HasNoRepeats columns
   pub kept : AreKept (length columns) last entries
+  pub least : AreLeast interval last entries
+  pub up_to : AreUpToTime last queue.steps
+  pub in_reach : AreInReach interval.high last queue.steps
+  pub queued : (high : ℕ) → interval.high ≡ Some high → AreQueued entries queue
 
 -- a row with the valuation's values has this time
 abbrev pub HasRow : Window → Valuation → ℕ → Type 0
 HasRow window v time = (row : List Value) × (times : List ℕ) × Contains window.kept (row, times)
     × Contains times time × Agrees v window.columns row
+
+-- a row that is as long as the columns, with the least times up to the last one
+pub record HasLeast (window : Window) (e : List Value × List ℕ) : Type 0 where
+  pub long : length e.0 ≡ length window.columns
+  pub rise : RiseTo window.last e.1
+  pub least : IsLeast window.interval.high window.interval.low window.last e.1
+
+-- the columns are distinct, each row is such a one, and none stands twice
+pub record KeepsLeast (window : Window) : Type 0 where
+  pub distinct : HasNoRepeats window.columns
+  pub rows : All (HasLeast window) window.kept
+  pub unique : HasNoRepeats (map (λ e. e.0) window.kept)
 
 -- one of its times is at a distance in the interval
 abbrev pub RemembersIn : Interval → Window → ℕ → Valuation → Type 0
@@ -52,6 +73,10 @@ SurvivesFor Whole v = Unit {0}
 SurvivesFor (Only rows) v = Has rows.now v
 SurvivesFor (AllBut rows) v = Has rows.now v → ⊥
 
+-- a table tells the same for each valuation that the window keeps
+abbrev pub TellsFor : Window → (Valuation → Type 0) → Relation → Type 0
+TellsFor window S surviving = (v : Valuation) → Keeps window window.last v → Has surviving v ↔ S v
+
 -- the table that tells it has these columns
 abbrev pub FitsColumns : List VarId → Surviving → Type 0
 FitsColumns columns Whole = Unit {0}
@@ -65,7 +90,8 @@ AreTables (Only rows) = IsTable rows.now
 AreTables (AllBut rows) = IsTable rows.now
 
 -- the window stands for the steps: at each time from its last one on it remembers what the plain walk over them gives,
--- and keeps what that walk gives at that time or can give later
+-- and keeps what that walk gives at that time or can give later. Its rows and times are just those to be kept of the
+-- steps, and each time that is not past the end has one of them that serves in its place
 pub record StandsFor (window : Window) (steps : List CommittedStep) : Type 0 where
   pub fits : All (HasColumns window.columns) steps
   pub up_to : AreUpTo window.last steps
@@ -73,6 +99,10 @@ pub record StandsFor (window : Window) (steps : List CommittedStep) : Type 0 whe
       → Remembers window time v ↔ Answers window.interval time steps v
   pub keeps : (time : ℕ) → window.last ≤ time → (v : Valuation)
       → Keeps window time v ↔ Answers (to_the_end window.interval) time steps v
+  pub kept : (v : Valuation) (time : ℕ) → HasRow window v time ↔ Kept window.interval window.last steps v time
+  pub served : (v : Valuation) (time : ℕ) → HasPair steps v time
+      → IsServed window.interval.high window.interval.low window.last (HasRow window v) time
+      ⊎ IsEnded window.interval.high window.last time
 
 -- at a step at this time a window gives the rows that are right at it, where 0 is in the interval, and those of the
 -- remembered ones that survive it
@@ -82,8 +112,13 @@ AnswersBy window time S right v = (IsIn window.interval 0 × Has right v) ⊎ (R
 abbrev pub AnswersNow : Window → ℕ → Relation → Relation → Valuation → Type 0
 AnswersNow window time surviving right v = AnswersBy window time (Has surviving) right v
 
+-- with the step at this time committed: those of the ones before that survive it, and those that are right at it
+abbrev pub GoesOn : Window → ℕ → (Valuation → Type 0) → Relation → Valuation → ℕ → Type 0
+GoesOn before now S right v time = (HasRow before v time × S v) ⊎ ((time ≡ now) × Has right v)
+
 -- with the step committed the window remembers, and keeps, those that are right at it, by the distance from its time,
--- and those of the ones before that survive it
+-- and those of the ones before that survive it. It has none but these, and each is served or past the end; of the times
+-- of a row it has the least
 pub record IsCommittedBy (before : Window) (time : ℕ) (S : Valuation → Type 0) (right : Relation) (after : Window)
     : Type 0 where
   pub interval_is : after.interval ≡ before.interval
@@ -95,6 +130,11 @@ pub record IsCommittedBy (before : Window) (time : ℕ) (S : Valuation → Type 
   pub keeps : (later : ℕ) → time ≤ later → (v : Valuation)
       → Keeps after later v
       ↔ ((IsIn (to_the_end before.interval) (later - time) × Has right v) ⊎ (Keeps before later v × S v))
+  pub from : (v : Valuation) (earlier : ℕ) → HasRow after v earlier → GoesOn before time S right v earlier
+  pub serves : (v : Valuation) (earlier : ℕ) → GoesOn before time S right v earlier
+      → IsServed before.interval.high before.interval.low time (HasRow after v) earlier
+      ⊎ IsEnded before.interval.high time earlier
+  pub least : KeepsLeast after
 
 abbrev pub IsCommitted : Window → ℕ → Relation → Relation → Window → Type 0
 IsCommitted before time surviving right after = IsCommittedBy before time (Has surviving) right after

@@ -1,13 +1,13 @@
 //! Rows with their times, as a window keeps them: each call is one look-up, or one for each row that it is given.
-ghost use Rattle.std.specs.Prelude.{◌≡◌, ◌↔◌, ◌⊎◌, ℕ, List, Some, IsTrue, OnOk, Contains, length};
+ghost use Rattle.std.specs.Prelude.{◌≡◌, ◌↔◌, ◌⊎◌, ℕ, List, Some, IsTrue, OnOk, Contains, length, map};
 ghost use Rattle.enf_value.specs.Membership.{IsIn};
 ghost use Rattle.enf_value.specs.declared.values.Value.{Value as AnyValue};
 ghost use Rattle.valuations.specs.Tables.{IsTable};
-ghost use Rattle.windows.specs.Pairs.{AddsTimes, AreKept, DropsEnded, Gives, IsSomeIn, KeepsRows, Survives};
+ghost use Rattle.windows.specs.Windows.{AreTables};
+ghost use Rattle.windows.specs.Pairs.{AddAtMost, AddsTimes, AreKept, AreLeast, Forgets, Gives, HasGiven, IsAnyRow, IsSettled, IsSomeIn, KeepsRows, Survives};
 
-use crate::steps::LastStep;
 use crate::surviving::Surviving;
-use crate::times::{Times, add_time, are_ended, has_in};
+use crate::times::{Times, add_time, are_ended, has_in, settle};
 use enf_value::intervals::Interval;
 use enf_value::items::Duplicate;
 use enf_value::memory::NoMemory;
@@ -15,13 +15,13 @@ use enf_value::rows::Row;
 use indexmap::IndexMap;
 use smallvec::SmallVec;
 use std::alloc::Global;
-use std::collections::VecDeque;
 use valuations::Table;
 
-/// Rows in order of first sight, each with its times.
+/// Rows, each with its times.
 pub type Entries = IndexMap<Row, Times>;
 
-// Adds the time to those of the row.
+// Adds the time to those of the row. A row that is not there goes last, until one before it goes out: then the last one
+// takes that place. So the order of the rows means nothing.
 pub fn add_row(
     alloc: Global,
     entries: &mut Entries,
@@ -29,9 +29,13 @@ pub fn add_row(
     interval: Interval,
     now: u64,
 ) -> Result<(), NoMemory>
-    requires { AreKept (length row.now) now entries.old.entries }
-    ensures added { OnOk result (AddsTimes interval now (λ other. other ≡ row.now) entries.old.entries entries.new.entries) }
+    requires kept { AreKept (length row.now) now entries.old.entries }
+    requires least { AreLeast interval now entries.old.entries }
+    ensures among { AddAtMost now (λ other. other ≡ row.now) entries.old.entries entries.new.entries }
+    ensures added { OnOk result (AddsTimes interval now (λ other. other ≡ row.now)
+        entries.old.entries entries.new.entries) }
     ensures kept { AreKept (length row.now) now entries.new.entries }
+    ensures least { AreLeast interval now entries.new.entries }
 {
     if let Some(place) = entries.get_index_of(row) {
         return add_time(&mut entries[place], interval, now);
@@ -50,9 +54,13 @@ pub fn add_rows(
     interval: Interval,
     now: u64,
 ) -> Result<(), NoMemory>
-    requires { AreKept (length right.now.columns) now entries.old.entries }
-    ensures added { OnOk result (AddsTimes interval now (Contains right.now.rows) entries.old.entries entries.new.entries) }
+    requires kept { AreKept (length right.now.columns) now entries.old.entries }
+    requires least { AreLeast interval now entries.old.entries }
+    ensures among { AddAtMost now (Contains right.now.rows) entries.old.entries entries.new.entries }
+    ensures added { OnOk result (AddsTimes interval now (Contains right.now.rows)
+        entries.old.entries entries.new.entries) }
     ensures kept { AreKept (length right.now.columns) now entries.new.entries }
+    ensures least { AreLeast interval now entries.new.entries }
 {
     for row in right.rows() {
         add_row(alloc, entries, row, interval, now)?;
@@ -71,7 +79,8 @@ pub fn forget_row(entries: &mut Entries, row: &Row)
 
 // Takes out each row of the table.
 pub fn forget_rows(entries: &mut Entries, failing: &Table)
-    ensures { KeepsRows (λ other. Contains failing.now.rows other → ⊥) entries.old.entries entries.new.entries }
+    ensures keeps { KeepsRows (λ other. Contains failing.now.rows other → ⊥) entries.old.entries entries.new.entries }
+    ensures table { IsTable failing.now }
 {
     for row in failing.rows() {
         forget_row(entries, row);
@@ -80,18 +89,21 @@ pub fn forget_rows(entries: &mut Entries, failing: &Table)
 
 // Takes out the rows that are not in the table.
 pub fn keep_rows(entries: &mut Entries, surviving: &Table)
-    ensures { KeepsRows (Contains surviving.now.rows) entries.old.entries entries.new.entries }
+    ensures keeps { KeepsRows (Contains surviving.now.rows) entries.old.entries entries.new.entries }
+    ensures table { IsAnyRow entries.old.entries → IsTable surviving.now }
 {
     entries.retain(
         |row: &Row, times: &mut Times| -> bool
-            ensures { (IsTrue result ↔ Contains surviving.entry.now.rows row.now) × (times.new ≡ times.old) }
+            ensures { (IsTrue result ↔ Contains surviving.entry.now.rows row.now) × (times.new ≡ times.old)
+                × IsTable surviving.entry.now }
         { surviving.has(row) },
     );
 }
 
 // Takes out the rows that do not survive.
 pub fn keep_surviving(entries: &mut Entries, surviving: &Surviving<'_>)
-    ensures { KeepsRows (Survives surviving.now) entries.old.entries entries.new.entries }
+    ensures keeps { KeepsRows (Survives surviving.now) entries.old.entries entries.new.entries }
+    ensures tables { IsAnyRow entries.old.entries → AreTables surviving.now }
 {
     match surviving {
         Surviving::All => {}
@@ -101,16 +113,28 @@ pub fn keep_surviving(entries: &mut Entries, surviving: &Surviving<'_>)
 }
 
 // Whether the row survives and one of its times is at a distance in the interval.
-fn is_given(
+pub fn is_given(
     row: &Row,
     times: &Times,
     surviving: &Surviving<'_>,
     interval: Interval,
     now: u64,
 ) -> bool
-    ensures { IsTrue result ↔ (IsSomeIn interval now times.now.items × Survives surviving.now row.now) }
+    ensures given { IsTrue result ↔ (IsSomeIn interval now times.now.items × Survives surviving.now row.now) }
+    ensures tables { IsSomeIn interval now times.now.items → AreTables surviving.now }
 {
     has_in(times, interval, now) && surviving.has(row)
+}
+
+// Puts each row last.
+pub fn push_all(alloc: Global, entries: &Entries, out: &mut Vec<Row>) -> Result<(), NoMemory>
+    ensures { OnOk result ((row : List AnyValue) → Contains out.new.items row
+        ↔ (Contains out.old.items row ⊎ Contains (map (λ e. e.0) entries.now.entries) row)) }
+{
+    for row in entries.keys() {
+        out.push(row.duplicate(alloc)?)?;
+    }
+    Ok(())
 }
 
 // Puts those rows last that survive and have a time at a distance in the interval.
@@ -122,14 +146,13 @@ pub fn push_given(
     now: u64,
     out: &mut Vec<Row>,
 ) -> Result<(), NoMemory>
-    ensures { OnOk result ((row : List AnyValue) → Contains out.new.items row
+    ensures rows { OnOk result ((row : List AnyValue) → Contains out.new.items row
         ↔ (Contains out.old.items row ⊎ Gives interval now (Survives surviving.now) entries.now.entries row)) }
+    ensures tables { OnOk result (HasGiven interval now entries.now.entries → AreTables surviving.now) }
 {
-    for place in 0..entries.len() {
-        if let Some((row, times)) = entries.get_index(place) {
-            if is_given(row, times, surviving, interval, now) {
-                out.push(row.duplicate(alloc)?)?;
-            }
+    for (row, times) in entries.iter() {
+        if is_given(row, times, surviving, interval, now) {
+            out.push(row.duplicate(alloc)?)?;
         }
     }
     Ok(())
@@ -164,75 +187,34 @@ pub fn push_now(
     Ok(())
 }
 
-// Takes the row out where its times are all past the end.
-fn forget_ended(entries: &mut Entries, row: &Row, high: u64, now: u64)
-    requires { (long : ℕ) × AreKept long now entries.old.entries }
-    ensures { DropsEnded (Some high) now entries.old.entries entries.new.entries }
+// Leaves the row just the times that are not past the end, and of those that are far enough the latest; where it has none
+// it goes out.
+fn settle_row(entries: &mut Entries, row: &Row, interval: Interval, high: u64, now: u64)
+    requires high { interval.high ≡ Some high }
+    requires kept { (long : ℕ) × AreKept long now entries.old.entries }
+    ensures kept { (long : ℕ) → AreKept long now entries.old.entries → AreKept long now entries.new.entries }
+    ensures forgets { Forgets interval now entries.old.entries entries.new.entries }
+    ensures settled { IsSettled high interval.low now entries.new.entries row.now }
 {
     if let Some(place) = entries.get_index_of(row) {
         if are_ended(&entries[place], high, now) {
             entries.swap_remove_index(place);
+        } else {
+            settle(&mut entries[place], interval.low, high, now);
         }
     }
 }
 
 // So with each row of the table.
-fn forget_ended_rows(entries: &mut Entries, rows: &Table, high: u64, now: u64)
-    requires { (long : ℕ) × AreKept long now entries.old.entries }
-    ensures { DropsEnded (Some high) now entries.old.entries entries.new.entries }
+pub fn settle_rows(entries: &mut Entries, rows: &Table, interval: Interval, high: u64, now: u64)
+    requires high { interval.high ≡ Some high }
+    requires kept { (long : ℕ) × AreKept long now entries.old.entries }
+    ensures kept { (long : ℕ) → AreKept long now entries.old.entries → AreKept long now entries.new.entries }
+    ensures forgets { Forgets interval now entries.old.entries entries.new.entries }
+    ensures settled { (row : List AnyValue) → Contains rows.now.rows row
+        → IsSettled high interval.low now entries.new.entries row }
 {
     for row in rows.rows() {
-        forget_ended(entries, row, high, now);
+        settle_row(entries, row, interval, high, now);
     }
-}
-
-// The first of the steps, where it is past the end of the interval.
-fn take_ended(ending: &mut VecDeque<LastStep>, high: u64, now: u64) -> Option<LastStep> {
-    let ended = match ending.front() {
-        Some(step) => high < now.saturating_sub(step.time),
-        None => false,
-    };
-    if ended { ending.pop_front() } else { None }
-}
-
-// Takes the steps out that are past the end of the interval, and the rows that have no later time.
-pub fn forget_steps(
-    entries: &mut Entries,
-    ending: &mut VecDeque<LastStep>,
-    interval: Interval,
-    now: u64,
-)
-    requires { (long : ℕ) × AreKept long now entries.old.entries }
-    ensures { DropsEnded interval.high now entries.old.entries entries.new.entries }
-{
-    if let Some(high) = interval.high {
-        forget_all_ended(entries, ending, high, now);
-    }
-}
-
-fn forget_all_ended(entries: &mut Entries, ending: &mut VecDeque<LastStep>, high: u64, now: u64)
-    requires { (long : ℕ) × AreKept long now entries.old.entries }
-    ensures { DropsEnded (Some high) now entries.old.entries entries.new.entries }
-{
-    for _ in 0..ending.len() {
-        match take_ended(ending, high, now) {
-            Some(step) => forget_ended_rows(entries, &step.rows, high, now),
-            None => return,
-        }
-    }
-}
-
-// Puts the step last, where its rows are past the end of the interval some day.
-pub fn push_ending(
-    alloc: Global,
-    ending: &mut VecDeque<LastStep>,
-    interval: Interval,
-    time: u64,
-    right: &Table,
-) -> Result<(), NoMemory> {
-    if interval.high.is_some() && !right.is_empty() {
-        let rows = right.duplicate(alloc)?;
-        ending.push_back(LastStep { time, rows })?;
-    }
-    Ok(())
 }

@@ -17,9 +17,9 @@ use valuations::Table;
 /// The rows of the step that was committed last, where there is one.
 #[derive(Debug, Drop)]
 pub struct PrevSlot {
-    interval: Interval,
-    columns: Vars,
-    last: Option<LastStep>,
+    pub(crate) interval: Interval,
+    pub(crate) columns: Vars,
+    pub(crate) last: Option<LastStep>,
 }
 
 impl Model for PrevSlot {
@@ -49,6 +49,20 @@ impl PrevSlot {
             columns,
             last: None,
         }
+    }
+
+    /// The interval of the operator.
+    pub fn interval(&self) -> Interval
+        ensures { result ≡ self.now.interval }
+    {
+        self.interval
+    }
+
+    /// The columns of its rows.
+    pub fn columns(&self) -> &Vars
+        ensures { result.now ≡ self.now.columns }
+    {
+        &self.columns
     }
 
     /// The rows of the last step, where its distance from the time is in the interval, and else none. The last step

@@ -1,13 +1,12 @@
 //! Windows of the operators `since`, `once` and `historically`.
-ghost use Rattle.std.specs.Prelude.{◌≡◌, ◌↔◌, ◌≤◌, [], IfOk, OnOk, OnErr};
+ghost use Rattle.std.specs.Prelude.{◌≡◌, ◌↔◌, ◌≤◌, ℕ, [], IfOk, OnOk, OnErr};
 ghost use Rattle.enf_value.specs.Membership.{HasNoRepeats};
 ghost use Rattle.enf_value.specs.Valuations.{Valuation as Bound};
 ghost use Rattle.valuations.specs.Tables.{IsTable, Has};
 
-use crate::entries::{
-    Entries, add_rows, forget_steps, keep_surviving, push_ending, push_given, push_now,
-};
-use crate::steps::LastStep;
+use crate::entries::{Entries, add_rows, keep_surviving, push_all, push_given, push_now};
+use crate::expiry::{forget_steps, push_step};
+use crate::queue::StepQueue;
 use crate::surviving::Surviving;
 use enf_value::intervals::Interval;
 use enf_value::items::Duplicate;
@@ -16,20 +15,19 @@ use enf_value::rows::Row;
 use enf_value::terms::Vars;
 use indexmap::IndexMap;
 use std::alloc::Global;
-use std::collections::VecDeque;
 use std::marker::Model;
 use valuations::Table;
 
 /// The rows that were right at a committed step and survived each step behind it, with the times of those steps that a
-/// later step can ask for.
+/// later step can ask for, and no other.
 #[derive(Debug, Drop)]
 pub struct SinceWindow {
-    interval: Interval,
-    columns: Vars,
-    last: u64,
-    entries: Entries,
-    // of an interval with an end, the steps whose rows may end, in order
-    ending: VecDeque<LastStep>,
+    pub(crate) interval: Interval,
+    pub(crate) columns: Vars,
+    pub(crate) last: u64,
+    pub(crate) entries: Entries,
+    // of an interval with an end, the steps that brought these rows
+    pub(crate) queue: StepQueue,
 }
 
 impl Model for SinceWindow {
@@ -44,11 +42,11 @@ impl Model for SinceWindow {
       kept = kept_of w.entries.entries;
     } };
 
-    ghost invariant = { λ w. IsWindow w.columns w.last w.entries.entries };
+    ghost invariant = { λ w. IsWindow w.interval w.columns w.last w.entries.entries w.queue };
 }
 
 impl SinceWindow {
-    ghost use Rattle.windows.specs.Windows.{StandsFor, Keeps, AnswersBy, AnswersNow, FitsColumns, IsWalkedNow, IsWalkedLater, IsCommitted, IsCommittedBy, IsSameKind, GoesOnStanding, SurvivesFor};
+    ghost use Rattle.windows.specs.Windows.{StandsFor, HasRow, Keeps, KeepsLeast, AnswersBy, AnswersNow, FitsColumns, IsWalkedNow, IsWalkedLater, IsCommitted, IsCommittedBy, IsSameKind, GoesOnStanding, SurvivesFor};
 
     /// No step is committed. The columns are distinct.
     pub fn new(alloc: Global, interval: Interval, columns: Vars) -> SinceWindow
@@ -57,14 +55,29 @@ impl SinceWindow {
         ensures columns { result.columns ≡ columns }
         ensures last { result.last ≡ 0 }
         ensures stands { StandsFor result [] }
+        ensures least { KeepsLeast result }
     {
         SinceWindow {
             interval,
             columns,
             last: 0,
             entries: IndexMap::new(alloc),
-            ending: VecDeque::new(alloc),
+            queue: StepQueue::new(alloc),
         }
+    }
+
+    /// The interval of the operator.
+    pub fn interval(&self) -> Interval
+        ensures { result ≡ self.now.interval }
+    {
+        self.interval
+    }
+
+    /// The columns of its rows.
+    pub fn columns(&self) -> &Vars
+        ensures { result.now ≡ self.now.columns }
+    {
+        &self.columns
     }
 
     /// The rows that a step from the last time on can answer by a step committed so far: those that are right at such
@@ -73,21 +86,11 @@ impl SinceWindow {
         ensures table { IfOk result IsTable }
         ensures columns { IfOk result (λ t. t.columns ≡ self.now.columns) }
         ensures rows { IfOk result (λ t. (v : Bound) → Has t v ↔ Keeps self.now self.now.last v) }
+        ensures kept { IfOk result (λ t. (v : Bound) → Has t v ↔ ((time : ℕ) × HasRow self.now v time)) }
         ensures walked { IfOk result (IsWalkedLater self.now) }
     {
-        let to_the_end = Interval {
-            low: 0,
-            high: self.interval.high,
-        };
         let mut rows = Vec::new(alloc);
-        push_given(
-            alloc,
-            &self.entries,
-            &Surviving::All,
-            to_the_end,
-            self.last,
-            &mut rows,
-        )?;
+        push_all(alloc, &self.entries, &mut rows)?;
         Table::from_rows(self.columns.duplicate(alloc)?, rows)
     }
 
@@ -130,7 +133,6 @@ impl SinceWindow {
             ↔ AnswersBy self.now time (SurvivesFor surviving.now) right.now v) }
     {
         let mut rows = Vec::new(alloc);
-        surviving.tables();
         push_given(
             alloc,
             &self.entries,
@@ -170,9 +172,8 @@ impl SinceWindow {
         ensures kind { IsSameKind self.old self.new }
     {
         let alloc = *self.entries.allocator();
-        surviving.tables();
-        push_ending(alloc, &mut self.ending, self.interval, time, right)?;
-        forget_steps(&mut self.entries, &mut self.ending, self.interval, time);
+        push_step(alloc, &mut self.queue, self.interval, time, right)?;
+        forget_steps(&mut self.entries, &mut self.queue, self.interval, time);
         keep_surviving(&mut self.entries, surviving);
         self.last = time;
         add_rows(alloc, &mut self.entries, right, self.interval, time)

@@ -17,24 +17,13 @@ pub enum Surviving<'a> {
 impl Surviving<'_> {
     // Whether the row survives.
     pub(crate) fn has(&self, row: &Row) -> bool
-        ensures { IsTrue result ↔ Survives self.now row.now }
+        ensures has { IsTrue result ↔ Survives self.now row.now }
+        ensures tables { AreTables self.now }
     {
         match self {
             Surviving::All => true,
             Surviving::Only(rows) => rows.has(row),
             Surviving::AllBut(rows) => !rows.has(row),
-        }
-    }
-
-    // The table is one; nothing is done.
-    pub(crate) fn tables(&self)
-        ensures { AreTables self.now }
-    {
-        match self {
-            Surviving::All => {}
-            Surviving::Only(rows) | Surviving::AllBut(rows) => {
-                rows.is_empty();
-            }
         }
     }
 }

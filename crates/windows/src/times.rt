@@ -1,6 +1,7 @@
 //! The times at which one row was right, of which only those are kept that a later step can ask for.
-ghost use Rattle.std.specs.Prelude.{◌↔◌, ℕ, OnOk, IsTrue, Some, Contains};
-ghost use Rattle.windows.specs.Pairs.{AddsTime, ForgetsPassed, IsEnded, IsSomeIn, RiseTo};
+ghost use Rattle.std.specs.Prelude.{◌≡◌, ◌↔◌, ◌-◌, ◌<◌, ◌≤◌, ◌⊎◌, ℕ, OnOk, IsTrue, IsFalse, Some, Contains, drop, length};
+ghost use Rattle.windows.specs.Pairs.{AddsAtMost, AddsTime, ForgetsTimes, IsSomeIn};
+ghost use Rattle.windows.specs.Times.{IsEnded, IsLeast, RiseTo};
 
 use enf_value::intervals::Interval;
 use enf_value::memory::NoMemory;
@@ -9,24 +10,19 @@ use smallvec::SmallVec;
 /// The times of a row; one or two where the interval begins at 0 or has no end.
 pub type Times = SmallVec<u64, 2>;
 
-// Adds the time. Of an interval without end the earliest is kept alone, and of another those before the latest that is
-// far enough already are forgotten.
+// Adds the time. Of an interval without end the earliest is kept alone.
 pub fn add_time(times: &mut Times, interval: Interval, now: u64) -> Result<(), NoMemory>
-    requires { RiseTo now times.old.items }
+    requires rise { RiseTo now times.old.items }
+    requires least { IsLeast interval.high interval.low now times.old.items }
+    ensures among { AddsAtMost now times.old.items times.new.items }
     ensures added { OnOk result (AddsTime interval now times.old.items times.new.items) }
     ensures rise { RiseTo now times.new.items }
+    ensures least { IsLeast interval.high interval.low now times.new.items }
 {
-    match interval.high {
-        None => {
-            if times.is_empty() {
-                times.push(now)?;
-            }
-        }
-        Some(_) => {
-            if !ends_with(times, now) {
-                times.push(now)?;
-                forget_passed(times, interval.low, now);
-            }
+    if let Some(high) = interval.high {
+        if !ends_with(times, now) {
+            times.push(now)?;
+            settle(times, interval.low, high, now);
         }
     }
     Ok(())
@@ -34,7 +30,8 @@ pub fn add_time(times: &mut Times, interval: Interval, now: u64) -> Result<(), N
 
 // Whether the time is the last of them.
 fn ends_with(times: &Times, now: u64) -> bool
-    ensures { IsTrue result → Contains times.now.items now }
+    requires { RiseTo now times.now.items }
+    ensures { IsTrue result ↔ Contains times.now.items now }
 {
     match times.as_slice().last() {
         Some(latest) => *latest == now,
@@ -42,15 +39,40 @@ fn ends_with(times: &Times, now: u64) -> bool
     }
 }
 
-// Forgets each time behind which there is another that is far enough.
-fn forget_passed(times: &mut Times, low: u64, now: u64)
-    requires { RiseTo now times.old.items }
-    ensures forgets { ForgetsPassed low now times.old.items times.new.items }
+// Forgets the times that are past the end, and of those that are far enough all but the latest.
+pub fn settle(times: &mut Times, low: u64, high: u64, now: u64)
+    requires rise { RiseTo now times.old.items }
+    requires live { (time : ℕ) × Contains times.old.items time × (now - time ≤ high) }
+    ensures forgets { ForgetsTimes high low now times.old.items times.new.items }
     ensures rise { RiseTo now times.new.items }
+    ensures least { IsLeast (Some high) low now times.new.items }
 {
-    while times.len() >= 2 && low <= now - times.as_slice()[1] {
-        times.remove(0);
+    let passed = count_passed(times.as_slice(), low, high, now);
+    times.drain(..passed);
+}
+
+// How many times at the front are past the end, or have another behind them that is far enough.
+fn count_passed(times: &[u64], low: u64, high: u64, now: u64) -> usize
+    requires rise { RiseTo now times.now }
+    requires live { (time : ℕ) × Contains times.now time × (now - time ≤ high) }
+    ensures within { result ≤ length times.now }
+    ensures rise { RiseTo now (drop result times.now) }
+    ensures forgets { ForgetsTimes high low now times.now (drop result times.now) }
+    ensures least { IsLeast (Some high) low now (drop result times.now) }
+{
+    let mut passed = 0;
+    while passed + 1 < times.len() && is_passed(times[passed], times[passed + 1], low, high, now) {
+        passed += 1;
     }
+    passed
+}
+
+// Whether the first time is past the end, or the second far enough.
+fn is_passed(first: u64, second: u64, low: u64, high: u64, now: u64) -> bool
+    ensures passed { IsTrue result → (high < now - first) ⊎ (low ≤ now - second) }
+    ensures held { IsFalse result → (now - first ≤ high) × (now - second < low) }
+{
+    high < now.saturating_sub(first) || low <= now.saturating_sub(second)
 }
 
 // Whether one of the times is at a distance in the interval.
@@ -68,10 +90,11 @@ pub fn has_in(times: &Times, interval: Interval, now: u64) -> bool
 // Whether each of the times is past the end of the interval.
 pub fn are_ended(times: &Times, high: u64, now: u64) -> bool
     requires { RiseTo now times.now.items }
-    ensures { IsTrue result → ((time : ℕ) → Contains times.now.items time → IsEnded (Some high) now time) }
+    ensures ended { IsTrue result → ((time : ℕ) → Contains times.now.items time → IsEnded (Some high) now time) }
+    ensures live { IsFalse result → (time : ℕ) × Contains times.now.items time × (now - time ≤ high) }
 {
-    match times.as_slice().last() {
-        Some(latest) => high < now - *latest,
-        None => true,
-    }
+    let Some(latest) = times.as_slice().last() else {
+        return true;
+    };
+    high < now - *latest
 }

@@ -7,13 +7,13 @@ pub returns-clause-begins : goal.returns-clause-begins
 returns-clause-begins c = λ interval g columns window free new. begins c.step_by_step.ensures.nothing interval everywhere (satisfied [] g) g columns window free new
 
 pub returns-clause-answers : goal.returns-clause-answers
-returns-clause-answers c = λ trace step place interval g window surviving right past later stands tables.
-    answered c.windows_stand.ensures.kept c.trace_grows.ensures.last trace step interval everywhere (satisfied trace g) everywhere (satisfied (trace ++ step ∷ []) g) g window surviving right
+returns-clause-answers c = λ trace step place interval g window survivors right past later stands tables.
+    answered c.windows_stand.ensures.kept c.rows_are_chosen.ensures c.trace_grows.ensures.last trace step interval everywhere (satisfied trace g) everywhere (satisfied (trace ++ step ∷ []) g) g window survivors right
     (λ v. same_everywhere trace) (same_sat c.dependence.ensures.steps trace step g past) later stands tables
 
 pub returns-clause-goes_on : goal.returns-clause-goes_on
-returns-clause-goes_on c = λ trace step interval g window surviving right past later stands tables.
-    still_stands c.windows_stand.ensures.kept c.trace_grows.ensures.last trace step interval everywhere (satisfied trace g) everywhere (satisfied (trace ++ step ∷ []) g) g window surviving right
+returns-clause-goes_on c = λ trace step interval g window survivors right past later stands tables.
+    still_stands c.windows_stand.ensures.kept c.rows_are_chosen.ensures c.trace_grows.ensures.last trace step interval everywhere (satisfied trace g) everywhere (satisfied (trace ++ step ∷ []) g) g window survivors right
     (λ v. same_everywhere trace) (same_sat c.dependence.ensures.steps trace step g past) later stands tables
 
 pub returns-clause-denied : goal.returns-clause-denied

@@ -2,4 +2,4 @@ use Rattle.past_state.proofs.KnownLemmas.{are_known}
 use Rattle.past_state.proofs.laws.tables_are_known.Goals as goal
 
 pub returns : goal.returns
-returns c = are_known c.windows_stand.ensures.kept
+returns c = are_known

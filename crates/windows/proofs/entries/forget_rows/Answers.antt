@@ -13,7 +13,7 @@ loop-row-preserved c =
     (subst (λ l. c.loop-row.row-index < length l) c.rows-row-items.ensures.rows c.loop-row-test.true) (c.row-item.is ∙ ap (λ l. get_or l c.loop-row.row-index c.row-item.result) c.rows-row-items.ensures.rows)
     (keeps_then (take c.loop-row.row-index c.args.failing.now.rows) c.row-item.result c.args.entries.now.entries c.loop-row.entries.entries c.forget_row.new.entries.entries c.loop-row.invariant c.forget_row.ensures)
 
-pub returns : goal.returns
-returns c =
+pub returns-clause-keeps : goal.returns-clause-keeps
+returns-clause-keeps c =
     subst (λ l. KeepsRows (λ row. Contains l row → ⊥) c.args.entries.now.entries c.loop-row.entries.entries)
     (take_all c.loop-row.row-index c.args.failing.now.rows (subst (λ l. length l ≤ c.loop-row.row-index) c.rows-row-items.ensures.rows c.loop-row-test.false)) c.loop-row.invariant

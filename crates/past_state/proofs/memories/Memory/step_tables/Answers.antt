@@ -1,58 +1,52 @@
-use Rattle.std.proofs.Common.{◌↔◌, reverse, drop, sym, subst, Contains}
+use Rattle.std.proofs.Common.{◌↔◌, drop, sym, refl, subst}
 use Rattle.enf_formula.specs.Formulas.{tree_of}
 use Rattle.monitorable_guard.specs.Evaluation.{FitOperators}
 use Rattle.monitorable_guard.specs.Present.{HoldsNow, outermost}
 use Rattle.past_state.specs.Memories.{CanStep, AreStepTables}
 use Rattle.past_state.specs.Sources.{AllComeFrom}
+use Rattle.past_state.specs.declared.survivors.Survivors.TheVariants as told
 use Rattle.enf_value.specs.Valuations.{Valuation}
 use Rattle.valuations.specs.Just.{Binds}
 use Rattle.valuations.specs.Tables.{Has}
-use Rattle.past_state.proofs.ColumnLemmas.{answers_all, surviving_in}
-use Rattle.past_state.proofs.StackLemmas.{stack_below}
+use Rattle.past_state.proofs.ColumnLemmas.{answers_all}
 use Rattle.past_state.proofs.memories.Memory.step_tables.Goals as goal
 
 pub all_rows-requires-clause-fresh : goal.all_rows-requires-clause-fresh
-all_rows-requires-clause-fresh c = (subst (CanStep (reverse c.args.stack.now)) c.in-Prev.is c.requires).fresh
+all_rows-requires-clause-fresh c = (subst (CanStep c.args.past.now) c.in-Prev.is c.requires).fresh
 
 pub all_rows-requires-in-Once-clause-fresh : goal.all_rows-requires-in-Once-clause-fresh
-all_rows-requires-in-Once-clause-fresh c = (subst (CanStep (reverse c.args.stack.now)) c.in-Once.is c.requires).fresh
+all_rows-requires-in-Once-clause-fresh c = (subst (CanStep c.args.past.now) c.in-Once.is c.requires).fresh
 
 pub all_rows-requires-in-Since-clause-fresh : goal.all_rows-requires-in-Since-clause-fresh
-all_rows-requires-in-Since-clause-fresh c = (subst (CanStep (reverse c.args.stack.now)) c.in-Since.is c.requires).0.fresh
+all_rows-requires-in-Since-clause-fresh c = (subst (CanStep c.args.past.now) c.in-Since.is c.requires).0.fresh
 
 pub all_rows-requires-in-Since-clause-tabled : goal.all_rows-requires-in-Since-clause-tabled
 all_rows-requires-in-Since-clause-tabled c =
-    let can = subst (CanStep (reverse c.args.stack.now)) c.in-Since.is c.requires in
-    subst (FitOperators (outermost (tree_of c.in-Since.right.formula))) (sym (stack_below c.args.stack.now c.in-Since.left_tables can.2)) can.0.tabled
+    let can = subst (CanStep c.args.past.now) c.in-Since.is c.requires in
+    subst (FitOperators (outermost (tree_of c.in-Since.right.formula))) (sym c.behind-behind.ensures) can.0.tabled
 
-pub surviving_rows-requires-clause-free : goal.surviving_rows-requires-clause-free
-surviving_rows-requires-clause-free c = λ x free. subst (λ l. Contains l x) (sym c.in_ok-kept-in-Since.ensures.columns) ((subst (CanStep (reverse c.args.stack.now)) c.in-Since.is c.requires).1.free x free)
+pub returns-in_ok-right-in-Prev : goal.returns-in_ok-right-in-Prev
+returns-in_ok-right-in-Prev c =
+    subst (λ m. AreStepTables c.args.events.now c.args.past.now m (record { surviving = told.All; right = c.in_ok-right-in-Prev.right })) (sym c.in-Prev.is)
+    (answers_all c.args.events.now c.args.past.now c.in-Prev.operand c.in-Prev.slot.columns c.in_ok-right-in-Prev.right
+    (subst (CanStep c.args.past.now) c.in-Prev.is c.requires).free c.in_ok-right-in-Prev.ensures.table c.in_ok-right-in-Prev.ensures.free c.in_ok-right-in-Prev.ensures.rows c.in_ok-right-in-Prev.ensures.known)
 
-pub surviving_rows-requires-clause-fresh : goal.surviving_rows-requires-clause-fresh
-surviving_rows-requires-clause-fresh c = (subst (CanStep (reverse c.args.stack.now)) c.in-Since.is c.requires).1.fresh
-
-pub returns-in_ok-surviving-in-Prev : goal.returns-in_ok-surviving-in-Prev
-returns-in_ok-surviving-in-Prev c =
-    subst (λ m. AreStepTables c.args.events.now (reverse c.args.stack.now) m (record { surviving = c.in_ok-surviving-in-Prev.surviving; right = c.in_ok-right-in-Prev.right })) (sym c.in-Prev.is)
-    (answers_all c.args.events.now (reverse c.args.stack.now) c.in-Prev.operand c.in-Prev.slot.columns c.in_ok-right-in-Prev.right
-    (subst (CanStep (reverse c.args.stack.now)) c.in-Prev.is c.requires).free c.in_ok-right-in-Prev.ensures.table c.in_ok-right-in-Prev.ensures.free c.in_ok-right-in-Prev.ensures.rows c.in_ok-right-in-Prev.ensures.known)
-
-pub returns-in_ok-surviving-in-Once : goal.returns-in_ok-surviving-in-Once
-returns-in_ok-surviving-in-Once c =
-    subst (λ m. AreStepTables c.args.events.now (reverse c.args.stack.now) m (record { surviving = c.in_ok-surviving-in-Once.surviving; right = c.in_ok-right-in-Once.right })) (sym c.in-Once.is) (
-      answers_all c.args.events.now (reverse c.args.stack.now) c.in-Once.right c.in-Once.window.columns c.in_ok-right-in-Once.right
-          (subst (CanStep (reverse c.args.stack.now)) c.in-Once.is c.requires).free c.in_ok-right-in-Once.ensures.table c.in_ok-right-in-Once.ensures.free c.in_ok-right-in-Once.ensures.rows c.in_ok-right-in-Once.ensures.known,
-      record { columns_are = c.in_ok-surviving-in-Once.ensures.columns; rows = c.in_ok-surviving-in-Once.ensures.rows },
+pub returns-in_ok-right-in-Once : goal.returns-in_ok-right-in-Once
+returns-in_ok-right-in-Once c =
+    subst (λ m. AreStepTables c.args.events.now c.args.past.now m (record { surviving = told.All; right = c.in_ok-right-in-Once.right })) (sym c.in-Once.is) (
+      answers_all c.args.events.now c.args.past.now c.in-Once.right c.in-Once.window.columns c.in_ok-right-in-Once.right
+          (subst (CanStep c.args.past.now) c.in-Once.is c.requires).free c.in_ok-right-in-Once.ensures.table c.in_ok-right-in-Once.ensures.free c.in_ok-right-in-Once.ensures.rows c.in_ok-right-in-Once.ensures.known,
+      refl,
     )
 
 pub returns-in_ok-surviving-in-Since : goal.returns-in_ok-surviving-in-Since
 returns-in_ok-surviving-in-Since c =
-    subst (λ m. AreStepTables c.args.events.now (reverse c.args.stack.now) m (record { surviving = c.in_ok-surviving-in-Since.surviving; right = c.in_ok-right-in-Since.right })) (sym c.in-Since.is) (
-      answers_all c.args.events.now (drop c.in-Since.left_tables (reverse c.args.stack.now)) c.in-Since.right c.in-Since.window.columns c.in_ok-right-in-Since.right
-          (subst (CanStep (reverse c.args.stack.now)) c.in-Since.is c.requires).0.free c.in_ok-right-in-Since.ensures.table c.in_ok-right-in-Since.ensures.free
+    subst (λ m. AreStepTables c.args.events.now c.args.past.now m (record { surviving = c.in_ok-surviving-in-Since.surviving; right = c.in_ok-right-in-Since.right })) (sym c.in-Since.is) (
+      answers_all c.args.events.now (drop c.in-Since.left_tables c.args.past.now) c.in-Since.right c.in-Since.window.columns c.in_ok-right-in-Since.right
+          (subst (CanStep c.args.past.now) c.in-Since.is c.requires).0.free c.in_ok-right-in-Since.ensures.table c.in_ok-right-in-Since.ensures.free
           (subst (λ l. (v : Valuation) → Binds v c.in_ok-right-in-Since.right.columns → Has c.in_ok-right-in-Since.right v ↔ HoldsNow c.args.events.now l v (tree_of c.in-Since.right.formula))
-          (stack_below c.args.stack.now c.in-Since.left_tables (subst (CanStep (reverse c.args.stack.now)) c.in-Since.is c.requires).2) c.in_ok-right-in-Since.ensures.rows)
+          c.behind-behind.ensures c.in_ok-right-in-Since.ensures.rows)
           (subst (λ l. AllComeFrom c.args.events.now l (tree_of c.in-Since.right.formula) c.in_ok-right-in-Since.right)
-          (stack_below c.args.stack.now c.in-Since.left_tables (subst (CanStep (reverse c.args.stack.now)) c.in-Since.is c.requires).2) c.in_ok-right-in-Since.ensures.known),
-      surviving_in c.args.events.now (reverse c.args.stack.now) c.in-Since.left c.in-Since.window c.in_ok-kept-in-Since.kept c.in_ok-surviving-in-Since.surviving c.in_ok-kept-in-Since.ensures.columns c.in_ok-kept-in-Since.ensures.rows c.in_ok-surviving-in-Since.ensures.columns c.in_ok-surviving-in-Since.ensures.rows,
+          c.behind-behind.ensures c.in_ok-right-in-Since.ensures.known),
+      c.in_ok-surviving-in-Since.ensures,
     )

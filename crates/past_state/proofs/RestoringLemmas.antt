@@ -1,0 +1,377 @@
+-- Rows window by window, and windows and slots that are made again of them.
+use Rattle.std.proofs.Common.{◌≡◌, ◌∙◌, ◌↔◌, ◌⊎◌, inl, inr, ⊎_elim, ℕ, zero, suc, ◌+◌, ◌<◌, ◌≤◌, List, [], ◌∷◌, ◌++◌, set, reverse, length, All, Contains, Option, None, Some, refl, sym, ap, subst, arith, append_assoc, length-append}
+use Rattle.std.specs.Prelude.{Vec, slice_get}
+use Rattle.std.specs.declared.alloc.Global.{Global}
+use Rattle.std.proofs.lemmas.List.{append-nil, length-reverse, length-set, reverse-append, reverse-reverse}
+use Rattle.std.proofs.lemmas.List.Elements.{All-cons, All-contains, All-contains_itself, All-nil, All-weaker, Contains-append_cases, Contains-append_left, Contains-append_right}
+use Rattle.std.proofs.lemmas.Option.{none-some, same_Some, slice_get_within}
+use Rattle.enf_formula.specs.Formulas.{Formula, Prev, Once, Historically, Since}
+use Rattle.enf_value.specs.Membership.{HasNoRepeats}
+use Rattle.enf_value.specs.declared.intervals.Interval.{Interval}
+use Rattle.enf_value.specs.declared.terms.VarId.{VarId}
+use Rattle.enf_formula.specs.FreeVariables.{AreFreeVariables}
+use Rattle.valuations.specs.Columns.{first_or_later, here, none_in_nil}
+use Rattle.windows.specs.Kept.{ChosenBy}
+use Rattle.windows.specs.KeptLaws.{rises_append}
+use Rattle.windows.specs.KeptPairs.{AreKeepable, IsBefore, Rises, pair, pairs_of_last, time_of}
+use Rattle.windows.specs.Slots.{Slot, IsUpToTime, LastHasColumns}
+use Rattle.windows.specs.Windows.{Window}
+use Rattle.windows.specs.declared.kept.KeptPair.{KeptPair}
+use Rattle.windows.specs.declared.steps.LastStep.{LastStep}
+use Rattle.monitorable_guard.specs.Guards.{BoundFormula}
+use Rattle.past_state.specs.Keeping.{PushesFor}
+use Rattle.past_state.specs.Memories.{IsFor, IsUpToTimeOf, columns_of}
+use Rattle.past_state.specs.Restoring.{AreByWindow, AreKeepableFor, ArePairsIn, AreRestored, AreWithinBounds, CanRestore, HaveTime, IsFrom, IsKeepable, IsOneRestored, IsRestored, IsRestoredSlot, IsRestoredWindow, IsTimely, IsTimelyIn, start}
+use Rattle.past_state.specs.Runs.{AreFor, AreSameKinds, AreUpToTimeOf}
+use Rattle.past_state.specs.Saved.{AreRowsRising, IsRowBefore, StoresAt, StoresFor, kept_operand, kept_row, pair_of}
+use Rattle.past_state.specs.declared.kept.KeptRow.{KeptRow}
+use Rattle.past_state.specs.declared.left.Left.{Left}
+use Rattle.past_state.specs.declared.memories.Memory.{Memory}
+use Rattle.past_state.specs.declared.memories.Memory.TheVariants as kept
+use Rattle.past_state.specs.declared.operators.Operator.{Operator}
+use Rattle.past_state.proofs.BuildingLemmas.{distinct}
+use Rattle.past_state.proofs.SavedLemmas.{at_place, columns_free, lengths}
+
+pub all_of : {X : Type 0} (P : X → Type 0) (xs : List X) → ((x : X) → Contains xs x → P x) → All P xs
+all_of P xs each = All-weaker (Contains xs) P each xs (All-contains_itself xs)
+
+-- ---- one window or slot
+
+up_to_last : (step : Option LastStep) (last : Option ℕ) → time_of step ≡ last → IsUpToTime (start last) step
+up_to_last None last e = tt
+up_to_last (Some step) None e = absurd (none-some step.time (sym e))
+up_to_last (Some step) (Some last) e = omega (arith, same_Some step.time last e)
+
+pub restored_prev : (slot : Slot) (operand : BoundFormula) (last : Option ℕ) (pairs : List KeptPair) (after : Slot) → All (λ p. length p.row ≡ length slot.columns) pairs → IsRestoredSlot slot last pairs after
+    → IsRestored (kept.Prev slot operand) last pairs (kept.Prev after operand)
+restored_prev slot operand last pairs after fit r = record {
+  same = (after, r.interval_is, r.columns_are, (λ was. subst (λ l. LastHasColumns l after.last) r.columns_are r.is_slot.fits), refl);
+  whole = (
+    r.is_slot,
+    all_of (λ p. length p.row ≡ length after.columns) (pairs_of_last after.last) (λ p there.
+        All-contains (λ q. length q.row ≡ length slot.columns) pairs p fit ((r.stores p).0 there) ∙ ap length (sym r.columns_are)),
+  );
+  up_to = up_to_last after.last last r.last_is;
+  stores = r.stores;
+}
+
+pub restored_once : (window : Window) (right : BoundFormula) (last : Option ℕ) (pairs : List KeptPair) (after : Window) → IsRestoredWindow window last pairs after
+    → IsRestored (kept.Once window right) last pairs (kept.Once after right)
+restored_once window right last pairs after r = record {
+  same = (after, record { interval_is = r.interval_is; columns_are = r.columns_are }, refl);
+  whole = r.least;
+  up_to = omega (arith, r.last_is);
+  stores = λ p. ((r.stores p.row p.time).1, (r.stores p.row p.time).0);
+}
+
+pub restored_since : (window : Window) (left : Left) (left_tables : ℕ) (right : BoundFormula) (last : Option ℕ) (pairs : List KeptPair) (after : Window) → IsRestoredWindow window last pairs after
+    → IsRestored (kept.Since window left left_tables right) last pairs (kept.Since after left left_tables right)
+restored_since window left left_tables right last pairs after r = record {
+  same = (after, record { interval_is = r.interval_is; columns_are = r.columns_are }, refl);
+  whole = r.least;
+  up_to = omega (arith, r.last_is);
+  stores = λ p. ((r.stores p.row p.time).1, (r.stores p.row p.time).0);
+}
+
+-- ---- the rows of each window
+
+rises_front : {X : Type 0} (Before : X → X → Type 0) (xs ys : List X) → Rises Before (xs ++ ys) → Rises Before xs × ((x y : X) → Contains xs x → Contains ys y → Before x y)
+rises_front Before [] ys rises = (tt, λ x y there also. absurd (none_in_nil x there))
+rises_front Before (x ∷ xs) ys rises =
+    let rest = rises_front Before xs ys rises.1 in (
+      (all_of (Before x) xs (λ y there. All-contains (Before x) (xs ++ ys) y rises.0 (Contains-append_left xs ys y there)), rest.0),
+      λ w y there also. ⊎_elim
+          (λ same. subst (λ z. Before z y) same (All-contains (Before x) (xs ++ ys) y rises.0 (Contains-append_right xs ys y also)))
+          (λ behind. rest.1 w y behind also) (first_or_later w x xs there),
+    )
+
+only : {X : Type 0} (x y : X) → Contains (x ∷ []) y → x ≡ y
+only x y there = ⊎_elim (λ same. same) (λ behind. absurd (none_in_nil y behind)) (first_or_later y x [] there)
+
+pub pairs_none : (window : ℕ) → ArePairsIn [] window []
+pairs_none window = record {
+  exact = λ p. (λ there. absurd (none_in_nil p there), λ there. absurd (none_in_nil (kept_row window p) there));
+  rising = λ rises. tt;
+}
+
+pairs_other : (rows : List KeptRow) (r : KeptRow) (window : ℕ) (pairs : List KeptPair) → (window ≡ r.window → ⊥) → ArePairsIn rows window pairs → ArePairsIn (rows ++ r ∷ []) window pairs
+pairs_other rows r window pairs other are = record {
+  exact = λ p. (
+    λ there. Contains-append_left rows (r ∷ []) (kept_row window p) ((are.exact p).0 there),
+    λ there. ⊎_elim (λ front. (are.exact p).1 front) (λ last. absurd (other (sym (ap (λ s. s.window) (only r (kept_row window p) last)))))
+        (Contains-append_cases rows (r ∷ []) (kept_row window p) there),
+  );
+  rising = λ rises. are.rising (rises_front IsRowBefore rows (r ∷ []) rises).0;
+}
+
+pairs_same : (rows : List KeptRow) (r : KeptRow) (pairs : List KeptPair) → ArePairsIn rows r.window pairs → ArePairsIn (rows ++ r ∷ []) r.window (pairs ++ pair_of r ∷ [])
+pairs_same rows r pairs are = record {
+  exact = λ p. (
+    λ there. ⊎_elim (λ front. Contains-append_left rows (r ∷ []) (kept_row r.window p) ((are.exact p).0 front))
+        (λ last. Contains-append_right rows (r ∷ []) (kept_row r.window p) (subst (λ q. Contains (r ∷ []) (kept_row r.window q)) (only (pair_of r) p last) (here r [])))
+        (Contains-append_cases pairs (pair_of r ∷ []) p there),
+    λ there. ⊎_elim (λ front. Contains-append_left pairs (pair_of r ∷ []) p ((are.exact p).1 front))
+        (λ last. Contains-append_right pairs (pair_of r ∷ []) p (subst (Contains (pair_of r ∷ [])) (ap pair_of (only r (kept_row r.window p) last)) (here (pair_of r) [])))
+        (Contains-append_cases rows (r ∷ []) (kept_row r.window p) there),
+  );
+  rising = λ rises.
+      let front = rises_front IsRowBefore rows (r ∷ []) rises in
+      rises_append IsBefore pairs (pair_of r ∷ []) (are.rising front.0) (All-nil (IsBefore (pair_of r)), tt) (λ p q there also.
+      subst (IsBefore p) (only (pair_of r) q also)
+      (⊎_elim (λ less. absurd (omega (arith, less))) (λ both. both.1) (front.1 (kept_row r.window p) r ((are.exact p).0 there) (here r []))));
+}
+
+-- ---- lists of them
+
+slice_set : {X : Type 0} (xs : List X) (i k : ℕ) (y z : X) → slice_get (set xs i y) k ≡ Some z → ((k ≡ i) × (z ≡ y)) ⊎ ((k ≡ i → ⊥) × (slice_get xs k ≡ Some z))
+slice_set [] i zero y z e = absurd (none-some z e)
+slice_set [] i (suc k) y z e = absurd (none-some z e)
+slice_set (x ∷ xs) zero zero y z e = inl (refl, same_Some z y (sym e))
+slice_set (x ∷ xs) zero (suc k) y z e = inr (λ same. omega (arith, same), e)
+slice_set (x ∷ xs) (suc i) zero y z e = inr (λ same. omega (arith, same), e)
+slice_set (x ∷ xs) (suc i) (suc k) y z e = ⊎_elim (λ both. inl (ap suc both.0, both.1)) (λ both. inr (λ same. both.0 (omega (arith, same)), both.1)) (slice_set xs i k y z e)
+
+pub slice_push : {X : Type 0} (xs : List X) (k : ℕ) (y z : X) → slice_get (xs ++ y ∷ []) k ≡ Some z → (slice_get xs k ≡ Some z) ⊎ ((k ≡ length xs) × (z ≡ y))
+slice_push [] zero y z e = inr (refl, same_Some z y (sym e))
+slice_push [] (suc zero) y z e = absurd (none-some z e)
+slice_push [] (suc (suc k)) y z e = absurd (none-some z e)
+slice_push (x ∷ xs) zero y z e = inl e
+slice_push (x ∷ xs) (suc k) y z e = ⊎_elim (λ front. inl front) (λ last. inr (ap suc last.0, last.1)) (slice_push xs k y z e)
+
+none_at : {X : Type 0} (k : ℕ) (z : X) → slice_get [] k ≡ Some z → ⊥
+none_at zero z e = none-some z e
+none_at (suc k) z e = none-some z e
+
+pub lists_none : (lists : List (Vec KeptPair Global)) → lists ≡ [] → AreByWindow [] 0 lists
+lists_none lists none = subst (AreByWindow [] 0) (sym none) (refl, λ window pairs at. absurd (none_at window pairs at))
+
+pub lists_more : (count : ℕ) (lists after : List (Vec KeptPair Global)) (empty : Vec KeptPair Global) → AreByWindow [] count lists → empty.items ≡ [] → after ≡ lists ++ empty ∷ [] → AreByWindow [] (count + 1) after
+lists_more count lists after empty are none grown = subst (AreByWindow [] (count + 1)) (sym grown) (
+  omega (arith, are.0, length-push lists empty),
+  λ window pairs at. ⊎_elim (λ earlier. are.1 window pairs earlier)
+      (λ same. subst (ArePairsIn [] window) (sym (ap (λ v. v.items) same.1 ∙ none)) (pairs_none window)) (slice_push lists window empty pairs at),
+)
+  where
+    length-push : (xs : List (Vec KeptPair Global)) (x : Vec KeptPair Global) → length (xs ++ x ∷ []) ≡ length xs + 1
+    length-push [] x = refl
+    length-push (y ∷ xs) x = let rest = length-push xs x in omega (arith, rest)
+
+pub lists_filled : (rows : List KeptRow) (r : KeptRow) (count : ℕ) (lists : List (Vec KeptPair Global)) (before after : Vec KeptPair Global) → AreByWindow rows count lists
+    → slice_get lists r.window ≡ Some before → after.items ≡ before.items ++ pair_of r ∷ [] → AreByWindow (rows ++ r ∷ []) count (set lists r.window after)
+lists_filled rows r count lists before after are at grown = (
+  length-set lists r.window after ∙ are.0,
+  λ window pairs found. ⊎_elim
+      (λ same. subst (λ w. ArePairsIn (rows ++ r ∷ []) w pairs.items) (sym same.0) (subst (ArePairsIn (rows ++ r ∷ []) r.window) (sym (ap (λ v. v.items) same.1 ∙ grown))
+      (pairs_same rows r before.items (are.1 r.window before at))))
+      (λ other. pairs_other rows r window pairs.items other.0 (are.1 window pairs other.1)) (slice_set lists r.window window after pairs found),
+)
+
+-- ---- which rows can be kept
+
+pub chosen_same : (high : Option ℕ) (low last : ℕ) (P Q : ℕ → Type 0) (time : ℕ) → ((t : ℕ) → P t ↔ Q t) → ChosenBy high low last P time → ChosenBy high low last Q time
+chosen_same None low last P Q time same chosen = λ other there. chosen other ((same other).1 there)
+chosen_same (Some high) low last P Q time same chosen = (chosen.0, λ far other there. chosen.1 far other ((same other).1 there))
+
+module _ (fs : List Formula) (last : ℕ) (rows : List KeptRow) (window : ℕ) (f : Formula) (pairs : List KeptPair) (at : slice_get fs window ≡ Some f)
+    (bounds : AreWithinBounds fs (Some last) rows) (are : ArePairsIn rows window pairs) where
+  keepable : (p : KeptPair) → Contains pairs p → IsKeepable fs last rows (kept_row window p)
+  keepable p there = All-contains (IsKeepable fs last rows) rows (kept_row window p) bounds.1 ((are.exact p).0 there)
+
+  same_operator : (p : KeptPair) (there : Contains pairs p) → (keepable p there).operator ≡ f
+  same_operator p there = same_Some (keepable p there).operator f (sym (keepable p there).numbered ∙ at)
+
+  is_long : (columns : List VarId) → AreFreeVariables (kept_operand f) columns → (p : KeptPair) → Contains pairs p → length p.row ≡ length columns
+  is_long columns free p there = (keepable p there).long columns (subst (λ g. AreFreeVariables (kept_operand g) columns) (sym (same_operator p there)) free)
+
+  is_timely : (p : KeptPair) → Contains pairs p → IsTimely f last (HaveTime rows (kept_row window p)) p.time
+  is_timely p there = subst (λ g. IsTimely g last (HaveTime rows (kept_row window p)) p.time) (same_operator p there) (keepable p there).timely
+
+  in_window : (interval : Interval) (columns : List VarId) → AreFreeVariables (kept_operand f) columns
+      → ((p : KeptPair) → Contains pairs p → IsTimelyIn interval last (HaveTime rows (kept_row window p)) p.time) → AreKeepable interval columns last pairs
+  in_window interval columns free timely = record {
+    fit = all_of (λ p. length p.row ≡ length columns) pairs (is_long columns free);
+    up_to = all_of (λ p. p.time ≤ last) pairs (λ p there. (timely p there).0);
+    rising = are.rising bounds.0;
+    chosen = λ row time there. chosen_same interval.high interval.low last (HaveTime rows (kept_row window (pair row time))) (λ other. Contains pairs (pair row other)) time
+        (λ t. ((are.exact (pair row t)).1, (are.exact (pair row t)).0)) (timely (pair row time) there).1;
+  }
+
+keepable_some : (fs : List Formula) (last : ℕ) (rows : List KeptRow) (window : ℕ) (f : Formula) (m : Memory) (pairs : List KeptPair) → slice_get fs window ≡ Some f → IsFor f m
+    → AreWithinBounds fs (Some last) rows → ArePairsIn rows window pairs → AreKeepableFor m (Some last) pairs
+keepable_some fs last rows window (Prev place interval g) (kept.Prev slot operand) pairs at for bounds are = (
+  all_of (λ p. length p.row ≡ length slot.columns) pairs (is_long fs last rows window (Prev place interval g) pairs at bounds are slot.columns for.1),
+  all_of (λ p. p.time ≡ last) pairs (is_timely fs last rows window (Prev place interval g) pairs at bounds are),
+)
+keepable_some fs last rows window (Once place interval g) (kept.Once w right) pairs at for bounds are =
+    subst (λ i. AreKeepable i w.columns last pairs) (sym for.2) (in_window fs last rows window (Once place interval g) pairs at bounds are interval w.columns for.1
+    (is_timely fs last rows window (Once place interval g) pairs at bounds are))
+keepable_some fs last rows window (Historically place interval g) (kept.Once w right) pairs at for bounds are =
+    subst (λ i. AreKeepable i w.columns last pairs) (sym for.2) (in_window fs last rows window (Historically place interval g) pairs at bounds are interval w.columns for.1
+    (is_timely fs last rows window (Historically place interval g) pairs at bounds are))
+keepable_some fs last rows window (Since place interval g h) (kept.Since w left left_tables right) pairs at for bounds are =
+    subst (λ i. AreKeepable i w.columns last pairs) (sym for.2) (in_window fs last rows window (Since place interval g h) pairs at bounds are interval w.columns for.1
+    (is_timely fs last rows window (Since place interval g h) pairs at bounds are))
+keepable_some fs last rows window f m pairs at for bounds are = absurd for
+
+nothing_in : (rows : List KeptRow) (window : ℕ) (pairs : List KeptPair) → rows ≡ [] → ArePairsIn rows window pairs → (p : KeptPair) → Contains pairs p → ⊥
+nothing_in rows window pairs none are p there = none_in_nil (kept_row window p) (subst (λ l. Contains l (kept_row window p)) none ((are.exact p).0 there))
+
+window_empty : (interval : Interval) (columns : List VarId) (rows : List KeptRow) (window : ℕ) (pairs : List KeptPair) → rows ≡ [] → ArePairsIn rows window pairs → AreKeepable interval columns 0 pairs
+window_empty interval columns rows window pairs none are = record {
+  fit = all_of (λ p. length p.row ≡ length columns) pairs (λ p there. absurd (nothing_in rows window pairs none are p there));
+  up_to = all_of (λ p. p.time ≤ 0) pairs (λ p there. absurd (nothing_in rows window pairs none are p there));
+  rising = are.rising (subst AreRowsRising (sym none) tt);
+  chosen = λ row time there. absurd (nothing_in rows window pairs none are (pair row time) there);
+}
+
+no_pairs_in : (pairs : List KeptPair) → ((p : KeptPair) → Contains pairs p → ⊥) → pairs ≡ []
+no_pairs_in [] none = refl
+no_pairs_in (p ∷ pairs) none = absurd (none p (here p pairs))
+
+keepable_none : (m : Memory) (rows : List KeptRow) (window : ℕ) (pairs : List KeptPair) → rows ≡ [] → ArePairsIn rows window pairs → AreKeepableFor m None pairs
+keepable_none (kept.Prev slot operand) rows window pairs none are = (
+  all_of (λ p. length p.row ≡ length slot.columns) pairs (λ p there. absurd (nothing_in rows window pairs none are p there)),
+  no_pairs_in pairs (nothing_in rows window pairs none are),
+)
+keepable_none (kept.Once w right) rows window pairs none are = window_empty w.interval w.columns rows window pairs none are
+keepable_none (kept.Since w left left_tables right) rows window pairs none are = window_empty w.interval w.columns rows window pairs none are
+
+pub keepable_for : (fs : List Formula) (last : Option ℕ) (rows : List KeptRow) (window : ℕ) (f : Formula) (m : Memory) (pairs : List KeptPair) → slice_get fs window ≡ Some f → IsFor f m
+    → AreWithinBounds fs last rows → ArePairsIn rows window pairs → AreKeepableFor m last pairs
+keepable_for fs None rows window f m pairs at for bounds are = keepable_none m rows window pairs bounds are
+keepable_for fs (Some last) rows window f m pairs at for bounds are = keepable_some fs last rows window f m pairs at for bounds are
+
+-- ---- operators by their numbers
+
+pub reversed_front : (g : Formula) (gs more : List Formula) → reverse (g ∷ gs) ++ more ≡ reverse gs ++ g ∷ more
+reversed_front g gs more = ap (λ l. l ++ more) (reverse-append (g ∷ []) gs) ∙ append_assoc (reverse gs) (g ∷ []) more
+
+at_front : (xs more : List Formula) (g : Formula) (n : ℕ) → length xs ≡ n → slice_get (xs ++ g ∷ more) n ≡ Some g
+at_front [] more g zero e = refl
+at_front [] more g (suc n) e = absurd (omega (arith, e))
+at_front (x ∷ xs) more g zero e = absurd (omega (arith, e))
+at_front (x ∷ xs) more g (suc n) e = at_front xs more g n (omega (arith, e))
+
+-- the operator at its number, counted from the last one
+pub numbered : (g : Formula) (gs more : List Formula) (o : Operator) (operators : List Operator) → AreFor (g ∷ gs) (o ∷ operators) → slice_get (reverse (g ∷ gs) ++ more) (length operators) ≡ Some g
+numbered g gs more o operators are = subst (λ l. slice_get l (length operators) ≡ Some g) (sym (reversed_front g gs more))
+    (at_front (reverse gs) more g (length operators) (length-reverse gs ∙ lengths gs operators are.2))
+
+-- ---- the turns of the loops
+
+pub within_rows : (rows front back : List KeptRow) (r : KeptRow) (count : ℕ) → rows ≡ front ++ r ∷ back → All (λ s. s.window < count) rows → r.window < count
+within_rows rows front back r count split all =
+    All-contains (λ s. s.window < count) rows r all (subst (λ l. Contains l r) (sym split) (Contains-append_right front (r ∷ back) r (here r back)))
+
+-- each row is for one of the operators
+pub rows_within : (operators : List Operator) (last : Option ℕ) (rows : List KeptRow) → CanRestore operators last rows → All (λ r. r.window < length operators) rows
+rows_within operators None rows can = all_of (λ r. r.window < length operators) rows (λ r there. absurd (none_in_nil r (subst (λ l. Contains l r) can.bounds there)))
+rows_within operators (Some last) rows can = all_of (λ r. r.window < length operators) rows (λ r there.
+    let k = All-contains (IsKeepable can.formulas last rows) rows r can.bounds.1 there in
+    omega (arith, slice_get_within can.formulas r.window k.operator k.numbered, length-reverse can.formulas, lengths (reverse can.formulas) operators can.are_for))
+
+-- the operator of a number, counted from the last one, is of one of the formulas
+numbered_for : (gs more : List Formula) (front back : List Operator) (o : Operator) → AreFor gs (front ++ o ∷ back) → (f : Formula) × (slice_get (reverse gs ++ more) (length back) ≡ Some f) × IsFor f o.memory
+numbered_for [] more [] back o are = absurd are
+numbered_for [] more (q ∷ front) back o are = absurd are
+numbered_for (g ∷ gs) more [] back o are = (g, numbered g gs more o back are, are.0)
+numbered_for (g ∷ gs) more (q ∷ front) back o are =
+    let rest = numbered_for gs (g ∷ more) front back o are.2 in (rest.0, subst (λ l. slice_get l (length back) ≡ Some rest.0) (sym (reversed_front g gs more)) rest.1, rest.2)
+
+module _ (operators front back : List Operator) (o : Operator) (last : Option ℕ) (rows : List KeptRow) (can : CanRestore operators last rows) (split : operators ≡ front ++ o ∷ back) where
+  of : (f : Formula) × (slice_get can.formulas (length back) ≡ Some f) × IsFor f o.memory
+  of =
+      let found = numbered_for (reverse can.formulas) [] front back o (subst (AreFor (reverse can.formulas)) split can.are_for) in
+      (found.0, subst (λ l. slice_get l (length back) ≡ Some found.0) (append-nil (reverse (reverse can.formulas)) ∙ reverse-reverse can.formulas) found.1, found.2)
+
+  pub distinct_here : HasNoRepeats (columns_of o.memory)
+  distinct_here = distinct (columns_of o.memory) (columns_free of.0 o.memory of.2).rising
+
+  pub keepable_here : (window : ℕ) (lists : List (Vec KeptPair Global)) (pairs : Vec KeptPair Global) → window ≡ length back → AreByWindow rows (length operators) lists → slice_get lists window ≡ Some pairs
+      → AreKeepableFor o.memory last pairs.items
+  keepable_here window lists pairs at are found =
+      keepable_for can.formulas last rows window of.0 o.memory pairs.items (subst (λ k. slice_get can.formulas k ≡ Some of.0) (sym at) of.1) of.2 can.bounds (are.1 window pairs found)
+
+restored_snoc : (last : Option ℕ) (rows : List KeptRow) (behind : ℕ) (operators after : List Operator) (o p : Operator) → AreRestored last rows (behind + 1) operators after → IsOneRestored last rows behind o p
+    → AreRestored last rows behind (operators ++ o ∷ []) (after ++ p ∷ [])
+restored_snoc last rows behind [] [] o p so_far one = (subst (λ n. IsOneRestored last rows n o p) (omega arith) one, tt)
+restored_snoc last rows behind [] (q ∷ after) o p so_far one = absurd so_far
+restored_snoc last rows behind (r ∷ operators) [] o p so_far one = absurd so_far
+restored_snoc last rows behind (r ∷ operators) (q ∷ after) o p so_far one = (
+  subst (λ n. IsOneRestored last rows n r q) (omega (arith, length-append operators (o ∷ []))) so_far.0,
+  restored_snoc last rows behind operators after o p so_far.1 one,
+)
+
+pub restored_more : (last : Option ℕ) (rows : List KeptRow) (window : ℕ) (front made after : List Operator) (o p : Operator) (pairs : List KeptPair) → AreRestored last rows (window + 1) front made
+    → ArePairsIn rows window pairs → p.taken ≡ o.taken → IsRestored o.memory last pairs p.memory → after ≡ made ++ p ∷ [] → AreRestored last rows window (front ++ o ∷ []) after
+restored_more last rows window front made after o p pairs so_far are taken r grown = subst (AreRestored last rows window (front ++ o ∷ [])) (sym grown)
+    (restored_snoc last rows window front made o p so_far (record {
+      taken_is = taken;
+      same = r.same;
+      whole = r.whole;
+      up_to = r.up_to;
+      stores = λ q. (λ stored. (are.exact q).0 ((r.stores q).0 stored), λ there. (r.stores q).1 ((are.exact q).1 there));
+    }))
+
+-- ---- what is made again
+
+pub same_kinds : (last : Option ℕ) (rows : List KeptRow) (behind : ℕ) (operators after : List Operator) → AreRestored last rows behind operators after → AreSameKinds operators after
+same_kinds last rows behind [] [] restored = refl
+same_kinds last rows behind [] (p ∷ after) restored = absurd restored
+same_kinds last rows behind (o ∷ operators) [] restored = absurd restored
+same_kinds last rows behind (o ∷ operators) (p ∷ after) restored = (restored.0.taken_is, restored.0.same, same_kinds last rows behind operators after restored.1)
+
+pub none_later : (last : Option ℕ) (rows : List KeptRow) (behind : ℕ) (operators after : List Operator) (time : ℕ) → AreRestored last rows behind operators after → start last ≤ time → AreUpToTimeOf time after
+none_later last rows behind [] [] time restored from = All-nil (λ o. IsUpToTimeOf time o.memory)
+none_later last rows behind [] (p ∷ after) time restored from = absurd restored
+none_later last rows behind (o ∷ operators) [] time restored from = absurd restored
+none_later last rows behind (o ∷ operators) (p ∷ after) time restored from =
+    All-cons (λ q. IsUpToTimeOf time q.memory) p after (up_to_on p.memory restored.0.up_to) (none_later last rows behind operators after time restored.1 from)
+  where
+    slot_on : (step : Option LastStep) → IsUpToTime (start last) step → IsUpToTime time step
+    slot_on None up = tt
+    slot_on (Some step) up = omega (arith, up, from)
+
+    up_to_on : (m : Memory) → IsUpToTimeOf (start last) m → IsUpToTimeOf time m
+    up_to_on (kept.Prev slot operand) up = slot_on slot.last up
+    up_to_on (kept.Once window right) up = omega (arith, up, from)
+    up_to_on (kept.Since window left left_tables right) up = omega (arith, up, from)
+
+same_count : (last : Option ℕ) (rows : List KeptRow) (operators after : List Operator) → AreRestored last rows 0 operators after → length after ≡ length operators
+same_count last rows [] [] restored = refl
+same_count last rows [] (p ∷ after) restored = absurd restored
+same_count last rows (o ∷ operators) [] restored = absurd restored
+same_count last rows (o ∷ operators) (p ∷ after) restored = ap suc (same_count last rows operators after restored.1)
+
+-- the rows of each are those of its window
+stored_at : (last : Option ℕ) (rows : List KeptRow) (operators after : List Operator) → AreRestored last rows 0 operators after → (k : ℕ) (p : Operator) → slice_get (reverse after) k ≡ Some p
+    → (q : KeptPair) → StoresFor p.memory q ↔ Contains rows (kept_row k q)
+stored_at last rows operators [] restored k p e = absurd (none_at k p e)
+stored_at last rows [] (r ∷ after) restored k p e = absurd restored
+stored_at last rows (o ∷ operators) (r ∷ after) restored k p e =
+    ⊎_elim (λ front. stored_at last rows operators after restored.1 k p front)
+    (λ here_is.
+    let number : length operators + 0 ≡ k = omega (arith, here_is.0, length-reverse after, same_count last rows operators after restored.1) in
+    subst (λ r. (q : KeptPair) → StoresFor r.memory q ↔ Contains rows (kept_row k q)) (sym here_is.1) (subst (λ n. (q : KeptPair) → StoresFor r.memory q ↔ Contains rows (kept_row n q)) number restored.0.stores))
+    (slice_push (reverse after) k r p (subst (λ l. slice_get l k ≡ Some p) (reverse-append (r ∷ []) after) e))
+
+pub rows_exact : (last : Option ℕ) (rows : List KeptRow) (operators after : List Operator) → AreRestored last rows 0 operators after → All (λ r. r.window < length operators) rows
+    → (r : KeptRow) → Contains rows r ↔ StoresAt after r
+rows_exact last rows operators after restored within r = (
+  λ there.
+      let o = at_place (reverse after) r.window (omega (arith, All-contains (λ s. s.window < length operators) rows r within there, length-reverse after, same_count last rows operators after restored)) in
+      (o.0, o.1, (stored_at last rows operators after restored r.window o.0 o.1 (pair_of r)).1 there),
+  λ stored. (stored_at last rows operators after restored r.window stored.0 stored.1 (pair_of r)).0 stored.2,
+)
+
+-- ---- what was put last before the first step
+
+pub pushed_for : (fs : List Formula) (before after : List Operator) → before ≡ [] → PushesFor (reverse fs) before after → AreFor (reverse fs) after
+pushed_for fs before after none pushes = subst (AreFor (reverse fs)) (sym (pushes.grown ∙ ap (λ l. l ++ pushes.added) none)) pushes.are_for
+
+pub can_restore : (fs : List Formula) (before after : List Operator) (last : Option ℕ) (rows : List KeptRow) → before ≡ [] → PushesFor (reverse fs) before after → AreWithinBounds fs last rows → CanRestore after last rows
+can_restore fs before after last rows none pushes bounds = record { formulas = fs; are_for = pushed_for fs before after none pushes; bounds = bounds }
+
+pub from_start : (last : Option ℕ) (time : ℕ) → IsFrom last time → start last ≤ time
+from_start None time from = omega arith
+from_start (Some last) time from = from

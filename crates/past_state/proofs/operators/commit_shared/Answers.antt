@@ -1,0 +1,12 @@
+use Rattle.std.proofs.Common.{◌≡◌, ◌⊎◌, ⊎_elim, sym, subst}
+use Rattle.std.specs.Prelude.{OnErr}
+use Rattle.past_state.specs.Runs.{AreSameKinds}
+use Rattle.past_state.proofs.CommitLemmas.{same_all}
+use Rattle.past_state.proofs.operators.commit_shared.Goals as goal
+
+pub returns-in_err-operators-clause-kinds : goal.returns-in_err-operators-clause-kinds
+returns-in_err-operators-clause-kinds c =
+    let before = c.args.operators.now.value in
+    let after = c.make_mut.follows.lender-at-none.value in
+    ⊎_elim (λ e. subst (λ s. AreSameKinds before.items.items s.items.items) (sym e) (same_all before.items.items)) (λ e. subst (AreSameKinds before.items.items) (sym e) (same_all before.items.items))
+    (subst (λ r. OnErr r ((after ≡ before) ⊎ (after.items.items ≡ before.items.items))) c.in_err-operators.was c.make_mut.follows.holds-at-none)

@@ -1,0 +1,34 @@
+use Rattle.std.proofs.Common.{◌∙◌, [], sym, subst, ap}
+use Rattle.past_state.specs.Asked.{CanAskEach, tables_at}
+use Rattle.past_state.specs.Past.{IsPast, AreOf}
+use Rattle.past_state.specs.Runs.{AreOrdered, Runs}
+use Rattle.past_state.proofs.PastLemmas.{ordered, tables_are}
+use Rattle.past_state.proofs.past.PastState.tables_at.Goals as goal
+
+pub run-requires-clause-ordered : goal.run-requires-clause-ordered
+run-requires-clause-ordered c = subst AreOrdered (sym (c.as_slice.ensures.value ∙ ap (λ s. s.items.items) c.deref.ensures)) (ordered _ c.self.invariant)
+
+are : (c : goal.In_ok-clone-2) → AreOf c.args.self.now c.args.time c.args.events.now (record {
+  guards = c.in_ok-clone.field-0.value.items;
+  steps = c.in_ok-ran.ran.steps.items;
+  stack = tables_at c.in_ok-clone-2.field-0.value.items.items c.in_ok-ran.ran.steps.items c.args.time c.in_ok-ran.ran.places.items;
+})
+are c = (
+  ap (λ v. v.items) c.in_ok-clone.ensures.cases ∙ ap (λ p. p.guards) c.self.view_is,
+  subst (λ l. Runs c.args.events.now c.args.time [] l c.in_ok-ran.ran.steps.items (tables_at c.in_ok-clone-2.field-0.value.items.items c.in_ok-ran.ran.steps.items c.args.time c.in_ok-ran.ran.places.items)) (ap (λ p. p.operators) c.self.view_is)
+      (subst (λ s. Runs c.args.events.now c.args.time [] c.self.inside.operators.value.items.items c.in_ok-ran.ran.steps.items (tables_at s.items.items c.in_ok-ran.ran.steps.items c.args.time c.in_ok-ran.ran.places.items)) (sym c.in_ok-clone-2.ensures.cases)
+      (subst (λ l. Runs c.args.events.now c.args.time [] l c.in_ok-ran.ran.steps.items (tables_at l c.in_ok-ran.ran.steps.items c.args.time c.in_ok-ran.ran.places.items)) (c.as_slice.ensures.value ∙ ap (λ s. s.items.items) c.deref.ensures) c.in_ok-ran.ensures.runs)),
+)
+
+pub invariant_of-result : goal.invariant_of-result
+invariant_of-result c = (
+  tables_are c.args.self.now c.args.time c.args.events.now _ (subst IsPast c.self.view_is c.self.invariant) (are c),
+  subst (λ s. CanAskEach s.items.items c.in_ok-ran.ran.steps.items c.args.time c.in_ok-ran.ran.places.items) (sym c.in_ok-clone-2.ensures.cases)
+      (subst (λ l. CanAskEach l c.in_ok-ran.ran.steps.items c.args.time c.in_ok-ran.ran.places.items) (c.as_slice.ensures.value ∙ ap (λ s. s.items.items) c.deref.ensures) c.in_ok-ran.ensures.asked),
+)
+
+pub returns-clause-stand : goal.returns-clause-stand
+returns-clause-stand c = c.steps_stand.ensures.tables c.args.self.now c.args.time c.args.events.now _ (subst IsPast c.self.view_is c.self.invariant) (are c)
+
+pub returns-clause-known : goal.returns-clause-known
+returns-clause-known c = c.tables_are_known.ensures c.args.self.now c.args.time c.args.events.now _ (subst IsPast c.self.view_is c.self.invariant) (are c)

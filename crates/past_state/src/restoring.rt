@@ -1,0 +1,181 @@
+//! Past states that are made again of the rows that one kept.
+ghost use Rattle.std.specs.Prelude.{◌≡◌, ◌<◌, [], IfOk, All, length, map};
+ghost use Rattle.enf_value.specs.Membership.{HasNoRepeats};
+ghost use Rattle.past_state.specs.Guarded.{tree_in};
+ghost use Rattle.past_state.specs.Memories.{columns_of};
+ghost use Rattle.past_state.specs.Operators.{all_operators};
+ghost use Rattle.windows.specs.KeptPairs.{AreKeepable, AreOfLast};
+ghost use Rattle.past_state.specs.Restoring.{AreByWindow, AreKeepableFor, AreRestored, CanRestore, IsRestored, IsRestoredSlot, IsRestoredWindow, start};
+
+use crate::guards::{place_all, push_all};
+use crate::kept::KeptRows;
+use crate::memories::Memory;
+use crate::operators::{Operator, Operators};
+use crate::past::PastState;
+use enf_formula::laws::dependence;
+use enf_value::items::Duplicate;
+use enf_value::memory::NoMemory;
+use monitorable_guard::Guard;
+use std::alloc::Global;
+use std::rc::Rc;
+use windows::{KeptPair, PrevSlot, SinceWindow};
+
+impl PastState {
+    ghost use Rattle.past_state.specs.Guarded.{AreCopies, IsFreshGuard};
+    ghost use Rattle.past_state.specs.Restoring.{AreWithinBounds, IsUpToLast, WillStandFor};
+    ghost use Rattle.past_state.specs.Saved.{AreRowsOf};
+
+    /// The past state that keeps these rows, with this last time; none before the first step. No quantifier in a guard
+    /// binds a variable in scope, and the rows are such as `kept` gives at that time.
+    pub fn from_kept(
+        alloc: Global,
+        guards: &[Guard],
+        last: Option<u64>,
+        rows: KeptRows,
+    ) -> Result<PastState, NoMemory>
+        requires fresh { All IsFreshGuard guards.now }
+        requires bounds { AreWithinBounds (all_operators (map tree_in guards.now)) last rows }
+        ensures guards { IfOk result (λ p. AreCopies guards.now p.guards) }
+        ensures up_to { IfOk result (IsUpToLast last) }
+        ensures exact { IfOk result (λ p. AreRowsOf p rows) }
+        ensures stands { IfOk result (WillStandFor (all_operators (map tree_in guards.now)) last rows) }
+    {
+        dependence();
+        let mut operators = Vec::new(alloc);
+        let counts = push_all(alloc, guards, &mut operators)?;
+        let items = restore_each(alloc, operators, last, rows)?;
+        let placed = place_all(alloc, guards, counts)?;
+        let guards = Rc::new(alloc, placed)?;
+        let operators = Rc::new(alloc, Operators { items })?;
+        Ok(PastState { guards, operators })
+    }
+}
+
+// The operators with the rows kept, and this last time.
+fn restore_each(
+    alloc: Global,
+    operators: Vec<Operator>,
+    last: Option<u64>,
+    rows: KeptRows,
+) -> Result<Vec<Operator>, NoMemory>
+    requires { CanRestore operators.items last rows }
+    ensures { IfOk result (λ restored. AreRestored last rows 0 operators.items restored.items) }
+{
+    let lists = by_window(alloc, operators.len(), rows)?;
+    let mut window = operators.len();
+    let mut restored = Vec::with_capacity(alloc, window)?;
+    for operator in operators {
+        window -= 1;
+        let pairs = lists[window].as_slice();
+        let memory = operator.memory.restored(alloc, last, pairs)?;
+        restored.push(Operator {
+            taken: operator.taken,
+            memory,
+        })?;
+    }
+    Ok(restored)
+}
+
+// The rows of each window, in order.
+fn by_window(alloc: Global, count: usize, rows: KeptRows) -> Result<Vec<Vec<KeptPair>>, NoMemory>
+    requires { All (λ r. r.window < count) rows }
+    ensures { IfOk result (λ lists. AreByWindow rows count lists.items) }
+{
+    let mut lists = no_pairs(alloc, count)?;
+    for row in rows.into_vec() {
+        let pair = KeptPair {
+            row: row.row,
+            time: row.time,
+        };
+        lists[row.window as usize].push(pair)?;
+    }
+    Ok(lists)
+}
+
+fn no_pairs(alloc: Global, count: usize) -> Result<Vec<Vec<KeptPair>>, NoMemory>
+    ensures { IfOk result (λ lists. AreByWindow [] count lists.items) }
+{
+    let mut lists = Vec::with_capacity(alloc, count)?;
+    for _ in 0..count {
+        lists.push(Vec::new(alloc))?;
+    }
+    Ok(lists)
+}
+
+impl Memory {
+    // The same with these pairs kept, and this last time.
+    fn restored(
+        self,
+        alloc: Global,
+        last: Option<u64>,
+        pairs: &[KeptPair],
+    ) -> Result<Memory, NoMemory>
+        requires distinct { HasNoRepeats (columns_of self) }
+        requires keepable { AreKeepableFor self last pairs.now }
+        ensures { IfOk result (IsRestored self last pairs.now) }
+    {
+        match self {
+            Memory::Prev { slot, operand } => {
+                let slot = restored_slot(alloc, &slot, last, pairs)?;
+                Ok(Memory::Prev { slot, operand })
+            }
+            Memory::Once { window, right } => {
+                let window = restored_window(alloc, &window, last, pairs)?;
+                Ok(Memory::Once { window, right })
+            }
+            Memory::Since {
+                window,
+                left,
+                left_tables,
+                right,
+            } => {
+                let window = restored_window(alloc, &window, last, pairs)?;
+                Ok(Memory::Since {
+                    window,
+                    left,
+                    left_tables,
+                    right,
+                })
+            }
+        }
+    }
+}
+
+fn restored_slot(
+    alloc: Global,
+    slot: &PrevSlot,
+    last: Option<u64>,
+    pairs: &[KeptPair],
+) -> Result<PrevSlot, NoMemory>
+    requires distinct { HasNoRepeats slot.now.columns }
+    requires fit { All (λ p. length p.row ≡ length slot.now.columns) pairs.now }
+    requires times { AreOfLast last pairs.now }
+    ensures { IfOk result (IsRestoredSlot slot.now last pairs.now) }
+{
+    let columns = slot.columns().duplicate(alloc)?;
+    PrevSlot::from_kept(alloc, slot.interval(), columns, last, pairs)
+}
+
+fn restored_window(
+    alloc: Global,
+    window: &SinceWindow,
+    last: Option<u64>,
+    pairs: &[KeptPair],
+) -> Result<SinceWindow, NoMemory>
+    requires distinct { HasNoRepeats window.now.columns }
+    requires keepable { AreKeepable window.now.interval window.now.columns (start last) pairs.now }
+    ensures { IfOk result (IsRestoredWindow window.now last pairs.now) }
+{
+    let columns = window.columns().duplicate(alloc)?;
+    SinceWindow::from_kept(alloc, window.interval(), columns, start_of(last), pairs)
+}
+
+// The last time of a window, which is 0 before the first step.
+fn start_of(last: Option<u64>) -> u64
+    ensures { result ≡ start last }
+{
+    match last {
+        Some(last) => last,
+        None => 0,
+    }
+}

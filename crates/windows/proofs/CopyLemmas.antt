@@ -1,0 +1,106 @@
+-- Copies of rows with their times.
+use Rattle.std.proofs.Common.{◌≡◌, ◌∙◌, ⊎_elim, ℕ, ◌<◌, Bool, true, false, List, [], ◌∷◌, ◌++◌, map, drop, length, Contains, None, Some, refl, sym, ap, subst, append_assoc, append-nil, arith}
+use Rattle.std.proofs.lemmas.List.{map-append}
+use Rattle.std.proofs.lemmas.List.Elements.{All-contains, Contains-append_right}
+use Rattle.std.specs.Prelude.{cond}
+use Rattle.std.specs.HashMap.{HashMap}
+use Rattle.std.specs.Map.{lookup}
+use Rattle.smallvec.specs.SmallVec.{SmallVec}
+use Rattle.indexmap.specs.IndexMap.{insert_entry}
+use Rattle.enf_value.specs.Membership.{HasNoRepeats}
+use Rattle.enf_value.specs.contracts.rows.RowPartialEq.TheImpl as rows
+use Rattle.enf_value.specs.declared.intervals.Interval.{Interval}
+use Rattle.enf_value.specs.declared.terms.VarId.{VarId}
+use Rattle.enf_value.specs.declared.values.Value.{Value}
+use Rattle.valuations.specs.Columns.{here, later, first_or_later, none_in_nil}
+use Rattle.windows.specs.Pairs.{HasBehind, HasTime}
+use Rattle.windows.specs.Queues.{Queue}
+use Rattle.windows.specs.Times.{IsLeast, RiseTo}
+use Rattle.windows.specs.Windows.{IsWindow, kept_of}
+use Rattle.windows.proofs.EntryLemmas.{derived_row_eq-Decides, grown_by}
+use Rattle.windows.proofs.TimeLemmas.{all_from}
+use Rattle.windows.proofs.WindowLemmas.{from_view, same_rows, to_view}
+
+-- ---- item by item
+
+pub next_pushed : {X : Type 0} (xs rest next after all : List X) (x y : X) → xs ++ rest ≡ all → rest ≡ x ∷ next → y ≡ x → after ≡ xs ++ y ∷ []
+    → after ++ next ≡ all
+next_pushed xs rest next after all x y whole is same pushed =
+    ap (λ l. l ++ next) pushed ∙ append_assoc xs (y ∷ []) next ∙ ap (λ z. xs ++ z ∷ next) same ∙ ap (λ l. xs ++ l) (sym is) ∙ whole
+
+pub all_pushed : {X : Type 0} (xs rest all : List X) → xs ++ rest ≡ all → length rest ≡ 0 → xs ≡ all
+all_pushed xs [] all whole none = sym (append-nil xs) ∙ whole
+all_pushed xs (x ∷ rest) all whole none = absurd (omega (arith, none))
+
+-- ---- entry by entry
+
+absent_before : {X : Type 0} (xs ys : List X) (x : X) → HasNoRepeats (xs ++ x ∷ ys) → Contains xs x → ⊥
+absent_before [] ys x distinct there = none_in_nil x there
+absent_before (y ∷ xs) ys x distinct there =
+    ⊎_elim (λ same. distinct.0 (subst (Contains (xs ++ x ∷ ys)) (sym same) (Contains-append_right xs (x ∷ ys) x (here x ys))))
+    (λ behind. absent_before xs ys x distinct.1 behind) (first_or_later x y xs there)
+
+no_entry : (row : List Value) (es : List (List Value × SmallVec ℕ)) → (Contains (map (λ e. e.0) es) row → ⊥)
+    → lookup (rows.eq-value.it row) es ≡ None
+no_entry row [] absent = refl
+no_entry row (e ∷ es) absent = by (rows.eq-value.it row e.0) refl (no_entry row es (λ there. absent (later row e.0 (map (λ d. d.0) es) there)))
+  where
+    by : (b : Bool) → rows.eq-value.it row e.0 ≡ b → lookup (rows.eq-value.it row) es ≡ None → cond b (Some e.1) (lookup (rows.eq-value.it row) es) ≡ None
+    by true same behind = absurd (absent (subst (λ r. Contains (r ∷ map (λ d. d.0) es) row) ((derived_row_eq-Decides row e.0).0 same) (here row (map (λ d. d.0) es))))
+    by false other behind = behind
+
+pub entry_copied : {S : Type 0} (m : HashMap (List Value) (SmallVec ℕ) S) (row key : List Value) (times new : SmallVec ℕ) (after : List (List Value × SmallVec ℕ))
+    → (Contains (map (λ e. e.0) m.entries) row → ⊥) → key ≡ row → new.items ≡ times.items → after ≡ insert_entry rows.eq-value.it m.entries key new
+    → kept_of after ≡ kept_of m.entries ++ (row, times.items) ∷ []
+entry_copied m row key times new after absent same items inserted =
+    ap kept_of (grown_by m row key new after (no_entry row m.entries absent) same inserted)
+    ∙ map-append (λ e. (e.0, e.1.items)) m.entries ((row, new) ∷ [])
+    ∙ ap (λ l. kept_of m.entries ++ (row, l) ∷ []) items
+
+-- where what is copied and what is left are all, the row that comes next is not copied yet
+pub not_copied : (copy rest next es : List (List Value × SmallVec ℕ)) (row : List Value) (times : SmallVec ℕ) → HasNoRepeats (map (λ e. e.0) es)
+    → kept_of copy ++ kept_of rest ≡ kept_of es → rest ≡ (row, times) ∷ next → Contains (map (λ e. e.0) copy) row → ⊥
+not_copied copy rest next es row times distinct whole is there =
+    let split : map (λ e. e.0) es ≡ map (λ e. e.0) copy ++ row ∷ map (λ e. e.0) (kept_of next) =
+    sym (same_rows es) ∙ ap (map (λ e. e.0)) (sym whole ∙ ap (λ l. kept_of copy ++ kept_of l) is)
+    ∙ map-append (λ e. e.0) (kept_of copy) ((row, times.items) ∷ kept_of next)
+    ∙ ap (λ l. l ++ row ∷ map (λ e. e.0) (kept_of next)) (same_rows copy) in
+    absent_before (map (λ e. e.0) copy) (map (λ e. e.0) (kept_of next)) row (subst HasNoRepeats split distinct) there
+
+-- ---- a window of such a copy
+
+module _ (es fs : List (List Value × SmallVec ℕ)) (same : kept_of fs ≡ kept_of es) where
+  -- each entry of the copy has an entry with its row and its times
+  pub entry_before : (e : List Value × SmallVec ℕ) → Contains fs e → (times : SmallVec ℕ) × Contains es (e.0, times) × (times.items ≡ e.1.items)
+  entry_before e there = from_view es e.0 e.1.items (subst (λ l. Contains l (e.0, e.1.items)) same (to_view fs e.0 e.1 there))
+
+  time_before : (row : List Value) (time : ℕ) → HasTime fs row time → HasTime es row time
+  time_before row time has = let found = entry_before (row, has.0) has.1 in
+      (found.0, found.1, subst (λ l. Contains l time) (sym found.2) has.2)
+
+  behind_before : (row : List Value) (time : ℕ) → HasBehind fs row time → HasBehind es row time
+  behind_before row time has = let found = entry_before (row, has.0) has.1 in
+      (found.0, found.1, subst (λ (l : List ℕ). Contains (drop 1 l) time) (sym found.2) has.2)
+
+  pub window_copied : (interval : Interval) (columns : List VarId) (last : ℕ) (queue : Queue) → IsWindow interval columns last es queue
+      → IsWindow interval columns last fs queue
+  window_copied interval columns last queue is = record {
+    distinct = is.distinct;
+    kept = record {
+      fit = all_from (λ e. (length e.0 ≡ length columns) × RiseTo last e.1.items × (0 < length e.1.items)) fs (λ e there.
+          let found = entry_before e there in
+          subst (λ (l : List ℕ). (length e.0 ≡ length columns) × RiseTo last l × (0 < length l)) found.2
+          (All-contains (λ d. (length d.0 ≡ length columns) × RiseTo last d.1.items × (0 < length d.1.items)) es (e.0, found.0) is.kept.fit found.1));
+      unique = subst HasNoRepeats (sym (same_rows es) ∙ ap (map (λ e. e.0)) (sym same) ∙ same_rows fs) is.kept.unique;
+    };
+    least = all_from (λ e. IsLeast interval.high interval.low last e.1.items) fs (λ e there.
+        let found = entry_before e there in
+        subst (IsLeast interval.high interval.low last) found.2
+        (All-contains (λ d. IsLeast interval.high interval.low last d.1.items) es (e.0, found.0) is.least found.1));
+    up_to = is.up_to;
+    in_reach = is.in_reach;
+    queued = λ high bounded. record {
+      times = λ row time has. (is.queued high bounded).times row time (time_before row time has);
+      waiting = λ row time has. (is.queued high bounded).waiting row time (behind_before row time has);
+    };
+  }

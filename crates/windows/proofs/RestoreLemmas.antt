@@ -1,0 +1,254 @@
+-- A window that is made of pairs.
+use Rattle.std.proofs.Common.{◌≡◌, ◌∙◌, ◌↔◌, ⊎_elim, ℕ, ◌-◌, ◌<◌, ◌≤◌, List, [], ◌∷◌, ◌++◌, map, drop, length, All, Contains, Option, None, Some, refl, sym, ap, subst, arith, length-append}
+use Rattle.std.specs.Cmp.{int_cmp_total, tied_itself}
+use Rattle.std.specs.Cmp.Lexicographic.{nat_list_cmp_total}
+use Rattle.std.specs.Ordering.{ordering_then}
+use Rattle.std.specs.declared.cmp.Ordering.TheVariants.{Less, Equal}
+use Rattle.std.proofs.lemmas.Bool.{cases_lt}
+use Rattle.std.proofs.lemmas.List.Elements.{All-contains, All-nil, All-push, Contains-append_cases, Contains-append_left, Contains-append_right}
+use Rattle.smallvec.specs.SmallVec.{SmallVec}
+use Rattle.enf_value.specs.Membership.{HasNoRepeats}
+use Rattle.enf_value.specs.Order.{row_cmp, value_cmp}
+use Rattle.enf_value.specs.declared.intervals.Interval.{Interval}
+use Rattle.enf_value.specs.declared.terms.VarId.{VarId}
+use Rattle.enf_value.specs.declared.values.Value.{Value}
+use Rattle.enf_value.specs.declared.values.Value.TheVariants.{Num, Text}
+use Rattle.valuations.specs.Columns.{here, later, first_or_later, none_in_nil}
+use Rattle.valuations.specs.SearchLaws.{Contains-from_map, Contains-map}
+use Rattle.windows.specs.Kept.{ChosenBy}
+use Rattle.windows.specs.KeptLaws.{rises_append}
+use Rattle.windows.specs.KeptPairs.{AreBefore, AreEntriesOf, AreKeepable, HaveStepsOf, HaveTimesOf, IsBefore, Rises, pair}
+use Rattle.windows.specs.Pairs.{AreKept, AreLeast, HasBehind, HasTime}
+use Rattle.windows.specs.Queues.{Queue, AreInReach, IsInStep}
+use Rattle.windows.specs.Times.{IsLeast, RiseTo}
+use Rattle.windows.specs.Windows.{IsWindow, kept_of}
+use Rattle.windows.specs.declared.kept.KeptPair.{KeptPair}
+use Rattle.windows.specs.declared.steps.LastStep.{LastStep}
+use Rattle.windows.proofs.EntryLemmas.{SetsAt}
+use Rattle.windows.proofs.LeastLemmas.{one_entry}
+use Rattle.windows.proofs.TimeLemmas.{all_from}
+
+-- ---- no row is before itself
+
+value_itself : (v : Value) → value_cmp v v ≡ Equal
+value_itself (Num x) = tied_itself int_cmp_total x
+value_itself (Text s) = tied_itself nat_list_cmp_total s
+
+row_itself : (row : List Value) → row_cmp row row ≡ Equal
+row_itself [] = refl
+row_itself (v ∷ row) = ap (λ o. ordering_then o (row_cmp row row)) (value_itself v) ∙ row_itself row
+
+same_row_later : (p q : KeptPair) → q.row ≡ p.row → IsBefore q p → q.time < p.time
+same_row_later p q same before = ⊎_elim (λ less. absurd (not_less (subst (λ r. row_cmp r p.row ≡ Less) same less))) (λ h. h.1) before
+  where
+    not_less : row_cmp p.row p.row ≡ Less → ⊥
+    not_less less = let e = row_itself p.row in cc
+
+-- ---- the rows with their times, pair by pair
+
+pub no_entries : AreEntriesOf [] []
+no_entries = record {
+  exact = λ p. (λ has. absurd (none_in_nil (p.row, has.0) has.1), λ there. absurd (none_in_nil p there));
+  fit = All-nil _;
+  unique = tt;
+}
+
+-- a time goes last in the entry of its row
+pub entry_set : (done : List KeptPair) (p : KeptPair) (es after : List (List Value × SmallVec ℕ)) (old new : SmallVec ℕ) → SetsAt es after p.row old new → new.items ≡ old.items ++ p.time ∷ []
+    → HasNoRepeats (map (λ e. e.0) after) → AreEntriesOf done es → AreBefore done p → AreEntriesOf (done ++ p ∷ []) after
+entry_set done p es after old new sets grown unique are before = record {
+  exact = λ q. (
+    λ has. ⊎_elim
+        (λ was. Contains-append_left done (p ∷ []) q ((are.exact q).0 (has.0, was, has.2)))
+        (λ same.
+        let row : q.row ≡ p.row = ap (λ e. e.0) same in
+        ⊎_elim
+        (λ earlier. Contains-append_left done (p ∷ []) q ((are.exact q).0 (subst (λ r. HasTime es r q.time) (sym row) (old, sets.was, earlier))))
+        (λ last. Contains-append_right done (p ∷ []) q (0, omega arith, (λ i. pair (sym row i) (sym (only q.time last) i))))
+        (Contains-append_cases old.items (p.time ∷ []) q.time (subst (λ l. Contains l q.time) (ap (λ e. e.1.items) same ∙ grown) has.2)))
+        (sets.from (q.row, has.0) has.1),
+    λ there. ⊎_elim
+        (λ earlier. let has = (are.exact q).1 earlier in ⊎_elim (λ stays. (has.0, stays, has.2)) (λ same.
+        let row : q.row ≡ p.row = ap (λ e. e.0) same in
+        subst (λ r. HasTime after r q.time) (sym row) (new, sets.is, subst (λ l. Contains l q.time) (sym grown) (Contains-append_left old.items (p.time ∷ []) q.time (subst (λ l. Contains l q.time) (ap (λ e. e.1.items) same) has.2))))
+        (sets.rest (q.row, has.0) has.1))
+        (λ last. subst (λ r. HasTime after r.row r.time) (only_pair q last)
+        (new, sets.is, subst (λ l. Contains l p.time) (sym grown) (Contains-append_right old.items (p.time ∷ []) p.time (here p.time []))))
+        (Contains-append_cases done (p ∷ []) q there),
+  );
+  fit = all_from (λ e. (0 < length e.1.items) × Rises ◌<◌ e.1.items) after (λ e there. ⊎_elim
+      (λ was. All-contains (λ f. (0 < length f.1.items) × Rises ◌<◌ f.1.items) es e are.fit was)
+      (λ same. subst (λ f. (0 < length f.1.items) × Rises ◌<◌ f.1.items) (sym same) (subst (λ l. (0 < length l) × Rises ◌<◌ l) (sym grown) (
+        omega (arith, length-append old.items (p.time ∷ [])),
+        rises_append ◌<◌ old.items (p.time ∷ []) (All-contains (λ f. (0 < length f.1.items) × Rises ◌<◌ f.1.items) es (p.row, old) are.fit sets.was).1 (All-nil _, tt)
+            (λ x y first second. subst (λ t. x < t) (sym (only y second)) (same_row_later p (pair p.row x) refl (before (pair p.row x) ((are.exact (pair p.row x)).0 (old, sets.was, first))))),
+      )))
+      (sets.from e there));
+  unique = unique;
+}
+  where
+    only : (t : ℕ) → Contains (p.time ∷ []) t → t ≡ p.time
+    only t there = ⊎_elim (λ same. sym same) (λ none. absurd (none_in_nil t none)) (first_or_later t p.time [] there)
+
+    only_pair : (q : KeptPair) → Contains (p ∷ []) q → p ≡ q
+    only_pair q there = ⊎_elim (λ same. same) (λ none. absurd (none_in_nil q none)) (first_or_later q p [] there)
+
+-- a row that is new goes last, with one time
+pub entry_first : (done : List KeptPair) (p : KeptPair) (es after : List (List Value × SmallVec ℕ)) (new : SmallVec ℕ) → ((time : ℕ) → HasTime es p.row time → ⊥) → after ≡ es ++ (p.row, new) ∷ []
+    → new.items ≡ p.time ∷ [] → HasNoRepeats (map (λ e. e.0) after) → AreEntriesOf done es → AreEntriesOf (done ++ p ∷ []) after
+entry_first done p es after new absent grown one unique are = record {
+  exact = λ q. (
+    λ has. ⊎_elim
+        (λ was. Contains-append_left done (p ∷ []) q ((are.exact q).0 (has.0, was, has.2)))
+        (λ last.
+        let same : (p.row, new) ≡ (q.row, has.0) = ⊎_elim (λ h. h) (λ none. absurd (none_in_nil (q.row, has.0) none)) (first_or_later (q.row, has.0) (p.row, new) [] last) in
+        let at : Contains (p.time ∷ []) q.time = subst (λ l. Contains l q.time) (ap (λ e. e.1.items) (sym same) ∙ one) has.2 in
+        let time : p.time ≡ q.time = ⊎_elim (λ h. h) (λ none. absurd (none_in_nil q.time none)) (first_or_later q.time p.time [] at) in
+        Contains-append_right done (p ∷ []) q (0, omega arith, (λ i. pair ((same i).0) (time i))))
+        (Contains-append_cases es ((p.row, new) ∷ []) (q.row, has.0) (subst (λ l. Contains l (q.row, has.0)) grown has.1)),
+    λ there. ⊎_elim
+        (λ earlier. let has = (are.exact q).1 earlier in (has.0, subst (λ l. Contains l (q.row, has.0)) (sym grown) (Contains-append_left es ((p.row, new) ∷ []) (q.row, has.0) has.1), has.2))
+        (λ last.
+        let same : p ≡ q = ⊎_elim (λ h. h) (λ none. absurd (none_in_nil q none)) (first_or_later q p [] last) in
+        subst (λ r. HasTime after r.row r.time) same
+        (new, subst (λ l. Contains l (p.row, new)) (sym grown) (Contains-append_right es ((p.row, new) ∷ []) (p.row, new) (here (p.row, new) [])), subst (λ l. Contains l p.time) (sym one) (here p.time [])))
+        (Contains-append_cases done (p ∷ []) q there),
+  );
+  fit = subst (All (λ e. (0 < length e.1.items) × Rises ◌<◌ e.1.items)) (sym grown) (All-push (λ e. (0 < length e.1.items) × Rises ◌<◌ e.1.items) es (p.row, new) are.fit
+      (subst (λ l. (0 < length l) × Rises ◌<◌ l) (sym one) (omega arith, (All-nil _, tt))));
+  unique = unique;
+}
+
+-- ---- the window
+
+rise_to : (last : ℕ) (times : List ℕ) → ((time : ℕ) → Contains times time → time ≤ last) → Rises ◌<◌ times → RiseTo last times
+rise_to last [] up_to rises = tt
+rise_to last (time ∷ times) up_to rises = (up_to time (here time times), rises.0, rise_to last times (λ t there. up_to t (later t time times there)) rises.1)
+
+least_of_chosen : (high : Option ℕ) (low last : ℕ) (times : List ℕ) → 0 < length times → Rises ◌<◌ times → ((time : ℕ) → Contains times time → ChosenBy high low last (Contains times) time) → IsLeast high low last times
+least_of_chosen high low last [] some rises chosen = absurd (omega (arith, some))
+least_of_chosen None low last (first ∷ []) some rises chosen = refl
+least_of_chosen None low last (first ∷ second ∷ times) some rises chosen =
+    let below : first < second = All-contains (λ t. first < t) (second ∷ times) second rises.0 (here second times) in
+    absurd (omega (arith, below, chosen second (later second first (second ∷ times) (here second times)) first (here first (second ∷ times))))
+least_of_chosen (Some high) low last (first ∷ times) some rises chosen = (
+  (chosen first (here first times)).0,
+  all_from (λ t. last - t < low) times (λ t there. near t there),
+)
+  where
+    near : (t : ℕ) → Contains times t → last - t < low
+    near t there = ⊎_elim (λ less. less) (λ far.
+        let below : first < t = All-contains (λ u. first < u) times t rises.0 there in
+        absurd (omega (arith, below, (chosen first (here first times)).1 (omega (arith, below, far)) t (later t first times there) far))) (cases_lt (last - t) low)
+
+module _ (interval : Interval) (columns : List VarId) (last : ℕ) (pairs : List KeptPair) (es : List (List Value × SmallVec ℕ)) (keepable : AreKeepable interval columns last pairs) (are : AreEntriesOf pairs es) where
+  times_of : (row : List Value) (times : SmallVec ℕ) → Contains es (row, times) → (time : ℕ) → Contains times.items time ↔ Contains pairs (pair row time)
+  times_of row times there time = (
+    λ has. (are.exact (pair row time)).0 (times, there, has),
+    λ is. let has = (are.exact (pair row time)).1 is in subst (λ t. Contains t.items time) (one_entry es are.unique row has.0 times has.1 there) has.2,
+  )
+
+  pub restored_kept : AreKept (length columns) last es
+  restored_kept = record {
+    fit = all_from (λ e. (length e.0 ≡ length columns) × RiseTo last e.1.items × (0 < length e.1.items)) es (λ e there.
+        let fit = All-contains (λ f. (0 < length f.1.items) × Rises ◌<◌ f.1.items) es e are.fit there in
+        let first = some_time e.1.items fit.0 in (
+          All-contains (λ p. length p.row ≡ length columns) pairs (pair e.0 first.0) keepable.fit ((times_of e.0 e.1 there first.0).0 first.1),
+          rise_to last e.1.items (λ t has. All-contains (λ p. p.time ≤ last) pairs (pair e.0 t) keepable.up_to ((times_of e.0 e.1 there t).0 has)) fit.1,
+          fit.0,
+        ));
+    unique = are.unique;
+  }
+    where
+      some_time : (times : List ℕ) → 0 < length times → (t : ℕ) × Contains times t
+      some_time [] some = absurd (omega (arith, some))
+      some_time (t ∷ times) some = (t, here t times)
+
+  pub restored_least : AreLeast interval last es
+  restored_least = all_from (λ e. IsLeast interval.high interval.low last e.1.items) es (λ e there.
+      let fit = All-contains (λ f. (0 < length f.1.items) × Rises ◌<◌ f.1.items) es e are.fit there in
+      least_of_chosen interval.high interval.low last e.1.items fit.0 fit.1 (λ t has.
+      among interval.high e.0 e.1 there t (keepable.chosen e.0 t ((times_of e.0 e.1 there t).0 has))))
+    where
+      among : (high : Option ℕ) (row : List Value) (times : SmallVec ℕ) → Contains es (row, times) → (t : ℕ) → ChosenBy high interval.low last (λ other. Contains pairs (pair row other)) t → ChosenBy high interval.low last (Contains times.items) t
+      among None row times there t chosen = λ other has. chosen other ((times_of row times there other).0 has)
+      among (Some high) row times there t chosen = (chosen.0, λ far other has. chosen.1 far other ((times_of row times there other).0 has))
+
+  module _ (queue : Queue) (distinct : HasNoRepeats columns) (far : queue.far ≡ 0) (within : HaveTimesOf pairs queue.steps) (none : interval.high ≡ None → queue.steps ≡ []) (steps : (high : ℕ) → interval.high ≡ Some high → HaveStepsOf pairs queue.steps) where
+    pub restored : IsWindow interval columns last es queue
+    restored = record {
+      distinct = distinct;
+      kept = restored_kept;
+      least = restored_least;
+      up_to = all_from (λ s. s.time ≤ last) queue.steps (λ s there. let at = within s there in
+          subst (λ t. t ≤ last) (sym at.2) (All-contains (λ p. p.time ≤ last) pairs at.0 keepable.up_to at.1));
+      in_reach = in_reach interval.high refl;
+      queued = λ high is. record {
+        times = λ row time has. steps high is (pair row time) ((are.exact (pair row time)).0 has);
+        waiting = λ row time has. subst (λ n. IsInStep (drop n queue.steps) row time) (sym far) (steps high is (pair row time) ((are.exact (pair row time)).0 (behind row time has)));
+      };
+    }
+      where
+        in_reach : (high : Option ℕ) → high ≡ interval.high → AreInReach high last queue.steps
+        in_reach None is = none (sym is)
+        in_reach (Some high) is = all_from (λ s. last - s.time ≤ high) queue.steps (λ s there.
+            let at = within s there in
+            let live : last - at.0.time ≤ high = (subst (λ h. ChosenBy h interval.low last (λ other. Contains pairs (pair at.0.row other)) at.0.time) (sym is) (keepable.chosen at.0.row at.0.time at.1)).0 in
+            subst (λ t. last - t ≤ high) (sym at.2) live)
+
+        of_drop : (times : List ℕ) (t : ℕ) → Contains (drop 1 times) t → Contains times t
+        of_drop [] t there = there
+        of_drop (x ∷ times) t there = later t x times there
+
+        behind : (row : List Value) (time : ℕ) → HasBehind es row time → HasTime es row time
+        behind row time has = (has.0, has.1, of_drop has.0.items time has.2)
+
+  pub restored_pairs : (kept : List (List Value × List ℕ)) → kept ≡ kept_of es → (row : List Value) (time : ℕ) → Contains pairs (pair row time) ↔ ((times : List ℕ) × Contains kept (row, times) × Contains times time)
+  restored_pairs kept is row time = (
+    λ there. let has = (are.exact (pair row time)).1 there in
+        (has.0.items, subst (λ l. Contains l (row, has.0.items)) (sym is) (Contains-map (λ (e : List Value × SmallVec ℕ). (e.0, e.1.items)) es (row, has.0) has.1), has.2),
+    λ stored.
+        let from = Contains-from_map (λ (e : List Value × SmallVec ℕ). (e.0, e.1.items)) es (row, stored.0) (subst (λ l. Contains l (row, stored.0)) is stored.1) in
+        let same : from.0.0 ≡ row = ap (λ e. e.0) from.2 in
+        (are.exact (pair row time)).0 (from.0.1, subst (λ r. Contains es (r, from.0.1)) same from.1, subst (λ l. Contains l time) (sym (ap (λ e. e.1) from.2)) stored.2),
+  )
+
+-- ---- the steps of the pairs
+
+pub steps_more : (done : List KeptPair) (p : KeptPair) (steps after : List LastStep) (step : LastStep) → step.time ≡ p.time → Contains step.rows.rows p.row → after ≡ steps ++ step ∷ []
+    → HaveTimesOf done steps × HaveStepsOf done steps → HaveTimesOf (done ++ p ∷ []) after × HaveStepsOf (done ++ p ∷ []) after
+steps_more done p steps after step time row grown so_far = (
+  λ s there. ⊎_elim
+      (λ earlier. let at = so_far.0 s earlier in (at.0, Contains-append_left done (p ∷ []) at.0 at.1, at.2))
+      (λ last. let same : step ≡ s = ⊎_elim (λ h. h) (λ none. absurd (none_in_nil s none)) (first_or_later s step [] last) in
+      (p, Contains-append_right done (p ∷ []) p (here p []), ap (λ x. x.time) (sym same) ∙ time))
+      (Contains-append_cases steps (step ∷ []) s (subst (λ l. Contains l s) grown there)),
+  λ q there. ⊎_elim
+      (λ earlier. let at = so_far.1 q earlier in (at.0, subst (λ l. Contains l at.0) (sym grown) (Contains-append_left steps (step ∷ []) at.0 at.1), at.2, at.3))
+      (λ last. let same : p ≡ q = ⊎_elim (λ h. h) (λ none. absurd (none_in_nil q none)) (first_or_later q p [] last) in
+      (step, subst (λ l. Contains l step) (sym grown) (Contains-append_right steps (step ∷ []) step (here step [])), time ∙ ap (λ x. x.time) same, subst (λ r. Contains step.rows.rows r.row) same row))
+      (Contains-append_cases done (p ∷ []) q there),
+)
+
+-- ---- the rows of pairs
+
+pub rows_fit : (n : ℕ) (pairs : List KeptPair) → All (λ p. length p.row ≡ n) pairs → All (λ row. length row ≡ n) (map (λ p. p.row) pairs)
+rows_fit n pairs fit = all_from (λ row. length row ≡ n) (map (λ p. p.row) pairs) (λ row there.
+    let from = Contains-from_map (λ (p : KeptPair). p.row) pairs row there in
+    subst (λ r. length r ≡ n) from.2 (All-contains (λ p. length p.row ≡ n) pairs from.0 fit from.1))
+
+-- a step with just the rows of pairs, all of its time, has these pairs
+pub last_pairs : (time : ℕ) (rows : List (List Value)) (pairs : List KeptPair) → All (λ p. p.time ≡ time) pairs → ((row : List Value) → Contains rows row ↔ Contains (map (λ p. p.row) pairs) row)
+    → (p : KeptPair) → Contains (map (λ row. pair row time) rows) p ↔ Contains pairs p
+last_pairs time rows pairs times same p = (
+  λ there.
+      let from = Contains-from_map (λ row. pair row time) rows p there in
+      let of = Contains-from_map (λ (q : KeptPair). q.row) pairs from.0 ((same from.0).0 from.1) in
+      let at : of.0.time ≡ time = All-contains (λ q. q.time ≡ time) pairs of.0 times of.1 in
+      let is : of.0 ≡ pair from.0 time = (λ i. pair (of.2 i) (at i)) in
+      subst (Contains pairs) (is ∙ from.2) of.1,
+  λ there.
+      let at : p.time ≡ time = All-contains (λ q. q.time ≡ time) pairs p times there in
+      subst (Contains (map (λ row. pair row time) rows)) (λ i. pair p.row (sym at i))
+      (Contains-map (λ row. pair row time) rows p.row ((same p.row).1 (Contains-map (λ (q : KeptPair). q.row) pairs p there))),
+)

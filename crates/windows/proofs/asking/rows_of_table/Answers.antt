@@ -1,0 +1,17 @@
+use Rattle.std.proofs.Common.{◌≡◌, ◌∙◌, ◌↔◌, IsTrue, map, Some, subst}
+use Rattle.std.specs.Prelude.{IfSome}
+use Rattle.std.proofs.lemmas.Result.{IfOk-weaker}
+use Rattle.enf_value.specs.Valuations.{Valuation}
+use Rattle.valuations.specs.Tables.{Agrees, AgreesWhereBound, Has}
+use Rattle.windows.specs.Queries.{cells}
+use Rattle.windows.proofs.AskingLemmas.{rows_of_table}
+use Rattle.windows.proofs.asking.rows_of_table.Goals as goal
+
+pub returns-in-Some-clause-rows : goal.returns-in-Some-clause-rows
+returns-in-Some-clause-rows g c =
+    let v = g.V.Lookup.valuation c.args.v.now in
+    let is : cells c.args.rows.now.columns v ≡ map Some c.in-Some.row =
+    subst (λ l. cells l v ≡ map Some c.in-Some.row) (c.as_slice.ensures ∙ c.columns.ensures.columns) (subst (λ o. IfSome o (λ row. cells c.as_slice.result.now v ≡ map Some row)) c.in-Some.is c.in_ok-row.ensures) in
+    IfOk-weaker c.row_where.result _ (λ t. (w : Valuation) → Has t w ↔ (Has c.args.rows.now w × AgreesWhereBound c.args.rows.now.columns v w))
+    (λ t rows. rows_of_table c.args.rows.now v c.in-Some.row c.has_valuation-is_there.result t c.columns.ensures.table.distinct is c.has_valuation-is_there.ensures.has
+    (subst (λ l. (w : Valuation) → Has t w ↔ (IsTrue c.has_valuation-is_there.result × Agrees w l c.in-Some.row)) c.columns-in-Some.ensures.columns rows)) c.row_where.ensures.rows

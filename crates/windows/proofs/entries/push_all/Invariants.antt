@@ -1,0 +1,7 @@
+use Rattle.std.proofs.Common.{◌↔◌, ◌⊎◌, List, map, Contains}
+use Rattle.enf_value.specs.declared.values.Value.{Value}
+use Rattle.windows.proofs.entries.push_all.Given as goal
+
+abbrev pub invariant-loop-row : goal.invariant-loop-row
+invariant-loop-row l = (row : List Value) → (Contains l.out.items row ⊎ Contains l.row-iterator row)
+    ↔ (Contains l.fn.out.items row ⊎ Contains (map (λ e. e.0) l.entries.entries) row)

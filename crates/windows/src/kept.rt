@@ -1,0 +1,274 @@
+//! What windows and slots keep, as pairs of a row and a time.
+ghost use Rattle.std.specs.Prelude.{◌≡◌, ◌↔◌, [], ◌∷◌, ◌++◌, ℕ, List, None, Some, All, Contains, IfOk, OnOk, length, map};
+ghost use Rattle.enf_value.specs.Membership.{HasNoRepeats};
+ghost use Rattle.enf_value.specs.declared.values.Value.{Value as AnyValue};
+ghost use Rattle.windows.specs.KeptPairs.{pair, AreBefore, AreEntriesOf, AreRising, AreTimesOf, HaveStepsOf, HaveTimesOf};
+ghost use Rattle.windows.specs.Pairs.{AreKept};
+ghost use Rattle.windows.specs.declared.kept.KeptPair.{KeptPair as Pair};
+
+use crate::entries::Entries;
+use crate::prev::PrevSlot;
+use crate::queue::StepQueue;
+use crate::since::SinceWindow;
+use crate::steps::LastStep;
+use crate::times::Times;
+use enf_value::intervals::Interval;
+use enf_value::items::Duplicate;
+use enf_value::memory::NoMemory;
+use enf_value::rows::Row;
+use enf_value::terms::Vars;
+use indexmap::IndexMap;
+use smallvec::SmallVec;
+use std::alloc::Global;
+use valuations::Table;
+
+/// A row that is kept, with a time at which it was right.
+#[derive(Debug, Drop)]
+pub struct KeptPair {
+    pub row: Row,
+    pub time: u64,
+}
+
+impl SinceWindow {
+    ghost use Rattle.windows.specs.KeptPairs.{AreKeepable, ArePairsOf, ArePairsKept};
+    ghost use Rattle.windows.specs.Windows.{KeepsLeast};
+
+    /// The rows that are kept, each with its times, by row and then by time.
+    pub fn kept(&self, alloc: Global) -> Result<Vec<KeptPair>, NoMemory>
+        ensures keepable { IfOk result (λ pairs.
+            AreKeepable self.now.interval self.now.columns self.now.last pairs.items) }
+        ensures exact { IfOk result (λ pairs. ArePairsOf self.now pairs.items) }
+        ensures walked { IfOk result (λ pairs. ArePairsKept self.now pairs.items) }
+        ensures least { IfOk result (λ _. KeepsLeast self.now) }
+    {
+        let rows = self.rows(alloc)?;
+        let mut pairs = Vec::new(alloc);
+        for row in rows.rows() {
+            push_pairs(alloc, &self.entries, row, &mut pairs)?;
+        }
+        Ok(pairs)
+    }
+
+    /// The window that keeps these pairs, with this last time. The columns are distinct, and the pairs are such as
+    /// `kept` gives of a window of these columns at that time.
+    pub fn from_kept(
+        alloc: Global,
+        interval: Interval,
+        columns: Vars,
+        last: u64,
+        pairs: &[KeptPair],
+    ) -> Result<SinceWindow, NoMemory>
+        requires distinct { HasNoRepeats columns }
+        requires keepable { AreKeepable interval columns last pairs.now }
+        ensures interval { IfOk result (λ w. w.interval ≡ interval) }
+        ensures columns { IfOk result (λ w. w.columns ≡ columns) }
+        ensures last { IfOk result (λ w. w.last ≡ last) }
+        ensures exact { IfOk result (λ w. ArePairsOf w pairs.now) }
+        ensures least { IfOk result KeepsLeast }
+    {
+        let entries = entries_of(alloc, pairs)?;
+        let queue = queue_of(alloc, interval, &columns, pairs)?;
+        Ok(SinceWindow {
+            interval,
+            columns,
+            last,
+            entries,
+            queue,
+        })
+    }
+}
+
+impl PrevSlot {
+    ghost use Rattle.windows.specs.KeptPairs.{AreOfLast, pairs_of_last, time_of};
+    ghost use Rattle.windows.specs.Slots.{IsSlot};
+
+    /// The rows of the last step in order, each with its time; none before the first step.
+    pub fn kept(&self, alloc: Global) -> Result<Vec<KeptPair>, NoMemory>
+        ensures exact { IfOk result (λ pairs. pairs.items ≡ pairs_of_last self.now.last) }
+        ensures times { IfOk result (λ pairs. AreOfLast (time_of self.now.last) pairs.items) }
+        ensures rising { IfOk result (λ pairs. AreRising pairs.items) }
+        ensures fits { IfOk result (λ pairs. All (λ p. length p.row ≡ length self.now.columns) pairs.items) }
+        ensures slot { IfOk result (λ _. IsSlot self.now) }
+    {
+        let mut pairs = Vec::new(alloc);
+        if let Some(last) = &self.last {
+            push_step(alloc, last.time, last.rows.rows(), &mut pairs)?;
+        }
+        Ok(pairs)
+    }
+
+    /// The slot whose last step, where there is one, has the rows of these pairs. The columns are distinct, and there are
+    /// no pairs without a last step.
+    pub fn from_kept(
+        alloc: Global,
+        interval: Interval,
+        columns: Vars,
+        last: Option<u64>,
+        pairs: &[KeptPair],
+    ) -> Result<PrevSlot, NoMemory>
+        requires distinct { HasNoRepeats columns }
+        requires fit { All (λ p. length p.row ≡ length columns) pairs.now }
+        requires times { AreOfLast last pairs.now }
+        ensures interval { IfOk result (λ s. s.interval ≡ interval) }
+        ensures columns { IfOk result (λ s. s.columns ≡ columns) }
+        ensures last { IfOk result (λ s. time_of s.last ≡ last) }
+        ensures exact { IfOk result (λ s. (p : Pair) → Contains (pairs_of_last s.last) p ↔ Contains pairs.now p) }
+        ensures slot { IfOk result IsSlot }
+    {
+        let last = match last {
+            Some(time) => Some(LastStep {
+                time,
+                rows: rows_of(alloc, &columns, pairs)?,
+            }),
+            None => None,
+        };
+        Ok(PrevSlot {
+            interval,
+            columns,
+            last,
+        })
+    }
+}
+
+// Puts the row last with each of its times.
+fn push_pairs(
+    alloc: Global,
+    entries: &Entries,
+    row: &Row,
+    out: &mut Vec<KeptPair>,
+) -> Result<(), NoMemory>
+    requires { (long : ℕ) × (last : ℕ) × AreKept long last entries.now.entries }
+    ensures { OnOk result ((times : List ℕ) × AreTimesOf entries.now.entries row.now times
+        × (out.new.items ≡ out.old.items ++ map (pair row.now) times)) }
+{
+    if let Some(place) = entries.get_index_of(row) {
+        push_times(alloc, row, &entries[place], out)?;
+    }
+    Ok(())
+}
+
+fn push_times(
+    alloc: Global,
+    row: &Row,
+    times: &Times,
+    out: &mut Vec<KeptPair>,
+) -> Result<(), NoMemory>
+    ensures { OnOk result (out.new.items ≡ out.old.items ++ map (pair row.now) times.now.items) }
+{
+    for time in times.as_slice() {
+        out.push(KeptPair {
+            row: row.duplicate(alloc)?,
+            time: *time,
+        })?;
+    }
+    Ok(())
+}
+
+// Puts the rows last, each with the time.
+fn push_step(
+    alloc: Global,
+    time: u64,
+    rows: &[Row],
+    out: &mut Vec<KeptPair>,
+) -> Result<(), NoMemory>
+    ensures { OnOk result (out.new.items ≡ out.old.items ++ map (λ row. pair row time) rows.now) }
+{
+    for row in rows {
+        out.push(KeptPair {
+            row: row.duplicate(alloc)?,
+            time,
+        })?;
+    }
+    Ok(())
+}
+
+// The rows of the pairs, each with its times.
+fn entries_of(alloc: Global, pairs: &[KeptPair]) -> Result<Entries, NoMemory>
+    requires { AreRising pairs.now }
+    ensures { IfOk result (λ entries. AreEntriesOf pairs.now entries.entries) }
+{
+    let mut entries = IndexMap::new(alloc);
+    for pair in pairs {
+        put_time(alloc, &mut entries, pair)?;
+    }
+    Ok(entries)
+}
+
+// Puts the time last among those of the row.
+fn put_time(alloc: Global, entries: &mut Entries, pair: &KeptPair) -> Result<(), NoMemory>
+    ensures { OnOk result ((done : List Pair) → AreEntriesOf done entries.old.entries → AreBefore done pair.now
+        → AreEntriesOf (done ++ pair.now ∷ []) entries.new.entries) }
+{
+    if let Some(place) = entries.get_index_of(&pair.row) {
+        entries[place].push(pair.time)?;
+        return Ok(());
+    }
+    let mut times = SmallVec::new(alloc);
+    times.push(pair.time)?;
+    entries.insert(pair.row.duplicate(alloc)?, times)?;
+    Ok(())
+}
+
+// One step for each pair, where the interval has an end.
+fn queue_of(
+    alloc: Global,
+    interval: Interval,
+    columns: &Vars,
+    pairs: &[KeptPair],
+) -> Result<StepQueue, NoMemory>
+    requires distinct { HasNoRepeats columns.now }
+    requires fit { All (λ p. length p.row ≡ length columns.now) pairs.now }
+    ensures far { IfOk result (λ queue. queue.far ≡ 0) }
+    ensures none { IfOk result (λ queue. interval.high ≡ None → queue.steps ≡ []) }
+    ensures within { IfOk result (λ queue. HaveTimesOf pairs.now queue.steps) }
+    ensures steps { IfOk result (λ queue. (high : ℕ) → interval.high ≡ Some high → HaveStepsOf pairs.now queue.steps) }
+{
+    if interval.high.is_none() {
+        return Ok(StepQueue::new(alloc));
+    }
+    Ok(StepQueue::from_steps(steps_of(alloc, columns, pairs)?))
+}
+
+fn steps_of(alloc: Global, columns: &Vars, pairs: &[KeptPair]) -> Result<Vec<LastStep>, NoMemory>
+    requires distinct { HasNoRepeats columns.now }
+    requires fit { All (λ p. length p.row ≡ length columns.now) pairs.now }
+    ensures within { IfOk result (λ steps. HaveTimesOf pairs.now steps.items) }
+    ensures steps { IfOk result (λ steps. HaveStepsOf pairs.now steps.items) }
+{
+    let mut steps = Vec::new(alloc);
+    for pair in pairs {
+        steps.push(step_of(alloc, columns, pair)?)?;
+    }
+    Ok(steps)
+}
+
+// A step at the pair's time with its row alone.
+fn step_of(alloc: Global, columns: &Vars, pair: &KeptPair) -> Result<LastStep, NoMemory>
+    requires distinct { HasNoRepeats columns.now }
+    requires fit { length pair.now.row ≡ length columns.now }
+    ensures time { IfOk result (λ step. step.time ≡ pair.now.time) }
+    ensures row { IfOk result (λ step. Contains step.rows.rows pair.now.row) }
+{
+    let mut rows = Vec::new(alloc);
+    rows.push(pair.row.duplicate(alloc)?)?;
+    let rows = Table::from_rows(columns.duplicate(alloc)?, rows)?;
+    Ok(LastStep {
+        time: pair.time,
+        rows,
+    })
+}
+
+// The table of the pairs' rows.
+fn rows_of(alloc: Global, columns: &Vars, pairs: &[KeptPair]) -> Result<Table, NoMemory>
+    requires distinct { HasNoRepeats columns.now }
+    requires fit { All (λ p. length p.row ≡ length columns.now) pairs.now }
+    ensures columns { IfOk result (λ t. t.columns ≡ columns.now) }
+    ensures rows { IfOk result (λ t. (row : List AnyValue) → Contains t.rows row
+        ↔ Contains (map (λ p. p.row) pairs.now) row) }
+{
+    let mut rows = Vec::new(alloc);
+    for pair in pairs {
+        rows.push(pair.row.duplicate(alloc)?)?;
+    }
+    Table::from_rows(columns.duplicate(alloc)?, rows)
+}
