@@ -5,7 +5,7 @@ use std::alloc::{AllocError, AllocFailed};
 use std::fmt;
 
 /// Why a case has no answer.
-#[derive(Clone, Copy, Debug, PartialEq, Eq)]
+#[derive(Clone, Copy, Debug)]
 pub enum CaseError {
     UnknownKind,
     /// The input is not of the form that its kind has.

@@ -1,8 +1,9 @@
 //! Guards: whether a formula is one with some variables bound, and whether it is a test.
 
 use crate::case::CaseError;
-use crate::parts::{part, read_formula, read_signature, read_variables};
-use enf_value::{print_bytes, print_number};
+use crate::parts::{part, print_place, read_formula, read_variables};
+use enf_formula::Formula;
+use enf_value::{Vars, print_bytes};
 use monitorable_guard::{Guard, GuardRefusal, is_test};
 use std::alloc::Global;
 
@@ -13,9 +14,17 @@ pub fn answer(alloc: Global, input: &[u8], out: &mut Vec<u8>) -> Result<(), Case
     let (bound, rest) = part(input)?;
     let (signature, text) = part(rest)?;
     let bound = read_variables(alloc, bound)?;
-    let formula = read_formula(alloc, &read_signature(alloc, signature)?, text)?;
-    let test = is_test(alloc, &formula, &bound)?;
-    match Guard::of(alloc, formula, &bound) {
+    print_guard(alloc, read_formula(alloc, signature, text)?, &bound, out)
+}
+
+fn print_guard(
+    alloc: Global,
+    formula: Formula,
+    bound: &Vars,
+    out: &mut Vec<u8>,
+) -> Result<(), CaseError> {
+    let test = is_test(alloc, &formula, bound)?;
+    match Guard::of(alloc, formula, bound) {
         Ok(_) => Ok(print_bytes(if test { b"ok, a test" } else { b"ok" }, out)?),
         Err(refusal) => print_refusal(refusal, out),
     }
@@ -24,10 +33,7 @@ pub fn answer(alloc: Global, input: &[u8], out: &mut Vec<u8>) -> Result<(), Case
 /// Appends where a formula cannot be evaluated.
 pub fn print_refusal(refusal: GuardRefusal, out: &mut Vec<u8>) -> Result<(), CaseError> {
     match refusal {
-        GuardRefusal::Unguarded { place } => {
-            print_bytes(b"unguarded at ", out)?;
-            Ok(print_number(place.into(), out)?)
-        }
+        GuardRefusal::Unguarded { place } => print_place(b"unguarded", place, out),
         GuardRefusal::NoMemory => Err(CaseError::NoMemory),
     }
 }

@@ -3,6 +3,7 @@ ghost use Rattle.std.specs.Prelude.{◌≡◌, ◌<◌, None, Ok};
 ghost use Rattle.log_stream.specs.Logs.{IsPending};
 
 use crate::case::CaseError;
+use crate::parts::print_place;
 use enf_value::{print_bytes, print_number};
 use log_stream::{Found, LogItem, LogMode, LogReader, LogRefusal, write_step};
 use signature::Signature;
@@ -18,10 +19,8 @@ pub fn answer(
     log: &[u8],
     out: &mut Vec<u8>,
 ) -> Result<(), CaseError> {
-    let mut slow = Vec::new(alloc);
-    read(alloc, mode, log, 1, &mut slow)?;
-    let mut fast = Vec::new(alloc);
-    read(alloc, mode, log, 65_536, &mut fast)?;
+    let slow = read(alloc, mode, log, 1)?;
+    let fast = read(alloc, mode, log, 65_536)?;
     if slow.as_slice() != fast.as_slice() {
         print_bytes(b"byte by byte: ", out)?;
         print_bytes(&slow, out)?;
@@ -34,21 +33,30 @@ fn signature(alloc: Global) -> Result<Signature, CaseError> {
     Signature::read(alloc, SIGNATURE).map_err(|_refusal| CaseError::Malformed)
 }
 
-// Reads a log that comes in pieces of a size.
-fn read(
+// The answer to a log that comes in pieces of a size.
+fn read(alloc: Global, mode: LogMode, log: &[u8], size: usize) -> Result<Vec<u8>, CaseError>
+    requires { 0 < size }
+{
+    let mut answer = Vec::new(alloc);
+    let names = signature(alloc)?;
+    let mut reader = LogReader::new(alloc, signature(alloc)?, mode);
+    read_pieces(alloc, &names, &mut reader, log, size, &mut answer)?;
+    Ok(answer)
+}
+
+fn read_pieces(
     alloc: Global,
-    mode: LogMode,
+    names: &Signature,
+    reader: &mut LogReader,
     log: &[u8],
     size: usize,
     out: &mut Vec<u8>,
 ) -> Result<(), CaseError>
     requires { 0 < size }
 {
-    let mut reader = LogReader::new(alloc, signature(alloc)?, mode);
-    let names = signature(alloc)?;
     let mut from = 0;
     loop {
-        if let Some(refusal) = read_on(alloc, &names, &mut reader, out)? {
+        if let Some(refusal) = read_on(alloc, names, reader, out)? {
             return print_refusal(refusal, out);
         }
         if from >= log.len() {
@@ -96,19 +104,14 @@ fn print_item(names: &Signature, item: LogItem, out: &mut Vec<u8>) -> Result<(),
 }
 
 fn print_refusal(refusal: LogRefusal, out: &mut Vec<u8>) -> Result<(), CaseError> {
-    let (what, place): (&[u8], Option<u32>) = match refusal {
-        LogRefusal::BadRecord { place } => (b"bad at ", Some(place)),
-        LogRefusal::UnknownName { place } => (b"unknown name at ", Some(place)),
-        LogRefusal::Arity { place } => (b"arity at ", Some(place)),
-        LogRefusal::SortClash { place } => (b"sort at ", Some(place)),
-        LogRefusal::TooLong => (b"too long", None),
-        LogRefusal::TimeTooLarge => (b"time too large", None),
-        LogRefusal::Truncated => (b"truncated", None),
-        LogRefusal::NoMemory => return Err(CaseError::NoMemory),
-    };
-    print_bytes(what, out)?;
-    match place {
-        Some(place) => Ok(print_number(place.into(), out)?),
-        None => Ok(()),
+    match refusal {
+        LogRefusal::BadRecord { place } => print_place(b"bad", place, out),
+        LogRefusal::UnknownName { place } => print_place(b"unknown name", place, out),
+        LogRefusal::Arity { place } => print_place(b"arity", place, out),
+        LogRefusal::SortClash { place } => print_place(b"sort", place, out),
+        LogRefusal::TooLong => Ok(print_bytes(b"too long", out)?),
+        LogRefusal::TimeTooLarge => Ok(print_bytes(b"time too large", out)?),
+        LogRefusal::Truncated => Ok(print_bytes(b"truncated", out)?),
+        LogRefusal::NoMemory => Err(CaseError::NoMemory),
     }
 }

@@ -10,6 +10,7 @@ mod event_sets;
 mod guards;
 mod intervals;
 mod logs;
+mod long_runs;
 mod parts;
 mod past;
 mod policies;
@@ -17,6 +18,7 @@ mod signatures;
 mod tables;
 mod typing;
 mod values;
+mod window_runs;
 
 use case::CaseError;
 use enf_value::print_bytes;
@@ -50,21 +52,48 @@ fn answer_line(alloc: Global, line: &[u8], out: &mut Vec<u8>) -> Result<(), Case
     match &line[..end] {
         b"" => Ok(()),
         b"#" => Ok(print_bytes(line, out)?),
-        b"signature" => signatures::answer(alloc, &input, out),
-        b"text" => values::answer_text(alloc, &input, out),
-        b"value" => values::answer_value(alloc, &input, out),
-        b"compare" => values::answer_compare(alloc, &input, out),
-        b"interval" => intervals::answer(&input, out),
-        b"events" => event_sets::answer(alloc, &input, out),
-        b"table" => tables::answer(alloc, &input, out),
+        kind => answer_text(alloc, kind, &input, out),
+    }
+}
+
+// The kinds whose inputs are values and texts; the others are below.
+fn answer_text(
+    alloc: Global,
+    kind: &[u8],
+    input: &[u8],
+    out: &mut Vec<u8>,
+) -> Result<(), CaseError> {
+    match kind {
+        b"text" => values::answer_text(alloc, input, out),
+        b"value" => values::answer_value(alloc, input, out),
+        b"compare" => values::answer_compare(alloc, input, out),
+        b"interval" => intervals::answer(input, out),
+        b"events" => event_sets::answer(alloc, input, out),
+        b"signature" => signatures::answer(alloc, input, out),
+        b"policy" => policies::answer(alloc, input, out),
+        b"check" => typing::answer(alloc, input, out),
+        b"log" => logs::answer(alloc, LogMode::Input, input, out),
+        b"trace" => logs::answer(alloc, LogMode::TraceLog, input, out),
+        _ => answer_meaning(alloc, kind, input, out),
+    }
+}
+
+// The kinds that say what holds at steps.
+fn answer_meaning(
+    alloc: Global,
+    kind: &[u8],
+    input: &[u8],
+    out: &mut Vec<u8>,
+) -> Result<(), CaseError> {
+    match kind {
+        b"table" => tables::answer(alloc, input, out),
         b"tables" => tables::answer_counts(alloc, out),
-        b"guard" => guards::answer(alloc, &input, out),
-        b"evaluate" => evaluations::answer(alloc, &input, out),
-        b"past" => past::answer(alloc, &input, out),
-        b"policy" => policies::answer(alloc, &input, out),
-        b"check" => typing::answer(alloc, &input, out),
-        b"log" => logs::answer(alloc, LogMode::Input, &input, out),
-        b"trace" => logs::answer(alloc, LogMode::TraceLog, &input, out),
+        b"guard" => guards::answer(alloc, input, out),
+        b"evaluate" => evaluations::answer(alloc, input, out),
+        b"window" => window_runs::answer(alloc, false, input, out),
+        b"restored" => window_runs::answer(alloc, true, input, out),
+        b"past" => past::answer(alloc, input, out),
+        b"long" => long_runs::answer(alloc, input, out),
         _ => Err(CaseError::UnknownKind),
     }
 }

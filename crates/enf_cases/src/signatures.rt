@@ -1,6 +1,7 @@
 //! Signatures: the entries that are read, or the refusal.
 
 use crate::case::CaseError;
+use crate::parts::print_place;
 use enf_value::{MOST_FILE_BYTES, print_bytes, print_number};
 use signature::{NameEntry, Signature, SignatureLimit, SignatureRefusal, Sort};
 use std::alloc::Global;
@@ -51,17 +52,18 @@ fn print_entry(entry: &NameEntry, out: &mut Vec<u8>) -> Result<(), CaseError> {
 }
 
 fn print_refusal(refusal: SignatureRefusal, out: &mut Vec<u8>) -> Result<(), CaseError> {
-    let (what, place): (&[u8], u32) = match refusal {
-        SignatureRefusal::Syntax { place } => (b"syntax", place),
-        SignatureRefusal::Repeated { place, .. } => (b"repeated", place),
-        SignatureRefusal::Limit { which, place } => match which {
-            SignatureLimit::Names => (b"too many names", place),
-            SignatureLimit::Arity => (b"too many columns", place),
-            SignatureLimit::Name => (b"name too long", place),
-        },
-        SignatureRefusal::NoMemory => return Err(CaseError::NoMemory),
-    };
-    print_bytes(what, out)?;
-    print_bytes(b" at ", out)?;
-    Ok(print_number(place.into(), out)?)
+    match refusal {
+        SignatureRefusal::Syntax { place } => print_place(b"syntax", place, out),
+        SignatureRefusal::Repeated { place, .. } => print_place(b"repeated", place, out),
+        SignatureRefusal::Limit { which, place } => print_place(limit_name(which), place, out),
+        SignatureRefusal::NoMemory => Err(CaseError::NoMemory),
+    }
+}
+
+fn limit_name(limit: SignatureLimit) -> &'static [u8] {
+    match limit {
+        SignatureLimit::Names => b"too many names",
+        SignatureLimit::Arity => b"too many columns",
+        SignatureLimit::Name => b"name too long",
+    }
 }

@@ -1,5 +1,5 @@
 //! Tables: what their operations give.
-ghost use Rattle.std.specs.Prelude.{◌≡◌, IsTrue, All, Contains, length};
+ghost use Rattle.std.specs.Prelude.{◌≡◌, IfOk, OnOk, IsTrue, All, Contains, length};
 ghost use Rattle.enf_value.specs.Membership.{HasNoRepeats};
 ghost use Rattle.enf_value.specs.declared.terms.VarId.{VarId as Variable};
 
@@ -19,17 +19,21 @@ pub fn answer(alloc: Global, input: &[u8], out: &mut Vec<u8>) -> Result<(), Case
         return Err(CaseError::Malformed);
     };
     let left = read_table(alloc, first)?;
+    answer_operation(alloc, name, &left, second, out)
+}
+
+fn answer_operation(
+    alloc: Global,
+    name: &[u8],
+    left: &Table,
+    second: &[u8],
+    out: &mut Vec<u8>,
+) -> Result<(), CaseError> {
     match name {
-        b"rows" => print_table(&left, out),
-        b"has" => {
-            let row = read_row(alloc, second)?;
-            print_answer(left.has(&row), out)
-        }
-        b"valuation" => {
-            let v = read_valuation(alloc, second)?;
-            print_answer(left.has_valuation(&v), out)
-        }
-        _ => print_table(&operated(alloc, name, &left, second)?, out),
+        b"rows" => print_table(left, out),
+        b"has" => print_answer(left.has(&read_row(alloc, second)?), out),
+        b"valuation" => print_answer(left.has_valuation(&read_valuation(alloc, second)?), out),
+        _ => print_table(&operated(alloc, name, left, second)?, out),
     }
 }
 
@@ -58,7 +62,11 @@ pub fn read_table(alloc: Global, bytes: &[u8]) -> Result<Table, CaseError> {
     table_of(read_variables(alloc, columns)?, read_rows(alloc, rows)?)
 }
 
-fn table_of(columns: Vars, rows: Vec<Row>) -> Result<Table, CaseError> {
+/// The table of these rows, where the columns are distinct and each row is as long as they.
+pub fn table_of(columns: Vars, rows: Vec<Row>) -> Result<Table, CaseError>
+    ensures columns { IfOk result (λ t. t.columns ≡ columns) }
+    ensures distinct { OnOk result (HasNoRepeats columns) }
+{
     if are_distinct(columns.as_slice()) && are_as_long(rows.as_slice(), columns.len()) {
         Ok(Table::from_rows(columns, rows)?)
     } else {
@@ -66,8 +74,8 @@ fn table_of(columns: Vars, rows: Vec<Row>) -> Result<Table, CaseError> {
     }
 }
 
-// Rows, each with `;` behind it.
-fn read_rows(alloc: Global, bytes: &[u8]) -> Result<Vec<Row>, CaseError> {
+/// Rows, each with `;` behind it.
+pub fn read_rows(alloc: Global, bytes: &[u8]) -> Result<Vec<Row>, CaseError> {
     let mut rows = Vec::new(alloc);
     let mut rest = bytes;
     while let Some((piece, behind)) = cut(rest, b';') {
@@ -120,7 +128,10 @@ fn bind(v: &mut Valuation, digit: u8, value: Value) -> Result<(), CaseError> {
     Ok(v.bind(variable, value)?)
 }
 
-fn antijoin(alloc: Global, left: &Table, right: &Table) -> Result<Table, CaseError> {
+/// The rows of the left table without those of the right one, whose columns are among them.
+pub fn antijoin(alloc: Global, left: &Table, right: &Table) -> Result<Table, CaseError>
+    ensures { IfOk result (λ t. t.columns ≡ left.now.columns) }
+{
     if are_within(right.columns().as_slice(), left.columns().as_slice()) {
         Ok(left.antijoin(alloc, right)?)
     } else {
@@ -149,7 +160,7 @@ fn project(alloc: Global, table: &Table, columns: &[u8]) -> Result<Table, CaseEr
     }
 }
 
-fn are_distinct(columns: &[VarId]) -> bool
+pub fn are_distinct(columns: &[VarId]) -> bool
     ensures { IsTrue result → HasNoRepeats columns.now }
 {
     match columns.split_first() {
@@ -182,12 +193,23 @@ pub fn print_table(table: &Table, out: &mut Vec<u8>) -> Result<(), CaseError> {
         print_number(column.0.into(), out)?;
     }
     print_bytes(b"|", out)?;
-    for row in table.rows() {
-        for value in row.as_slice() {
-            print_value(value, out)?;
-            print_bytes(b",", out)?;
-        }
+    print_rows(table.rows(), out)
+}
+
+/// Appends the rows in the form of a table.
+pub fn print_rows(rows: &[Row], out: &mut Vec<u8>) -> Result<(), CaseError> {
+    for row in rows {
+        print_row(row, out)?;
         print_bytes(b";", out)?;
+    }
+    Ok(())
+}
+
+/// Appends the values of a row, with `,` behind each.
+pub fn print_row(row: &Row, out: &mut Vec<u8>) -> Result<(), CaseError> {
+    for value in row.as_slice() {
+        print_value(value, out)?;
+        print_bytes(b",", out)?;
     }
     Ok(())
 }
@@ -205,15 +227,14 @@ pub fn answer_counts(alloc: Global, out: &mut Vec<u8>) -> Result<(), CaseError> 
 }
 
 fn count_joined(alloc: Global) -> Result<usize, CaseError> {
-    let left = table_of(read_variables(alloc, b"01")?, pairs(alloc, Pair::Rest)?)?;
-    let right = table_of(read_variables(alloc, b"12")?, pairs(alloc, Pair::OfRest)?)?;
+    let left = table_of_pairs(alloc, b"01", Pair::Rest)?;
+    let right = table_of_pairs(alloc, b"12", Pair::OfRest)?;
     Ok(left.join(alloc, &right)?.len())
 }
 
 fn count_unmatched(alloc: Global) -> Result<usize, CaseError> {
-    let same = table_of(read_variables(alloc, b"01")?, pairs(alloc, Pair::Same)?)?;
-    let even = table_of(read_variables(alloc, b"12")?, pairs(alloc, Pair::Even)?)?;
-    let even = project(alloc, &even, b"1")?;
+    let same = table_of_pairs(alloc, b"01", Pair::Same)?;
+    let even = project(alloc, &table_of_pairs(alloc, b"12", Pair::Even)?, b"1")?;
     Ok(antijoin(alloc, &same, &even)?.len())
 }
 
@@ -234,6 +255,11 @@ fn pair_of(kind: Pair, number: u32) -> (u32, u32) {
         Pair::Same => (number, number),
         Pair::Even => (2 * rest, number),
     }
+}
+
+fn table_of_pairs(alloc: Global, columns: &[u8], kind: Pair) -> Result<Table, CaseError> {
+    let columns = read_variables(alloc, columns)?;
+    table_of(columns, pairs(alloc, kind)?)
 }
 
 fn pairs(alloc: Global, kind: Pair) -> Result<Vec<Row>, CaseError> {

@@ -1,9 +1,9 @@
 //! Policies by what they may change: the mark, the horizon and the roles, or the first refusal.
 
 use crate::case::CaseError;
-use crate::parts::{part, read_signature};
+use crate::parts::{part, print_place, read_signature};
 use crate::policies;
-use enf_value::{MOST_FILE_BYTES, NameId, Place, print_bytes, print_number};
+use enf_value::{MOST_FILE_BYTES, NameId, print_bytes, print_number};
 use enforce_types::{TypeRefusal, TypedPolicy};
 use formula_reader::read_policy;
 use rank_check::Role;
@@ -79,16 +79,11 @@ fn print_refusal(
     out: &mut Vec<u8>,
 ) -> Result<(), CaseError> {
     match refusal {
-        TypeRefusal::Unguarded { place } => print_place(b"unguarded at ", place, out),
-        TypeRefusal::NotEnforceable { place } => print_place(b"not enforceable at ", place, out),
-        TypeRefusal::Untriggered { place } => print_place(b"untriggered at ", place, out),
+        TypeRefusal::Unguarded { place } => print_place(b"unguarded", place, out),
+        TypeRefusal::NotEnforceable { place } => print_place(b"not enforceable", place, out),
+        TypeRefusal::Untriggered { place } => print_place(b"untriggered", place, out),
         TypeRefusal::RoleClash { name } => print_named(b"role clash ", signature, name, out),
         TypeRefusal::Cyclic { name } => print_named(b"cyclic ", signature, name, out),
         TypeRefusal::NoMemory => Err(CaseError::NoMemory),
     }
-}
-
-fn print_place(what: &[u8], place: Place, out: &mut Vec<u8>) -> Result<(), CaseError> {
-    print_bytes(what, out)?;
-    Ok(print_number(place.into(), out)?)
 }

@@ -1,0 +1,273 @@
+//! Windows: what they answer and keep, step by step, beside the plain walk over the same steps.
+ghost use Rattle.std.specs.Prelude.{◌≡◌, ◌≤◌, IfOk, OnOk};
+ghost use Rattle.enf_cases.specs.Beside.{AreBeside};
+ghost use Rattle.enf_value.specs.Membership.{HasNoRepeats};
+ghost use Rattle.windows.specs.Windows.{FitsColumns, IsSameKind};
+
+use crate::case::CaseError;
+use crate::parts::{cut, read_interval, read_number, read_variables, word};
+use crate::tables::{antijoin, are_distinct, print_row, print_rows, read_rows, table_of};
+use enf_value::{Duplicate, Interval, Vars, print_bytes, print_number};
+use std::alloc::Global;
+use valuations::Table;
+use windows::{KeptPair, SinceWalk, SinceWindow, Surviving};
+
+/// Appends, for each step with `/` behind it, the rows that a window gives at it and, once it is committed, its rows and
+/// what it keeps, with `|` between them; where the walk gives other rows, those are appended. The input is
+/// `LOW HIGH COLUMNS`, a `&`, and the steps, with `/` behind each: the time, a blank, the rows that survive, `|`, and
+/// the right rows. `*` stands for all rows, `+` for those that follow, `-` for all others.
+/// Where it restores, the window is made anew behind each step, of what it keeps.
+pub fn answer(
+    alloc: Global,
+    restores: bool,
+    input: &[u8],
+    out: &mut Vec<u8>,
+) -> Result<(), CaseError> {
+    let (interval, rest) = read_interval(input)?;
+    let Some((columns, steps)) = cut(rest, b'&') else {
+        return Err(CaseError::Malformed);
+    };
+    let columns = read_variables(alloc, columns)?;
+    if are_distinct(columns.as_slice()) {
+        let form = Form {
+            interval,
+            columns,
+            restores,
+        };
+        answer_window(alloc, &form, steps, out)
+    } else {
+        Err(CaseError::Malformed)
+    }
+}
+
+// What is said of a window before its steps.
+#[derive(Drop)]
+struct Form {
+    interval: Interval,
+    columns: Vars,
+    restores: bool,
+}
+
+fn answer_window(
+    alloc: Global,
+    form: &Form,
+    steps: &[u8],
+    out: &mut Vec<u8>,
+) -> Result<(), CaseError>
+    requires { HasNoRepeats form.now.columns }
+{
+    let mut window = SinceWindow::new(alloc, form.interval, form.columns.duplicate(alloc)?);
+    let mut walk = SinceWalk::new(alloc, form.interval, form.columns.duplicate(alloc)?);
+    answer_steps(alloc, form, steps, &mut window, &mut walk, out)
+}
+
+fn answer_steps(
+    alloc: Global,
+    form: &Form,
+    steps: &[u8],
+    window: &mut SinceWindow,
+    walk: &mut SinceWalk,
+    out: &mut Vec<u8>,
+) -> Result<(), CaseError>
+    requires distinct { HasNoRepeats form.now.columns }
+    requires beside { AreBeside window.old walk.old }
+    requires interval { window.old.interval ≡ form.now.interval }
+    requires columns { window.old.columns ≡ form.now.columns }
+    requires last { window.old.last ≡ 0 }
+{
+    let mut last = 0;
+    let mut rest = steps;
+    while let Some((bytes, behind)) = cut(rest, b'/') {
+        let step = read_step(alloc, &form.columns, last, bytes)?;
+        answer_step(alloc, &step, window, walk, out)?;
+        last = step.time;
+        rest = behind;
+        if form.restores {
+            restore(alloc, form, last, window)?;
+        }
+    }
+    Ok(())
+}
+
+// Puts in the window's place one that is made of what it keeps.
+fn restore(alloc: Global, form: &Form, last: u64, window: &mut SinceWindow) -> Result<(), CaseError>
+    requires distinct { HasNoRepeats form.now.columns }
+    requires interval { window.old.interval ≡ form.now.interval }
+    requires columns { window.old.columns ≡ form.now.columns }
+    requires last { window.old.last ≡ last }
+    ensures kind { OnOk result (IsSameKind window.old window.new) }
+    ensures last { OnOk result (window.new.last ≡ last) }
+{
+    let pairs = window.kept(alloc)?;
+    let columns = form.columns.duplicate(alloc)?;
+    *window = SinceWindow::from_kept(alloc, form.interval, columns, last, &pairs)?;
+    Ok(())
+}
+
+// A step: the rows that are right at it, and a table that tells which rows survive it.
+#[derive(Drop)]
+struct WindowStep {
+    time: u64,
+    right: Table,
+    how: How,
+    by: Table,
+}
+
+// All rows survive, those of a table, or all but those of a table.
+#[derive(Clone, Copy)]
+enum How {
+    All,
+    Only,
+    AllBut,
+}
+
+impl WindowStep {
+    fn surviving(&self) -> Surviving<'_>
+        ensures { FitsColumns self.now.by.columns result }
+    {
+        match self.how {
+            How::All => Surviving::All,
+            How::Only => Surviving::Only(&self.by),
+            How::AllBut => Surviving::AllBut(&self.by),
+        }
+    }
+}
+
+// Appends what is given at the step, commits it, and appends what is kept.
+fn answer_step(
+    alloc: Global,
+    step: &WindowStep,
+    window: &mut SinceWindow,
+    walk: &mut SinceWalk,
+    out: &mut Vec<u8>,
+) -> Result<(), CaseError>
+    requires beside { AreBeside window.old walk.old }
+    requires later { window.old.last ≤ step.now.time }
+    requires right { step.now.right.columns ≡ window.old.columns }
+    requires by { step.now.by.columns ≡ window.old.columns }
+    ensures beside { OnOk result (AreBeside window.new walk.new) }
+    ensures kind { OnOk result (IsSameKind window.old window.new) }
+    ensures last { OnOk result (window.new.last ≡ step.now.time) }
+{
+    let surviving = surviving_rows(alloc, window, step)?;
+    print_given(alloc, step, &surviving, window, walk, out)?;
+    window.commit_by(step.time, &step.surviving(), &step.right)?;
+    walk.commit(step.time, &surviving, &step.right)?;
+    print_kept(alloc, window, walk, out)
+}
+
+// The surviving rows as a table: of the window's rows those that survive, or those of the table that tells it.
+fn surviving_rows(
+    alloc: Global,
+    window: &SinceWindow,
+    step: &WindowStep,
+) -> Result<Table, CaseError>
+    requires { step.now.by.columns ≡ window.now.columns }
+    ensures { IfOk result (λ t. t.columns ≡ window.now.columns) }
+{
+    match step.how {
+        How::All => Ok(window.rows(alloc)?),
+        How::Only => Ok(step.by.duplicate(alloc)?),
+        How::AllBut => antijoin(alloc, &window.rows(alloc)?, &step.by),
+    }
+}
+
+fn print_given(
+    alloc: Global,
+    step: &WindowStep,
+    surviving: &Table,
+    window: &SinceWindow,
+    walk: &SinceWalk,
+    out: &mut Vec<u8>,
+) -> Result<(), CaseError>
+    requires beside { AreBeside window.now walk.now }
+    requires later { window.now.last ≤ step.now.time }
+    requires right { step.now.right.columns ≡ window.now.columns }
+    requires by { step.now.by.columns ≡ window.now.columns }
+    requires surviving { surviving.now.columns ≡ window.now.columns }
+{
+    let given = window.answer_by(alloc, step.time, &step.surviving(), &step.right)?;
+    let walked = walk.answer(alloc, step.time, surviving, &step.right)?;
+    print_both(&given, &walked, out)?;
+    Ok(print_bytes(b"|", out)?)
+}
+
+fn print_kept(
+    alloc: Global,
+    window: &SinceWindow,
+    walk: &SinceWalk,
+    out: &mut Vec<u8>,
+) -> Result<(), CaseError> {
+    let rows = window.rows(alloc)?;
+    print_both(&rows, &walk.rows(alloc)?, out)?;
+    print_bytes(b"|", out)?;
+    print_pairs(&window.kept(alloc)?, out)?;
+    Ok(print_bytes(b"/", out)?)
+}
+
+// Appends each row, with `@` and its time behind it.
+fn print_pairs(pairs: &[KeptPair], out: &mut Vec<u8>) -> Result<(), CaseError> {
+    for pair in pairs {
+        print_row(&pair.row, out)?;
+        print_bytes(b"@", out)?;
+        print_number(pair.time, out)?;
+        print_bytes(b";", out)?;
+    }
+    Ok(())
+}
+
+// Appends the rows of a table, and those of the walk where they are others.
+fn print_both(table: &Table, walked: &Table, out: &mut Vec<u8>) -> Result<(), CaseError> {
+    print_rows(table.rows(), out)?;
+    if table.rows() != walked.rows() {
+        print_bytes(b" walk: ", out)?;
+        print_rows(walked.rows(), out)?;
+    }
+    Ok(())
+}
+
+// A step that is not before the last one.
+fn read_step(
+    alloc: Global,
+    columns: &Vars,
+    last: u64,
+    bytes: &[u8],
+) -> Result<WindowStep, CaseError>
+    ensures later { IfOk result (λ step. last ≤ step.time) }
+    ensures right { IfOk result (λ step. step.right.columns ≡ columns.now) }
+    ensures by { IfOk result (λ step. step.by.columns ≡ columns.now) }
+{
+    let (time, rest) = word(bytes)?;
+    let time = read_number(time)?;
+    let (how, by, right) = read_signs(rest)?;
+    if time < last {
+        return Err(CaseError::Malformed);
+    }
+    let by = read_columns(alloc, columns, by)?;
+    let right = read_columns(alloc, columns, right)?;
+    Ok(WindowStep {
+        time,
+        right,
+        how,
+        by,
+    })
+}
+
+fn read_signs(bytes: &[u8]) -> Result<(How, &[u8], &[u8]), CaseError> {
+    let Some((surviving, right)) = cut(bytes, b'|') else {
+        return Err(CaseError::Malformed);
+    };
+    match surviving.split_first() {
+        Some((b'*', by)) => Ok((How::All, by, right)),
+        Some((b'+', by)) => Ok((How::Only, by, right)),
+        Some((b'-', by)) => Ok((How::AllBut, by, right)),
+        _ => Err(CaseError::Malformed),
+    }
+}
+
+fn read_columns(alloc: Global, columns: &Vars, rows: &[u8]) -> Result<Table, CaseError>
+    ensures { IfOk result (λ t. t.columns ≡ columns.now) }
+{
+    let columns = columns.duplicate(alloc)?;
+    table_of(columns, read_rows(alloc, rows)?)
+}
