@@ -37,7 +37,8 @@ test:
 	rt ci
 
 fmt:
-	for crate in crates/*/; do (cd "$$crate" && rt fmt) || exit 1; done
+	@for crate in crates/*/; do (cd "$$crate" && rt fmt) || exit 1; done
+	@echo 'The sources of every crate are laid out.'
 
 clean:
 	rm -rf bin out crates/*/out

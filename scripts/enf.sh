@@ -1,5 +1,7 @@
 #!/usr/bin/env bash
-# Sourced by the other scripts: runs enf on files, by the proved program where it was built from these sources.
+# Sourced by the other scripts, which stand at the top and have a folder $work: runs of enf, by the proved program where it
+# was built from these sources. Runs are gathered by add_run and made by make_runs, so that a program that is not there is
+# compiled once for all of them.
 
 # Whether bin/enf was built from the sources as they stand.
 is_proved() {
@@ -12,59 +14,69 @@ say_program() {
         echo "This is the proved program, bin/enf."
         return
     fi
+    if ! command -v rt > /dev/null; then
+        echo "The Rattle kit (the command rt) is wanted, and is not here." >&2
+        exit 1
+    fi
     if [ -x bin/enf ]; then
         echo "bin/enf was built from other sources, so it is not taken."
     else
         echo "bin/enf is not there."
     fi
     echo "This run is NOT PROVED: 'rt try' compiles the program and runs it. 'make build' proves it."
-    echo "Each run compiles anew, which takes about half a minute; please wait."
+    echo "It compiles for up to a minute; please wait."
 }
 
-# run_on COMMAND SIGNATURE POLICY INPUT OUTPUT REPORT: runs a command on two files, and answers the status of the program.
-run_on() {
-    local status
+# add_run NAME INPUT WORD..: a run of the program with these words on this input.
+add_run() {
+    mkdir -p "$work/runs"
+    cp "$2" "$work/runs/$1"
+    printf '%s\n' "${@:3}" > "$work/runs/$1.args"
+}
+
+# make_runs FOLDER: makes the runs in a folder, whose files their words name. Each leaves its output, report and status in
+# $work/NAME.output, $work/NAME.report and $work/NAME.status.
+make_runs() {
     if is_proved; then
-        bin/enf "$1" "$2" "$3" < "$4" > "$5" 2> "$6"
-        return
-    fi
-    local here
-    here=$(pwd)
-    (cd crates/enf_cli && rt try \
-        --data signature="$(absolute "$here" "$2")" --data policy="$(absolute "$here" "$3")" \
-        -- "$1" signature policy) < "$4" > "$5" 2> "$6.all"
-    status=$?
-    # `rt try` adds lines of its own to the report.
-    grep -v -e '^checked: ' -e '^run=' "$6.all" > "$6"
-    rm -f "$6.all"
-    return "$status"
-}
-
-# enforce SIGNATURE POLICY LOG OUTPUT REPORT: enforces the log.
-enforce() {
-    run_on enforce "$1" "$2" "$3" "$4" "$5"
-}
-
-# check SIGNATURE POLICY OUTPUT REPORT: checks the policy.
-check() {
-    run_on check "$1" "$2" /dev/null "$3" "$4"
-}
-
-# generate START STEPS OUTPUT: writes a generated log, and answers the status of the program.
-generate() {
-    if is_proved; then
-        bin/enf gen "$1" "$2" > "$3"
+        run_proved "$1"
     else
-        (cd crates/enf_cli && rt try -- gen "$1" "$2") > "$3" 2> /dev/null
+        run_unproved "$1"
     fi
 }
 
-# A path as seen from every folder.
-absolute() {
-    case $2 in
-        /*) echo "$2" ;;
-        *) echo "$1/$2" ;;
-    esac
+run_proved() {
+    local program run words
+    program=$(pwd)/bin/enf
+    for run in "$work"/runs/*.args; do
+        run=$(basename "$run" .args)
+        mapfile -t words < "$work/runs/$run.args"
+        (cd "$1" && "$program" "${words[@]}") < "$work/runs/$run" > "$work/$run.output" 2> "$work/$run.report"
+        echo $? > "$work/$run.status"
+    done
+}
+
+run_unproved() {
+    local folder file run data=()
+    folder=$(cd "$1" && pwd)
+    for file in "$folder"/*; do
+        data+=(--data "$(basename "$file")=$file")
+    done
+    (cd crates/enf_cli && rt try "${data[@]}" --cases "$work/runs") > "$work/outputs" 2> "$work/reports"
+    for run in "$work"/runs/*.args; do
+        run=$(basename "$run" .args)
+        # The outputs stand one behind another, each behind the run's name; a report in front of the line with the status.
+        awk -v run="== $run" '/^== / { is_it = $0 == run; next } is_it' "$work/outputs" > "$work/$run.output"
+        awk -v run="case=$run" '
+            $1 == run { printf "%s", report; exit }
+            /^case=/ { report = ""; next }
+            { report = report $0 "\n" }' "$work/reports" > "$work/$run.report"
+        sed -n "s/^case=$run run=ended status=\([0-9]*\) .*/\1/p" "$work/reports" > "$work/$run.status"
+        if [ ! -s "$work/$run.status" ]; then
+            echo "The unproved program gave no answer; it has 60 seconds, and gives at most 1 MiB:" >&2
+            cat "$work/reports" >&2
+            exit 1
+        fi
+    done
 }
 
 # The lines of a file, or `(empty)`.
@@ -85,4 +97,11 @@ show_changes() {
     else
         diff -U 100000 "$1" "$2" | tail -n +4 | sed 's/^\(.\)/\1 /'
     fi
+}
+
+# Shows the report and the status of a run.
+show_end() {
+    echo "-- the report"
+    show_lines "$work/$1.report"
+    echo "-- the status: $(cat "$work/$1.status")"
 }

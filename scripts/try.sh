@@ -6,32 +6,32 @@ if [ -z "${1:-}" ] || [ -z "${2:-}" ]; then
     echo "usage: make try SIG=FILE POLICY=FILE [LOG=FILE]" >&2
     exit 1
 fi
-files=()
 for file in "$1" "$2" "${3:-/dev/null}"; do
     if [ ! -r "$file" ]; then
         echo "$file cannot be read" >&2
         exit 1
     fi
-    files+=("$(realpath "$file")")
 done
-cd "$(dirname "$0")/.." || exit 1
-. scripts/enf.sh
 work=$(mktemp -d) || exit 1
 trap 'rm -rf "$work"' EXIT
+mkdir "$work/files"
+cp "$1" "$work/files/signature"
+cp "$2" "$work/files/policy"
+cp "${3:-/dev/null}" "$work/log"
+cd "$(dirname "$0")/.." || exit 1
+. scripts/enf.sh
 
 say_program
 echo
 if [ -n "${3:-}" ]; then
-    enforce "${files[@]}" "$work/output" "$work/report"
-    status=$?
+    add_run own "$work/log" enforce signature policy
+    make_runs "$work/files"
     echo "== $3: '-' came in, '+' goes out in its place"
-    show_changes "${files[2]}" "$work/output"
+    show_changes "$work/log" "$work/own.output"
 else
-    check "${files[0]}" "${files[1]}" "$work/output" "$work/report"
-    status=$?
+    add_run own /dev/null check signature policy
+    make_runs "$work/files"
     echo "== what is to be said of $2"
-    show_lines "$work/output"
+    show_lines "$work/own.output"
 fi
-echo "-- the report"
-show_lines "$work/report"
-echo "-- the status: $status"
+show_end own
