@@ -1,11 +1,10 @@
 -- What the words of `IndexSet` say of its keys as a list, where `==` at the keys tells exactly whether they are equal.
 use Rattle.std.proofs.Common.{◌≡◌, ℕ, ◌<◌, ◌+◌, Bool, true, false, cond, not, ◌||◌, List, [], ◌∷◌, ◌++◌, length, get_or, take, Contains, refl, sym, ap, subst, ◌∙◌, true≢false, arith, Result, Ok, Err, IfOk, OnErr, MatchResult, if◌then◌else◌, suc, zero}
 use Rattle.std.specs.Bool.{Decides}
-use Rattle.std.specs.List.{list_any, IsDistinct}
+use Rattle.std.specs.List.{list_any}
 use Rattle.std.specs.Result.{IsErrAnd}
-use Rattle.std.proofs.lemmas.List.Elements.{All-from_recursion, All-contains, Contains-get_or}
+use Rattle.std.proofs.lemmas.List.Elements.{Contains-get_or}
 use Rattle.std.proofs.lemmas.List.{take_more}
-use Rattle.std.proofs.lemmas.Map.Keys.{IsDistinct-head, IsDistinct-tail}
 use Rattle.indexmap.specs.IndexSet.{insert_key, remove_key}
 use Rattle.enf_value.specs.Decided.{list_any-Decides}
 use Rattle.enf_value.specs.Membership.{HasNoRepeats, Inserts, TakesOut, Removes}
@@ -30,14 +29,6 @@ err_through P Q (Err e) (Err f) is p = p
 module _ {K : Type 0} (eq : K → K → Bool) (decides : (x y : K) → Decides (eq x y) (x ≡ y)) where
   pub no_Contains : (ks : List K) (k : K) → list_any (eq k) ks ≡ false → Contains ks k → ⊥
   no_Contains ks k none there = true≢false (sym ((list_any-Decides eq decides ks k).1 there) ∙ none)
-
-  -- keys that are distinct by `==` do not repeat
-  pub HasNoRepeats-from_distinct : (ks : List K) → IsDistinct eq ks → HasNoRepeats ks
-  HasNoRepeats-from_distinct [] d = tt
-  HasNoRepeats-from_distinct (x ∷ xs) d = (
-    λ there. true≢false (sym ((decides x x).1 refl) ∙ All-contains (λ y. eq x y ≡ false) xs x (All-from_recursion (λ y. eq x y ≡ false) xs (IsDistinct-head eq x xs d)) there),
-    HasNoRepeats-from_distinct xs (IsDistinct-tail eq x xs d),
-  )
 
   -- what an insertion does to the keys
   pub Inserts-insert_key : (ks after : List K) (k : K) (new : Bool) → new ≡ not (list_any (eq k) ks) → after ≡ insert_key eq ks k → Inserts k ks new after

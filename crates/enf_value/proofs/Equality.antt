@@ -3,18 +3,9 @@ use Rattle.std.proofs.Common.{◌≡◌, ap, refl}
 use Rattle.std.specs.Bool.{Decides}
 use Rattle.std.proofs.lemmas.Bool.Decides.{Decides-eqb, Decides-like, Decides-and}
 use Rattle.std.proofs.lemmas.Slice.Eq.{slice_eq-Decides}
-use Rattle.enf_value.specs.Decided.{value_eq-Decides}
+use Rattle.enf_value.specs.EqualityLaws.{derived_value_eq-Decides}
 use Rattle.enf_value.specs.declared.events.Event.{Event}
-use Rattle.enf_value.specs.declared.values.Value.{Value}
-use Rattle.enf_value.specs.declared.values.Value.TheVariants.{Num, Text}
-use Rattle.enf_value.specs.contracts.values.ValuePartialEq.TheImpl as values
 use Rattle.enf_value.specs.contracts.events.EventPartialEq.TheImpl as events
-
-pub derived_value_eq-Decides : (a b : Value) → Decides (values.eq-value.it a b) (a ≡ b)
-derived_value_eq-Decides (Num x) (Num y) = value_eq-Decides (Num x) (Num y)
-derived_value_eq-Decides (Num x) (Text t) = value_eq-Decides (Num x) (Text t)
-derived_value_eq-Decides (Text s) (Num y) = value_eq-Decides (Text s) (Num y)
-derived_value_eq-Decides (Text s) (Text t) = value_eq-Decides (Text s) (Text t)
 
 pub derived_event_eq-Decides : (a b : Event) → Decides (events.eq-value.it a b) (a ≡ b)
 derived_event_eq-Decides a b =

@@ -1,5 +1,6 @@
 pub mod Data
 pub mod Decided
+pub mod EqualityLaws
 pub mod FirstRefusal
 pub mod FirstRefusalLaws
 pub mod Kinds

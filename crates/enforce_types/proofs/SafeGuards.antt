@@ -1,5 +1,5 @@
 -- The guards and tests of a plan are safe where they stand.
-use Rattle.std.proofs.Common.{◌≡◌, ℕ, Bool, true, false, ◌&&◌, IsTrue, List, [], ◌++◌, Option, None, Some, Ok, ◌⊎◌, inl, inr, ⊎_elim, Contains, refl, sym, ap, subst, ◌∙◌, true≢false}
+use Rattle.std.proofs.Common.{◌≡◌, ℕ, Bool, IsTrue, List, [], ◌++◌, Option, None, Some, Ok, ◌⊎◌, inl, inr, ⊎_elim, Contains, ap, subst, ◌∙◌}
 use Rattle.std.proofs.lemmas.List.{append-nil}
 use Rattle.enf_value.specs.declared.events.NameId.{NameId}
 use Rattle.enf_value.specs.declared.terms.Term.{Term}
@@ -9,46 +9,14 @@ use Rattle.enf_formula.specs.Formulas.{Formula, True, False, Atom, Equal, Less, 
 use Rattle.enf_formula.specs.Past.{is_past}
 use Rattle.enf_formula.specs.Shape.{place_of}
 use Rattle.valuations.specs.Columns.{among_or_not, Contains-append}
-use Rattle.monitorable_guard.specs.Safety.{Safe, SafeBelow, IsTest, With, Nothing, Assigns}
+use Rattle.monitorable_guard.specs.SafetyLaws.{safe_past}
+use Rattle.monitorable_guard.specs.Safety.{Safe, SafeBelow, IsTest, With, Assigns}
 use Rattle.plan_terms.specs.Plans.{Plan, Guarded}
 use Rattle.enforce_types.specs.Answers.{Answer, LeafWhere, OverOne, OverTwo, OneOfTwo, Guards, Implication, Exclusion}
 use Rattle.enforce_types.specs.Elab.{Elab, Aim, Up, Down, UpForAll}
 use Rattle.enforce_types.specs.Guards.{GuardsAreSafe}
 use Rattle.enforce_types.proofs.Decisions.{AllDecided, with_decided}
 use Rattle.enforce_types.proofs.Making.{by_exclusion, by_implication, by_leaf, by_one, by_one_of_two, by_two, not_refused, with_end, from_now}
-
-and_true : (a b : Bool) → IsTrue a → IsTrue b → IsTrue (a && b)
-and_true true b p q = q
-and_true false b p q = absurd (true≢false (sym p))
-
--- what is safe looks back alone
-pub safe_past : (m : Option (List VarId)) (f : Formula) (B : VarId → Type 0) → SafeBelow m f B → IsTrue (is_past f)
-safe_past None (True place) B s = refl
-safe_past None (False place) B s = refl
-safe_past None (Atom place name terms) B s = refl
-safe_past None (Equal place l r) B s = refl
-safe_past None (Less place l r) B s = refl
-safe_past None (AtMost place l r) B s = refl
-safe_past None (Not place g) B s = safe_past None g B s.1
-safe_past None (And place g h) B s = and_true _ _ (safe_past None g B s.0) (safe_past None h (With B g) s.1)
-safe_past None (Or place g h) B s = and_true _ _ (safe_past None g B s.0) (safe_past None h B s.1)
-safe_past None (Implies place g h) B s = and_true _ _ (safe_past None g B s.2) (safe_past None h B s.3)
-safe_past None (Exists place xs g) B s = safe_past None g B s
-safe_past None (Forall place xs g) B s = safe_past (Some xs) g B s
-safe_past None (Prev place interval g) B s = safe_past None g _ s
-safe_past None (Once place interval g) B s = safe_past None g _ s
-safe_past None (Historically place interval (Not p h)) B s = safe_past None h _ s.1
-safe_past None (Historically place interval (Implies p a b)) B s = and_true _ _ (safe_past None a _ s.2) (safe_past None b _ s.4)
-safe_past None (Historically place interval g) B s = safe_past None g Nothing s.2
-safe_past None (Since place interval g h) B s = and_true _ _ (safe_past None g _ s.2) (safe_past None h _ s.0)
-safe_past None (Next place interval g) B s = absurd s
-safe_past None (Eventually place interval g) B s = absurd s
-safe_past None (Always place interval g) B s = absurd s
-safe_past None (Until place interval g h) B s = absurd s
-safe_past (Some xs) (Forall place ys g) B s = safe_past (Some (xs ++ ys)) g B s
-safe_past (Some xs) (Implies place g h) B s = and_true _ _ (safe_past None g B s.2) (safe_past None h (With B g) s.3)
-safe_past (Some xs) (Not place g) B s = safe_past None g B s.1
-safe_past (Some xs) g B s = absurd s
 
 abbrev Within : (VarId → Type 0) → (VarId → Type 0) → Type 0
 Within B C = (x : VarId) → B x → C x

@@ -1,13 +1,11 @@
 -- What a guard's evaluation gives, from that of its formula under the bound variables.
-use Rattle.std.proofs.Common.{◌⊎◌, inl, inr, ⊎_elim, Bool, true, false, ◌&&◌, List, ◌++◌, Option, None, Some, Result, Ok, Err, IfOk, IsTrue, Contains, refl, sym, ◌∙◌}
+use Rattle.std.proofs.Common.{◌⊎◌, inl, inr, ⊎_elim, List, None, Result, Ok, Err, IfOk, Contains, refl, sym, ◌∙◌}
 use Rattle.std.proofs.lemmas.Option.{none-some}
 use Rattle.enf_value.specs.Valuations.{Valuation}
 use Rattle.enf_value.specs.declared.events.Event.{Event}
 use Rattle.enf_value.specs.declared.terms.VarId.{VarId}
-use Rattle.enf_formula.specs.Formulas.{Formula, True, False, Atom, Equal, Less, AtMost, Not, And, Or, Implies}
-use Rattle.enf_formula.specs.Formulas.{Exists, Forall, Prev, Next, Once, Historically, Since, Eventually, Always, Until}
+use Rattle.enf_formula.specs.Formulas.{Formula}
 use Rattle.enf_formula.specs.FreeVariables.{IsFree}
-use Rattle.enf_formula.specs.Past.{is_past}
 use Rattle.valuations.specs.Columns.{among_or_not}
 use Rattle.valuations.specs.Just.{Binds}
 use Rattle.valuations.specs.Scopes.{IsPartOf}
@@ -15,7 +13,7 @@ use Rattle.valuations.specs.Tables.{Relation}
 use Rattle.monitorable_guard.specs.Answers.{AreOpenUnder, CanAsk, HasAnswers, IsBoundBy, IsInScope}
 use Rattle.monitorable_guard.specs.Evaluation.{AreOpen, CanEvaluate, FitOperators, HoldsFor}
 use Rattle.monitorable_guard.specs.Present.{outermost}
-use Rattle.monitorable_guard.specs.Safety.{Safe, SafeBelow, With, Nothing}
+use Rattle.monitorable_guard.specs.Safety.{Safe}
 use Rattle.monitorable_guard.proofs.AgreementLemmas.{now_agrees}
 use Rattle.monitorable_guard.proofs.AskLemmas.{fresh_within}
 use Rattle.monitorable_guard.proofs.EvaluationLemmas.{value_from, bound_from, bound_as, same_on}
@@ -77,38 +75,3 @@ module _ (f : Formula) (bound : List VarId) (v scope : Valuation) (part : IsPart
     pub ok_rows : {E : Type 0} (r : Result Relation E) → IfOk r (λ t. AreOpenUnder scope f t.columns) → IfOk r (HasAnswers events tables scope f) → IfOk r (HoldsFor events tables f bound v)
     ok_rows (Ok t) opens answers = holds_for t opens answers
     ok_rows (Err e) opens answers = tt
-
--- ---- what is safe does not look ahead
-
-both : (a b : Bool) → IsTrue a → IsTrue b → IsTrue (a && b)
-both true true s t = refl
-both true false s t = t
-both false b s t = s
-
-pub safe_past : (m : Option (List VarId)) (f : Formula) (B : VarId → Type 0) → SafeBelow m f B → IsTrue (is_past f)
-safe_past None (True place) B safe = refl
-safe_past None (False place) B safe = refl
-safe_past None (Atom place name terms) B safe = refl
-safe_past None (Equal place s t) B safe = refl
-safe_past None (Less place s t) B safe = refl
-safe_past None (AtMost place s t) B safe = refl
-safe_past None (Not place g) B safe = safe_past None g B safe.1
-safe_past None (And place g h) B safe = both (is_past g) (is_past h) (safe_past None g B safe.0) (safe_past None h (With B g) safe.1)
-safe_past None (Or place g h) B safe = both (is_past g) (is_past h) (safe_past None g B safe.0) (safe_past None h B safe.1)
-safe_past None (Implies place g h) B safe = both (is_past g) (is_past h) (safe_past None g B safe.2) (safe_past None h B safe.3)
-safe_past None (Exists place xs g) B safe = safe_past None g B safe
-safe_past None (Forall place xs g) B safe = safe_past (Some xs) g B safe
-safe_past None (Prev place interval g) B safe = safe_past None g Nothing safe
-safe_past None (Once place interval g) B safe = safe_past None g Nothing safe
-safe_past None (Historically place interval (Not p h)) B safe = safe_past None h Nothing safe.1
-safe_past None (Historically place interval (Implies p a b)) B safe = both (is_past a) (is_past b) (safe_past None a Nothing safe.2) (safe_past None b (With Nothing a) safe.4)
-safe_past None (Historically place interval g) B safe = safe_past None g Nothing safe.2
-safe_past None (Since place interval g h) B safe = both (is_past g) (is_past h) (safe_past None g (With Nothing h) safe.2) (safe_past None h Nothing safe.0)
-safe_past None (Next place interval g) B safe = absurd safe
-safe_past None (Eventually place interval g) B safe = absurd safe
-safe_past None (Always place interval g) B safe = absurd safe
-safe_past None (Until place interval g h) B safe = absurd safe
-safe_past (Some xs) (Forall place ys g) B safe = safe_past (Some (xs ++ ys)) g B safe
-safe_past (Some xs) (Implies place g h) B safe = both (is_past g) (is_past h) (safe_past None g B safe.2) (safe_past None h (With B g) safe.3)
-safe_past (Some xs) (Not place g) B safe = safe_past None g B safe.1
-safe_past (Some xs) g B safe = absurd safe

@@ -1,4 +1,5 @@
 pub mod Safety
+pub mod SafetyLaws
 pub mod Sources
 pub mod Guards
 pub mod Listed

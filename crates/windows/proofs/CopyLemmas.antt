@@ -17,7 +17,8 @@ use Rattle.windows.specs.Pairs.{HasBehind, HasTime}
 use Rattle.windows.specs.Queues.{Queue}
 use Rattle.windows.specs.Times.{IsLeast, RiseTo}
 use Rattle.windows.specs.Windows.{IsWindow, kept_of}
-use Rattle.windows.proofs.EntryLemmas.{derived_row_eq-Decides, grown_by}
+use Rattle.enf_value.specs.EqualityLaws.{derived_row_eq-Decides}
+use Rattle.windows.proofs.EntryLemmas.{grown_by}
 use Rattle.windows.proofs.TimeLemmas.{all_from}
 use Rattle.windows.proofs.WindowLemmas.{from_view, same_rows, to_view}
 

@@ -1,11 +1,8 @@
 -- Rows with their times.
-use Rattle.std.proofs.Common.{◌≡◌, ◌∙◌, ◌↔◌, ◌⊎◌, inl, inr, ⊎_elim, ℕ, zero, suc, ◌+◌, ◌-◌, ◌<◌, ◌≤◌, Bool, true, false, true≢false, List, [], ◌∷◌, ◌++◌, length, map, take, drop, get_or, All, Contains, Option, None, Some, refl, sym, ap, subst, arith}
+use Rattle.std.proofs.Common.{◌≡◌, ◌∙◌, ◌↔◌, ◌⊎◌, inl, inr, ⊎_elim, ℕ, zero, suc, ◌+◌, ◌-◌, ◌<◌, ◌≤◌, Bool, true, false, List, [], ◌∷◌, ◌++◌, length, map, take, drop, get_or, All, Contains, Option, None, Some, refl, sym, ap, subst, arith}
 use Rattle.std.proofs.lemmas.Bool.{false≢true}
-use Rattle.std.proofs.lemmas.List.Elements.{All-contains, All-from_recursion, All-nil, All-push, Contains-append_cases, Contains-append_left, Contains-append_right, Contains-get_or, Contains-push}
-use Rattle.std.proofs.lemmas.Map.Keys.{IsDistinct-head, IsDistinct-tail}
+use Rattle.std.proofs.lemmas.List.Elements.{All-contains, All-nil, All-push, Contains-append_cases, Contains-append_left, Contains-append_right, Contains-get_or, Contains-push}
 use Rattle.std.proofs.lemmas.Option.{same_Some, none-some}
-use Rattle.std.proofs.lemmas.Slice.Eq.{slice_eq-Decides}
-use Rattle.std.specs.Bool.{Decides}
 use Rattle.std.specs.Prelude.{position, is_some, slice_get, swap_remove, IfSome, IsTrue, cond}
 use Rattle.std.specs.List.{IsDistinct}
 use Rattle.std.specs.List.Sorted.{IsPermutation}
@@ -19,29 +16,16 @@ use Rattle.indexmap.specs.Layout.{set_value_at}
 use Rattle.indexmap.specs.IndexMap.{get_by, insert_entry}
 use Rattle.indexmap.proofs.CallerLemmas.{insert_entry-new}
 use Rattle.std.specs.HashMap.{HashMap}
-use Rattle.enf_value.specs.Decided.{value_eq-Decides}
+use Rattle.enf_value.specs.EqualityLaws.{HasNoRepeats-from_distinct, derived_row_eq-Decides}
 use Rattle.enf_value.specs.Membership.{HasNoRepeats}
 use Rattle.enf_value.specs.contracts.rows.RowPartialEq.TheImpl as rows
-use Rattle.enf_value.specs.contracts.values.ValuePartialEq.TheImpl as values
 use Rattle.enf_value.specs.declared.intervals.Interval.{Interval}
 use Rattle.enf_value.specs.declared.values.Value.{Value}
-use Rattle.enf_value.specs.declared.values.Value.TheVariants.{Num, Text}
 use Rattle.valuations.specs.Columns.{here, later, first_or_later, none_in_nil}
 use Rattle.windows.specs.Pairs.{AddAtMost, AddsAtMost, AddsTime, AddsTimes, AreKept, AreLeast, Forgets, ForgetsTimes, Gives, HasGiven, HasTime, IsAnyRow, IsSettled, IsSomeIn, KeepsRows}
 use Rattle.windows.specs.Times.{IsEnded, IsLeast, IsServed, RiseTo}
 use Rattle.windows.proofs.LeastLemmas.{one_entry}
 use Rattle.windows.proofs.TimeLemmas.{all_from, itself, least_live, least_near, rise_later}
-
--- ---- the derived `==` of rows
-
-derived_value_eq-Decides : (a b : Value) → Decides (values.eq-value.it a b) (a ≡ b)
-derived_value_eq-Decides (Num x) (Num y) = value_eq-Decides (Num x) (Num y)
-derived_value_eq-Decides (Num x) (Text t) = value_eq-Decides (Num x) (Text t)
-derived_value_eq-Decides (Text s) (Num y) = value_eq-Decides (Text s) (Num y)
-derived_value_eq-Decides (Text s) (Text t) = value_eq-Decides (Text s) (Text t)
-
-pub derived_row_eq-Decides : (a b : List Value) → Decides (rows.eq-value.it a b) (a ≡ b)
-derived_row_eq-Decides a b = slice_eq-Decides derived_value_eq-Decides a b _ refl
 
 -- ---- an entry whose times are changed
 
@@ -163,12 +147,7 @@ kept_later long last now es below kept = record {
 
 -- keys that the map tells apart do not repeat
 pub unique_from : (es : List (List Value × SmallVec ℕ)) → IsDistinct rows.eq-value.it (keys_of es) → HasNoRepeats (map (λ e. e.0) es)
-unique_from [] distinct = tt
-unique_from (e ∷ es) distinct = (
-  λ there. true≢false (sym ((derived_row_eq-Decides e.0 e.0).1 refl)
-      ∙ All-contains (λ y. rows.eq-value.it e.0 y ≡ false) (keys_of es) e.0 (All-from_recursion (λ y. rows.eq-value.it e.0 y ≡ false) (keys_of es) (IsDistinct-head rows.eq-value.it e.0 (keys_of es) distinct)) there),
-  unique_from es (IsDistinct-tail rows.eq-value.it e.0 (keys_of es) distinct),
-)
+unique_from es distinct = HasNoRepeats-from_distinct rows.eq-value.it derived_row_eq-Decides (keys_of es) distinct
 
 -- ---- a time is added to a row
 

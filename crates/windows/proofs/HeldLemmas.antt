@@ -5,7 +5,7 @@ use Rattle.enf_value.specs.Membership.{IsIn}
 use Rattle.enf_value.specs.Valuations.{Valuation}
 use Rattle.valuations.specs.Tables.{Has}
 use Rattle.windows.specs.Answers.{IsHeld}
-use Rattle.windows.specs.Laws.{NothingAtFirst, OneStepMore, LaterAnswersLast}
+use Rattle.windows.specs.Laws.{NothingAtFirst, OneStepMore}
 use Rattle.windows.specs.declared.steps.CommittedStep.{CommittedStep}
 
 -- where two lists one behind the other are split at an item: in the first, or in the second
@@ -66,18 +66,3 @@ nothing_at_first interval time v = none_held (λ earlier. IsIn interval (time - 
 
 pub one_step_more : OneStepMore
 one_step_more interval time steps step v = held_more (λ earlier. IsIn interval (time - earlier)) steps step v
-
-pub later_answers_last : LaterAnswersLast
-later_answers_last interval time steps more v h =
-    ⊎_elim
-    (λ first. inl (record {
-      before = h.before;
-      step = h.step;
-      after = first.0;
-      split = first.1;
-      counts = tt;
-      right = h.right;
-      survives = front_all (λ later. Has later.surviving v) first.0 more (subst (All (λ later. Has later.surviving v)) first.2 h.survives);
-    }))
-    (λ second. inr (record { before = second.0; step = h.step; after = h.after; split = second.2; counts = tt; right = h.right; survives = h.survives }))
-    (split_joined steps more h.before h.after h.step h.split)

@@ -22,10 +22,6 @@ pub record IsHeld (Counts : ℕ → Type 0) (steps : List CommittedStep) (v : Va
 abbrev pub Answers : Interval → ℕ → List CommittedStep → Valuation → Type 0
 Answers interval time steps v = IsHeld (λ earlier. IsIn interval (time - earlier)) steps v
 
--- each step counts
-abbrev pub Lasts : List CommittedStep → Valuation → Type 0
-Lasts steps v = IsHeld (λ earlier. Unit {0}) steps v
-
 -- from 0 to the end of the interval: what is at such a distance from a time is in the interval then or later
 abbrev pub to_the_end : Interval → Interval
 to_the_end interval = record interval { low = 0 }

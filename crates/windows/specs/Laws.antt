@@ -4,7 +4,7 @@ use Rattle.enf_value.specs.Membership.{IsIn}
 use Rattle.enf_value.specs.Valuations.{Valuation}
 use Rattle.enf_value.specs.declared.intervals.Interval.{Interval}
 use Rattle.valuations.specs.Tables.{Has, Relation}
-use Rattle.windows.specs.Answers.{Answers, HasColumns, Lasts, at}
+use Rattle.windows.specs.Answers.{Answers, HasColumns, at}
 use Rattle.windows.specs.Kept.{ChosenBy}
 use Rattle.windows.specs.Windows.{Window, HasRow, KeepsLeast, Remembers, Keeps}
 use Rattle.windows.specs.Windows.{AnswersBy, IsCommittedBy, IsWalkedNow, GoesOnStanding, SurvivesFor, TellsFor}
@@ -20,11 +20,6 @@ abbrev pub OneStepMore : Type 0
 OneStepMore = (interval : Interval) (time : ℕ) (steps : List CommittedStep) (step : CommittedStep) (v : Valuation)
     → Answers interval time (steps ++ step ∷ []) v
     ↔ ((IsIn interval (time - step.time) × Has step.right v) ⊎ (Answers interval time steps v × Has step.surviving v))
-
--- what is answered after more steps lasted up to them, or has come with them
-abbrev pub LaterAnswersLast : Type 0
-LaterAnswersLast = (interval : Interval) (time : ℕ) (steps more : List CommittedStep) (v : Valuation)
-    → Answers interval time (steps ++ more) v → Lasts steps v ⊎ Lasts more v
 
 -- what a window remembers at a time from its last one on it kept at the last one
 abbrev pub RememberedIsKept : Type 0

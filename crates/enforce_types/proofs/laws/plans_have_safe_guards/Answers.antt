@@ -1,5 +1,6 @@
 use Rattle.std.proofs.Common.{None, Contains}
-use Rattle.enforce_types.proofs.SafeGuards.{safe_guards, safe_past}
+use Rattle.monitorable_guard.specs.SafetyLaws.{safe_past}
+use Rattle.enforce_types.proofs.SafeGuards.{safe_guards}
 use Rattle.enforce_types.proofs.laws.plans_have_safe_guards.Goals as goal
 
 pub returns : goal.returns

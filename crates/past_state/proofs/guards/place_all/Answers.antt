@@ -2,7 +2,7 @@ use Rattle.std.proofs.Common.{ℕ, ◌∙◌, ◌+◌, ◌++◌, None, sym, subs
 use Rattle.std.specs.Option.{IsSome, option_to_list}
 use Rattle.std.proofs.lemmas.Bool.{false≢true}
 use Rattle.enf_formula.specs.Formulas.{tree_of}
-use Rattle.past_state.proofs.KeepingLemmas.{safe_past}
+use Rattle.monitorable_guard.specs.SafetyLaws.{safe_past}
 use Rattle.past_state.proofs.GuardLemmas.{placed_next, placed_none, start_fits, last_count, counts_some, all_placed, PlacedSoFar}
 use Rattle.past_state.proofs.guards.place_all.Goals as goal
 use Rattle.past_state.proofs.guards.place_all.Goals.{in-Some, in_default}

@@ -1,8 +1,9 @@
 use Rattle.std.proofs.Common.{subst, IfOk, OnErr, Contains}
 use Rattle.std.proofs.lemmas.Result.{on_err_weaker}
 use Rattle.enf_value.specs.Membership.{Inserts}
-use Rattle.enf_value.proofs.Distinct.{HasNoRepeats-from_distinct, Inserts-insert_key, no_Contains, ok_both, ok_through, err_through}
+use Rattle.enf_value.proofs.Distinct.{Inserts-insert_key, no_Contains, ok_both, ok_through, err_through}
 use Rattle.enf_value.proofs.Equality.{derived_event_eq-Decides}
+use Rattle.enf_value.specs.EqualityLaws.{HasNoRepeats-from_distinct}
 use Rattle.enf_value.proofs.event_sets.EventSet.insert.Goals as goal
 
 pub invariant_of-self : goal.invariant_of-self

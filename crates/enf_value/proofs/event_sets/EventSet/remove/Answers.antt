@@ -1,7 +1,8 @@
 use Rattle.std.proofs.Common.{subst}
 use Rattle.enf_value.specs.Membership.{Removes}
-use Rattle.enf_value.proofs.Distinct.{HasNoRepeats-from_distinct, Removes-remove_key}
+use Rattle.enf_value.proofs.Distinct.{Removes-remove_key}
 use Rattle.enf_value.proofs.Equality.{derived_event_eq-Decides}
+use Rattle.enf_value.specs.EqualityLaws.{HasNoRepeats-from_distinct}
 use Rattle.enf_value.proofs.event_sets.EventSet.remove.Goals as goal
 
 pub invariant_of-self : goal.invariant_of-self

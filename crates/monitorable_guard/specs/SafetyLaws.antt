@@ -1,0 +1,45 @@
+-- What can be evaluated does not look ahead.
+use Rattle.std.proofs.Common.{Bool, true, false, ◌&&◌, IsTrue, List, ◌++◌, Option, None, Some, refl}
+use Rattle.enf_value.specs.declared.terms.VarId.{VarId}
+use Rattle.enf_formula.specs.Formulas.{Formula, True, False, Atom, Equal, Less, AtMost, Not, And, Or, Implies}
+use Rattle.enf_formula.specs.Formulas.{Exists, Forall, Prev, Next, Once, Historically, Since, Eventually, Always, Until}
+use Rattle.enf_formula.specs.Past.{is_past}
+use Rattle.monitorable_guard.specs.Safety.{SafeBelow, With, Nothing}
+
+both : (a b : Bool) → IsTrue a → IsTrue b → IsTrue (a && b)
+both true b first second = second
+both false b first second = first
+
+pub safe_past : (m : Option (List VarId)) (f : Formula) (B : VarId → Type 0) → SafeBelow m f B → IsTrue (is_past f)
+safe_past None (True place) B safe = refl
+safe_past None (False place) B safe = refl
+safe_past None (Atom place name terms) B safe = refl
+safe_past None (Equal place s t) B safe = refl
+safe_past None (Less place s t) B safe = refl
+safe_past None (AtMost place s t) B safe = refl
+safe_past None (Not place g) B safe = safe_past None g B safe.1
+safe_past None (And place g h) B safe =
+    both (is_past g) (is_past h) (safe_past None g B safe.0) (safe_past None h (With B g) safe.1)
+safe_past None (Or place g h) B safe =
+    both (is_past g) (is_past h) (safe_past None g B safe.0) (safe_past None h B safe.1)
+safe_past None (Implies place g h) B safe =
+    both (is_past g) (is_past h) (safe_past None g B safe.2) (safe_past None h B safe.3)
+safe_past None (Exists place xs g) B safe = safe_past None g B safe
+safe_past None (Forall place xs g) B safe = safe_past (Some xs) g B safe
+safe_past None (Prev place interval g) B safe = safe_past None g Nothing safe
+safe_past None (Once place interval g) B safe = safe_past None g Nothing safe
+safe_past None (Historically place interval (Not p h)) B safe = safe_past None h Nothing safe.1
+safe_past None (Historically place interval (Implies p a b)) B safe =
+    both (is_past a) (is_past b) (safe_past None a Nothing safe.2) (safe_past None b (With Nothing a) safe.4)
+safe_past None (Historically place interval g) B safe = safe_past None g Nothing safe.2
+safe_past None (Since place interval g h) B safe =
+    both (is_past g) (is_past h) (safe_past None g (With Nothing h) safe.2) (safe_past None h Nothing safe.0)
+safe_past None (Next place interval g) B safe = absurd safe
+safe_past None (Eventually place interval g) B safe = absurd safe
+safe_past None (Always place interval g) B safe = absurd safe
+safe_past None (Until place interval g h) B safe = absurd safe
+safe_past (Some xs) (Forall place ys g) B safe = safe_past (Some (xs ++ ys)) g B safe
+safe_past (Some xs) (Implies place g h) B safe =
+    both (is_past g) (is_past h) (safe_past None g B safe.2) (safe_past None h (With B g) safe.3)
+safe_past (Some xs) (Not place g) B safe = safe_past None g B safe.1
+safe_past (Some xs) g B safe = absurd safe
