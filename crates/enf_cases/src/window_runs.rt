@@ -100,7 +100,7 @@ fn restore(alloc: Global, form: &Form, last: u64, window: &mut SinceWindow) -> R
 {
     let pairs = window.kept(alloc)?;
     let columns = form.columns.duplicate(alloc)?;
-    *window = SinceWindow::from_kept(alloc, form.interval, columns, last, &pairs)?;
+    *window = SinceWindow::from_kept(alloc, form.interval, columns, last, pairs)?;
     Ok(())
 }
 

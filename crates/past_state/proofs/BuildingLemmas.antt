@@ -8,7 +8,7 @@ use Rattle.std.specs.List.Sorted.{IsStrictlySortedBy}
 use Rattle.std.proofs.lemmas.Bool.Decides.{Decides-eqb, Decides-like}
 use Rattle.std.proofs.lemmas.Slice.Eq.{slice_eq-Decides}
 use Rattle.std.proofs.lemmas.List.{length-reverse, reverse-append}
-use Rattle.std.proofs.lemmas.List.Elements.{All-append, All-nil, All-cons, All-contains, All-head, All-tail, Contains-append_left, Contains-append_right, Contains-get_or}
+use Rattle.std.proofs.lemmas.List.Elements.{All-contains, All-head, All-tail, Contains-append_left, Contains-append_right, Contains-get_or}
 use Rattle.std.proofs.lemmas.Map.Keys.{sorted_tail}
 use Rattle.enf_value.specs.Membership.{HasNoRepeats}
 use Rattle.enf_value.specs.Valuations.{variable_cmp}
@@ -21,16 +21,14 @@ use Rattle.monitorable_guard.specs.Guards.{BoundFormula}
 use Rattle.monitorable_guard.specs.Present.{outermost}
 use Rattle.monitorable_guard.specs.Safety.{BindsFresh, denial}
 use Rattle.valuations.specs.Columns.{none_in_nil}
-use Rattle.windows.specs.Slots.{Slot, IsUpToTime, LastHasColumns}
+use Rattle.windows.specs.Slots.{Slot, LastHasColumns}
 use Rattle.windows.specs.Windows.{Window}
-use Rattle.past_state.specs.Keeping.{CanKeep, IsAlone, IsBegun, PushesFor}
-use Rattle.past_state.specs.Laws.{IsNew, WindowBegins, OnceBegins, SlotBegins}
-use Rattle.past_state.specs.Stands.{SlotStands}
+use Rattle.past_state.specs.Keeping.{CanKeep, IsAlone, PushesFor}
 use Rattle.past_state.specs.Asking.{Asks}
 use Rattle.past_state.specs.Lefts.{AsksLeft}
-use Rattle.past_state.specs.Memories.{IsUpToTimeOf}
+use Rattle.past_state.specs.Memories.{IsFor}
 use Rattle.past_state.specs.Operators.{operators, inner}
-use Rattle.past_state.specs.Runs.{AreFor, AllStand}
+use Rattle.past_state.specs.Runs.{AreFor}
 use Rattle.past_state.specs.declared.left.Left.{Left}
 use Rattle.past_state.specs.declared.left.Left.TheVariants as side
 use Rattle.past_state.specs.declared.memories.Memory.{Memory}
@@ -96,35 +94,25 @@ asks_denied f g place columns guard is alone fresh = (
 
 -- ---- what is kept for one operator
 
-pub begun_prev : SlotBegins → (place : ℕ) (interval : Interval) (g : Formula) (slot : Slot) (operand : BoundFormula) (columns : List VarId) → slot ≡ record { interval = interval; columns = columns; last = None }
-    → AreFreeVariables g columns → Asks g [] operand → IsBegun (Prev place interval g) (kept.Prev slot operand)
-begun_prev begins place interval g slot operand columns is free asks = record {
-  is_for = (asks, subst (λ s. AreFreeVariables g s.columns) (sym is) free, ap (λ s. s.interval) is, subst (λ s. LastHasColumns s.columns s.last) (sym is) tt);
-  stands = subst (λ s. SlotStands [] interval g s) (sym is) (begins interval g columns free.exact);
-  up_to = λ time. subst (λ s. IsUpToTime time s.last) (sym is) tt;
-}
+pub for_prev : (place : ℕ) (interval : Interval) (g : Formula) (slot : Slot) (operand : BoundFormula) (columns : List VarId) → slot ≡ record { interval = interval; columns = columns; last = None }
+    → AreFreeVariables g columns → Asks g [] operand → IsFor (Prev place interval g) (kept.Prev slot operand)
+for_prev place interval g slot operand columns is free asks =
+    (asks, subst (λ s. AreFreeVariables g s.columns) (sym is) free, ap (λ s. s.interval) is, subst (λ s. LastHasColumns s.columns s.last) (sym is) tt)
 
-pub begun_once : OnceBegins → (place : ℕ) (interval : Interval) (g : Formula) (window : Window) (right : BoundFormula) (columns : List VarId) → IsNew interval columns window
-    → AreFreeVariables g columns → Asks g [] right → IsBegun (Once place interval g) (kept.Once window right)
-begun_once begins place interval g window right columns new free asks = record {
-  is_for = (asks, subst (AreFreeVariables g) (sym new.columns_are) free, new.interval_is);
-  stands = begins interval g columns window free.exact new;
-  up_to = λ time. omega (arith, new.last_is);
-}
+pub for_once : (place : ℕ) (interval : Interval) (g : Formula) (window : Window) (right : BoundFormula) (columns : List VarId) → window.interval ≡ interval → window.columns ≡ columns
+    → AreFreeVariables g columns → Asks g [] right → IsFor (Once place interval g) (kept.Once window right)
+for_once place interval g window right columns interval_is columns_are free asks = (asks, subst (AreFreeVariables g) (sym columns_are) free, interval_is)
 
-pub begun_since : WindowBegins → (place : ℕ) (interval : Interval) (g h : Formula) (window : Window) (left : Left) (left_tables : ℕ) (right : BoundFormula) (columns : List VarId)
-    → IsNew interval columns window → AreFreeVariables h columns → Asks h [] right → AsksLeft g columns left → left_tables ≡ length (outermost g)
-    → ((x : VarId) → IsFree x g → IsFree x h) → IsBegun (Since place interval g h) (kept.Since window left left_tables right)
-begun_since begins place interval g h window left left_tables right columns new free asks_right asks_left counted within = record {
-  is_for = (asks_right, subst (AreFreeVariables h) (sym new.columns_are) free, new.interval_is, subst (λ l. AsksLeft g l left) (sym new.columns_are) asks_left, counted, within);
-  stands = begins interval g h columns window free.exact new;
-  up_to = λ time. omega (arith, new.last_is);
-}
+pub for_since : (place : ℕ) (interval : Interval) (g h : Formula) (window : Window) (left : Left) (left_tables : ℕ) (right : BoundFormula) (columns : List VarId)
+    → window.interval ≡ interval → window.columns ≡ columns → AreFreeVariables h columns → Asks h [] right → AsksLeft g columns left → left_tables ≡ length (outermost g)
+    → ((x : VarId) → IsFree x g → IsFree x h) → IsFor (Since place interval g h) (kept.Since window left left_tables right)
+for_since place interval g h window left left_tables right columns interval_is columns_are free asks_right asks_left counted within =
+    (asks_right, subst (AreFreeVariables h) (sym columns_are) free, interval_is, subst (λ l. AsksLeft g l left) (sym columns_are) asks_left, counted, within)
 
-pub begun_denied : (place : ℕ) (interval : Interval) (g : Formula) (m : Memory) → IsBegun (Once place interval (denial g)) m → IsBegun (Historically place interval g) m
-begun_denied place interval g (kept.Once window right) begun = record { is_for = begun.is_for; stands = begun.stands; up_to = begun.up_to }
-begun_denied place interval g (kept.Prev slot operand) begun = absurd begun.is_for
-begun_denied place interval g (kept.Since window left left_tables right) begun = absurd begun.is_for
+pub for_denied : (place : ℕ) (interval : Interval) (g : Formula) (m : Memory) → IsFor (Once place interval (denial g)) m → IsFor (Historically place interval g) m
+for_denied place interval g (kept.Once window right) for = for
+for_denied place interval g (kept.Prev slot operand) for = absurd for
+for_denied place interval g (kept.Since window left left_tables right) for = absurd for
 
 -- ---- operators put last
 
@@ -134,38 +122,28 @@ for_append [] gs (o ∷ os) ps a b = absurd a
 for_append (f ∷ fs) gs [] ps a b = absurd a
 for_append (f ∷ fs) gs (o ∷ os) ps a b = (a.0, a.1, for_append fs gs os ps a.2 b)
 
-stand_append : (fs gs : List Formula) (os ps : List Operator) → AreFor fs os → AllStand [] fs os → AllStand [] gs ps → AllStand [] (fs ++ gs) (os ++ ps)
-stand_append [] gs [] ps for a b = b
-stand_append [] gs (o ∷ os) ps for a b = absurd for
-stand_append (f ∷ fs) gs [] ps for a b = absurd for
-stand_append (f ∷ fs) gs (o ∷ os) ps for a b = (a.0, stand_append fs gs os ps for.2 a.1 b)
-
 pub pushes_none : (before : List Operator) → PushesFor [] before before
-pushes_none before = record { added = []; grown = sym (append-nil before); are_for = tt; stand = tt; up_to = λ time. All-nil _ }
+pushes_none before = record { added = []; grown = sym (append-nil before); are_for = tt }
 
 pub pushes_then : (fs gs : List Formula) (before middle after : List Operator) → PushesFor fs before middle → PushesFor gs middle after → PushesFor (fs ++ gs) before after
 pushes_then fs gs before middle after first second = record {
   added = first.added ++ second.added;
   grown = second.grown ∙ ap (λ l. l ++ second.added) first.grown ∙ append_assoc before first.added second.added;
   are_for = for_append fs gs first.added second.added first.are_for second.are_for;
-  stand = stand_append fs gs first.added second.added first.are_for first.stand second.stand;
-  up_to = λ time. All-append (λ o. IsUpToTimeOf time o.memory) first.added second.added (first.up_to time) (second.up_to time);
 }
 
-pub pushes_one : (f : Formula) (m : Memory) (taken : ℕ) (before after : List Operator) → IsBegun f m → taken ≡ length (inner f) → after ≡ before ++ record { taken = taken; memory = m } ∷ [] → PushesFor (f ∷ []) before after
-pushes_one f m taken before after begun takes grown = record {
+pub pushes_one : (f : Formula) (m : Memory) (taken : ℕ) (before after : List Operator) → IsFor f m → taken ≡ length (inner f) → after ≡ before ++ record { taken = taken; memory = m } ∷ [] → PushesFor (f ∷ []) before after
+pushes_one f m taken before after for takes grown = record {
   added = record { taken = taken; memory = m } ∷ [];
   grown = grown;
-  are_for = (begun.is_for, takes, tt);
-  stand = (begun.stands, tt);
-  up_to = λ time. All-cons (λ o. IsUpToTimeOf time o.memory) (record { taken = taken; memory = m }) [] (begun.up_to time) (All-nil _);
+  are_for = (for, takes, tt);
 }
 
 -- of a formula whose operators come behind those of its operands
-pub pushes_up : (f : Formula) (fs : List Formula) (m : Memory) (taken : ℕ) (before middle after : List Operator) → PushesFor (reverse fs) before middle → IsBegun f m → taken ≡ length (inner f)
+pub pushes_up : (f : Formula) (fs : List Formula) (m : Memory) (taken : ℕ) (before middle after : List Operator) → PushesFor (reverse fs) before middle → IsFor f m → taken ≡ length (inner f)
     → after ≡ middle ++ record { taken = taken; memory = m } ∷ [] → PushesFor (reverse (f ∷ fs)) before after
-pushes_up f fs m taken before middle after inside begun takes grown =
-    subst (λ l. PushesFor l before after) (sym (reverse-append (f ∷ []) fs)) (pushes_then (reverse fs) (f ∷ []) before middle after inside (pushes_one f m taken middle after begun takes grown))
+pushes_up f fs m taken before middle after inside for takes grown =
+    subst (λ l. PushesFor l before after) (sym (reverse-append (f ∷ []) fs)) (pushes_then (reverse fs) (f ∷ []) before middle after inside (pushes_one f m taken middle after for takes grown))
 
 pub pushes_both : (gs hs : List Formula) (before middle after : List Operator) → PushesFor (reverse hs) before middle → PushesFor (reverse gs) middle after → PushesFor (reverse (gs ++ hs)) before after
 pushes_both gs hs before middle after second first = subst (λ l. PushesFor l before after) (sym (reverse-append gs hs)) (pushes_then (reverse hs) (reverse gs) before middle after second first)

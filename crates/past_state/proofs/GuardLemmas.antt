@@ -7,10 +7,11 @@ use Rattle.enf_formula.specs.Past.{is_past}
 use Rattle.monitorable_guard.specs.Guards.{BoundFormula}
 use Rattle.monitorable_guard.specs.Present.{outermost}
 use Rattle.past_state.specs.Guarded.{tree_in, count_in, AreCopies, IsFreshGuard, IsPastGuard}
+use Rattle.past_state.specs.GuardLaws.{copies_formulas}
 use Rattle.past_state.specs.Keeping.{PushesFor}
 use Rattle.past_state.specs.Operators.{operators, all_operators, all_outermost}
-use Rattle.past_state.specs.Past.{BeginAt, IsPast, IsSound, PastStands, formulas, formula_of}
-use Rattle.past_state.specs.Runs.{AreFor, AllStand, AreUpToTimeOf}
+use Rattle.past_state.specs.Past.{BeginAt, IsPast, IsSound, formulas, formula_of}
+use Rattle.past_state.specs.Runs.{AreFor}
 use Rattle.monitorable_guard.specs.Safety.{BindsFresh}
 use Rattle.enf_formula.specs.FreeVariables.{IsFree}
 use Rattle.past_state.specs.declared.guards.PlacedGuard.{PlacedGuard}
@@ -72,12 +73,6 @@ copies_more [] [] g p copies same bound = (same, bound, tt)
 copies_more [] (q ∷ placed) g p copies same bound = absurd copies
 copies_more (h ∷ guards) [] g p copies same bound = absurd copies
 copies_more (h ∷ guards) (q ∷ placed) g p copies same bound = (copies.0, copies.1, copies_more guards placed g p copies.2 same bound)
-
-pub copies_formulas : (guards : List BoundFormula) (placed : List PlacedGuard) → AreCopies guards placed → formulas placed ≡ map tree_in guards
-copies_formulas [] [] copies = refl
-copies_formulas [] (q ∷ placed) copies = absurd copies
-copies_formulas (h ∷ guards) [] copies = absurd copies
-copies_formulas (h ∷ guards) (q ∷ placed) copies = λ i. copies.0 i ∷ copies_formulas guards placed copies.2 i
 
 begin_more : (n : ℕ) (placed : List PlacedGuard) (p : PlacedGuard) → BeginAt n placed → p.start ≡ n + length (all_outermost (formulas placed)) → BeginAt n (placed ++ p ∷ [])
 begin_more n [] p begin start = (start ∙ omega arith, tt)
@@ -154,7 +149,7 @@ counts_some guards i counts start placed below so_far =
     let long : length counts ≡ length guards - i = ap length so_far.counts_are ∙ length-reverse (map count_in (drop i guards)) ∙ length-map (drop i guards) count_in ∙ length-drop i guards in
     omega (arith, long, below)
 
--- ---- the state before the first step
+-- ---- what is kept for the guards
 
 all_outermost_fewer : (fs : List Formula) → length (all_outermost fs) ≤ length (all_operators fs)
 all_outermost_fewer [] = omega arith
@@ -181,15 +176,6 @@ new_past guards placed before after copies begin past fresh none pushes = record
   kept = subst (AreFor (reverse (all_operators (formulas placed)))) (sym (pushes.grown ∙ ap (λ l. l ++ pushes.added) none))
       (subst (λ fs. AreFor (reverse (all_operators fs)) pushes.added) (sym (copies_formulas guards placed copies)) pushes.are_for);
 }
-
-pub new_stands : (guards : List BoundFormula) (placed : List PlacedGuard) (before after : List Operator) → AreCopies guards placed → before ≡ [] → PushesFor (reverse (all_operators (map tree_in guards))) before after
-    → PastStands [] (record { guards = placed; operators = after })
-new_stands guards placed before after copies none pushes =
-    subst (AllStand [] (reverse (all_operators (formulas placed)))) (sym (pushes.grown ∙ ap (λ l. l ++ pushes.added) none))
-    (subst (λ fs. AllStand [] (reverse (all_operators fs)) pushes.added) (sym (copies_formulas guards placed copies)) pushes.stand)
-
-pub new_up_to : (fs : List Formula) (before after : List Operator) → before ≡ [] → PushesFor fs before after → (time : ℕ) → AreUpToTimeOf time after
-new_up_to fs before after none pushes time = subst (AreUpToTimeOf time) (sym (pushes.grown ∙ ap (λ l. l ++ pushes.added) none)) (pushes.up_to time)
 
 pub all_placed : (guards : List BoundFormula) (i : ℕ) (counts : List ℕ) (start : ℕ) (placed : List PlacedGuard) → length guards ≤ i → PlacedSoFar guards i counts start placed → All IsPastGuard guards
 all_placed guards i counts start placed all so_far = subst (All IsPastGuard) (take_all i guards all) so_far.past

@@ -1,5 +1,6 @@
 -- Where the values in the tables of a step come from.
-use Rattle.std.proofs.Common.{◌≡◌, ◌∙◌, ◌⊎◌, inl, inr, ⊎_elim, ℕ, ◌+◌, List, [], ◌∷◌, ◌++◌, drop, reverse, get_or, Contains, sym, subst, arith, length-drop, get_or-drop, refl}
+use Rattle.std.proofs.Common.{◌≡◌, ◌∙◌, ◌⊎◌, inl, inr, ⊎_elim, ℕ, ◌+◌, ◌-◌, List, [], ◌∷◌, ◌++◌, length, drop, reverse, get_or, Contains, Some, sym, ap, subst, arith, length-drop, get_or-drop, refl}
+use Rattle.std.specs.Prelude.{slice_get}
 use Rattle.std.proofs.lemmas.List.Elements.{All-contains, Contains-append_cases, Contains-get_or}
 use Rattle.enf_value.specs.Valuations.{Valuation}
 use Rattle.enf_value.specs.declared.events.Event.{Event}
@@ -14,13 +15,16 @@ use Rattle.valuations.specs.Columns.{later, first_or_later, none_in_nil}
 use Rattle.valuations.specs.Tables.{Relation}
 use Rattle.windows.specs.Given.{given}
 use Rattle.windows.specs.GivenLaws.{given_from, given_last_from}
+use Rattle.windows.specs.KeptPairs.{Stores, pair}
 use Rattle.windows.specs.Windows.{Window}
-use Rattle.past_state.specs.Known.{KeepsRow, IsInLast, IsConstantOf, IsKeptValue, IsKnownOfGuard, TablesAreKnown}
+use Rattle.windows.specs.declared.kept.KeptPair.{KeptPair}
+use Rattle.past_state.specs.Known.{IsConstantOf, IsKeptValue, IsKnownOfGuard, TablesAreKnown}
 use Rattle.past_state.specs.Asking.{AnswersAll}
 use Rattle.past_state.specs.Memories.{IsFor, AreStepTables, given_by}
 use Rattle.past_state.specs.Operators.{operators, all_operators}
 use Rattle.past_state.specs.Past.{PastTables, formulas, formula_of, tables_of}
 use Rattle.past_state.specs.Runs.{AreFor, Runs}
+use Rattle.past_state.specs.Saved.{StoresFor, kept_row}
 use Rattle.past_state.specs.Survivors.{survives_by}
 use Rattle.past_state.specs.declared.guards.PlacedGuard.{PlacedGuard}
 use Rattle.past_state.specs.declared.memories.Memory.{Memory}
@@ -28,6 +32,7 @@ use Rattle.past_state.specs.declared.memories.Memory.TheVariants as kept
 use Rattle.past_state.specs.declared.memories.StepTables.{StepTables}
 use Rattle.past_state.specs.declared.operators.Operator.{Operator}
 use Rattle.past_state.proofs.PastLemmas.{Asked, all_reverse, same_guard}
+use Rattle.past_state.proofs.SavedLemmas.{counted_back}
 
 -- ---- constants
 
@@ -88,27 +93,40 @@ tabled_behind n tables value some = (some.0, among some.0 some.1, some.2)
     among : (t : Relation) → Contains (drop n tables) t → Contains tables t
     among t there = (n + there.0, omega (arith, there.1, length-drop n tables), sym (get_or-drop n tables there.0 t) ∙ there.2)
 
+-- each operator has a number
+number_of : (os : List Operator) (o : Operator) → Contains os o → (n : ℕ) × (slice_get (reverse os) n ≡ Some o)
+number_of os o there =
+    (length os - 1 - there.0, counted_back os (length os - 1 - there.0) o (omega (arith, there.1)) (sym there.2 ∙ ap (λ k. get_or os k o) (omega (arith, there.1))))
+
+-- so what is kept for it is a row of that number
+kept_value : (os : List Operator) (o : Operator) → Contains os o → (p : KeptPair) → StoresFor o.memory p → (value : Value) → Contains p.row value → IsKeptValue os value
+kept_value os o there p stored value inside = let number = number_of os o there in (kept_row number.0 p, (o, number.1, stored), inside)
+
 -- ---- values, of which those of the events are such
 
 module _ (events : List Event) (S : Value → Type 0) (argument : (value : Value) → IsArgument events value → S value) where
   abbrev AllSuch : Relation → Type 0
   AllSuch t = (row : List Value) → Contains t.rows row → (value : Value) → Contains row value → S value
 
+  -- so are the values of what is kept
+  abbrev KeptSuch : Memory → Type 0
+  KeptSuch m = (p : KeptPair) → StoresFor m p → (value : Value) → Contains p.row value → S value
+
   right_known : (stack : List Relation) (f : Formula) (guard : BoundFormula) (columns : List VarId) (t : Relation) → tree_of guard.formula ≡ f → ((value : Value) → IsTabled stack value → S value) → ((value : Value) → IsConstant value f → S value)
       → AnswersAll events stack guard columns t → AllSuch t
   right_known stack f guard columns t is tabled constant answers row there value inside =
       ⊎_elim (argument value) (λ either. ⊎_elim (tabled value) (λ c. constant value (subst (IsConstant value) is c)) either) (answers.known row there value inside)
 
-  window_known : (window : Window) (time : ℕ) (t : StepTables) → AllSuch t.right → ((row : List Value) → (times : List ℕ) × Contains window.kept (row, times) → (value : Value) → Contains row value → S value)
+  window_known : (window : Window) (time : ℕ) (t : StepTables) → AllSuch t.right → ((p : KeptPair) → Stores window p.row p.time → (value : Value) → Contains p.row value → S value)
       → AllSuch (given window time (survives_by t.surviving) t.right)
-  window_known window time t right kept_rows row there value inside =
-      ⊎_elim (λ now. right row now value inside) (λ before. kept_rows row before value inside) (given_from window time (survives_by t.surviving) t.right row there)
+  window_known window time t right keeps row there value inside =
+      ⊎_elim (λ now. right row now value inside) (λ before. keeps (pair row before.0) before.1 value inside) (given_from window time (survives_by t.surviving) t.right row there)
 
   given_known : (f : Formula) (m : Memory) (stack : List Relation) (time : ℕ) (t : StepTables) → IsFor f m → AreStepTables events stack m t → ((value : Value) → IsTabled stack value → S value)
-      → ((value : Value) → IsConstant value f → S value) → ((row : List Value) → KeepsRow m row → (value : Value) → Contains row value → S value) → AllSuch (given_by m time t)
+      → ((value : Value) → IsConstant value f → S value) → KeptSuch m → AllSuch (given_by m time t)
   given_known (Prev place interval g) (kept.Prev slot operand) stack time t for are tabled constant keeps = λ row there value inside.
       let from = given_last_from slot time row there in
-      keeps row (subst (λ l. IsInLast l row) (sym from.1) from.2) value inside
+      keeps (pair row from.0) from.1 value inside
   given_known (Once place interval g) (kept.Once window right) stack time t for are tabled constant keeps =
       window_known window time t (right_known stack g right window.columns t.right for.0.formula_is tabled constant are.0) keeps
   given_known (Historically place interval g) (kept.Once window right) stack time t for are tabled constant keeps =
@@ -120,7 +138,7 @@ module _ (events : List Event) (S : Value → Type 0) (argument : (value : Value
 
   known_run : (time : ℕ) (fs : List Formula) (os : List Operator) (steps : List StepTables) (stack final : List Relation) → AreFor fs os → Runs events time stack os steps final
       → ((f : Formula) → Contains fs f → (value : Value) → IsConstant value f → S value)
-      → ((o : Operator) → Contains os o → (row : List Value) → KeepsRow o.memory row → (value : Value) → Contains row value → S value)
+      → ((o : Operator) → Contains os o → KeptSuch o.memory)
       → ((value : Value) → IsTabled stack value → S value) → (value : Value) → IsTabled final value → S value
   known_run time [] [] [] stack final for runs constant keeps tabled = λ value is. tabled value (subst (λ l. IsTabled l value) (sym runs) is)
   known_run time [] [] (t ∷ steps) stack final for runs constant keeps tabled = absurd runs
@@ -143,7 +161,7 @@ are_known past time events tables is are =
     known_run events (λ value. IsArgument events value ⊎ (IsConstantOf (formulas past.guards) value ⊎ IsKeptValue past.operators value)) (λ value of. inl of)
     time (reverse (all_operators (formulas past.guards))) past.operators tables.steps [] tables.stack is.kept are.1
     (λ f there value of. inr (inl (constant_turned (formulas past.guards) f there value of)))
-    (λ o there row keeps value inside. inr (inr (o, there, (row, keeps, inside))))
+    (λ o there p stored value inside. inr (inr (kept_value past.operators o there p stored value inside)))
     (λ value none. absurd (none_in_nil none.0 none.1))
 
 -- ---- what a guard gives

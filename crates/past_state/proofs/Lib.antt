@@ -1,3 +1,4 @@
+pub mod BoundsLemmas
 pub mod Decided
 pub mod CaseLemmas
 pub mod ChosenLemmas
@@ -7,6 +8,7 @@ pub mod RestoredLemmas
 pub mod RestoringLemmas
 pub mod SavedLemmas
 pub mod StandsLemmas
+pub mod RowCaseLemmas
 pub mod RowLemmas
 pub mod KeptRows
 pub mod StackLemmas

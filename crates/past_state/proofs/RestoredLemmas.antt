@@ -4,7 +4,6 @@ use Rattle.std.specs.Prelude.{IsSome, slice_get}
 use Rattle.std.proofs.lemmas.List.Elements.{All-contains}
 use Rattle.std.proofs.lemmas.List.{append-nil, reverse-reverse}
 use Rattle.std.proofs.lemmas.Bool.{false≢true}
-use Rattle.std.proofs.lemmas.Option.{same_Some}
 use Rattle.enf_value.specs.Membership.{HasNoRepeats, IsIn}
 use Rattle.enf_value.specs.Valuations.{Valuation, value_at}
 use Rattle.enf_value.specs.declared.intervals.Interval.{Interval}
@@ -33,16 +32,16 @@ use Rattle.past_state.specs.Kept.{HasPairAt, KeptAt}
 use Rattle.past_state.specs.Memories.{IsFor, IsUpToTimeOf, MemoryStands, columns_of}
 use Rattle.past_state.specs.Restoring.{AreRestored, IsLastTime, start}
 use Rattle.past_state.specs.Runs.{AreFor, AllStand}
-use Rattle.past_state.specs.Saved.{AreKeptOf, IsKept, IsWhole, KeptFor, StoresFor, kept_operand, kept_row}
+use Rattle.past_state.specs.Saved.{AreKeptOf, IsKept, IsWhole, KeptFor, StoresFor, kept_row}
 use Rattle.past_state.specs.Stands.{WindowStands}
 use Rattle.past_state.specs.declared.kept.KeptRow.{KeptRow}
 use Rattle.past_state.specs.declared.memories.Memory.{Memory}
 use Rattle.past_state.specs.declared.memories.Memory.TheVariants as kept
 use Rattle.past_state.specs.declared.operators.Operator.{Operator}
-use Rattle.past_state.proofs.ColumnLemmas.{same_free}
+use Rattle.past_state.proofs.BoundsLemmas.{kept_with}
 use Rattle.past_state.proofs.KeptLemmas.{remembers_held}
 use Rattle.past_state.proofs.MemoryLemmas.{still_for}
-use Rattle.past_state.proofs.RestoringLemmas.{chosen_same, numbered, reversed_front}
+use Rattle.past_state.proofs.RestoringLemmas.{chosen_fewer, numbered, reversed_front, up_to_from}
 use Rattle.past_state.proofs.SavedLemmas.{columns_free}
 
 -- ---- a valuation that binds the columns has the values of a row
@@ -76,10 +75,8 @@ held_same trace Counts F G P Q left right held none = held (λ h. none (h.0, h.1
 kept_same : (trace : List Step) (interval : Interval) (F G P Q : ℕ → Type 0) (time : ℕ) → ((k : ℕ) → F k ↔ P k) → ((k : ℕ) → G k ↔ Q k) → KeptAt trace interval F G time → KeptAt trace interval P Q time
 kept_same trace interval F G P Q time left right held = (
   held_same trace (λ earlier. earlier ≡ time) F G P Q (λ k. (left k).0) (λ k. (right k).0) held.0,
-  chosen_same interval.high interval.low (last_time trace) (HasPairAt trace F G) (HasPairAt trace P Q) time (λ t. (
-    held_same trace (λ earlier. earlier ≡ t) F G P Q (λ k. (left k).0) (λ k. (right k).0),
-    held_same trace (λ earlier. earlier ≡ t) P Q F G (λ k. (left k).1) (λ k. (right k).1),
-  )) held.1,
+  chosen_fewer interval.high interval.low (last_time trace) (HasPairAt trace F G) (HasPairAt trace P Q) time
+      (λ t. held_same trace (λ earlier. earlier ≡ t) P Q F G (λ k. (left k).1) (λ k. (right k).1)) held.1,
 )
 
 -- two valuations with the same values of the columns
@@ -109,9 +106,7 @@ module _ (decides : FreeVariablesDecide) (trace : List Step) (fs : List Formula)
   unfolding HaveSame
   kept_of_row v row time long agrees stored =
       let k : IsKept trace fs (kept_row number (pair row time)) = (are (kept_row number (pair row time))).0 ((stores (pair row time)).0 stored) in
-      let is : k.operator ≡ f = same_Some k.operator f (sym k.numbered ∙ at) in
-      let same : k.columns ≡ columns_of m = same_free (kept_operand f) k.columns (columns_of m) (subst (λ g. AreFreeVariables (kept_operand g) k.columns) is k.free) (columns_free f m for) in
-      let held : KeptFor trace f (valuation_of (columns_of m) row) time = subst (λ l. KeptFor trace f (valuation_of l row) time) same (subst (λ g. KeptFor trace g (valuation_of k.columns row) time) is k.kept) in
+      let held : KeptFor trace f (valuation_of (columns_of m) row) time = kept_with trace fs (kept_row number (pair row time)) f (columns_of m) at (columns_free f m for) k in
       kept_under decides trace f m (valuation_of (columns_of m) row) v time for
       (λ x there. value_at-with_inside (columns_of m) row _ x distinct long there ∙ sym (agrees x there)) held
 
@@ -228,7 +223,7 @@ each_stands decides trace last rows (g ∷ gs) more is are (o ∷ operators) (p 
     let one = restored.0 in
     let number : length operators + 0 ≡ length operators = omega arith in (
       one_stands decides trace (reverse (g ∷ gs) ++ more) rows are (length operators) g (numbered g gs more o operators for) p.memory (still_for g o.memory p.memory for.0 one.same) one.whole
-          (subst (λ t. IsUpToTimeOf t p.memory) is one.up_to) (subst (λ n. (q : KeptPair) → StoresFor p.memory q ↔ Contains rows (kept_row n q)) number one.stores),
+          (up_to_from p.memory last (last_time trace) one.last_is (omega (arith, is))) (subst (λ n. (q : KeptPair) → StoresFor p.memory q ↔ Contains rows (kept_row n q)) number one.stores),
       each_stands decides trace last rows gs (g ∷ more) is (subst (λ l. AreKeptOf trace l rows) (reversed_front g gs more) are) operators after for.2 restored.1,
     )
 

@@ -12,8 +12,8 @@ use Rattle.enf_value.specs.declared.terms.VarId.{VarId}
 use Rattle.enf_formula.specs.FreeVariables.{AreFreeVariables}
 use Rattle.valuations.specs.Columns.{first_or_later, here, none_in_nil}
 use Rattle.windows.specs.Kept.{ChosenBy}
-use Rattle.windows.specs.KeptLaws.{rises_append}
-use Rattle.windows.specs.KeptPairs.{AreKeepable, IsBefore, Rises, pair, pairs_of_last, time_of}
+use Rattle.windows.specs.KeptLaws.{rises_append, rises_front}
+use Rattle.windows.specs.KeptPairs.{AreKeepable, IsBefore, pair, pairs_of_last, time_of}
 use Rattle.windows.specs.Slots.{Slot, IsUpToTime, LastHasColumns}
 use Rattle.windows.specs.Windows.{Window}
 use Rattle.windows.specs.declared.kept.KeptPair.{KeptPair}
@@ -21,7 +21,7 @@ use Rattle.windows.specs.declared.steps.LastStep.{LastStep}
 use Rattle.monitorable_guard.specs.Guards.{BoundFormula}
 use Rattle.past_state.specs.Keeping.{PushesFor}
 use Rattle.past_state.specs.Memories.{IsFor, IsUpToTimeOf, columns_of}
-use Rattle.past_state.specs.Restoring.{AreByWindow, AreKeepableFor, ArePairsIn, AreRestored, AreWithinBounds, CanRestore, HaveTime, IsFrom, IsKeepable, IsOneRestored, IsRestored, IsRestoredSlot, IsRestoredWindow, IsTimely, IsTimelyIn, start}
+use Rattle.past_state.specs.Restoring.{AreByWindow, AreKeepableFor, ArePairsIn, AreRestored, AreWithinBounds, CanRestore, HaveTime, IsAtLast, IsFrom, IsKeepable, IsOneRestored, IsRestored, IsRestoredSlot, IsRestoredWindow, IsTimely, IsTimelyIn, start}
 use Rattle.past_state.specs.Runs.{AreFor, AreSameKinds, AreUpToTimeOf}
 use Rattle.past_state.specs.Saved.{AreRowsRising, IsRowBefore, StoresAt, StoresFor, kept_operand, kept_row, pair_of}
 use Rattle.past_state.specs.declared.kept.KeptRow.{KeptRow}
@@ -37,11 +37,6 @@ all_of P xs each = All-weaker (Contains xs) P each xs (All-contains_itself xs)
 
 -- ---- one window or slot
 
-up_to_last : (step : Option LastStep) (last : Option ℕ) → time_of step ≡ last → IsUpToTime (start last) step
-up_to_last None last e = tt
-up_to_last (Some step) None e = absurd (none-some step.time (sym e))
-up_to_last (Some step) (Some last) e = omega (arith, same_Some step.time last e)
-
 pub restored_prev : (slot : Slot) (operand : BoundFormula) (last : Option ℕ) (pairs : List KeptPair) (after : Slot) → All (λ p. length p.row ≡ length slot.columns) pairs → IsRestoredSlot slot last pairs after
     → IsRestored (kept.Prev slot operand) last pairs (kept.Prev after operand)
 restored_prev slot operand last pairs after fit r = record {
@@ -51,7 +46,7 @@ restored_prev slot operand last pairs after fit r = record {
     all_of (λ p. length p.row ≡ length after.columns) (pairs_of_last after.last) (λ p there.
         All-contains (λ q. length q.row ≡ length slot.columns) pairs p fit ((r.stores p).0 there) ∙ ap length (sym r.columns_are)),
   );
-  up_to = up_to_last after.last last r.last_is;
+  last_is = r.last_is;
   stores = r.stores;
 }
 
@@ -60,7 +55,7 @@ pub restored_once : (window : Window) (right : BoundFormula) (last : Option ℕ)
 restored_once window right last pairs after r = record {
   same = (after, record { interval_is = r.interval_is; columns_are = r.columns_are }, refl);
   whole = r.least;
-  up_to = omega (arith, r.last_is);
+  last_is = r.last_is;
   stores = λ p. ((r.stores p.row p.time).1, (r.stores p.row p.time).0);
 }
 
@@ -69,23 +64,13 @@ pub restored_since : (window : Window) (left : Left) (left_tables : ℕ) (right 
 restored_since window left left_tables right last pairs after r = record {
   same = (after, record { interval_is = r.interval_is; columns_are = r.columns_are }, refl);
   whole = r.least;
-  up_to = omega (arith, r.last_is);
+  last_is = r.last_is;
   stores = λ p. ((r.stores p.row p.time).1, (r.stores p.row p.time).0);
 }
 
 -- ---- the rows of each window
 
-rises_front : {X : Type 0} (Before : X → X → Type 0) (xs ys : List X) → Rises Before (xs ++ ys) → Rises Before xs × ((x y : X) → Contains xs x → Contains ys y → Before x y)
-rises_front Before [] ys rises = (tt, λ x y there also. absurd (none_in_nil x there))
-rises_front Before (x ∷ xs) ys rises =
-    let rest = rises_front Before xs ys rises.1 in (
-      (all_of (Before x) xs (λ y there. All-contains (Before x) (xs ++ ys) y rises.0 (Contains-append_left xs ys y there)), rest.0),
-      λ w y there also. ⊎_elim
-          (λ same. subst (λ z. Before z y) same (All-contains (Before x) (xs ++ ys) y rises.0 (Contains-append_right xs ys y also)))
-          (λ behind. rest.1 w y behind also) (first_or_later w x xs there),
-    )
-
-only : {X : Type 0} (x y : X) → Contains (x ∷ []) y → x ≡ y
+pub only : {X : Type 0} (x y : X) → Contains (x ∷ []) y → x ≡ y
 only x y there = ⊎_elim (λ same. same) (λ behind. absurd (none_in_nil y behind)) (first_or_later y x [] there)
 
 pub pairs_none : (window : ℕ) → ArePairsIn [] window []
@@ -168,9 +153,10 @@ lists_filled rows r count lists before after are at grown = (
 
 -- ---- which rows can be kept
 
-pub chosen_same : (high : Option ℕ) (low last : ℕ) (P Q : ℕ → Type 0) (time : ℕ) → ((t : ℕ) → P t ↔ Q t) → ChosenBy high low last P time → ChosenBy high low last Q time
-chosen_same None low last P Q time same chosen = λ other there. chosen other ((same other).1 there)
-chosen_same (Some high) low last P Q time same chosen = (chosen.0, λ far other there. chosen.1 far other ((same other).1 there))
+-- what is chosen of more times is chosen of fewer
+pub chosen_fewer : (high : Option ℕ) (low last : ℕ) (P Q : ℕ → Type 0) (time : ℕ) → ((t : ℕ) → Q t → P t) → ChosenBy high low last P time → ChosenBy high low last Q time
+chosen_fewer None low last P Q time fewer chosen = λ other there. chosen other (fewer other there)
+chosen_fewer (Some high) low last P Q time fewer chosen = (chosen.0, λ far other there. chosen.1 far other (fewer other there))
 
 module _ (fs : List Formula) (last : ℕ) (rows : List KeptRow) (window : ℕ) (f : Formula) (pairs : List KeptPair) (at : slice_get fs window ≡ Some f)
     (bounds : AreWithinBounds fs (Some last) rows) (are : ArePairsIn rows window pairs) where
@@ -192,8 +178,8 @@ module _ (fs : List Formula) (last : ℕ) (rows : List KeptRow) (window : ℕ) (
     fit = all_of (λ p. length p.row ≡ length columns) pairs (is_long columns free);
     up_to = all_of (λ p. p.time ≤ last) pairs (λ p there. (timely p there).0);
     rising = are.rising bounds.0;
-    chosen = λ row time there. chosen_same interval.high interval.low last (HaveTime rows (kept_row window (pair row time))) (λ other. Contains pairs (pair row other)) time
-        (λ t. ((are.exact (pair row t)).1, (are.exact (pair row t)).0)) (timely (pair row time) there).1;
+    chosen = λ row time there. chosen_fewer interval.high interval.low last (HaveTime rows (kept_row window (pair row time))) (λ other. Contains pairs (pair row other)) time
+        (λ t. (are.exact (pair row t)).0) (timely (pair row time) there).1;
   }
 
 keepable_some : (fs : List Formula) (last : ℕ) (rows : List KeptRow) (window : ℕ) (f : Formula) (m : Memory) (pairs : List KeptPair) → slice_get fs window ≡ Some f → IsFor f m
@@ -246,11 +232,16 @@ keepable_for fs (Some last) rows window f m pairs at for bounds are = keepable_s
 pub reversed_front : (g : Formula) (gs more : List Formula) → reverse (g ∷ gs) ++ more ≡ reverse gs ++ g ∷ more
 reversed_front g gs more = ap (λ l. l ++ more) (reverse-append (g ∷ []) gs) ∙ append_assoc (reverse gs) (g ∷ []) more
 
-at_front : (xs more : List Formula) (g : Formula) (n : ℕ) → length xs ≡ n → slice_get (xs ++ g ∷ more) n ≡ Some g
+at_front : {X : Type 0} (xs more : List X) (g : X) (n : ℕ) → length xs ≡ n → slice_get (xs ++ g ∷ more) n ≡ Some g
 at_front [] more g zero e = refl
 at_front [] more g (suc n) e = absurd (omega (arith, e))
 at_front (x ∷ xs) more g zero e = absurd (omega (arith, e))
 at_front (x ∷ xs) more g (suc n) e = at_front xs more g n (omega (arith, e))
+
+get_front : {X : Type 0} (xs more : List X) (n : ℕ) (g : X) → slice_get xs n ≡ Some g → slice_get (xs ++ more) n ≡ Some g
+get_front [] more n g e = absurd (none_at n g e)
+get_front (x ∷ xs) more zero g e = e
+get_front (x ∷ xs) more (suc n) g e = get_front xs more n g e
 
 -- the operator at its number, counted from the last one
 pub numbered : (g : Formula) (gs more : List Formula) (o : Operator) (operators : List Operator) → AreFor (g ∷ gs) (o ∷ operators) → slice_get (reverse (g ∷ gs) ++ more) (length operators) ≡ Some g
@@ -287,10 +278,8 @@ module _ (operators front back : List Operator) (o : Operator) (last : Option �
   pub distinct_here : HasNoRepeats (columns_of o.memory)
   distinct_here = distinct (columns_of o.memory) (columns_free of.0 o.memory of.2).rising
 
-  pub keepable_here : (window : ℕ) (lists : List (Vec KeptPair Global)) (pairs : Vec KeptPair Global) → window ≡ length back → AreByWindow rows (length operators) lists → slice_get lists window ≡ Some pairs
-      → AreKeepableFor o.memory last pairs.items
-  keepable_here window lists pairs at are found =
-      keepable_for can.formulas last rows window of.0 o.memory pairs.items (subst (λ k. slice_get can.formulas k ≡ Some of.0) (sym at) of.1) of.2 can.bounds (are.1 window pairs found)
+  pub keepable_here : (pairs : List KeptPair) → ArePairsIn rows (length back) pairs → AreKeepableFor o.memory last pairs
+  keepable_here pairs are = keepable_for can.formulas last rows (length back) of.0 o.memory pairs of.1 of.2 can.bounds are
 
 restored_snoc : (last : Option ℕ) (rows : List KeptRow) (behind : ℕ) (operators after : List Operator) (o p : Operator) → AreRestored last rows (behind + 1) operators after → IsOneRestored last rows behind o p
     → AreRestored last rows behind (operators ++ o ∷ []) (after ++ p ∷ [])
@@ -302,16 +291,57 @@ restored_snoc last rows behind (r ∷ operators) (q ∷ after) o p so_far one = 
   restored_snoc last rows behind operators after o p so_far.1 one,
 )
 
-pub restored_more : (last : Option ℕ) (rows : List KeptRow) (window : ℕ) (front made after : List Operator) (o p : Operator) (pairs : List KeptPair) → AreRestored last rows (window + 1) front made
-    → ArePairsIn rows window pairs → p.taken ≡ o.taken → IsRestored o.memory last pairs p.memory → after ≡ made ++ p ∷ [] → AreRestored last rows window (front ++ o ∷ []) after
-restored_more last rows window front made after o p pairs so_far are taken r grown = subst (AreRestored last rows window (front ++ o ∷ [])) (sym grown)
-    (restored_snoc last rows window front made o p so_far (record {
-      taken_is = taken;
-      same = r.same;
-      whole = r.whole;
-      up_to = r.up_to;
-      stores = λ q. (λ stored. (are.exact q).0 ((r.stores q).0 stored), λ there. (r.stores q).1 ((are.exact q).1 there));
-    }))
+-- the operators that are left, a list of pairs for each of them, and what was made of those in front
+pub record AreLeft (operators : List Operator) (last : Option ℕ) (rows : List KeptRow) (left : List Operator) (lists : List (Vec KeptPair Global)) (made : List Operator) : Type 0 where
+  pub front : List Operator
+  pub split : operators ≡ front ++ left
+  pub by_window : AreByWindow rows (length left) lists
+  pub so_far : AreRestored last rows (length left) front made
+
+pub all_left : {operators made : List Operator} {last : Option ℕ} {rows : List KeptRow} {lists : List (Vec KeptPair Global)} → AreByWindow rows (length operators) lists → made ≡ [] → AreLeft operators last rows operators lists made
+all_left {operators} {last = last} {rows = rows} are none = record {
+  front = [];
+  split = refl;
+  by_window = are;
+  so_far = subst (AreRestored last rows (length operators) []) (sym none) tt;
+}
+
+pub none_left : {operators left made : List Operator} {last : Option ℕ} {rows : List KeptRow} {lists : List (Vec KeptPair Global)} → AreLeft operators last rows left lists made → length left ≡ 0 → AreRestored last rows 0 operators made
+none_left {left = []} {made} {last} {rows} are none = subst (λ l. AreRestored last rows 0 l made) (sym (are.split ∙ append-nil are.front)) are.so_far
+none_left {left = o ∷ left} are none = absurd (omega (arith, none))
+
+-- the next operator, with the last of the lists
+module _ {operators left behind made : List Operator} {last : Option ℕ} {rows : List KeptRow} {lists : List (Vec KeptPair Global)} {o : Operator} (are : AreLeft operators last rows left lists made) (taken : left ≡ o ∷ behind) where
+  split_here : operators ≡ are.front ++ o ∷ behind
+  split_here = are.split ∙ ap (λ l. are.front ++ l) taken
+
+  pub distinct_next : CanRestore operators last rows → HasNoRepeats (columns_of o.memory)
+  distinct_next can = distinct_here operators are.front behind o last rows can split_here
+
+  module _ (earlier : List (Vec KeptPair Global)) (pairs : Vec KeptPair Global) (popped : lists ≡ earlier ++ pairs ∷ []) where
+    as_many_left : length earlier ≡ length behind
+    as_many_left = omega (arith, are.by_window.0, ap length taken, ap length popped, length-append earlier (pairs ∷ []))
+
+    pairs_here : ArePairsIn rows (length behind) pairs.items
+    pairs_here = are.by_window.1 (length behind) pairs (subst (λ l. slice_get l (length behind) ≡ Some pairs) (sym popped) (at_front earlier [] pairs (length behind) as_many_left))
+
+    pub keepable_next : CanRestore operators last rows → AreKeepableFor o.memory last pairs.items
+    keepable_next can = keepable_here operators are.front behind o last rows can split_here pairs.items pairs_here
+
+    pub one_less : (p : Operator) (after : List Operator) → p.taken ≡ o.taken → IsRestored o.memory last pairs.items p.memory → after ≡ made ++ p ∷ [] → AreLeft operators last rows behind earlier after
+    one_less p after same r grown = record {
+      front = are.front ++ o ∷ [];
+      split = split_here ∙ sym (append_assoc are.front (o ∷ []) behind);
+      by_window = (as_many_left, λ window others at. are.by_window.1 window others (subst (λ l. slice_get l window ≡ Some others) (sym popped) (get_front earlier (pairs ∷ []) window others at)));
+      so_far = subst (AreRestored last rows (length behind) (are.front ++ o ∷ [])) (sym grown) (restored_snoc last rows (length behind) are.front made o p
+          (subst (λ n. AreRestored last rows n are.front made) (omega (arith, ap length taken)) are.so_far) (record {
+            taken_is = same;
+            same = r.same;
+            whole = r.whole;
+            last_is = r.last_is;
+            stores = λ q. (λ stored. (pairs_here.exact q).0 ((r.stores q).0 stored), λ there. (r.stores q).1 ((pairs_here.exact q).1 there));
+          }));
+    }
 
 -- ---- what is made again
 
@@ -321,21 +351,26 @@ same_kinds last rows behind [] (p ∷ after) restored = absurd restored
 same_kinds last rows behind (o ∷ operators) [] restored = absurd restored
 same_kinds last rows behind (o ∷ operators) (p ∷ after) restored = (restored.0.taken_is, restored.0.same, same_kinds last rows behind operators after restored.1)
 
-pub none_later : (last : Option ℕ) (rows : List KeptRow) (behind : ℕ) (operators after : List Operator) (time : ℕ) → AreRestored last rows behind operators after → start last ≤ time → AreUpToTimeOf time after
-none_later last rows behind [] [] time restored from = All-nil (λ o. IsUpToTimeOf time o.memory)
-none_later last rows behind [] (p ∷ after) time restored from = absurd restored
-none_later last rows behind (o ∷ operators) [] time restored from = absurd restored
-none_later last rows behind (o ∷ operators) (p ∷ after) time restored from =
-    All-cons (λ q. IsUpToTimeOf time q.memory) p after (up_to_on p.memory restored.0.up_to) (none_later last rows behind operators after time restored.1 from)
-  where
-    slot_on : (step : Option LastStep) → IsUpToTime (start last) step → IsUpToTime time step
-    slot_on None up = tt
-    slot_on (Some step) up = omega (arith, up, from)
+pub at_last : (last : Option ℕ) (rows : List KeptRow) (behind : ℕ) (operators after : List Operator) → AreRestored last rows behind operators after → All (λ o. IsAtLast last o.memory) after
+at_last last rows behind [] [] restored = All-nil (λ o. IsAtLast last o.memory)
+at_last last rows behind [] (p ∷ after) restored = absurd restored
+at_last last rows behind (o ∷ operators) [] restored = absurd restored
+at_last last rows behind (o ∷ operators) (p ∷ after) restored =
+    All-cons (λ q. IsAtLast last q.memory) p after restored.0.last_is (at_last last rows behind operators after restored.1)
 
-    up_to_on : (m : Memory) → IsUpToTimeOf (start last) m → IsUpToTimeOf time m
-    up_to_on (kept.Prev slot operand) up = slot_on slot.last up
-    up_to_on (kept.Once window right) up = omega (arith, up, from)
-    up_to_on (kept.Since window left left_tables right) up = omega (arith, up, from)
+slot_up_to : (step : Option LastStep) (last : Option ℕ) (time : ℕ) → time_of step ≡ last → start last ≤ time → IsUpToTime time step
+slot_up_to None last time at from = tt
+slot_up_to (Some step) None time at from = absurd (none-some step.time (sym at))
+slot_up_to (Some step) (Some last) time at from = omega (arith, from, same_Some step.time last at)
+
+pub up_to_from : (m : Memory) (last : Option ℕ) (time : ℕ) → IsAtLast last m → start last ≤ time → IsUpToTimeOf time m
+up_to_from (kept.Prev slot operand) last time at from = slot_up_to slot.last last time at from
+up_to_from (kept.Once window right) last time at from = omega (arith, at, from)
+up_to_from (kept.Since window left left_tables right) last time at from = omega (arith, at, from)
+
+pub none_later : (last : Option ℕ) (rows : List KeptRow) (behind : ℕ) (operators after : List Operator) (time : ℕ) → AreRestored last rows behind operators after → start last ≤ time → AreUpToTimeOf time after
+none_later last rows behind operators after time restored from =
+    All-weaker (λ o. IsAtLast last o.memory) (λ o. IsUpToTimeOf time o.memory) (λ o at. up_to_from o.memory last time at from) after (at_last last rows behind operators after restored)
 
 same_count : (last : Option ℕ) (rows : List KeptRow) (operators after : List Operator) → AreRestored last rows 0 operators after → length after ≡ length operators
 same_count last rows [] [] restored = refl

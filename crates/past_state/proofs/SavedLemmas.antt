@@ -17,6 +17,8 @@ use Rattle.windows.specs.KeptPairs.{AreRising, IsBefore, Stores}
 use Rattle.windows.specs.Windows.{Window, HasRow, KeepsLeast}
 use Rattle.windows.specs.declared.kept.KeptPair.{KeptPair}
 use Rattle.past_state.specs.Memories.{columns_of, IsFor, MemoryStands}
+use Rattle.past_state.specs.Operators.{all_operators}
+use Rattle.past_state.specs.Past.{Past, IsPast, formulas}
 use Rattle.past_state.specs.Runs.{AreFor, AllStand}
 use Rattle.past_state.specs.Saved.{AreKeptOf, AreRowsRising, IsRowBefore, IsWhole, KeptFor, StoresAt, StoresFor, kept_operand, kept_row, pair_of}
 use Rattle.past_state.specs.declared.kept.KeptRow.{KeptRow}
@@ -126,6 +128,10 @@ lengths [] [] are = refl
 lengths [] (o ∷ operators) are = absurd are
 lengths (f ∷ fs) [] are = absurd are
 lengths (f ∷ fs) (o ∷ operators) are = ap suc (lengths fs operators are.2)
+
+-- a past state has an operator for each of its guards' formulas
+pub counted : (past : Past) → IsPast past → length past.operators ≡ length (all_operators (formulas past.guards))
+counted past is = sym (lengths (reverse (all_operators (formulas past.guards))) past.operators is.kept) ∙ length-reverse (all_operators (formulas past.guards))
 
 for_at : (fs : List Formula) (operators : List Operator) (k : ℕ) (d : Formula) (e : Operator) → AreFor fs operators → k < length fs → IsFor (get_or fs k d) (get_or operators k e).memory
 for_at [] operators k d e are below = absurd (omega (arith, below))

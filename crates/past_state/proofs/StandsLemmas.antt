@@ -3,7 +3,6 @@ use Rattle.std.proofs.Common.{◌≡◌, ◌∙◌, ◌↔◌, ◌⊎◌, Contai
 use Rattle.enf_value.specs.Data.{step_at}
 use Rattle.enf_value.specs.Membership.{IsIn}
 use Rattle.enf_value.specs.Valuations.{Valuation}
-use Rattle.enf_value.specs.declared.terms.VarId.{VarId}
 use Rattle.enf_value.specs.declared.intervals.Interval.{Interval}
 use Rattle.enf_value.specs.declared.steps.Step.{Step}
 use Rattle.enf_formula.specs.FreeVariables.{IsFree}
@@ -16,13 +15,11 @@ use Rattle.trace_meaning.specs.Continuation.{last_time}
 use Rattle.trace_meaning.specs.Laws.{LastIsTheNew}
 use Rattle.valuations.specs.Just.{Binds}
 use Rattle.valuations.specs.Tables.{Relation, Has}
-use Rattle.windows.specs.Answers.{to_the_end}
-use Rattle.windows.specs.Kept.{HasPair}
-use Rattle.windows.specs.Laws.{LeastIsChosen, NothingAtFirst, RememberedIsKept}
+use Rattle.windows.specs.Laws.{LeastIsChosen, RememberedIsKept}
 use Rattle.windows.specs.Windows.{Window, AnswersBy, HasRow, IsCommittedBy, Keeps, Remembers}
 use Rattle.past_state.specs.Held.{HeldAt}
 use Rattle.past_state.specs.Kept.{HasPairAt, KeptAt}
-use Rattle.past_state.specs.Laws.{AreTablesOf, IsNew, satisfied}
+use Rattle.past_state.specs.Laws.{AreTablesOf, satisfied}
 use Rattle.past_state.specs.Stands.{WindowStands}
 use Rattle.past_state.specs.Survivors.{Survives}
 use Rattle.past_state.specs.declared.survivors.Survivors.{Survivors}
@@ -103,24 +100,6 @@ module _ (kept : RememberedIsKept) (chosen : LeastIsChosen) (last : LastIsTheNew
         (subst (λ i. Remembers after time v ↔ ((IsIn i (time - step.time) × Has right v) ⊎ (Remembers window time v × Survives survivors v))) stands.interval_is (committed.remembers time from_step v));
     kept = λ v binds. subst (λ i. (time : ℕ) → HasRow after v time ↔ KeptAt (trace ++ step ∷ []) i (F' v) (G' v) time) stands.interval_is (keeps_on after v committed (subst (Binds v) committed.columns_are binds));
   }
-
--- a window before the first step stands for no trace yet
-pub begins : NothingAtFirst → (interval : Interval) (F G : Valuation → ℕ → Type 0) (g : Formula) (columns : List VarId) (window : Window) → ((x : VarId) → Contains columns x ↔ IsFree x g)
-    → IsNew interval columns window → WindowStands [] interval F G g window
-begins nothing interval F G g columns window free new = record {
-  interval_is = new.interval_is;
-  columns_are = λ x. subst (λ l. Contains l x ↔ IsFree x g) (sym new.columns_are) (free x);
-  up_to = omega (arith, new.last_is);
-  gives = λ time from v binds. (
-    λ h. absurd (nothing window.interval time v ((new.stands.remembers time (omega (arith, new.last_is)) v).0 h)),
-    λ held. absurd (held (λ h. omega (arith, h.1))),
-  );
-  kept = λ v binds time. (
-    λ h. absurd (nothing (to_the_end window.interval) window.last v ((new.stands.keeps window.last (omega arith) v).0
-        (kept_now window.last (HasPair [] v) window v time h (omega arith) ((new.stands.kept v time).0 h).1))),
-    λ k. absurd (k.0 (λ h. omega (arith, h.1))),
-  );
-}
 
 -- the denial holds where the formula fails
 denial_is : ((trace : List Step) (i : ℕ) (v : Valuation) (f : Formula) → IsStable (Sat trace i v f)) → (trace : List Step) (i : ℕ) (v : Valuation) (g : Formula)

@@ -1,13 +1,11 @@
 -- What must hold of an operator on the past so that what it needs can be kept.
-use Rattle.std.specs.Prelude.{◌≡◌, ◌⊎◌, ℕ, List, [], ◌++◌, Contains}
+use Rattle.std.specs.Prelude.{◌≡◌, ◌⊎◌, List, [], ◌++◌, Contains}
 use Rattle.enf_value.specs.declared.terms.VarId.{VarId}
 use Rattle.enf_formula.specs.Formulas.{Formula, Prev, Once, Historically, Since, tree_of}
 use Rattle.enf_formula.specs.FreeVariables.{IsFree, AreFreeVariables}
 use Rattle.monitorable_guard.specs.Guards.{BoundFormula}
 use Rattle.monitorable_guard.specs.Safety.{Safe, BindsFresh, Nothing, With, denial}
-use Rattle.past_state.specs.Memories.{IsFor, IsUpToTimeOf, MemoryStands}
-use Rattle.past_state.specs.Runs.{AreFor, AllStand, AreUpToTimeOf}
-use Rattle.past_state.specs.declared.memories.Memory.{Memory}
+use Rattle.past_state.specs.Runs.{AreFor}
 use Rattle.past_state.specs.declared.operators.Operator.{Operator}
 
 -- no quantifier in the formula binds one of its free variables
@@ -30,16 +28,8 @@ pub record IsAlone (f : Formula) (columns : List VarId) (guard : BoundFormula) :
   pub bound_is : guard.bound ≡ []
   pub free : AreFreeVariables f columns
 
--- what is kept for the operator before the first step
-pub record IsBegun (f : Formula) (m : Memory) : Type 0 where
-  pub is_for : IsFor f m
-  pub stands : MemoryStands [] f m
-  pub up_to : (time : ℕ) → IsUpToTimeOf time m
-
--- such were put last, for these operators in order
+-- what is kept for these operators was put last, in order
 pub record PushesFor (fs : List Formula) (before after : List Operator) : Type 0 where
   pub added : List Operator
   pub grown : after ≡ before ++ added
   pub are_for : AreFor fs added
-  pub stand : AllStand [] fs added
-  pub up_to : (time : ℕ) → AreUpToTimeOf time added

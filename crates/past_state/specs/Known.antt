@@ -1,5 +1,5 @@
 -- Where the values in the tables of a step come from, whatever was committed before.
-use Rattle.std.specs.Prelude.{◌⊎◌, ℕ, List, Contains, Option, None, Some}
+use Rattle.std.specs.Prelude.{◌⊎◌, ℕ, List, Contains}
 use Rattle.enf_value.specs.Valuations.{Valuation}
 use Rattle.enf_value.specs.declared.events.Event.{Event}
 use Rattle.enf_value.specs.declared.values.Value.{Value}
@@ -7,28 +7,15 @@ use Rattle.enf_formula.specs.Formulas.{Formula}
 use Rattle.monitorable_guard.specs.Evaluation.{IsTabled, HasKnownValues}
 use Rattle.monitorable_guard.specs.Sources.{IsArgument, IsConstant}
 use Rattle.valuations.specs.Tables.{Relation}
-use Rattle.windows.specs.declared.steps.LastStep.{LastStep}
 use Rattle.past_state.specs.Past.{Past, PastTables, AreOf, IsPast, IsGuard, formulas, formula_of, tables_of}
+use Rattle.past_state.specs.Saved.{StoresAt}
 use Rattle.past_state.specs.declared.guards.PlacedGuard.{PlacedGuard}
-use Rattle.past_state.specs.declared.memories.Memory.{Memory}
-use Rattle.past_state.specs.declared.memories.Memory.TheVariants as kept
+use Rattle.past_state.specs.declared.kept.KeptRow.{KeptRow}
 use Rattle.past_state.specs.declared.operators.Operator.{Operator}
-
--- the row is one of the last step
-abbrev pub IsInLast : Option LastStep → List Value → Type 0
-IsInLast None row = ⊥
-IsInLast (Some last) row = Contains last.rows.rows row
-
--- the row is kept for the operator: it is one of the last step, or it stands in the window with its times
-abbrev pub KeepsRow : Memory → List Value → Type 0
-KeepsRow (kept.Prev slot operand) row = IsInLast slot.last row
-KeepsRow (kept.Once window right) row = (times : List ℕ) × Contains window.kept (row, times)
-KeepsRow (kept.Since window left left_tables right) row = (times : List ℕ) × Contains window.kept (row, times)
 
 -- a value of a row that is kept for one of the operators
 abbrev pub IsKeptValue : List Operator → Value → Type 0
-IsKeptValue operators value = (o : Operator) × Contains operators o × ((row : List Value) × KeepsRow o.memory row
-    × Contains row value)
+IsKeptValue operators value = (r : KeptRow) × StoresAt operators r × Contains r.row value
 
 -- a constant of one of the formulas
 abbrev pub IsConstantOf : List Formula → Value → Type 0

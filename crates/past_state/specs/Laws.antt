@@ -1,11 +1,9 @@
 -- The statements of the laws by which windows and slots go on standing for a trace.
-use Rattle.std.specs.Prelude.{◌≡◌, ◌↔◌, ℕ, ◌≤◌, IsTrue, List, [], ◌∷◌, ◌++◌, length, Contains, None, Some}
+use Rattle.std.specs.Prelude.{◌≡◌, ◌↔◌, ℕ, ◌≤◌, IsTrue, List, [], ◌∷◌, ◌++◌, length, Some}
 use Rattle.enf_value.specs.Valuations.{Valuation}
 use Rattle.enf_value.specs.declared.intervals.Interval.{Interval}
 use Rattle.enf_value.specs.declared.steps.Step.{Step}
-use Rattle.enf_value.specs.declared.terms.VarId.{VarId}
 use Rattle.enf_formula.specs.Formulas.{Formula, Since, Once, Historically, Prev}
-use Rattle.enf_formula.specs.FreeVariables.{IsFree}
 use Rattle.enf_formula.specs.Past.{is_past}
 use Rattle.enf_formula.specs.Satisfaction.{Sat, Anywhere}
 use Rattle.monitorable_guard.specs.Safety.{denial}
@@ -13,7 +11,7 @@ use Rattle.trace_meaning.specs.Continuation.{last_time}
 use Rattle.valuations.specs.Just.{Binds}
 use Rattle.valuations.specs.Tables.{Relation, Has}
 use Rattle.windows.specs.Slots.{Slot, GivesLast, with_rows}
-use Rattle.windows.specs.Windows.{Window, AnswersBy, IsCommittedBy, Keeps, StandsFor}
+use Rattle.windows.specs.Windows.{Window, AnswersBy, IsCommittedBy, Keeps}
 use Rattle.past_state.specs.Stands.{WindowStands, SlotStands}
 use Rattle.past_state.specs.Survivors.{Survives}
 use Rattle.past_state.specs.declared.survivors.Survivors.{Survivors}
@@ -45,22 +43,6 @@ SinceStands trace interval f g = WindowStands trace interval (satisfied trace f)
 
 abbrev pub OnceStands : List Step → Interval → Formula → Window → Type 0
 OnceStands trace interval g = WindowStands trace interval everywhere (satisfied trace g) g
-
--- a window before the first step
-pub record IsNew (interval : Interval) (columns : List VarId) (window : Window) : Type 0 where
-  pub interval_is : window.interval ≡ interval
-  pub columns_are : window.columns ≡ columns
-  pub last_is : window.last ≡ 0
-  pub stands : StandsFor window []
-
--- stands for no trace yet
-abbrev pub WindowBegins : Type 0
-WindowBegins = (interval : Interval) (f g : Formula) (columns : List VarId) (window : Window) → ((x : VarId)
-    → Contains columns x ↔ IsFree x g) → IsNew interval columns window → SinceStands [] interval f g window
-
-abbrev pub OnceBegins : Type 0
-OnceBegins = (interval : Interval) (g : Formula) (columns : List VarId) (window : Window) → ((x : VarId)
-    → Contains columns x ↔ IsFree x g) → IsNew interval columns window → OnceStands [] interval g window
 
 -- with one step more that is not earlier, and its tables, a window answers at the step what is satisfied there, and
 -- then stands for the longer trace
@@ -104,11 +86,7 @@ abbrev pub HistoricallyIsDenied : Type 0
 HistoricallyIsDenied = (trace : List Step) (i : ℕ) (v : Valuation) (place : ℕ) (interval : Interval) (g : Formula)
     → (Sat trace i v (Historically place interval g) → ⊥) ↔ Sat trace i v (Once place interval (denial g))
 
--- and a slot: nothing before the first step, then the rows of the last one
-abbrev pub SlotBegins : Type 0
-SlotBegins = (interval : Interval) (g : Formula) (columns : List VarId) → ((x : VarId) → Contains columns x
-    ↔ IsFree x g) → SlotStands [] interval g (record { interval = interval; columns = columns; last = None })
-
+-- and a slot, which has the rows of the last step
 abbrev pub PrevAnswers : Type 0
 PrevAnswers = (trace : List Step) (step : Step) (place : ℕ) (interval : Interval) (g : Formula) (slot : Slot)
     → IsTrue (is_past g) → last_time trace ≤ step.time → SlotStands trace interval g slot

@@ -1,4 +1,5 @@
 pub mod Guarded
+pub mod GuardLaws
 pub mod Held
 pub mod Cases
 pub mod Kept
@@ -7,6 +8,7 @@ pub mod Operators
 pub mod Past
 pub mod PastCodes
 pub mod Restoring
+pub mod RestoringCases
 pub mod Runs
 pub mod Asked
 pub mod Stands

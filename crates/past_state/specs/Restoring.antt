@@ -2,6 +2,7 @@
 use Rattle.std.specs.Prelude.{◌≡◌, ◌↔◌, ℕ, ◌+◌, ◌<◌, ◌≤◌, List, [], ◌∷◌, All, Contains, Option, None, Some, length, reverse}
 use Rattle.std.specs.Prelude.{Vec, slice_get}
 use Rattle.std.specs.declared.alloc.Global.{Global}
+use Rattle.enf_value.specs.Data.{IsTrace}
 use Rattle.enf_value.specs.declared.intervals.Interval.{Interval}
 use Rattle.enf_value.specs.declared.steps.Step.{Step}
 use Rattle.enf_value.specs.declared.terms.VarId.{VarId}
@@ -13,7 +14,7 @@ use Rattle.windows.specs.KeptPairs.{AreKeepable, AreOfLast, ArePairsOf, AreRisin
 use Rattle.windows.specs.Slots.{Slot, IsSlot}
 use Rattle.windows.specs.Windows.{Window, KeepsLeast}
 use Rattle.windows.specs.declared.kept.KeptPair.{KeptPair}
-use Rattle.past_state.specs.Memories.{IsSameMemory, IsUpToTimeOf}
+use Rattle.past_state.specs.Memories.{IsSameMemory}
 use Rattle.past_state.specs.Past.{Past, PastStands}
 use Rattle.past_state.specs.Runs.{AreFor, AreUpToTimeOf}
 use Rattle.past_state.specs.Saved.{AreKeptOf, AreRowsRising, IsWhole, StoresFor, kept_operand, kept_row}
@@ -54,6 +55,20 @@ AreWithinBounds fs (Some last) rows = AreRowsRising rows × All (IsKeepable fs l
 
 -- ---- for which times and traces they are made again
 
+-- the last time of a window, which is 0 before the first step
+abbrev pub start : Option ℕ → ℕ
+start None = 0
+start (Some last) = last
+
+-- it is the last time of the window or slot
+abbrev pub IsAtLast : Option ℕ → Memory → Type 0
+IsAtLast last (kept.Prev slot operand) = time_of slot.last ≡ last
+IsAtLast last (kept.Once window right) = window.last ≡ start last
+IsAtLast last (kept.Since window left left_tables right) = window.last ≡ start last
+
+abbrev pub AreAtLast : Option ℕ → Past → Type 0
+AreAtLast last past = All (λ o. IsAtLast last o.memory) past.operators
+
 abbrev pub IsFrom : Option ℕ → ℕ → Type 0
 IsFrom None time = Unit {0}
 IsFrom (Some last) time = last ≤ time
@@ -71,12 +86,12 @@ abbrev pub WillStandFor : List Formula → Option ℕ → List KeptRow → Past 
 WillStandFor fs last rows past = (trace : List Step) → IsLastTime trace last → AreKeptOf trace fs rows
     → PastStands trace past
 
--- ---- window by window
+-- what has to be kept of a trace is within the bounds at its last time
+abbrev pub KeptAreWithinBounds : Type 0
+KeptAreWithinBounds = (trace : List Step) (last : Option ℕ) (fs : List Formula) (rows : List KeptRow) → IsTrace trace
+    → IsLastTime trace last → AreRowsRising rows → AreKeptOf trace fs rows → AreWithinBounds fs last rows
 
--- the last time of a window, which is 0 before the first step
-abbrev pub start : Option ℕ → ℕ
-start None = 0
-start (Some last) = last
+-- ---- window by window
 
 -- the pairs can be kept for the operator at the last time
 abbrev pub AreKeepableFor : Memory → Option ℕ → List KeptPair → Type 0
@@ -90,7 +105,7 @@ AreKeepableFor (kept.Since window left left_tables right) last pairs =
 pub record IsRestored (m : Memory) (last : Option ℕ) (pairs : List KeptPair) (after : Memory) : Type 0 where
   pub same : IsSameMemory m after
   pub whole : IsWhole after
-  pub up_to : IsUpToTimeOf (start last) after
+  pub last_is : IsAtLast last after
   pub stores : (p : KeptPair) → StoresFor after p ↔ Contains pairs p
 
 -- the pairs of the window of this number
@@ -122,7 +137,7 @@ pub record IsOneRestored (last : Option ℕ) (rows : List KeptRow) (window : ℕ
   pub taken_is : after.taken ≡ o.taken
   pub same : IsSameMemory o.memory after.memory
   pub whole : IsWhole after.memory
-  pub up_to : IsUpToTimeOf (start last) after.memory
+  pub last_is : IsAtLast last after.memory
   pub stores : (p : KeptPair) → StoresFor after.memory p ↔ Contains rows (kept_row window p)
 
 -- so does each operator; they are numbered from the last one on, behind which so many others stand

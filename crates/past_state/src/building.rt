@@ -6,11 +6,11 @@ ghost use Rattle.enf_formula.specs.FreeVariables.{IsFree};
 ghost use Rattle.enf_value.specs.declared.terms.VarId.{VarId as Variable};
 ghost use Rattle.monitorable_guard.specs.Present.{outermost};
 ghost use Rattle.monitorable_guard.specs.Safety.{Safe, BindsFresh, Nothing, With, denial};
-ghost use Rattle.past_state.specs.Keeping.{IsFresh, CanKeep, IsAlone, IsBegun, PushesFor};
+ghost use Rattle.past_state.specs.Keeping.{IsFresh, CanKeep, IsAlone, PushesFor};
 ghost use Rattle.past_state.specs.Lefts.{AsksLeft};
+ghost use Rattle.past_state.specs.Memories.{IsFor};
 ghost use Rattle.past_state.specs.Operators.{operators};
 
-use crate::laws::{once, prev, since};
 use crate::left::Left;
 use crate::memories::Memory;
 use crate::operators::Operator;
@@ -105,9 +105,8 @@ fn push_one(taken: usize, memory: Memory, out: &mut Vec<Operator>) -> Result<usi
 fn prev_memory(alloc: Global, interval: Interval, operand: &Formula) -> Result<Memory, NoMemory>
     requires fresh { IsFresh (tree_of operand.now) }
     requires safe { Safe (tree_of operand.now) Nothing }
-    ensures { IfOk result (λ m. (place : ℕ) → IsBegun (tree.Prev place interval (tree_of operand.now)) m) }
+    ensures { IfOk result (λ m. (place : ℕ) → IsFor (tree.Prev place interval (tree_of operand.now)) m) }
 {
-    prev();
     safe_with_listed();
     let columns = operand.free_vars(alloc)?;
     let operand = shared_guard_of(alloc, operand, &Vars::new(alloc))?;
@@ -118,9 +117,8 @@ fn prev_memory(alloc: Global, interval: Interval, operand: &Formula) -> Result<M
 fn once_memory(alloc: Global, interval: Interval, operand: &Formula) -> Result<Memory, NoMemory>
     requires fresh { IsFresh (tree_of operand.now) }
     requires safe { Safe (tree_of operand.now) Nothing }
-    ensures { IfOk result (λ m. (place : ℕ) → IsBegun (tree.Once place interval (tree_of operand.now)) m) }
+    ensures { IfOk result (λ m. (place : ℕ) → IsFor (tree.Once place interval (tree_of operand.now)) m) }
 {
-    once();
     safe_with_listed();
     let columns = operand.free_vars(alloc)?;
     let right = shared_guard_of(alloc, operand, &Vars::new(alloc))?;
@@ -135,7 +133,7 @@ fn historically_memory(
 ) -> Result<Memory, NoMemory>
     requires fresh { IsFresh (denial (tree_of operand.now)) }
     requires safe { Safe (denial (tree_of operand.now)) Nothing }
-    ensures { IfOk result (λ m. (place : ℕ) → IsBegun (tree.Historically place interval (tree_of operand.now)) m) }
+    ensures { IfOk result (λ m. (place : ℕ) → IsFor (tree.Historically place interval (tree_of operand.now)) m) }
 {
     once_memory(alloc, interval, &denial_of(alloc, operand)?)
 }
@@ -154,9 +152,8 @@ fn since_memory(
     requires safe_right { Safe (tree_of right.now) Nothing }
     requires safe_left { Safe (tree_of left.now) (With Nothing (tree_of right.now)) }
     ensures { IfOk result (λ m. (place : ℕ)
-        → IsBegun (tree.Since place interval (tree_of left.now) (tree_of right.now)) m) }
+        → IsFor (tree.Since place interval (tree_of left.now) (tree_of right.now)) m) }
 {
-    since();
     safe_with_listed();
     let columns = right.free_vars(alloc)?;
     let left = left_of(alloc, left, &columns)?;

@@ -25,18 +25,20 @@ pub struct KeptRow {
 pub type KeptRows = Items<KeptRow>;
 
 impl PastState {
+    ghost use Rattle.past_state.specs.Operators.{all_operators};
+    ghost use Rattle.past_state.specs.Past.{formulas};
     ghost use Rattle.past_state.specs.Saved.{AreRowsRising, AreRowsOf, AreRowsKept};
 
-    /// How many windows and slots there are.
+    /// How many windows and slots there are: one for each operator on the past in the guards.
     pub fn window_count(&self) -> usize
-        ensures { result ≡ length self.now.operators }
+        ensures { result ≡ length (all_operators (formulas self.now.guards)) }
     {
         self.operators.items.len()
     }
 
     /// The rows that are kept, by window, then by row, and then by time. The windows can be numbered.
     pub fn kept(&self, alloc: Global) -> Result<KeptRows, NoMemory>
-        requires { length self.now.operators ≤ 2 ^ 32 }
+        requires { length (all_operators (formulas self.now.guards)) ≤ 2 ^ 32 }
         ensures rising { IfOk result AreRowsRising }
         ensures exact { IfOk result (AreRowsOf self.now) }
         ensures kept { IfOk result (AreRowsKept self.now) }

@@ -1,29 +1,27 @@
 //! How windows and slots stand for a trace, step by step: laws over the definitions, each the contract of a function.
 ghost use Rattle.past_state.specs.Known.{TablesAreKnown};
-ghost use Rattle.past_state.specs.Laws.{WindowBegins, SinceAnswers, SinceGoesOn, OnceBegins, OnceAnswers, OnceGoesOn, HistoricallyIsDenied, SlotBegins, PrevAnswers, PrevGoesOn};
+ghost use Rattle.past_state.specs.Laws.{SinceAnswers, SinceGoesOn, OnceAnswers, OnceGoesOn, HistoricallyIsDenied, PrevAnswers, PrevGoesOn};
 ghost use Rattle.past_state.specs.Past.{RunStands, CommitStands};
+ghost use Rattle.past_state.specs.Restoring.{KeptAreWithinBounds};
 
 use enf_formula::laws::{dependence, is_classical};
 use monitorable_guard::laws::present_is_satisfied;
 use trace_meaning::laws::trace_grows;
-use windows::laws::{rows_are_chosen, step_by_step, windows_stand};
+use windows::laws::{rows_are_chosen, windows_stand};
 
-/// A window of `since`, from no step on.
+/// A window of `since`.
 pub fn since()
-    ensures begins { WindowBegins }
     ensures answers { SinceAnswers }
     ensures goes_on { SinceGoesOn }
 {
     dependence();
     trace_grows();
-    step_by_step();
     windows_stand();
     rows_are_chosen();
 }
 
 /// A window of `once`, and that of `historically`.
 pub fn once()
-    ensures begins { OnceBegins }
     ensures answers { OnceAnswers }
     ensures goes_on { OnceGoesOn }
     ensures denied { HistoricallyIsDenied }
@@ -31,14 +29,12 @@ pub fn once()
     dependence();
     is_classical();
     trace_grows();
-    step_by_step();
     windows_stand();
     rows_are_chosen();
 }
 
-/// A slot of `prev`, from no step on.
+/// A slot of `prev`.
 pub fn prev()
-    ensures begins { SlotBegins }
     ensures answers { PrevAnswers }
     ensures goes_on { PrevGoesOn }
 {
@@ -63,3 +59,10 @@ pub fn steps_stand()
 pub fn tables_are_known()
     ensures { TablesAreKnown }
 {}
+
+/// What has to be kept of a trace is within the bounds of what a past state can be made again of.
+pub fn kept_can_be_restored()
+    ensures within { KeptAreWithinBounds }
+{
+    trace_grows();
+}

@@ -1,9 +1,10 @@
 //! What the operators on the past of guards remember.
-ghost use Rattle.std.specs.Prelude.{◌≡◌, ◌≤◌, ℕ, [], IfOk, OnOk, All};
+ghost use Rattle.std.specs.Prelude.{◌≡◌, ◌≤◌, ℕ, [], None, IfOk, OnOk, All};
 ghost use Rattle.valuations.specs.Tables.{IsTable};
 
 use crate::asking::Asked;
-use crate::guards::{PlacedGuard, place_all, push_all};
+use crate::guards::PlacedGuard;
+use crate::kept::KeptRows;
 use crate::laws::{steps_stand, tables_are_known};
 use crate::memories::StepTables;
 use crate::operators::{Operators, commit_shared, run};
@@ -76,22 +77,21 @@ impl PastState {
     ghost use Rattle.past_state.specs.Past.{AreOf, PastStands, TablesWillStand, CommittedWillStand, PastCommitted};
     ghost use Rattle.past_state.specs.Guarded.{AreCopies, IsFreshGuard};
     ghost use Rattle.past_state.specs.Known.{AreKnown};
+    ghost use Rattle.past_state.specs.Restoring.{AreAtLast};
     ghost use Rattle.past_state.specs.Runs.{AreUpToTimeOf, AllFit};
+    ghost use Rattle.past_state.specs.Saved.{AreRowsOf};
 
     /// One window or slot for each operator on the past, before the first step. No quantifier in a guard binds a
     /// variable in scope.
     pub fn new(alloc: Global, guards: &[Guard]) -> Result<PastState, NoMemory>
         requires { All IsFreshGuard guards.now }
         ensures guards { IfOk result (λ p. AreCopies guards.now p.guards) }
+        ensures last { IfOk result (AreAtLast None) }
+        ensures exact { IfOk result (λ p. AreRowsOf p []) }
         ensures up_to { IfOk result (λ p. (time : ℕ) → AreUpToTimeOf time p.operators) }
         ensures stands { IfOk result (PastStands []) }
     {
-        let mut operators = Vec::new(alloc);
-        let counts = push_all(alloc, guards, &mut operators)?;
-        let placed = place_all(alloc, guards, counts)?;
-        let guards = Rc::new(alloc, placed)?;
-        let operators = Rc::new(alloc, Operators { items: operators })?;
-        Ok(PastState { guards, operators })
+        PastState::from_kept(alloc, guards, None, KeptRows::new(alloc))
     }
 
     /// The tables at a step with these events at this time, which is not before the last one.

@@ -22,11 +22,12 @@ use windows::{KeptPair, PrevSlot, SinceWindow};
 
 impl PastState {
     ghost use Rattle.past_state.specs.Guarded.{AreCopies, IsFreshGuard};
-    ghost use Rattle.past_state.specs.Restoring.{AreWithinBounds, IsUpToLast, WillStandFor};
+    ghost use Rattle.past_state.specs.Restoring.{AreAtLast, AreWithinBounds, IsUpToLast, WillStandFor};
     ghost use Rattle.past_state.specs.Saved.{AreRowsOf};
 
     /// The past state that keeps these rows, with this last time; none before the first step. No quantifier in a guard
-    /// binds a variable in scope, and the rows are such as `kept` gives at that time.
+    /// binds a variable in scope. Rows that `kept` gives are within the bounds, where the state stands for a trace with
+    /// that last time (`laws::kept_can_be_restored`).
     pub fn from_kept(
         alloc: Global,
         guards: &[Guard],
@@ -36,6 +37,7 @@ impl PastState {
         requires fresh { All IsFreshGuard guards.now }
         requires bounds { AreWithinBounds (all_operators (map tree_in guards.now)) last rows }
         ensures guards { IfOk result (λ p. AreCopies guards.now p.guards) }
+        ensures last { IfOk result (AreAtLast last) }
         ensures up_to { IfOk result (IsUpToLast last) }
         ensures exact { IfOk result (λ p. AreRowsOf p rows) }
         ensures stands { IfOk result (WillStandFor (all_operators (map tree_in guards.now)) last rows) }
@@ -62,11 +64,8 @@ fn restore_each(
     ensures { IfOk result (λ restored. AreRestored last rows 0 operators.items restored.items) }
 {
     let lists = by_window(alloc, operators.len(), rows)?;
-    let mut window = operators.len();
-    let mut restored = Vec::with_capacity(alloc, window)?;
-    for operator in operators {
-        window -= 1;
-        let pairs = lists[window].as_slice();
+    let mut restored = Vec::with_capacity(alloc, operators.len())?;
+    for (operator, pairs) in operators.into_iter().zip(lists.into_iter().rev()) {
         let memory = operator.memory.restored(alloc, last, pairs)?;
         restored.push(Operator {
             taken: operator.taken,
@@ -108,11 +107,11 @@ impl Memory {
         self,
         alloc: Global,
         last: Option<u64>,
-        pairs: &[KeptPair],
+        pairs: Vec<KeptPair>,
     ) -> Result<Memory, NoMemory>
         requires distinct { HasNoRepeats (columns_of self) }
-        requires keepable { AreKeepableFor self last pairs.now }
-        ensures { IfOk result (IsRestored self last pairs.now) }
+        requires keepable { AreKeepableFor self last pairs.items }
+        ensures { IfOk result (IsRestored self last pairs.items) }
     {
         match self {
             Memory::Prev { slot, operand } => {
@@ -145,12 +144,12 @@ fn restored_slot(
     alloc: Global,
     slot: &PrevSlot,
     last: Option<u64>,
-    pairs: &[KeptPair],
+    pairs: Vec<KeptPair>,
 ) -> Result<PrevSlot, NoMemory>
     requires distinct { HasNoRepeats slot.now.columns }
-    requires fit { All (λ p. length p.row ≡ length slot.now.columns) pairs.now }
-    requires times { AreOfLast last pairs.now }
-    ensures { IfOk result (IsRestoredSlot slot.now last pairs.now) }
+    requires fit { All (λ p. length p.row ≡ length slot.now.columns) pairs.items }
+    requires times { AreOfLast last pairs.items }
+    ensures { IfOk result (IsRestoredSlot slot.now last pairs.items) }
 {
     let columns = slot.columns().duplicate(alloc)?;
     PrevSlot::from_kept(alloc, slot.interval(), columns, last, pairs)
@@ -160,22 +159,12 @@ fn restored_window(
     alloc: Global,
     window: &SinceWindow,
     last: Option<u64>,
-    pairs: &[KeptPair],
+    pairs: Vec<KeptPair>,
 ) -> Result<SinceWindow, NoMemory>
     requires distinct { HasNoRepeats window.now.columns }
-    requires keepable { AreKeepable window.now.interval window.now.columns (start last) pairs.now }
-    ensures { IfOk result (IsRestoredWindow window.now last pairs.now) }
+    requires keepable { AreKeepable window.now.interval window.now.columns (start last) pairs.items }
+    ensures { IfOk result (IsRestoredWindow window.now last pairs.items) }
 {
     let columns = window.columns().duplicate(alloc)?;
-    SinceWindow::from_kept(alloc, window.interval(), columns, start_of(last), pairs)
-}
-
-// The last time of a window, which is 0 before the first step.
-fn start_of(last: Option<u64>) -> u64
-    ensures { result ≡ start last }
-{
-    match last {
-        Some(last) => last,
-        None => 0,
-    }
+    SinceWindow::from_kept(alloc, window.interval(), columns, last.unwrap_or(0), pairs)
 }

@@ -12,6 +12,7 @@ pub mod EntryLemmas
 pub mod QueueLemmas
 pub mod ExpiryLemmas
 pub mod StandLemmas
+pub mod StepLemmas
 pub mod QueryLemmas
 pub mod AskingLemmas
 pub mod SmallWindow

@@ -23,7 +23,6 @@ use Rattle.windows.specs.Queues.{Queue, AreInReach, IsInStep}
 use Rattle.windows.specs.Times.{IsLeast, RiseTo}
 use Rattle.windows.specs.Windows.{IsWindow, kept_of}
 use Rattle.windows.specs.declared.kept.KeptPair.{KeptPair}
-use Rattle.windows.specs.declared.steps.LastStep.{LastStep}
 use Rattle.windows.proofs.EntryLemmas.{SetsAt}
 use Rattle.windows.proofs.LeastLemmas.{one_entry}
 use Rattle.windows.proofs.TimeLemmas.{all_from}
@@ -212,23 +211,6 @@ module _ (interval : Interval) (columns : List VarId) (last : ℕ) (pairs : List
         let same : from.0.0 ≡ row = ap (λ e. e.0) from.2 in
         (are.exact (pair row time)).0 (from.0.1, subst (λ r. Contains es (r, from.0.1)) same from.1, subst (λ l. Contains l time) (sym (ap (λ e. e.1) from.2)) stored.2),
   )
-
--- ---- the steps of the pairs
-
-pub steps_more : (done : List KeptPair) (p : KeptPair) (steps after : List LastStep) (step : LastStep) → step.time ≡ p.time → Contains step.rows.rows p.row → after ≡ steps ++ step ∷ []
-    → HaveTimesOf done steps × HaveStepsOf done steps → HaveTimesOf (done ++ p ∷ []) after × HaveStepsOf (done ++ p ∷ []) after
-steps_more done p steps after step time row grown so_far = (
-  λ s there. ⊎_elim
-      (λ earlier. let at = so_far.0 s earlier in (at.0, Contains-append_left done (p ∷ []) at.0 at.1, at.2))
-      (λ last. let same : step ≡ s = ⊎_elim (λ h. h) (λ none. absurd (none_in_nil s none)) (first_or_later s step [] last) in
-      (p, Contains-append_right done (p ∷ []) p (here p []), ap (λ x. x.time) (sym same) ∙ time))
-      (Contains-append_cases steps (step ∷ []) s (subst (λ l. Contains l s) grown there)),
-  λ q there. ⊎_elim
-      (λ earlier. let at = so_far.1 q earlier in (at.0, subst (λ l. Contains l at.0) (sym grown) (Contains-append_left steps (step ∷ []) at.0 at.1), at.2, at.3))
-      (λ last. let same : p ≡ q = ⊎_elim (λ h. h) (λ none. absurd (none_in_nil q none)) (first_or_later q p [] last) in
-      (step, subst (λ l. Contains l step) (sym grown) (Contains-append_right steps (step ∷ []) step (here step [])), time ∙ ap (λ x. x.time) same, subst (λ r. Contains step.rows.rows r.row) same row))
-      (Contains-append_cases done (p ∷ []) q there),
-)
 
 -- ---- the rows of pairs
 

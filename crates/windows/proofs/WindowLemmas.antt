@@ -16,7 +16,8 @@ use Rattle.windows.specs.Kept.{ChosenBy, HasPair, Kept}
 use Rattle.windows.specs.Laws.{RememberedIsKept, CommittedStands, AnsweredIsWalked}
 use Rattle.windows.specs.Pairs.{AddAtMost, AddsTimes, AreKept, AreLeast, Forgets, Gives, HasGiven, HasTime, IsAnyRow, IsSomeIn, KeepsRows, Survives}
 use Rattle.windows.specs.Times.{IsEnded, IsLeast, IsServed, RiseTo}
-use Rattle.windows.specs.Windows.{Window, AnswersBy, AreTables, FitsColumns, GoesOn, GoesOnStanding, HasLeast, HasRow, IsCommittedBy, IsWalkedLater, IsWalkedNow, Keeps, KeepsLeast, Remembers, RemembersIn, StandsFor, SurvivesFor, TellsFor, AnswersNow, kept_of}
+use Rattle.windows.specs.Queues.{Queue}
+use Rattle.windows.specs.Windows.{Window, AnswersBy, AreTables, FitsColumns, GoesOn, GoesOnStanding, HasLeast, HasRow, IsCommittedBy, IsWindow, IsWalkedLater, IsWalkedNow, Keeps, KeepsLeast, Remembers, RemembersIn, StandsFor, SurvivesFor, TellsFor, AnswersNow, kept_of}
 use Rattle.windows.specs.declared.steps.CommittedStep.{CommittedStep}
 use Rattle.windows.specs.declared.surviving.Surviving.{Surviving}
 use Rattle.windows.specs.declared.surviving.Surviving.TheVariants.{All as Whole, Only, AllBut}
@@ -236,6 +237,10 @@ keeps_least interval columns last es distinct kept least = record {
       });
   unique = subst HasNoRepeats (sym (same_rows es)) kept.unique;
 }
+
+pub window_least : (interval : Interval) (columns : List VarId) (last : ℕ) (es : List (List Value × SmallVec ℕ)) (queue : Queue) → IsWindow interval columns last es queue
+    → KeepsLeast (record { interval = interval; columns = columns; last = last; kept = kept_of es })
+window_least interval columns last es queue is = keeps_least interval columns last es is.distinct is.kept is.least
 
 module _ (interval : Interval) (columns : List VarId) (last time : ℕ) (es left middle after : List (List Value × SmallVec ℕ)) (s : Surviving) (right : Relation) (distinct : HasNoRepeats columns)
     (kept : AreKept (length columns) last es) (same : FitsColumns columns s) (tables : IsAnyRow left → AreTables s) (right_columns : right.columns ≡ columns)

@@ -8,6 +8,7 @@ use Rattle.enf_value.specs.declared.intervals.Interval.{Interval}
 use Rattle.enf_value.specs.declared.terms.VarId.{VarId}
 use Rattle.enf_value.specs.declared.values.Value.{Value}
 use Rattle.valuations.specs.Tables.{Relation, Has, cell}
+use Rattle.windows.specs.KeptPairs.{Stores, pair, pairs_of_last}
 use Rattle.windows.specs.Queries.{cells_eq}
 use Rattle.windows.specs.Slots.{Slot, GivesLast, LastHasColumns}
 use Rattle.windows.specs.Windows.{Window, AnswersBy}
@@ -84,12 +85,12 @@ abbrev pub LastIsGiven : Type 0
 LastIsGiven = (slot : Slot) (time : ℕ) (v : Valuation) → LastHasColumns slot.columns slot.last
     → Has (given_last slot time) v ↔ GivesLast slot.interval time slot.last v
 
--- and each of their rows is right now, or is kept
+-- and each of their rows is right now, or is kept with a time
 abbrev pub GivenIsKept : Type 0
 GivenIsKept = (window : Window) (time : ℕ) (survives : List Value → Bool) (right : Relation) (row : List Value)
     → Contains (given window time survives right).rows row
-    → Contains right.rows row ⊎ ((times : List ℕ) × Contains window.kept (row, times))
+    → Contains right.rows row ⊎ ((earlier : ℕ) × Stores window row earlier)
 
 abbrev pub GivenLastIsKept : Type 0
 GivenLastIsKept = (slot : Slot) (time : ℕ) (row : List Value) → Contains (given_last slot time).rows row
-    → (last : LastStep) × (slot.last ≡ Some last) × Contains last.rows.rows row
+    → (earlier : ℕ) × Contains (pairs_of_last slot.last) (pair row earlier)

@@ -18,6 +18,7 @@ use Rattle.valuations.specs.SearchLaws.{Contains-map, Contains-from_map}
 use Rattle.valuations.specs.Tables.{Relation, Agrees, Has, cell}
 use Rattle.windows.specs.Given.{given, given_last, have_same_cells, is_given, is_in, is_some_in, is_up_to}
 use Rattle.windows.specs.Given.{rows_of_last, rows_within, survives_among, survives_outside}
+use Rattle.windows.specs.KeptPairs.{Stores, pair, pairs_of_last}
 use Rattle.windows.specs.Pairs.{IsSomeIn}
 use Rattle.windows.specs.Queries.{cells_eq-Decides}
 use Rattle.windows.specs.Slots.{Slot, GivesLast, LastHasColumns}
@@ -137,8 +138,9 @@ module _ (window : Window) (time : ℕ) (survives : List Value → Bool) (right 
       either
 
   pub given_from : (row : List Value) → Contains (given window time survives right).rows row
-      → Contains right.rows row ⊎ ((times : List ℕ) × Contains window.kept (row, times))
-  given_from row there = ⊎_elim (λ now. inl now.1) (λ before. inr (before.0, before.1)) (given_rows row there)
+      → Contains right.rows row ⊎ ((earlier : ℕ) × Stores window row earlier)
+  given_from row there = ⊎_elim (λ now. inl now.1)
+      (λ before. inr (before.2.0, (before.0, before.1, before.2.1))) (given_rows row there)
 
   pub given_answers : (S : Valuation → Type 0) → right.columns ≡ window.columns
       → ((row : List Value) (times : List ℕ) (v : Valuation) → Contains window.kept (row, times)
@@ -186,11 +188,12 @@ given_last_answers slot time fits v = last_answers slot.interval slot.columns ti
 
 last_from : (interval : Interval) (time : ℕ) (kept : Option LastStep) (row : List Value)
     → Contains (rows_of_last interval time kept) row
-    → (last : LastStep) × (kept ≡ Some last) × Contains last.rows.rows row
+    → (earlier : ℕ) × Contains (pairs_of_last kept) (pair row earlier)
 last_from interval time None row there = absurd (none_in_nil row there)
 last_from interval time (Some last) row there =
-    (last, refl, ((within_rows interval (time - last.time) last.rows row).0 there).1)
+    let among = ((within_rows interval (time - last.time) last.rows row).0 there).1 in
+    (last.time, Contains-map (λ r. pair r last.time) last.rows.rows row among)
 
 pub given_last_from : (slot : Slot) (time : ℕ) (row : List Value) → Contains (given_last slot time).rows row
-    → (last : LastStep) × (slot.last ≡ Some last) × Contains last.rows.rows row
+    → (earlier : ℕ) × Contains (pairs_of_last slot.last) (pair row earlier)
 given_last_from slot time row there = last_from slot.interval time slot.last row there

@@ -3,10 +3,11 @@
 use Rattle.std.proofs.Common.{◌≡◌, ◌↔◌, ⊎_elim, ℕ, List, [], ◌∷◌, ◌++◌, map, length, All, Contains, None, Some, Option}
 use Rattle.std.proofs.Common.{ap, subst, sym}
 use Rattle.std.proofs.lemmas.List.Elements.{All-contains, All-contains_itself, All-weaker, Contains-append_cases}
+use Rattle.std.proofs.lemmas.List.Elements.{Contains-append_left, Contains-append_right}
 use Rattle.enf_value.specs.Membership.{HasNoRepeats}
 use Rattle.enf_value.specs.declared.terms.VarId.{VarId}
 use Rattle.enf_value.specs.declared.values.Value.{Value}
-use Rattle.valuations.specs.Columns.{here, later, none_in_nil}
+use Rattle.valuations.specs.Columns.{first_or_later, here, later, none_in_nil}
 use Rattle.valuations.specs.RowLaws.{agrees_itself, agrees_once}
 use Rattle.valuations.specs.SearchLaws.{Contains-from_map, Contains-map}
 use Rattle.valuations.specs.Tables.{Agrees, valuation_of}
@@ -27,6 +28,23 @@ rises_append Before (x ∷ xs) ys first second across = (
       (Contains-append_cases xs ys y there)) (xs ++ ys) (All-contains_itself (xs ++ ys)),
   rises_append Before xs ys first.1 second (λ w y there also. across w y (later w x xs there) also),
 )
+
+pub rises_front : {X : Type 0} (Before : X → X → Type 0) (xs ys : List X) → Rises Before (xs ++ ys)
+    → Rises Before xs × ((x y : X) → Contains xs x → Contains ys y → Before x y)
+rises_front Before [] ys rises = (tt, λ x y there also. absurd (none_in_nil x there))
+rises_front Before (x ∷ xs) ys rises =
+    let rest = rises_front Before xs ys rises.1 in (
+      (
+        All-weaker (Contains xs) (Before x) (λ y there.
+            All-contains (Before x) (xs ++ ys) y rises.0 (Contains-append_left xs ys y there)) xs
+            (All-contains_itself xs),
+        rest.0,
+      ),
+      λ w y there also. ⊎_elim
+          (λ same. subst (λ z. Before z y) same
+          (All-contains (Before x) (xs ++ ys) y rises.0 (Contains-append_right xs ys y also)))
+          (λ behind. rest.1 w y behind also) (first_or_later w x xs there),
+    )
 
 pub rises_map : {X Y : Type 0} (A : X → X → Type 0) (B : Y → Y → Type 0) (f : X → Y)
     → ((x y : X) → A x y → B (f x) (f y)) → (xs : List X) → Rises A xs → Rises B (map f xs)

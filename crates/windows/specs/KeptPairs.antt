@@ -1,5 +1,7 @@
 -- Windows and slots as lists of pairs: a row, and a time at which it was right.
 use Rattle.std.specs.Prelude.{◌≡◌, ◌↔◌, ◌⊎◌, ℕ, ◌<◌, ◌≤◌, List, [], ◌∷◌, map, All, Contains, length, Option, None, Some}
+use Rattle.std.specs.Bool.{nat_eq}
+use Rattle.std.specs.List.{filter}
 use Rattle.std.specs.declared.cmp.Ordering.TheVariants.{Less}
 use Rattle.smallvec.specs.SmallVec.{SmallVec}
 use Rattle.enf_value.specs.Membership.{HasNoRepeats}
@@ -83,6 +85,10 @@ pub record AreEntriesOf (pairs : List KeptPair) (entries : List (List Value × S
   pub exact : (p : KeptPair) → HasTime entries p.row p.time ↔ Contains pairs p
   pub fit : All (λ e. (0 < length e.1.items) × Rises ◌<◌ e.1.items) entries
   pub unique : HasNoRepeats (map (λ e. e.0) entries)
+
+-- the rows of those pairs that have this time
+abbrev pub rows_at : ℕ → List KeptPair → List (List Value)
+rows_at time pairs = map (λ p. p.row) (filter (λ p. nat_eq time p.time) pairs)
 
 -- each step has the time of one of the pairs
 abbrev pub HaveTimesOf : List KeptPair → List LastStep → Type 0

@@ -1,8 +1,11 @@
 //! What windows and slots keep, as pairs of a row and a time.
-ghost use Rattle.std.specs.Prelude.{◌≡◌, ◌↔◌, [], ◌∷◌, ◌++◌, ℕ, List, None, Some, All, Contains, IfOk, OnOk, length, map};
+ghost use Rattle.std.specs.Prelude.{◌≡◌, ◌↔◌, [], ◌∷◌, ◌++◌, ℕ, List, None, Some, All, Contains, IfOk, OnOk, is_some, length, map, nat_eq};
+ghost use Rattle.std.specs.List.{list_any};
+ghost use Rattle.std.specs.Option.{option_map_or};
+ghost use Rattle.indexmap.specs.IndexMap.{get};
 ghost use Rattle.enf_value.specs.Membership.{HasNoRepeats};
 ghost use Rattle.enf_value.specs.declared.values.Value.{Value as AnyValue};
-ghost use Rattle.windows.specs.KeptPairs.{pair, AreBefore, AreEntriesOf, AreRising, AreTimesOf, HaveStepsOf, HaveTimesOf};
+ghost use Rattle.windows.specs.KeptPairs.{pair, AreBefore, AreEntriesOf, AreRising, AreTimesOf, HaveStepsOf, HaveTimesOf, rows_at};
 ghost use Rattle.windows.specs.Pairs.{AreKept};
 ghost use Rattle.windows.specs.declared.kept.KeptPair.{KeptPair as Pair};
 
@@ -39,35 +42,36 @@ impl SinceWindow {
             AreKeepable self.now.interval self.now.columns self.now.last pairs.items) }
         ensures exact { IfOk result (λ pairs. ArePairsOf self.now pairs.items) }
         ensures walked { IfOk result (λ pairs. ArePairsKept self.now pairs.items) }
-        ensures least { IfOk result (λ _. KeepsLeast self.now) }
+        ensures least { KeepsLeast self.now }
     {
+        let entries = &self.entries;
         let rows = self.rows(alloc)?;
         let mut pairs = Vec::new(alloc);
         for row in rows.rows() {
-            push_pairs(alloc, &self.entries, row, &mut pairs)?;
+            push_pairs(alloc, entries, row, &mut pairs)?;
         }
         Ok(pairs)
     }
 
     /// The window that keeps these pairs, with this last time. The columns are distinct, and the pairs are such as
-    /// `kept` gives of a window of these columns at that time.
+    /// `kept` gives of a window of this interval and these columns at that time.
     pub fn from_kept(
         alloc: Global,
         interval: Interval,
         columns: Vars,
         last: u64,
-        pairs: &[KeptPair],
+        pairs: Vec<KeptPair>,
     ) -> Result<SinceWindow, NoMemory>
         requires distinct { HasNoRepeats columns }
-        requires keepable { AreKeepable interval columns last pairs.now }
+        requires keepable { AreKeepable interval columns last pairs.items }
         ensures interval { IfOk result (λ w. w.interval ≡ interval) }
         ensures columns { IfOk result (λ w. w.columns ≡ columns) }
         ensures last { IfOk result (λ w. w.last ≡ last) }
-        ensures exact { IfOk result (λ w. ArePairsOf w pairs.now) }
+        ensures exact { IfOk result (λ w. ArePairsOf w pairs.items) }
         ensures least { IfOk result KeepsLeast }
     {
+        let queue = queue_of(alloc, interval, &columns, &pairs)?;
         let entries = entries_of(alloc, pairs)?;
-        let queue = queue_of(alloc, interval, &columns, pairs)?;
         Ok(SinceWindow {
             interval,
             columns,
@@ -88,7 +92,7 @@ impl PrevSlot {
         ensures times { IfOk result (λ pairs. AreOfLast (time_of self.now.last) pairs.items) }
         ensures rising { IfOk result (λ pairs. AreRising pairs.items) }
         ensures fits { IfOk result (λ pairs. All (λ p. length p.row ≡ length self.now.columns) pairs.items) }
-        ensures slot { IfOk result (λ _. IsSlot self.now) }
+        ensures slot { IsSlot self.now }
     {
         let mut pairs = Vec::new(alloc);
         if let Some(last) = &self.last {
@@ -104,15 +108,15 @@ impl PrevSlot {
         interval: Interval,
         columns: Vars,
         last: Option<u64>,
-        pairs: &[KeptPair],
+        pairs: Vec<KeptPair>,
     ) -> Result<PrevSlot, NoMemory>
         requires distinct { HasNoRepeats columns }
-        requires fit { All (λ p. length p.row ≡ length columns) pairs.now }
-        requires times { AreOfLast last pairs.now }
+        requires fit { All (λ p. length p.row ≡ length columns) pairs.items }
+        requires times { AreOfLast last pairs.items }
         ensures interval { IfOk result (λ s. s.interval ≡ interval) }
         ensures columns { IfOk result (λ s. s.columns ≡ columns) }
         ensures last { IfOk result (λ s. time_of s.last ≡ last) }
-        ensures exact { IfOk result (λ s. (p : Pair) → Contains (pairs_of_last s.last) p ↔ Contains pairs.now p) }
+        ensures exact { IfOk result (λ s. (p : Pair) → Contains (pairs_of_last s.last) p ↔ Contains pairs.items p) }
         ensures slot { IfOk result IsSlot }
     {
         let last = match last {
@@ -183,9 +187,9 @@ fn push_step(
 }
 
 // The rows of the pairs, each with its times.
-fn entries_of(alloc: Global, pairs: &[KeptPair]) -> Result<Entries, NoMemory>
-    requires { AreRising pairs.now }
-    ensures { IfOk result (λ entries. AreEntriesOf pairs.now entries.entries) }
+fn entries_of(alloc: Global, pairs: Vec<KeptPair>) -> Result<Entries, NoMemory>
+    requires { AreRising pairs.items }
+    ensures { IfOk result (λ entries. AreEntriesOf pairs.items entries.entries) }
 {
     let mut entries = IndexMap::new(alloc);
     for pair in pairs {
@@ -195,9 +199,9 @@ fn entries_of(alloc: Global, pairs: &[KeptPair]) -> Result<Entries, NoMemory>
 }
 
 // Puts the time last among those of the row.
-fn put_time(alloc: Global, entries: &mut Entries, pair: &KeptPair) -> Result<(), NoMemory>
-    ensures { OnOk result ((done : List Pair) → AreEntriesOf done entries.old.entries → AreBefore done pair.now
-        → AreEntriesOf (done ++ pair.now ∷ []) entries.new.entries) }
+fn put_time(alloc: Global, entries: &mut Entries, pair: KeptPair) -> Result<(), NoMemory>
+    ensures { OnOk result ((done : List Pair) → AreEntriesOf done entries.old.entries → AreBefore done pair
+        → AreEntriesOf (done ++ pair ∷ []) entries.new.entries) }
 {
     if let Some(place) = entries.get_index_of(&pair.row) {
         entries[place].push(pair.time)?;
@@ -205,11 +209,11 @@ fn put_time(alloc: Global, entries: &mut Entries, pair: &KeptPair) -> Result<(),
     }
     let mut times = SmallVec::new(alloc);
     times.push(pair.time)?;
-    entries.insert(pair.row.duplicate(alloc)?, times)?;
+    entries.insert(pair.row, times)?;
     Ok(())
 }
 
-// One step for each pair, where the interval has an end.
+// A step for each time of the pairs, where the interval has an end.
 fn queue_of(
     alloc: Global,
     interval: Interval,
@@ -236,39 +240,39 @@ fn steps_of(alloc: Global, columns: &Vars, pairs: &[KeptPair]) -> Result<Vec<Las
     ensures steps { IfOk result (λ steps. HaveStepsOf pairs.now steps.items) }
 {
     let mut steps = Vec::new(alloc);
-    for pair in pairs {
-        steps.push(step_of(alloc, columns, pair)?)?;
+    for (time, rows) in rows_by_time(alloc, pairs)? {
+        let rows = Table::from_rows(columns.duplicate(alloc)?, rows)?;
+        steps.push(LastStep { time, rows })?;
     }
     Ok(steps)
 }
 
-// A step at the pair's time with its row alone.
-fn step_of(alloc: Global, columns: &Vars, pair: &KeptPair) -> Result<LastStep, NoMemory>
-    requires distinct { HasNoRepeats columns.now }
-    requires fit { length pair.now.row ≡ length columns.now }
-    ensures time { IfOk result (λ step. step.time ≡ pair.now.time) }
-    ensures row { IfOk result (λ step. Contains step.rows.rows pair.now.row) }
+// The times of the pairs, each with the rows of its pairs.
+fn rows_by_time(alloc: Global, pairs: &[KeptPair]) -> Result<IndexMap<u64, Vec<Row>>, NoMemory>
+    ensures times { IfOk result (λ by_time. (time : ℕ) → is_some (get nat_eq by_time time)
+        ≡ list_any (λ p. nat_eq time p.time) pairs.now) }
+    ensures rows { IfOk result (λ by_time. (time : ℕ) → option_map_or (λ rows. rows.items) (get nat_eq by_time time) []
+        ≡ rows_at time pairs.now) }
 {
-    let mut rows = Vec::new(alloc);
-    rows.push(pair.row.duplicate(alloc)?)?;
-    let rows = Table::from_rows(columns.duplicate(alloc)?, rows)?;
-    Ok(LastStep {
-        time: pair.time,
-        rows,
-    })
+    let mut by_time: IndexMap<u64, Vec<Row>> = IndexMap::new(alloc);
+    for pair in pairs {
+        let row = pair.row.duplicate(alloc)?;
+        by_time.entry(pair.time)?.or_default().push(row)?;
+    }
+    Ok(by_time)
 }
 
 // The table of the pairs' rows.
-fn rows_of(alloc: Global, columns: &Vars, pairs: &[KeptPair]) -> Result<Table, NoMemory>
+fn rows_of(alloc: Global, columns: &Vars, pairs: Vec<KeptPair>) -> Result<Table, NoMemory>
     requires distinct { HasNoRepeats columns.now }
-    requires fit { All (λ p. length p.row ≡ length columns.now) pairs.now }
+    requires fit { All (λ p. length p.row ≡ length columns.now) pairs.items }
     ensures columns { IfOk result (λ t. t.columns ≡ columns.now) }
     ensures rows { IfOk result (λ t. (row : List AnyValue) → Contains t.rows row
-        ↔ Contains (map (λ p. p.row) pairs.now) row) }
+        ↔ Contains (map (λ p. p.row) pairs.items) row) }
 {
-    let mut rows = Vec::new(alloc);
+    let mut rows = Vec::with_capacity(alloc, pairs.len())?;
     for pair in pairs {
-        rows.push(pair.row.duplicate(alloc)?)?;
+        rows.push(pair.row)?;
     }
     Table::from_rows(columns.duplicate(alloc)?, rows)
 }

@@ -6,7 +6,8 @@ use Rattle.enf_formula.specs.FreeVariables.{IsFree}
 use Rattle.enf_value.specs.declared.terms.VarId.{VarId}
 use Rattle.monitorable_guard.specs.Present.{outermost}
 use Rattle.monitorable_guard.specs.Safety.{Safe, BindsFresh, Nothing, With, denial}
-use Rattle.past_state.specs.Keeping.{CanKeep, IsBegun, IsFresh, PushesFor}
+use Rattle.past_state.specs.Keeping.{CanKeep, IsFresh, PushesFor}
+use Rattle.past_state.specs.Memories.{IsFor}
 use Rattle.past_state.specs.Operators.{operators}
 use Rattle.past_state.proofs.BuildingLemmas.{keep_rest, keep_first, keep_left, keep_right, pushes_up, pushes_both, both_fewer, sum_counts}
 use Rattle.past_state.proofs.building.+pushing.Goals as goal
@@ -50,7 +51,7 @@ push_operators-returns-in_ok-prev_memory-in-Prev-clause-pushed t c = IfOk-weaker
     (λ _ grown. subst (λ f. PushesFor (reverse (operators (tree_of f))) c.args.out.now.items c.push_one.new.out.items) (sym c.in-Prev.is)
     (pushes_up (Prev c.in-Prev.field-0 c.in-Prev.interval (tree_of c.in-Prev.f.value)) (operators (tree_of c.in-Prev.f.value)) c.in_ok-prev_memory-in-Prev.field-0 c.in_ok-taken-in-Prev.taken c.args.out.now.items c.push_operators.new.out.items c.push_one.new.out.items
     (subst (λ f. PushesFor (reverse (operators (tree_of f))) c.args.out.now.items c.push_operators.new.out.items) c.deref-in-Prev.ensures c.in_ok-taken-in-Prev.ensures.pushed)
-    (subst (λ f. IsBegun (Prev c.in-Prev.field-0 c.in-Prev.interval (tree_of f)) c.in_ok-prev_memory-in-Prev.field-0) c.deref-in-Prev-2.ensures (c.in_ok-prev_memory-in-Prev.ensures c.in-Prev.field-0))
+    (subst (λ f. IsFor (Prev c.in-Prev.field-0 c.in-Prev.interval (tree_of f)) c.in_ok-prev_memory-in-Prev.field-0) c.deref-in-Prev-2.ensures (c.in_ok-prev_memory-in-Prev.ensures c.in-Prev.field-0))
     (c.in_ok-taken-in-Prev.ensures.count ∙ ap (λ f. length (outermost (tree_of f))) c.deref-in-Prev.ensures) grown)) c.push_one.ensures.pushed
 
 pub push_operators-returns-in_ok-once_memory-in-Once-clause-pushed : goal.push_operators-returns-in_ok-once_memory-in-Once-clause-pushed
@@ -58,7 +59,7 @@ push_operators-returns-in_ok-once_memory-in-Once-clause-pushed t c = IfOk-weaker
     (λ _ grown. subst (λ f. PushesFor (reverse (operators (tree_of f))) c.args.out.now.items c.push_one-in-Once.new.out.items) (sym c.in-Once.is)
     (pushes_up (Once c.in-Once.field-0 c.in-Once.interval (tree_of c.in-Once.f.value)) (operators (tree_of c.in-Once.f.value)) c.in_ok-once_memory-in-Once.field-0 c.in_ok-taken-in-Once.taken c.args.out.now.items c.push_operators-in-Once.new.out.items c.push_one-in-Once.new.out.items
     (subst (λ f. PushesFor (reverse (operators (tree_of f))) c.args.out.now.items c.push_operators-in-Once.new.out.items) c.deref-in-Once.ensures c.in_ok-taken-in-Once.ensures.pushed)
-    (subst (λ f. IsBegun (Once c.in-Once.field-0 c.in-Once.interval (tree_of f)) c.in_ok-once_memory-in-Once.field-0) c.deref-in-Once-2.ensures (c.in_ok-once_memory-in-Once.ensures c.in-Once.field-0))
+    (subst (λ f. IsFor (Once c.in-Once.field-0 c.in-Once.interval (tree_of f)) c.in_ok-once_memory-in-Once.field-0) c.deref-in-Once-2.ensures (c.in_ok-once_memory-in-Once.ensures c.in-Once.field-0))
     (c.in_ok-taken-in-Once.ensures.count ∙ ap (λ f. length (outermost (tree_of f))) c.deref-in-Once.ensures) grown)) c.push_one-in-Once.ensures.pushed
 
 pub push_operators-returns-in_ok-historically_memory-in-Historically-clause-pushed : goal.push_operators-returns-in_ok-historically_memory-in-Historically-clause-pushed
@@ -66,7 +67,7 @@ push_operators-returns-in_ok-historically_memory-in-Historically-clause-pushed t
     (λ _ grown. subst (λ f. PushesFor (reverse (operators (tree_of f))) c.args.out.now.items c.push_one-in-Historically.new.out.items) (sym c.in-Historically.is)
     (pushes_up (Historically c.in-Historically.field-0 c.in-Historically.interval (tree_of c.in-Historically.f.value)) (operators (tree_of c.in-Historically.f.value)) c.in_ok-historically_memory-in-Historically.field-0 c.in_ok-taken-in-Historically.taken c.args.out.now.items c.push_operators-in-Historically.new.out.items c.push_one-in-Historically.new.out.items
     (subst (λ f. PushesFor (reverse (operators (tree_of f))) c.args.out.now.items c.push_operators-in-Historically.new.out.items) c.deref-in-Historically.ensures c.in_ok-taken-in-Historically.ensures.pushed)
-    (subst (λ f. IsBegun (Historically c.in-Historically.field-0 c.in-Historically.interval (tree_of f)) c.in_ok-historically_memory-in-Historically.field-0) c.deref-in-Historically-2.ensures (c.in_ok-historically_memory-in-Historically.ensures c.in-Historically.field-0))
+    (subst (λ f. IsFor (Historically c.in-Historically.field-0 c.in-Historically.interval (tree_of f)) c.in_ok-historically_memory-in-Historically.field-0) c.deref-in-Historically-2.ensures (c.in_ok-historically_memory-in-Historically.ensures c.in-Historically.field-0))
     (c.in_ok-taken-in-Historically.ensures.count ∙ ap (λ f. length (outermost (tree_of f))) c.deref-in-Historically.ensures) grown)) c.push_one-in-Historically.ensures.pushed
 
 pub push_operators-returns-in_ok-memory-in-Since-clause-pushed : goal.push_operators-returns-in_ok-memory-in-Since-clause-pushed
@@ -77,8 +78,8 @@ push_operators-returns-in_ok-memory-in-Since-clause-pushed t c = IfOk-weaker c.p
     (pushes_both (operators (tree_of c.in-Since.f.value)) (operators (tree_of c.in-Since.g.value)) c.args.out.now.items c.push_operators-in-Since.new.out.items c.push_operators-in-Since-2.new.out.items
     (subst (λ f. PushesFor (reverse (operators (tree_of f))) c.args.out.now.items c.push_operators-in-Since.new.out.items) c.deref-in-Since.ensures c.in_ok-right-in-Since.ensures.pushed)
     (subst (λ f. PushesFor (reverse (operators (tree_of f))) c.push_operators-in-Since.new.out.items c.push_operators-in-Since-2.new.out.items) c.deref-in-Since-2.ensures c.in_ok-left-in-Since.ensures.pushed))
-    (subst (λ f. IsBegun (Since c.in-Since.field-0 c.in-Since.interval (tree_of f) (tree_of c.in-Since.g.value)) c.in_ok-memory-in-Since.memory) c.deref-in-Since-3.ensures
-    (subst (λ g. IsBegun (Since c.in-Since.field-0 c.in-Since.interval (tree_of c.deref-in-Since-3.result.now) (tree_of g)) c.in_ok-memory-in-Since.memory) c.deref-in-Since-4.ensures (c.in_ok-memory-in-Since.ensures c.in-Since.field-0)))
+    (subst (λ f. IsFor (Since c.in-Since.field-0 c.in-Since.interval (tree_of f) (tree_of c.in-Since.g.value)) c.in_ok-memory-in-Since.memory) c.deref-in-Since-3.ensures
+    (subst (λ g. IsFor (Since c.in-Since.field-0 c.in-Since.interval (tree_of c.deref-in-Since-3.result.now) (tree_of g)) c.in_ok-memory-in-Since.memory) c.deref-in-Since-4.ensures (c.in_ok-memory-in-Since.ensures c.in-Since.field-0)))
     (sum_counts (outermost (tree_of c.in-Since.f.value)) (outermost (tree_of c.in-Since.g.value)) _ _ (c.in_ok-left-in-Since.ensures.count ∙ ap (λ f. length (outermost (tree_of f))) c.deref-in-Since-2.ensures) (c.in_ok-right-in-Since.ensures.count ∙ ap (λ f. length (outermost (tree_of f))) c.deref-in-Since.ensures)) grown)) c.push_one-in-Since.ensures.pushed
 
 pub push_operators-prev_memory-requires-clause-safe : goal.push_operators-prev_memory-requires-clause-safe

@@ -1,10 +1,10 @@
 use Rattle.std.proofs.Common.{ℕ, subst}
 use Rattle.std.proofs.lemmas.Result.{IfOk-weaker}
 use Rattle.enf_formula.specs.Formulas.{Once, Historically, tree_of}
-use Rattle.past_state.specs.Keeping.{IsBegun}
-use Rattle.past_state.proofs.BuildingLemmas.{begun_denied}
+use Rattle.past_state.specs.Memories.{IsFor}
+use Rattle.past_state.proofs.BuildingLemmas.{for_denied}
 use Rattle.past_state.proofs.building.historically_memory.Goals as goal
 
 pub returns : goal.returns
-returns c = IfOk-weaker c.once_memory.result _ (λ m. (place : ℕ) → IsBegun (Historically place c.args.interval (tree_of c.args.operand.now)) m)
-    (λ m begun place. begun_denied place c.args.interval (tree_of c.args.operand.now) m (subst (λ f. IsBegun (Once place c.args.interval f) m) c.in_ok-denial_of.ensures (begun place))) c.once_memory.ensures
+returns c = IfOk-weaker c.once_memory.result _ (λ m. (place : ℕ) → IsFor (Historically place c.args.interval (tree_of c.args.operand.now)) m)
+    (λ m for place. for_denied place c.args.interval (tree_of c.args.operand.now) m (subst (λ f. IsFor (Once place c.args.interval f) m) c.in_ok-denial_of.ensures (for place))) c.once_memory.ensures

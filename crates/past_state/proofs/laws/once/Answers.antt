@@ -1,10 +1,7 @@
 use Rattle.std.proofs.Common.{◌∷◌, [], ◌++◌}
 use Rattle.past_state.specs.Laws.{satisfied, everywhere}
-use Rattle.past_state.proofs.StandsLemmas.{same_sat, same_everywhere, answered, begins, still_stands, denied}
+use Rattle.past_state.proofs.StandsLemmas.{same_sat, same_everywhere, answered, still_stands, denied}
 use Rattle.past_state.proofs.laws.once.Goals as goal
-
-pub returns-clause-begins : goal.returns-clause-begins
-returns-clause-begins c = λ interval g columns window free new. begins c.step_by_step.ensures.nothing interval everywhere (satisfied [] g) g columns window free new
 
 pub returns-clause-answers : goal.returns-clause-answers
 returns-clause-answers c = λ trace step place interval g window survivors right past later stands tables.

@@ -1,10 +1,7 @@
 use Rattle.std.proofs.Common.{◌∷◌, [], ◌++◌}
 use Rattle.past_state.specs.Laws.{satisfied}
-use Rattle.past_state.proofs.StandsLemmas.{same_sat, answered, begins, still_stands}
+use Rattle.past_state.proofs.StandsLemmas.{same_sat, answered, still_stands}
 use Rattle.past_state.proofs.laws.since.Goals as goal
-
-pub returns-clause-begins : goal.returns-clause-begins
-returns-clause-begins c = λ interval f g columns window free new. begins c.step_by_step.ensures.nothing interval (satisfied [] f) (satisfied [] g) g columns window free new
 
 pub returns-clause-answers : goal.returns-clause-answers
 returns-clause-answers c = λ trace step place interval f g window survivors right past_f past_g later stands tables.

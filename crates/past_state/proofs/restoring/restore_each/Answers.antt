@@ -1,38 +1,39 @@
-use Rattle.std.proofs.Common.{◌≡◌, ◌∙◌, ◌++◌, ◌∷◌, [], ◌-◌, ◌+◌, ◌<◌, All, Some, length, ap, sym, subst, refl, arith, append_assoc, length-append}
-use Rattle.std.proofs.lemmas.Option.{slice_get-get_or}
-use Rattle.past_state.specs.Restoring.{AreByWindow, AreKeepableFor, ArePairsIn, AreRestored}
-use Rattle.past_state.proofs.RestoringLemmas.{distinct_here, keepable_here, restored_more, rows_within}
+use Rattle.std.proofs.Common.{◌∙◌, ◌<◌, ⊎_elim, ap, All, refl, subst, sym, arith}
+use Rattle.std.specs.Iterator.Adapters.{rev_source, zip_first, zip_second}
+use Rattle.std.specs.Vec.Iter.{into_iter_items}
+use Rattle.past_state.specs.Restoring.{AreByWindow}
+use Rattle.past_state.proofs.RestoringLemmas.{AreLeft, all_left, distinct_next, keepable_next, none_left, one_less, rows_within}
 use Rattle.past_state.proofs.restoring.restore_each.Goals as goal
 
 pub by_window-requires : goal.by_window-requires
 by_window-requires c = subst (λ n. All (λ r. r.window < n) c.args.rows) (omega (arith, c.len.ensures)) (rows_within c.args.operators.items c.args.last c.args.rows c.requires)
 
+pub loop-operator-init : goal.loop-operator-init
+loop-operator-init c =
+    let same = c.into_iter-operator-iterator.ensures.into_iter_gives in
+    let left = ap (λ z. into_iter_items (zip_first z)) same ∙ ap into_iter_items c.zip-operator-items.ensures.first ∙ c.into_iter.ensures.rest in
+    let lists = ap (λ z. into_iter_items (rev_source (zip_second z))) same ∙ ap (λ r. into_iter_items (rev_source r)) c.zip-operator-items.ensures.second ∙ ap into_iter_items c.rev.ensures.source ∙ c.into_iter-2.ensures.rest in (
+      (tt, tt),
+      tt,
+      subst (λ l. AreLeft c.args.operators.items c.args.last c.args.rows l (into_iter_items (rev_source (zip_second c.into_iter-operator-iterator.result))) c.in_ok-restored.restored.items) (sym left)
+          (subst (λ l. AreLeft c.args.operators.items c.args.last c.args.rows c.args.operators.items l c.in_ok-restored.restored.items) (sym lists)
+          (all_left (subst (λ n. AreByWindow c.args.rows n c.in_ok-lists.lists.items) (omega (arith, c.len.ensures)) c.in_ok-lists.ensures) c.in_ok-restored.ensures.items)),
+    )
+
 pub restored-requires-clause-distinct : goal.restored-requires-clause-distinct
-restored-requires-clause-distinct c = distinct_here c.args.operators.items c.loop-operator.yielded c.next.new.self.rest.items c.in-Some.operator c.args.last c.args.rows c.requires
-    (sym c.into_iter-operator-iterator.ensures.into_iter_gives.0 ∙ c.loop-operator.invariant.4 ∙ ap (λ l. c.loop-operator.yielded ++ l) c.in-Some.ensures.steps.0)
+restored-requires-clause-distinct c = distinct_next c.loop-operator.invariant.2 c.in-Some.ensures.steps.0.0 c.requires
 
 pub restored-requires-clause-keepable : goal.restored-requires-clause-keepable
-restored-requires-clause-keepable c =
-    let split = sym c.into_iter-operator-iterator.ensures.into_iter_gives.0 ∙ c.loop-operator.invariant.4 ∙ ap (λ l. c.loop-operator.yielded ++ l) c.in-Some.ensures.steps.0 in
-    let at : c.loop-operator.window - 1 ≡ length c.next.new.self.rest.items = omega (arith, c.loop-operator.invariant.2, ap length c.in-Some.ensures.steps.0) in
-    let are : AreByWindow c.args.rows (length c.args.operators.items) c.in_ok-lists.lists.items = subst (λ n. AreByWindow c.args.rows n c.in_ok-lists.lists.items) (omega (arith, c.len.ensures)) c.in_ok-lists.ensures in
-    subst (AreKeepableFor c.in-Some.operator.memory c.args.last) (sym c.as_slice-pairs.ensures.value)
-    (keepable_here c.args.operators.items c.loop-operator.yielded c.next.new.self.rest.items c.in-Some.operator c.args.last c.args.rows c.requires split (c.loop-operator.window - 1) c.in_ok-lists.lists.items c.index.result.now at are
-    (slice_get-get_or c.in_ok-lists.lists.items (c.loop-operator.window - 1) c.index.result.now (omega (arith, c.loop-operator.invariant.2, ap length c.in-Some.ensures.steps.0, ap length split, are.0, length-append c.loop-operator.yielded (c.in-Some.operator ∷ c.next.new.self.rest.items))) ∙ ap Some (sym c.index.ensures)))
+restored-requires-clause-keepable c = keepable_next c.loop-operator.invariant.2 c.in-Some.ensures.steps.0.0 (into_iter_items (rev_source (zip_second c.next.new.self))) c.in-Some.pairs c.in-Some.ensures.steps.1 c.requires
 
 pub loop-operator-preserved : goal.loop-operator-preserved
-loop-operator-preserved c =
-    let split = sym c.into_iter-operator-iterator.ensures.into_iter_gives.0 ∙ c.loop-operator.invariant.4 ∙ ap (λ l. c.loop-operator.yielded ++ l) c.in-Some.ensures.steps.0 in
-    let at : c.loop-operator.window - 1 ≡ length c.next.new.self.rest.items = omega (arith, c.loop-operator.invariant.2, ap length c.in-Some.ensures.steps.0) in
-    let one_more : c.loop-operator.window ≡ c.loop-operator.window - 1 + 1 = omega (arith, c.loop-operator.invariant.2, ap length c.in-Some.ensures.steps.0) in
-    let are : AreByWindow c.args.rows (length c.args.operators.items) c.in_ok-lists.lists.items = subst (λ n. AreByWindow c.args.rows n c.in_ok-lists.lists.items) (omega (arith, c.len.ensures)) c.in_ok-lists.ensures in
-    let found = slice_get-get_or c.in_ok-lists.lists.items (c.loop-operator.window - 1) c.index.result.now (omega (arith, c.loop-operator.invariant.2, ap length c.in-Some.ensures.steps.0, ap length split, are.0, length-append c.loop-operator.yielded (c.in-Some.operator ∷ c.next.new.self.rest.items))) ∙ ap Some (sym c.index.ensures) in (
-      tt,
-      tt,
-      at,
-      restored_more c.args.last c.args.rows (c.loop-operator.window - 1) c.loop-operator.yielded c.loop-operator.restored.items c.push.new.self.items c.in-Some.operator
-          (record { taken = c.in-Some.operator.taken; memory = c.in_ok-memory.memory }) c.as_slice-pairs.result.now
-          (subst (λ n. AreRestored c.args.last c.args.rows n c.loop-operator.yielded c.loop-operator.restored.items) one_more c.loop-operator.invariant.3)
-          (subst (ArePairsIn c.args.rows (c.loop-operator.window - 1)) (sym c.as_slice-pairs.ensures.value) (are.1 (c.loop-operator.window - 1) c.index.result.now found)) refl c.in_ok-memory.ensures c.in_ok-push.ensures.items,
-      c.loop-operator.invariant.4 ∙ ap (λ l. c.loop-operator.yielded ++ l) c.in-Some.ensures.steps.0 ∙ sym (append_assoc c.loop-operator.yielded (c.in-Some.operator ∷ []) c.next.new.self.rest.items),
-    )
+loop-operator-preserved c = (
+  (tt, tt),
+  tt,
+  one_less c.loop-operator.invariant.2 c.in-Some.ensures.steps.0.0 (into_iter_items (rev_source (zip_second c.next.new.self))) c.in-Some.pairs c.in-Some.ensures.steps.1 (record { taken = c.in-Some.operator.taken; memory = c.in_ok-memory.memory }) c.push.new.self.items
+      refl c.in_ok-memory.ensures c.in_ok-push.ensures.items,
+)
+
+pub returns : goal.returns
+returns c = none_left c.loop-operator.invariant.2 (⊎_elim (λ end. omega (arith, end.1.0, (zip_first c.loop-operator.operator-iterator).rest.ok.0))
+    (λ end. omega (arith, end.1.0, (rev_source (zip_second c.loop-operator.operator-iterator)).rest.ok.0, c.loop-operator.invariant.2.by_window.0)) c.in-None.ensures.steps)

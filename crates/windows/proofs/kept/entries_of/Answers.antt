@@ -1,19 +1,19 @@
-use Rattle.std.proofs.Common.{take, sym, subst}
-use Rattle.std.proofs.lemmas.List.{take_all}
-use Rattle.windows.specs.KeptPairs.{AreEntriesOf, IsBefore}
-use Rattle.windows.proofs.EntryLemmas.{next_of}
-use Rattle.windows.proofs.PairLemmas.{before_place}
+use Rattle.std.proofs.Common.{◌∙◌, [], ◌∷◌, ◌++◌, refl, sym, ap, subst, append_assoc}
+use Rattle.valuations.specs.Columns.{here}
+use Rattle.windows.specs.KeptLaws.{rises_front}
+use Rattle.windows.specs.KeptPairs.{AreEntriesOf, AreRising, IsBefore}
 use Rattle.windows.proofs.RestoreLemmas.{no_entries}
 use Rattle.windows.proofs.kept.entries_of.Goals as goal
 
 pub loop-pair-init : goal.loop-pair-init
-loop-pair-init c = subst (AreEntriesOf (take 0 c.args.pairs.now)) (sym c.new-entries.ensures.empty) no_entries
+loop-pair-init c = (tt, tt, subst (AreEntriesOf []) (sym c.new-entries.ensures.empty) no_entries, refl)
 
 pub loop-pair-preserved : goal.loop-pair-preserved
 loop-pair-preserved c =
-    next_of (λ l. AreEntriesOf l c.put_time.new.entries.entries) c.args.pairs.now c.loop-pair.pair-index c.pair-item.result c.loop-pair-test.true c.pair-item.is
-    (c.in_ok-put_time.ensures (take c.loop-pair.pair-index c.args.pairs.now) c.loop-pair.invariant
-    (λ q there. subst (IsBefore q) (sym c.pair-item.is) (before_place IsBefore c.args.pairs.now c.loop-pair.pair-index c.pair-item.result q c.requires c.loop-pair-test.true there)))
-
-pub returns : goal.returns
-returns c = subst (λ l. AreEntriesOf l c.loop-pair.entries.entries) (take_all c.loop-pair.pair-index c.args.pairs.now c.loop-pair-test.false) c.loop-pair.invariant
+    let split = sym c.into_iter-pair-iterator.ensures.into_iter_gives.0 ∙ c.loop-pair.invariant.3 ∙ ap (λ l. c.loop-pair.yielded ++ l) c.in-Some.ensures.steps.0 in (
+      tt,
+      tt,
+      c.in_ok-put_time.ensures c.loop-pair.yielded c.loop-pair.invariant.2 (λ q there.
+          (rises_front IsBefore c.loop-pair.yielded (c.in-Some.pair ∷ c.next.new.self.rest.items) (subst AreRising split c.requires)).1 q c.in-Some.pair there (here c.in-Some.pair c.next.new.self.rest.items)),
+      c.loop-pair.invariant.3 ∙ ap (λ l. c.loop-pair.yielded ++ l) c.in-Some.ensures.steps.0 ∙ sym (append_assoc c.loop-pair.yielded (c.in-Some.pair ∷ []) c.next.new.self.rest.items),
+    )

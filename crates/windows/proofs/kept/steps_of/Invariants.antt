@@ -1,6 +1,6 @@
-use Rattle.std.proofs.Common.{take}
-use Rattle.windows.specs.KeptPairs.{HaveStepsOf, HaveTimesOf}
+use Rattle.std.proofs.Common.{length}
+use Rattle.windows.proofs.StepLemmas.{HaveSteps}
 use Rattle.windows.proofs.kept.steps_of.Given as goal
 
-abbrev pub invariant-loop-pair : goal.invariant-loop-pair
-invariant-loop-pair l = HaveTimesOf (take l.pair-index l.pairs) l.steps.items × HaveStepsOf (take l.pair-index l.pairs) l.steps.items
+abbrev pub invariant-loop-time : goal.invariant-loop-time
+invariant-loop-time l = HaveSteps (length l.columns) l.pairs l.time-iterator l.steps.items

@@ -1,14 +1,16 @@
-use Rattle.std.proofs.Common.{◌↔◌, Contains, ap, sym, subst, map, reverse, arith}
+use Rattle.std.proofs.Common.{◌↔◌, All, Contains, ap, sym, subst, map, reverse, arith}
+use Rattle.past_state.specs.GuardLaws.{copies_formulas}
 use Rattle.past_state.specs.Guarded.{tree_in}
 use Rattle.past_state.specs.Operators.{all_operators}
 use Rattle.past_state.specs.Past.{IsPast, formulas}
+use Rattle.past_state.specs.Restoring.{IsAtLast}
 use Rattle.past_state.specs.Runs.{AllStand, AreUpToTimeOf}
 use Rattle.past_state.specs.Saved.{StoresAt}
 use Rattle.past_state.specs.declared.kept.KeptRow.{KeptRow}
-use Rattle.past_state.proofs.GuardLemmas.{copies_formulas, few_outermost, new_past}
+use Rattle.past_state.proofs.GuardLemmas.{few_outermost, new_past}
 use Rattle.past_state.proofs.PastLemmas.{still_past}
 use Rattle.past_state.proofs.RestoredLemmas.{made_stands}
-use Rattle.past_state.proofs.RestoringLemmas.{can_restore, pushed_for, from_start, none_later, rows_exact, rows_within, same_kinds}
+use Rattle.past_state.proofs.RestoringLemmas.{at_last, can_restore, pushed_for, from_start, none_later, rows_exact, rows_within, same_kinds}
 use Rattle.past_state.proofs.past.PastState.from_kept.Goals as goal
 
 pub restore_each-requires : goal.restore_each-requires
@@ -25,6 +27,10 @@ invariant_of-result c =
     (still_past (record { guards = c.in_ok-placed.placed.items; operators = c.push_all.new.out.items }) c.in_ok-items.items.items
     (new_past c.args.guards.now c.in_ok-placed.placed.items c.new-operators.result.items c.push_all.new.out.items c.in_ok-placed.ensures.copies c.in_ok-placed.ensures.begin c.in_ok-placed.ensures.past c.requires.fresh c.new-operators.ensures.items c.in_ok-counts.ensures.pushed)
     (same_kinds c.args.last c.args.rows 0 c.push_all.new.out.items c.in_ok-items.items.items c.in_ok-items.ensures)))
+
+pub returns-clause-last : goal.returns-clause-last
+returns-clause-last c = subst (λ s. All (λ o. IsAtLast c.args.last o.memory) s.items.items) (sym c.in_ok-operators.ensures.ok)
+    (at_last c.args.last c.args.rows 0 c.push_all.new.out.items c.in_ok-items.items.items c.in_ok-items.ensures)
 
 pub returns-clause-up_to : goal.returns-clause-up_to
 returns-clause-up_to c = λ time from. subst (λ s. AreUpToTimeOf time s.items.items) (sym c.in_ok-operators.ensures.ok)

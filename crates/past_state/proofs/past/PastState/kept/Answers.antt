@@ -2,7 +2,7 @@ use Rattle.std.proofs.Common.{◌∙◌, ◌<◌, length, ap, sym, subst, arith}
 use Rattle.past_state.specs.Past.{formulas}
 use Rattle.past_state.specs.Operators.{all_operators}
 use Rattle.past_state.specs.Saved.{AreRowsKept, AreRowsOf}
-use Rattle.past_state.proofs.SavedLemmas.{SavedUpTo, counted_back, kept_of_trace, rows_of, saved_more, saved_none}
+use Rattle.past_state.proofs.SavedLemmas.{SavedUpTo, counted, counted_back, kept_of_trace, rows_of, saved_more, saved_none}
 use Rattle.past_state.proofs.past.PastState.kept.Goals as goal
 
 pub loop-window-init : goal.loop-window-init
@@ -14,6 +14,15 @@ loop-window-preserved c =
     saved_more c.as_slice-operators.result.now c.loop-window.window c.index-operators-operators.result c.in_ok-kept.field-0.items c.loop-window.rows.items c.push_rows.new.out.items
     (counted_back c.as_slice-operators.result.now c.loop-window.window c.index-operators-operators.result below c.index-operators-operators.is)
     c.in_ok-kept.ensures.rising c.in_ok-kept.ensures.exact c.in_ok-kept.ensures.whole c.in_ok-push_rows.ensures c.loop-window.invariant
+
+pub overflow_cast-window : goal.overflow_cast-window
+overflow_cast-window c = omega (
+  arith,
+  c.requires,
+  ap (λ p. length (all_operators (formulas p.guards))) c.self.view_is,
+  counted (record { guards = c.self.inside.guards.value.items; operators = c.self.inside.operators.value.items.items }) c.self.invariant,
+  ap length (c.as_slice-operators.ensures.value ∙ ap (λ s. s.items.items) c.deref.ensures),
+)
 
 saved : (c : goal.After-from_vec) → SavedUpTo c.as_slice-operators.result.now (length c.as_slice-operators.result.now) c.from_vec.result
 saved c = subst (SavedUpTo c.as_slice-operators.result.now (length c.as_slice-operators.result.now)) (sym c.from_vec.ensures)

@@ -1,25 +1,20 @@
-use Rattle.std.proofs.Common.{ℕ, [], ap, sym, subst, map, arith}
+use Rattle.std.proofs.Common.{ℕ, [], None, IfOk, map, refl, subst}
+use Rattle.std.proofs.lemmas.Result.{IfOk-weaker}
 use Rattle.past_state.specs.Guarded.{tree_in}
-use Rattle.past_state.specs.Past.{IsPast, PastStands}
+use Rattle.past_state.specs.Operators.{all_operators}
+use Rattle.past_state.specs.Past.{PastStands}
+use Rattle.past_state.specs.Restoring.{IsUpToLast, WillStandFor}
 use Rattle.past_state.specs.Runs.{AreUpToTimeOf}
-use Rattle.past_state.proofs.GuardLemmas.{few_outermost, new_past, new_stands, new_up_to}
+use Rattle.past_state.specs.Saved.{AreRowsOf}
+use Rattle.past_state.proofs.BoundsLemmas.{kept_of_nothing}
 use Rattle.past_state.proofs.past.PastState.new.Goals as goal
 
-pub place_all-requires-clause-few : goal.place_all-requires-clause-few
-place_all-requires-clause-few c =
-    omega (arith, few_outermost (map tree_in c.args.guards.now) c.new-operators.result.items c.push_all.new.out.items c.new-operators.ensures.items c.in_ok-counts.ensures.pushed, c.push_all.new.out.ok.0, c.push_all.new.out.small)
-
-pub invariant_of-result : goal.invariant_of-result
-invariant_of-result c =
-    subst (λ s. IsPast (record { guards = c.in_ok-guards.guards.value.items; operators = s.items.items })) (sym c.in_ok-operators.ensures.ok)
-    (subst (λ l. IsPast (record { guards = l; operators = c.push_all.new.out.items })) (ap (λ v. v.items) (sym c.in_ok-guards.ensures.ok))
-    (new_past c.args.guards.now c.in_ok-placed.placed.items c.new-operators.result.items c.push_all.new.out.items c.in_ok-placed.ensures.copies c.in_ok-placed.ensures.begin c.in_ok-placed.ensures.past c.requires c.new-operators.ensures.items c.in_ok-counts.ensures.pushed))
-
-pub returns-clause-stands : goal.returns-clause-stands
-returns-clause-stands c =
-    subst (λ s. PastStands [] (record { guards = c.in_ok-guards.guards.value.items; operators = s.items.items })) (sym c.in_ok-operators.ensures.ok)
-    (subst (λ l. PastStands [] (record { guards = l; operators = c.push_all.new.out.items })) (ap (λ v. v.items) (sym c.in_ok-guards.ensures.ok))
-    (new_stands c.args.guards.now c.in_ok-placed.placed.items c.new-operators.result.items c.push_all.new.out.items c.in_ok-placed.ensures.copies c.new-operators.ensures.items c.in_ok-counts.ensures.pushed))
+pub returns-clause-exact : goal.returns-clause-exact
+returns-clause-exact c = subst (λ rows. IfOk c.from_kept.result (λ p. AreRowsOf p rows)) c.new.ensures c.from_kept.ensures.exact
 
 pub returns-clause-up_to : goal.returns-clause-up_to
-returns-clause-up_to c = subst (λ s. (time : ℕ) → AreUpToTimeOf time s.items.items) (sym c.in_ok-operators.ensures.ok) (new_up_to _ c.new-operators.result.items c.push_all.new.out.items c.new-operators.ensures.items c.in_ok-counts.ensures.pushed)
+returns-clause-up_to c = IfOk-weaker c.from_kept.result (IsUpToLast None) (λ p. (time : ℕ) → AreUpToTimeOf time p.operators) (λ p up_to time. up_to time tt) c.from_kept.ensures.up_to
+
+pub returns-clause-stands : goal.returns-clause-stands
+returns-clause-stands c = IfOk-weaker c.from_kept.result (WillStandFor (all_operators (map tree_in c.args.guards.now)) None c.new.result) (PastStands [])
+    (λ p stands. stands [] refl (kept_of_nothing (all_operators (map tree_in c.args.guards.now)) c.new.result c.new.ensures)) c.from_kept.ensures.stands

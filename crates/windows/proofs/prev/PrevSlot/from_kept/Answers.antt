@@ -8,8 +8,8 @@ use Rattle.windows.proofs.prev.PrevSlot.from_kept.Goals.{in-Some+in_ok-rows_of-i
 pub returns-clause-exact : goal.returns-clause-exact
 returns-clause-exact c =
     elim c.match-last.branch [
-      | in-Some+in_ok-rows_of-in-Some w ↦ subst (λ l. (p : KeptPair) → Contains (pairs_of_last l) p ↔ Contains c.args.pairs.now p) (sym w.last-is)
-          (last_pairs w.in-Some.time w.in_ok-rows_of-in-Some.field-0.rows c.args.pairs.now (subst (λ l. AreOfLast l c.args.pairs.now) w.in-Some.is c.requires.times) w.in_ok-rows_of-in-Some.ensures.rows)
-      | in-None w ↦ subst (λ l. (p : KeptPair) → Contains (pairs_of_last l) p ↔ Contains c.args.pairs.now p) (sym w.last-is)
-          (subst (λ l. (p : KeptPair) → Contains [] p ↔ Contains l p) (sym (subst (λ l. AreOfLast l c.args.pairs.now) w.in-None.is c.requires.times)) (λ p. (λ h. h, λ h. h)))
+      | in-Some+in_ok-rows_of-in-Some w ↦ subst (λ l. (p : KeptPair) → Contains (pairs_of_last l) p ↔ Contains c.args.pairs.items p) (sym w.last-is)
+          (last_pairs w.in-Some.time w.in_ok-rows_of-in-Some.field-0.rows c.args.pairs.items (subst (λ l. AreOfLast l c.args.pairs.items) w.in-Some.is c.requires.times) w.in_ok-rows_of-in-Some.ensures.rows)
+      | in-None w ↦ subst (λ l. (p : KeptPair) → Contains (pairs_of_last l) p ↔ Contains c.args.pairs.items p) (sym w.last-is)
+          (subst (λ l. (p : KeptPair) → Contains [] p ↔ Contains l p) (sym (subst (λ l. AreOfLast l c.args.pairs.items) w.in-None.is c.requires.times)) (λ p. (λ h. h, λ h. h)))
     ]

@@ -7,7 +7,7 @@ use Rattle.windows.specs.KeptPairs.{ArePairsOf}
 use Rattle.windows.specs.Windows.{KeepsLeast}
 use Rattle.windows.proofs.EntryLemmas.{next_of}
 use Rattle.windows.proofs.PairLemmas.{ArePairsOfRows, are_keepable, are_kept, are_pairs, before_place, no_rows_yet, row_more, rows_rise}
-use Rattle.windows.proofs.WindowLemmas.{keeps_least}
+use Rattle.windows.proofs.WindowLemmas.{window_least}
 use Rattle.windows.proofs.since.SinceWindow.kept.Goals as goal
 use Rattle.windows.proofs.since.SinceWindow.kept.Goals.{After-drop-rows-inside-3}
 
@@ -26,7 +26,7 @@ loop-row-preserved c =
     c.in_ok-push_pairs.ensures.1 c.in_ok-push_pairs.ensures.2 c.loop-row.invariant)
 
 least : (c : After-drop-rows-inside-3) → KeepsLeast c.args.self.now
-least c = subst KeepsLeast c.self.view_is (keeps_least c.self.inside.interval c.self.inside.columns c.self.inside.last c.self.inside.entries.entries c.self.invariant.distinct c.self.invariant.kept c.self.invariant.least)
+least c = subst KeepsLeast c.self.view_is (window_least _ _ _ _ _ c.self.invariant)
 
 exact : (c : After-drop-rows-inside-3) → ArePairsOf c.args.self.now c.loop-row.pairs.items
 exact c = are_pairs c.args.self.now (least c) c.self.inside.entries.entries (ap (λ w. w.kept) c.self.view_is) c.in_ok-rows.rows c.loop-row.pairs.items c.in_ok-rows.ensures.table c.in_ok-rows.ensures.columns c.in_ok-rows.ensures.kept
@@ -44,3 +44,9 @@ returns-clause-walked c = are_kept c.args.self.now c.loop-row.pairs.items (least
 
 pub returns-clause-least : goal.returns-clause-least
 returns-clause-least c = least c
+
+pub returns-in_err-rows-clause-least : goal.returns-in_err-rows-clause-least
+returns-in_err-rows-clause-least c = subst KeepsLeast c.self.view_is (window_least _ _ _ _ _ c.self.invariant)
+
+pub returns-in_err-push_pairs-clause-least : goal.returns-in_err-push_pairs-clause-least
+returns-in_err-push_pairs-clause-least c = subst KeepsLeast c.self.view_is (window_least _ _ _ _ _ c.self.invariant)

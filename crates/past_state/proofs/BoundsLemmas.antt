@@ -1,0 +1,98 @@
+-- What has to be kept of a trace is within the bounds at its last time.
+use Rattle.std.proofs.Common.{◌≡◌, ◌∙◌, ℕ, ◌+◌, ◌-◌, ◌<◌, ◌≤◌, List, [], ◌∷◌, ◌++◌, take, length, Contains, None, Some, refl, sym, ap, subst, arith}
+use Rattle.std.specs.Prelude.{slice_get}
+use Rattle.std.proofs.lemmas.List.{take_all, take_more}
+use Rattle.std.proofs.lemmas.Option.{same_Some}
+use Rattle.enf_value.specs.Data.{IsTrace, no_step, step_at}
+use Rattle.enf_value.specs.Valuations.{Valuation}
+use Rattle.enf_value.specs.declared.intervals.Interval.{Interval}
+use Rattle.enf_value.specs.declared.steps.Step.{Step}
+use Rattle.enf_value.specs.declared.terms.VarId.{VarId}
+use Rattle.enf_formula.specs.Formulas.{Formula, Prev, Once, Historically, Since}
+use Rattle.enf_formula.specs.FreeVariables.{AreFreeVariables}
+use Rattle.enf_formula.specs.Satisfaction.{Sat, Anywhere}
+use Rattle.monitorable_guard.specs.Safety.{denial}
+use Rattle.trace_meaning.specs.Continuation.{last_time}
+use Rattle.trace_meaning.specs.Laws.{LastIsTheNew}
+use Rattle.valuations.specs.Columns.{here, none_in_nil}
+use Rattle.valuations.specs.Tables.{valuation_of}
+use Rattle.windows.specs.Kept.{ChosenBy}
+use Rattle.windows.specs.KeptPairs.{pair}
+use Rattle.past_state.specs.Kept.{HasPairAt, KeptAt}
+use Rattle.past_state.specs.Restoring.{HaveTime, IsKeepable, IsTimely, IsTimelyIn, KeptAreWithinBounds}
+use Rattle.past_state.specs.Saved.{AreKeptOf, IsKept, KeptFor, kept_operand, kept_row}
+use Rattle.past_state.specs.declared.kept.KeptRow.{KeptRow}
+use Rattle.past_state.proofs.ChosenLemmas.{not_below}
+use Rattle.past_state.proofs.ColumnLemmas.{same_free}
+use Rattle.past_state.proofs.RestoringLemmas.{all_of, chosen_fewer}
+
+-- a row that has to be kept is so for the operator of its number, with the values of that one's columns
+pub kept_with : (trace : List Step) (fs : List Formula) (r : KeptRow) (f : Formula) (columns : List VarId) → slice_get fs r.window ≡ Some f → AreFreeVariables (kept_operand f) columns → IsKept trace fs r
+    → KeptFor trace f (valuation_of columns r.row) r.time
+kept_with trace fs r f columns at free k =
+    let is : k.operator ≡ f = same_Some k.operator f (sym k.numbered ∙ at) in
+    let same : k.columns ≡ columns = same_free (kept_operand f) k.columns columns (subst (λ g. AreFreeVariables (kept_operand g) k.columns) is k.free) free in
+    subst (λ l. KeptFor trace f (valuation_of l r.row) r.time) same (subst (λ g. KeptFor trace g (valuation_of k.columns r.row) r.time) is k.kept)
+
+-- ---- no position is later than the last time
+
+last_at : LastIsTheNew → (trace : List Step) → 0 < length trace → last_time trace ≡ (step_at trace (length trace - 1)).time
+last_at law trace some =
+    let whole : take (length trace - 1) trace ++ step_at trace (length trace - 1) ∷ [] ≡ trace =
+    sym (take_more trace (length trace - 1) no_step (omega (arith, some))) ∙ take_all (length trace - 1 + 1) trace (omega (arith, some)) in
+    ap last_time (sym whole) ∙ law (take (length trace - 1) trace) (step_at trace (length trace - 1))
+
+none_after : LastIsTheNew → (trace : List Step) → IsTrace trace → (i : ℕ) → i < length trace → (step_at trace i).time ≤ last_time trace
+none_after law trace is_trace i below =
+    let some : 0 < length trace = omega (arith, below) in
+    omega (arith, is_trace.ordered i (length trace - 1) (omega (arith, below)) (omega (arith, below)), last_at law trace some)
+
+-- ---- the times that are kept could not be left out
+
+module _ (law : LastIsTheNew) (trace : List Step) (is_trace : IsTrace trace) (last : ℕ) (at : last ≡ last_time trace) (P : ℕ → Type 0) (time : ℕ) where
+  timely_in : (interval : Interval) (F G : ℕ → Type 0) → ((other : ℕ) → P other → KeptAt trace interval F G other) → KeptAt trace interval F G time → IsTimelyIn interval last P time
+  timely_in interval F G each held = (
+    not_below time last (λ above. held.0 (λ h. omega (arith, above, h.2, at, none_after law trace is_trace h.0 h.1))),
+    chosen_fewer interval.high interval.low last (HasPairAt trace F G) P time (λ other there. (each other there).0)
+        (subst (λ l. ChosenBy interval.high interval.low l (HasPairAt trace F G) time) (sym at) held.1),
+  )
+
+  timely_for : (f : Formula) (v : Valuation) → ((other : ℕ) → P other → KeptFor trace f v other) → KeptFor trace f v time → IsTimely f last P time
+  timely_for (Prev place interval g) v each held = held.1 ∙ sym at
+  timely_for (Once place interval g) v each held = timely_in interval Anywhere (λ i. Sat trace i v g) each held
+  timely_for (Historically place interval g) v each held = timely_in interval Anywhere (λ i. Sat trace i v (denial g)) each held
+  timely_for (Since place interval g h) v each held = timely_in interval (λ i. Sat trace i v g) (λ i. Sat trace i v h) each held
+  timely_for f v each held = absurd held
+
+-- ---- the rows
+
+none_of_nothing : (f : Formula) (v : Valuation) (time : ℕ) → KeptFor [] f v time → ⊥
+none_of_nothing (Prev place interval g) v time held = omega (arith, held.0)
+none_of_nothing (Once place interval g) v time held = held.0 (λ h. omega (arith, h.1))
+none_of_nothing (Historically place interval g) v time held = held.0 (λ h. omega (arith, h.1))
+none_of_nothing (Since place interval g h) v time held = held.0 (λ h. omega (arith, h.1))
+none_of_nothing f v time held = held
+
+-- before the first step no row has to be kept
+pub kept_of_nothing : (fs : List Formula) (rows : List KeptRow) → rows ≡ [] → AreKeptOf [] fs rows
+kept_of_nothing fs rows none r = (
+  λ there. absurd (none_in_nil r (subst (λ l. Contains l r) none there)),
+  λ k. absurd (none_of_nothing k.operator (valuation_of k.columns r.row) r.time k.kept),
+)
+
+pub kept_are_within : LastIsTheNew → KeptAreWithinBounds
+kept_are_within law trace None fs [] is_trace at rising are = refl
+kept_are_within law trace None fs (r ∷ rows) is_trace at rising are =
+    let k = (are r).0 (here r rows) in
+    absurd (none_of_nothing k.operator (valuation_of k.columns r.row) r.time (subst (λ t. KeptFor t k.operator (valuation_of k.columns r.row) r.time) at k.kept))
+kept_are_within law trace (Some last) fs rows is_trace at rising are = (rising, all_of (IsKeepable fs last rows) rows keepable)
+  where
+    keepable : (r : KeptRow) → Contains rows r → IsKeepable fs last rows r
+    keepable r there =
+        let k = (are r).0 there in record {
+          operator = k.operator;
+          numbered = k.numbered;
+          long = λ columns free. k.fits ∙ ap length (same_free (kept_operand k.operator) k.columns columns k.free free);
+          timely = timely_for law trace is_trace last at.1 (HaveTime rows r) r.time k.operator (valuation_of k.columns r.row)
+              (λ other also. kept_with trace fs (kept_row r.window (pair r.row other)) k.operator k.columns k.numbered k.free ((are (kept_row r.window (pair r.row other))).0 also)) k.kept;
+        }

@@ -1,0 +1,10 @@
+use Rattle.std.proofs.Common.{◌≡◌, ℕ, [], take, is_some, nat_eq}
+use Rattle.std.specs.List.{list_any}
+use Rattle.std.specs.Option.{option_map_or}
+use Rattle.indexmap.specs.IndexMap.{get}
+use Rattle.windows.specs.KeptPairs.{rows_at}
+use Rattle.windows.proofs.kept.rows_by_time.Given as goal
+
+abbrev pub invariant-loop-pair : goal.invariant-loop-pair
+invariant-loop-pair l = ((time : ℕ) → is_some (get nat_eq l.by_time time) ≡ list_any (λ p. nat_eq time p.time) (take l.pair-index l.pairs))
+    × ((time : ℕ) → option_map_or (λ rows. rows.items) (get nat_eq l.by_time time) [] ≡ rows_at time (take l.pair-index l.pairs))
