@@ -7,7 +7,7 @@ ghost use Rattle.past_state.specs.Runs.{AreUpToTimeOf};
 use crate::case::CaseError;
 use crate::event_sets::event_of;
 use crate::parts::{part, read_count, word};
-use crate::past::{begun, read_guard};
+use crate::past::{begun, kept_rows, read_guard};
 use enf_value::{EventSet, print_bytes, print_number};
 use past_state::{PastState, Tables};
 use std::alloc::Global;
@@ -39,7 +39,8 @@ struct Counts {
 pub fn answer(alloc: Global, input: &[u8], out: &mut Vec<u8>) -> Result<(), CaseError> {
     let (numbers, policy) = part(input)?;
     let run = read_run(numbers)?;
-    let mut state = begun(alloc, read_guard(alloc, SIGNATURE, policy)?)?;
+    let guard = read_guard(alloc, SIGNATURE, policy)?;
+    let mut state = begun(alloc, &guard)?;
     let counts = count(alloc, run, &mut state)?;
     print_counts(counts, out)
 }
@@ -86,23 +87,15 @@ fn count(alloc: Global, run: Run, state: &mut PastState) -> Result<Counts, CaseE
             held += 1;
         }
         if step % run.every == 0 {
-            most = most.max(count_kept(alloc, state)?);
+            most = most.max(kept_rows(alloc, state)?.len());
         }
     }
-    let kept = count_kept(alloc, state)?;
+    let kept = kept_rows(alloc, state)?.len();
     Ok(Counts {
         held,
         kept,
         most: most.max(kept),
     })
-}
-
-fn count_kept(alloc: Global, state: &PastState) -> Result<usize, CaseError> {
-    if state.window_count() <= 1_000 {
-        Ok(state.kept(alloc)?.len())
-    } else {
-        Err(CaseError::Malformed)
-    }
 }
 
 // Whether the guard has a row at the step, which is committed.

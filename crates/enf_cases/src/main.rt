@@ -8,12 +8,14 @@ mod escapes;
 mod evaluations;
 mod event_sets;
 mod guards;
+mod holds;
 mod intervals;
 mod logs;
 mod long_runs;
 mod parts;
 mod past;
 mod policies;
+mod running;
 mod signatures;
 mod tables;
 mod typing;
@@ -23,6 +25,7 @@ mod window_runs;
 use case::CaseError;
 use enf_value::print_bytes;
 use log_stream::LogMode;
+use running::Way;
 use std::alloc::Global;
 use std::io;
 use std::io::{BufRead, BufReader, Write};
@@ -92,7 +95,11 @@ fn answer_meaning(
         b"evaluate" => evaluations::answer(alloc, input, out),
         b"window" => window_runs::answer(alloc, false, input, out),
         b"restored" => window_runs::answer(alloc, true, input, out),
-        b"past" => past::answer(alloc, input, out),
+        b"past" => past::answer(alloc, Way::Committed, input, out),
+        b"kept" => past::answer(alloc, Way::Kept, input, out),
+        b"shared" => past::answer(alloc, Way::Shared, input, out),
+        b"again" => past::answer(alloc, Way::Again, input, out),
+        b"holds" => holds::answer(alloc, input, out),
         b"long" => long_runs::answer(alloc, input, out),
         _ => Err(CaseError::UnknownKind),
     }

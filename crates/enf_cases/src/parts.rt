@@ -75,12 +75,18 @@ pub fn print_place(what: &[u8], place: Place, out: &mut Vec<u8>) -> Result<(), C
 pub fn read_variables(alloc: Global, digits: &[u8]) -> Result<Vars, CaseError> {
     let mut variables = Vec::new(alloc);
     for digit in digits {
-        if !digit.is_ascii_digit() {
-            return Err(CaseError::Malformed);
-        }
-        variables.push(VarId(u32::from(*digit - b'0')))?;
+        variables.push(read_variable(*digit)?)?;
     }
     Ok(Items::from_vec(variables))
+}
+
+/// A variable by its number, of one digit.
+pub fn read_variable(digit: u8) -> Result<VarId, CaseError> {
+    if digit.is_ascii_digit() {
+        Ok(VarId(u32::from(digit - b'0')))
+    } else {
+        Err(CaseError::Malformed)
+    }
 }
 
 /// The signature that the bytes spell.

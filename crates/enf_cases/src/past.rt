@@ -1,34 +1,37 @@
-//! The past: what a guard's rows are at each step of a log.
-ghost use Rattle.std.specs.Prelude.{◌≡◌, ◌≤◌, ◌<◌, [], ℕ, IfOk, OnOk, length};
-ghost use Rattle.enf_value.specs.Valuations.{Valuation as Bound, no_values};
+//! The past of a guard: what its rows are at each step of a log, and that it can be made again of what it keeps.
+ghost use Rattle.std.specs.Prelude.{◌≡◌, [], None, IfOk};
+ghost use Rattle.enf_cases.specs.Running.{IsOf, StandsUpTo};
 ghost use Rattle.past_state.specs.Guarded.{IsFreshGuard};
-ghost use Rattle.past_state.specs.Past.{BindsBound};
-ghost use Rattle.valuations.specs.Just.{Binds};
-ghost use Rattle.past_state.specs.Runs.{AreUpToTimeOf};
+ghost use Rattle.past_state.specs.Saved.{AreRowsKept, AreRowsRising};
 
 use crate::case::CaseError;
-use crate::parts::{open_log, part, read_formula};
-use crate::tables::print_table;
+use crate::parts::{part, read_formula};
+use crate::running::{Asked, Run, Way, answer_log};
 use enf_formula::Formula;
-use enf_value::{EventSet, Items, Step, Vars, print_bytes};
-use log_stream::{Found, LogItem, LogReader};
+use enf_value::{Items, Vars};
 use monitorable_guard::Guard;
-use past_state::{PastState, Tables};
+use past_state::laws::kept_can_be_restored;
+use past_state::{KeptRows, PastState};
 use std::alloc::Global;
-use valuations::Valuation;
+use std::slice;
 
 /// Appends the rows of a guard at each step of a log, with `/` behind them. The input has a signature, a policy of one
 /// rule and a log, with a byte 1 between them: the guard is the formula of the rule, or what stands below its first
-/// `exists`, and none of its variables is bound.
-pub fn answer(alloc: Global, input: &[u8], out: &mut Vec<u8>) -> Result<(), CaseError> {
+/// `exists`, and none of its variables is bound. Where the way is to tell what is kept, those rows stand behind the
+/// ones of each step and a `|`, each as the number of its window, `:`, its values and its time.
+pub fn answer(alloc: Global, way: Way, input: &[u8], out: &mut Vec<u8>) -> Result<(), CaseError> {
     let (signature, rest) = part(input)?;
     let (policy, log) = part(rest)?;
-    let mut state = begun(alloc, read_guard(alloc, signature, policy)?)?;
-    let mut reader = open_log(alloc, signature, log)?;
-    answer_steps(alloc, &mut reader, log.len(), &mut state, out)
+    let guard = read_guard(alloc, signature, policy)?;
+    let run = Run {
+        guard: &guard,
+        asked: Asked::Rows,
+        way,
+    };
+    answer_log(alloc, &run, signature, log, out)
 }
 
-/// The guard, in which no quantifier binds a variable in scope.
+/// The guard with nothing bound, in which no quantifier binds a variable in scope.
 pub fn read_guard(alloc: Global, signature: &[u8], policy: &[u8]) -> Result<Guard, CaseError>
     ensures bound { IfOk result (λ g. g.bound ≡ []) }
     ensures fresh { IfOk result IsFreshGuard }
@@ -40,8 +43,8 @@ pub fn read_guard(alloc: Global, signature: &[u8], policy: &[u8]) -> Result<Guar
     )
 }
 
-// The guard of a formula with these variables bound, in which no quantifier binds a variable in scope.
-fn guard_of(alloc: Global, formula: Formula, bound: &Vars) -> Result<Guard, CaseError>
+/// The guard of a formula with these variables bound, in which no quantifier binds a variable in scope.
+pub fn guard_of(alloc: Global, formula: Formula, bound: &Vars) -> Result<Guard, CaseError>
     ensures bound { IfOk result (λ g. g.bound ≡ bound.now) }
     ensures formula { IfOk result (λ g. g.formula ≡ formula) }
     ensures fresh { IfOk result IsFreshGuard }
@@ -65,81 +68,40 @@ fn fresh(alloc: Global, guard: Guard) -> Result<Guard, CaseError>
 }
 
 /// The past of a guard, before the first step.
-pub fn begun(alloc: Global, guard: Guard) -> Result<PastState, CaseError>
-    requires { IsFreshGuard guard }
-    ensures up_to { IfOk result (λ p. (time : ℕ) → AreUpToTimeOf time p.operators) }
-    ensures one { IfOk result (λ p. 0 < length p.guards) }
-    ensures binds { IfOk result (λ p. (v : Bound) → Binds v guard.bound → BindsBound p.guards 0 v) }
+pub fn begun(alloc: Global, guard: &Guard) -> Result<PastState, CaseError>
+    requires { IsFreshGuard guard.now }
+    ensures of { IfOk result (IsOf guard.now) }
+    ensures stands { IfOk result (StandsUpTo None) }
 {
-    let mut guards = Vec::new(alloc);
-    guards.push(guard)?;
-    Ok(PastState::new(alloc, guards.as_slice())?)
+    Ok(PastState::new(alloc, slice::from_ref(guard))?)
 }
 
-// Appends the rows at each step of a log with at most so many records.
-fn answer_steps(
-    alloc: Global,
-    reader: &mut LogReader,
-    most: usize,
-    state: &mut PastState,
-    out: &mut Vec<u8>,
-) -> Result<(), CaseError>
-    requires later { (time : ℕ) → AreUpToTimeOf time state.old.operators }
-    requires one { 0 < length state.old.guards }
-    requires binds { BindsBound state.old.guards 0 no_values }
+/// The rows that a past of few windows keeps.
+pub fn kept_rows(alloc: Global, state: &PastState) -> Result<KeptRows, CaseError>
+    ensures rising { IfOk result AreRowsRising }
+    ensures kept { IfOk result (AreRowsKept state.now) }
 {
-    let mut last = 0;
-    for _ in 0..most {
-        let Some(step) = next_step(alloc, reader)? else {
-            return Ok(());
-        };
-        if step.time < last {
-            return Err(CaseError::Malformed);
-        }
-        last = step.time;
-        answer_step(alloc, &step, state, out)?;
-    }
-    Ok(())
-}
-
-// The next step of a log without ticks.
-fn next_step(alloc: Global, reader: &mut LogReader) -> Result<Option<Step>, CaseError> {
-    match reader.next_record(alloc) {
-        Ok(Found::Item(LogItem::Step { time, events, .. })) => Ok(Some(Step { time, events })),
-        Ok(Found::Pending) => Ok(None),
-        _ => Err(CaseError::Malformed),
+    if state.window_count() <= 1_000 {
+        Ok(state.kept(alloc)?)
+    } else {
+        Err(CaseError::Malformed)
     }
 }
 
-// Appends the rows at a step and a `/`, and makes it the last one.
-fn answer_step(
+/// The past of the guard with this last time that is made of the rows that the one before kept.
+pub fn restored(
     alloc: Global,
-    step: &Step,
-    state: &mut PastState,
-    out: &mut Vec<u8>,
-) -> Result<(), CaseError>
-    requires later { AreUpToTimeOf step.now.time state.old.operators }
-    requires one { 0 < length state.old.guards }
-    requires binds { BindsBound state.old.guards 0 no_values }
-    ensures later { OnOk result ((later : ℕ) → step.now.time ≤ later
-        → AreUpToTimeOf later state.new.operators) }
-    ensures guards { OnOk result (state.new.guards ≡ state.old.guards) }
+    guard: &Guard,
+    last: Option<u64>,
+    before: &PastState,
+) -> Result<PastState, CaseError>
+    requires fresh { IsFreshGuard guard.now }
+    requires of { IsOf guard.now before.now }
+    requires stands { StandsUpTo last before.now }
+    ensures of { IfOk result (IsOf guard.now) }
+    ensures stands { IfOk result (StandsUpTo last) }
 {
-    let tables = state.tables(alloc, step.time, &step.events)?;
-    print_rows_of(alloc, &step.events, &tables, out)?;
-    Ok(state.commit(step.time, &step.events, tables)?)
-}
-
-fn print_rows_of(
-    alloc: Global,
-    events: &EventSet,
-    tables: &Tables,
-    out: &mut Vec<u8>,
-) -> Result<(), CaseError>
-    requires one { 0 < length tables.now.guards }
-    requires binds { BindsBound tables.now.guards 0 no_values }
-{
-    let rows = tables.rows(alloc, 0, events, &Valuation::empty(alloc))?;
-    print_table(&rows, out)?;
-    Ok(print_bytes(b"/", out)?)
+    kept_can_be_restored();
+    let rows = kept_rows(alloc, before)?;
+    Ok(PastState::from_kept(alloc, slice::from_ref(guard), last, rows)?)
 }

@@ -2,12 +2,15 @@
 ghost use Rattle.std.specs.Prelude.{◌≡◌, IfOk, OnOk, IsTrue, All, Contains, length};
 ghost use Rattle.enf_value.specs.Membership.{HasNoRepeats};
 ghost use Rattle.enf_value.specs.declared.terms.VarId.{VarId as Variable};
+ghost use Rattle.valuations.specs.Terms.{IsColumnOf};
 
 use crate::case::CaseError;
-use crate::parts::{cut, read_variables};
-use enf_value::{Row, Value, VarId, Vars, print_bytes, print_number, print_value, read_value};
+use crate::parts::{cut, read_variable, read_variables, word};
+use enf_value::{
+    Row, Term, Value, VarId, Vars, print_bytes, print_number, print_value, read_value,
+};
 use std::alloc::Global;
-use valuations::{Table, Valuation};
+use valuations::{Compare, Table, Valuation};
 
 /// Appends what an operation gives: the input is its name and two operands, with `&` between them. A table is the
 /// numbers of its columns, one digit each, a `|`, and its rows, each with `;` behind it and `,` behind each value.
@@ -41,6 +44,7 @@ fn operated(alloc: Global, name: &[u8], left: &Table, second: &[u8]) -> Result<T
     match name {
         b"project" => project(alloc, left, second),
         b"under" => Ok(left.rows_under(alloc, &read_valuation(alloc, second)?)?),
+        b"select" => selected(alloc, left, second),
         _ => combined(alloc, name, left, &read_table(alloc, second)?),
     }
 }
@@ -51,6 +55,56 @@ fn combined(alloc: Global, name: &[u8], left: &Table, right: &Table) -> Result<T
         b"antijoin" => antijoin(alloc, left, right),
         b"union" => union(alloc, left, right),
         _ => Err(CaseError::Malformed),
+    }
+}
+
+// The rows for which a comparison holds: `=`, `<` or `<=`, and two terms, with blanks between them.
+fn selected(alloc: Global, table: &Table, comparison: &[u8]) -> Result<Table, CaseError> {
+    let (kind, rest) = word(comparison)?;
+    let (left, right) = word(rest)?;
+    let kind = read_kind(kind)?;
+    let left = read_term(alloc, left)?;
+    select(alloc, table, kind, &left, &read_term(alloc, right)?)
+}
+
+fn select(
+    alloc: Global,
+    table: &Table,
+    kind: Compare,
+    left: &Term,
+    right: &Term,
+) -> Result<Table, CaseError> {
+    if is_column_of(table, left) && is_column_of(table, right) {
+        Ok(table.select(alloc, left, right, kind)?)
+    } else {
+        Err(CaseError::Malformed)
+    }
+}
+
+fn read_kind(bytes: &[u8]) -> Result<Compare, CaseError> {
+    match bytes {
+        b"=" => Ok(Compare::Equal),
+        b"<" => Ok(Compare::Less),
+        b"<=" => Ok(Compare::AtMost),
+        _ => Err(CaseError::Malformed),
+    }
+}
+
+// A variable, as `?` and a digit, or a value.
+fn read_term(alloc: Global, bytes: &[u8]) -> Result<Term, CaseError> {
+    match bytes {
+        [b'?', digit] => Ok(Term::Var(read_variable(*digit)?)),
+        value => Ok(Term::Const(read_whole(alloc, value)?)),
+    }
+}
+
+// Whether the term is a value or a column.
+fn is_column_of(table: &Table, term: &Term) -> bool
+    ensures { IsTrue result → IsColumnOf table.now.columns term.now }
+{
+    match term {
+        Term::Var(x) => table.columns().as_slice().contains(x),
+        Term::Const(_) => true,
     }
 }
 
@@ -118,10 +172,7 @@ pub fn read_valuation(alloc: Global, bytes: &[u8]) -> Result<Valuation, CaseErro
 }
 
 fn bind(v: &mut Valuation, digit: u8, value: Value) -> Result<(), CaseError> {
-    if !digit.is_ascii_digit() {
-        return Err(CaseError::Malformed);
-    }
-    let variable = VarId(u32::from(digit - b'0'));
+    let variable = read_variable(digit)?;
     if v.get(variable).is_some() {
         return Err(CaseError::Malformed);
     }
@@ -205,13 +256,21 @@ pub fn print_rows(rows: &[Row], out: &mut Vec<u8>) -> Result<(), CaseError> {
     Ok(())
 }
 
-/// Appends the values of a row, with `,` behind each.
-pub fn print_row(row: &Row, out: &mut Vec<u8>) -> Result<(), CaseError> {
+// Appends the values of a row, with `,` behind each.
+fn print_row(row: &Row, out: &mut Vec<u8>) -> Result<(), CaseError> {
     for value in row.as_slice() {
         print_value(value, out)?;
         print_bytes(b",", out)?;
     }
     Ok(())
+}
+
+/// Appends the values of a row, and its time with `@` before and `;` behind it.
+pub fn print_row_at(row: &Row, time: u64, out: &mut Vec<u8>) -> Result<(), CaseError> {
+    print_row(row, out)?;
+    print_bytes(b"@", out)?;
+    print_number(time, out)?;
+    Ok(print_bytes(b";", out)?)
 }
 
 fn print_answer(answer: bool, out: &mut Vec<u8>) -> Result<(), CaseError> {

@@ -6,8 +6,8 @@ ghost use Rattle.windows.specs.Windows.{FitsColumns, IsSameKind};
 
 use crate::case::CaseError;
 use crate::parts::{cut, read_interval, read_number, read_variables, word};
-use crate::tables::{antijoin, are_distinct, print_row, print_rows, read_rows, table_of};
-use enf_value::{Duplicate, Interval, Vars, print_bytes, print_number};
+use crate::tables::{antijoin, are_distinct, print_row_at, print_rows, read_rows, table_of};
+use enf_value::{Duplicate, Interval, Vars, print_bytes};
 use std::alloc::Global;
 use valuations::Table;
 use windows::{KeptPair, SinceWalk, SinceWindow, Surviving};
@@ -151,7 +151,7 @@ fn answer_step(
 {
     let surviving = surviving_rows(alloc, window, step)?;
     print_given(alloc, step, &surviving, window, walk, out)?;
-    window.commit_by(step.time, &step.surviving(), &step.right)?;
+    commit(step, window)?;
     walk.commit(step.time, &surviving, &step.right)?;
     print_kept(alloc, window, walk, out)
 }
@@ -172,6 +172,32 @@ fn surviving_rows(
     }
 }
 
+// The rows that the window gives at the step; where a table has those that survive, by the call that takes one.
+fn given_rows(alloc: Global, step: &WindowStep, window: &SinceWindow) -> Result<Table, CaseError>
+    requires later { window.now.last ≤ step.now.time }
+    requires right { step.now.right.columns ≡ window.now.columns }
+    requires by { step.now.by.columns ≡ window.now.columns }
+{
+    match step.how {
+        How::Only => Ok(window.answer(alloc, step.time, &step.by, &step.right)?),
+        _ => Ok(window.answer_by(alloc, step.time, &step.surviving(), &step.right)?),
+    }
+}
+
+// Commits the step to the window, likewise.
+fn commit(step: &WindowStep, window: &mut SinceWindow) -> Result<(), CaseError>
+    requires later { window.old.last ≤ step.now.time }
+    requires right { step.now.right.columns ≡ window.old.columns }
+    requires by { step.now.by.columns ≡ window.old.columns }
+    ensures kind { OnOk result (IsSameKind window.old window.new) }
+    ensures last { OnOk result (window.new.last ≡ step.now.time) }
+{
+    match step.how {
+        How::Only => Ok(window.commit(step.time, &step.by, &step.right)?),
+        _ => Ok(window.commit_by(step.time, &step.surviving(), &step.right)?),
+    }
+}
+
 fn print_given(
     alloc: Global,
     step: &WindowStep,
@@ -186,7 +212,7 @@ fn print_given(
     requires by { step.now.by.columns ≡ window.now.columns }
     requires surviving { surviving.now.columns ≡ window.now.columns }
 {
-    let given = window.answer_by(alloc, step.time, &step.surviving(), &step.right)?;
+    let given = given_rows(alloc, step, window)?;
     let walked = walk.answer(alloc, step.time, surviving, &step.right)?;
     print_both(&given, &walked, out)?;
     Ok(print_bytes(b"|", out)?)
@@ -208,10 +234,7 @@ fn print_kept(
 // Appends each row, with `@` and its time behind it.
 fn print_pairs(pairs: &[KeptPair], out: &mut Vec<u8>) -> Result<(), CaseError> {
     for pair in pairs {
-        print_row(&pair.row, out)?;
-        print_bytes(b"@", out)?;
-        print_number(pair.time, out)?;
-        print_bytes(b";", out)?;
+        print_row_at(&pair.row, pair.time, out)?;
     }
     Ok(())
 }

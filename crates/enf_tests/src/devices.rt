@@ -4,6 +4,7 @@ use enf_io::calm_files::CalmFiles;
 use enf_io::calm_gate::CalmGate;
 use enf_io::calm_sink::CalmSink;
 use enf_io::devices::{Files, Gate, IoRefusal, Sink};
+use enf_io::mem_files::MemFiles;
 use enf_io::writing::{WriteRefusal, write_all};
 use std::alloc::Global;
 use std::io::{ErrorKind, Write};
@@ -37,6 +38,18 @@ fn calm_files_are_read_by_name(rt: HostRuntime) -> Result<(), Fail> {
     let mut sink = CalmSink::new(alloc);
     assert_eq!(rt; write_all(&mut sink, b"rule hold"), Ok(()));
     assert_eq!(rt; sink.given(), b"rule hold".as_slice());
+    Ok(())
+}
+
+#[test]
+fn mem_files_fail_by_number(rt: HostRuntime) -> Result<(), Fail> {
+    let alloc = rt.alloc();
+    let mut files = MemFiles::new(alloc, vec![in alloc; 1]?);
+    files.put("sig", Vec::from_slice(alloc, b"go();")?)?;
+    assert_eq!(rt; files.read("sig", 2)?.as_slice(), b"go".as_slice());
+    assert_eq!(rt; files.write("log", b"@1;"), Err(IoRefusal::Failed));
+    assert_eq!(rt; files.write("log", b"@1;"), Ok(()));
+    assert_eq!(rt; files.read("log", 2)?.as_slice(), b"@1".as_slice());
     Ok(())
 }
 

@@ -1,11 +1,12 @@
-//! Plans and what they stand for, and copies of tables, with ample memory.
-use enf_value::{Duplicate, Items, Row, Value, VarId};
+//! Plans and what they stand for, tables and slots with ample memory.
+use enf_value::{Duplicate, Interval, Items, Row, Value, VarId, Vars};
 use enforce_types::TypedPolicy;
 use formula_reader::{Rule, print_rule, read_policy};
 use plan_terms::formula_of;
 use signature::Signature;
 use std::test::Fail;
 use valuations::{Table, Valuation};
+use windows::PrevSlot;
 
 #[test]
 fn plans(rt: HostRuntime) -> Result<(), Fail> {
@@ -48,5 +49,16 @@ fn tables_and_valuations(rt: HostRuntime) -> Result<(), Fail> {
     let rows = vec![in alloc; row]?;
     let table = Table::from_rows(Items::from_vec(vec![in alloc; VarId(3)]?), rows)?;
     assert!(rt; table.duplicate(alloc)?.has_valuation(&v.duplicate(alloc)?));
+    Ok(())
+}
+
+#[test]
+fn slots(rt: HostRuntime) -> Result<(), Fail> {
+    let alloc = rt.alloc();
+    let always = Interval { low: 0, high: None };
+    let mut slot = PrevSlot::new(always, Vars::new(alloc));
+    assert!(rt; slot.answer(alloc, 3)?.is_empty());
+    slot.commit(3, Table::unit(alloc)?);
+    assert_eq!(rt; slot.answer(alloc, 4)?.len(), 1);
     Ok(())
 }

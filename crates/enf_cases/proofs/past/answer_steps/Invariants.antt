@@ -1,8 +1,0 @@
-use Rattle.std.proofs.Common.{ℕ, ◌≤◌, ◌<◌, length}
-use Rattle.enf_value.specs.Valuations.{no_values}
-use Rattle.past_state.specs.Past.{BindsBound}
-use Rattle.past_state.specs.Runs.{AreUpToTimeOf}
-use Rattle.enf_cases.proofs.past.answer_steps.Given as goal
-
-abbrev pub invariant-loop : goal.invariant-loop
-invariant-loop l = ((time : ℕ) → l.last ≤ time → AreUpToTimeOf time l.state.operators) × (0 < length l.state.guards) × BindsBound l.state.guards 0 no_values

@@ -1,0 +1,255 @@
+//! A guard over a log: what is asked of it at each step, and how its past goes on.
+ghost use Rattle.std.specs.Prelude.{◌≡◌, ◌<◌, [], ◌∷◌, None, IfOk, OnOk, IfSome, IsTrue, All, length};
+ghost use Rattle.enf_cases.specs.Running.{CanAsk, IsOf, StandsUpTo};
+ghost use Rattle.enf_value.specs.Valuations.{no_values};
+ghost use Rattle.past_state.specs.Guarded.{AreCopies, IsFreshGuard};
+ghost use Rattle.past_state.specs.Past.{AreOf, BindsBound, IsTestOf};
+ghost use Rattle.past_state.specs.Restoring.{IsFrom};
+
+use crate::case::CaseError;
+use crate::parts::open_log;
+use crate::past::{begun, kept_rows, restored};
+use crate::tables::{print_row_at, print_table};
+use enf_value::{EventSet, Step, print_bytes, print_number};
+use log_stream::{Found, LogItem, LogReader};
+use monitorable_guard::Guard;
+use past_state::{KeptRow, PastState, Tables};
+use std::alloc::Global;
+use trace_meaning::laws::trace_grows;
+use valuations::Valuation;
+
+/// What is asked at a step: the guard's rows, or whether it holds under each of some valuations.
+#[derive(Clone, Copy)]
+pub enum Asked<'a> {
+    Rows,
+    Holds(&'a [Valuation]),
+}
+
+/// How the past goes on behind a step.
+#[derive(Clone, Copy)]
+pub enum Way {
+    Committed,
+    /// And the rows that are kept are appended.
+    Kept,
+    /// While tables of the step are held that share what is kept, and are asked afterwards.
+    Shared,
+    /// And it is made again of the rows that it keeps, also before the first step.
+    Again,
+}
+
+/// A guard, and what is done with it over a log.
+#[derive(Clone, Copy)]
+pub struct Run<'a, 'b> {
+    pub guard: &'a Guard,
+    pub asked: Asked<'b>,
+    pub way: Way,
+}
+
+// The past and the time of its last step.
+#[derive(Drop)]
+struct Running {
+    state: PastState,
+    last: Option<u64>,
+}
+
+/// Appends what is asked at each step of a log under a signature, with `/` behind it.
+pub fn answer_log(
+    alloc: Global,
+    run: &Run<'_, '_>,
+    signature: &[u8],
+    log: &[u8],
+    out: &mut Vec<u8>,
+) -> Result<(), CaseError>
+    requires fresh { IsFreshGuard run.now.guard.now }
+    requires asked { CanAsk run.now.guard.now run.now.asked }
+{
+    let mut running = Running {
+        state: begun(alloc, run.guard)?,
+        last: None,
+    };
+    let mut reader = open_log(alloc, signature, log)?;
+    answer_steps(alloc, run, &mut reader, log.len(), &mut running, out)
+}
+
+// Appends what is asked at each step of a log with at most so many records.
+fn answer_steps(
+    alloc: Global,
+    run: &Run<'_, '_>,
+    reader: &mut LogReader,
+    most: usize,
+    running: &mut Running,
+    out: &mut Vec<u8>,
+) -> Result<(), CaseError>
+    requires fresh { IsFreshGuard run.now.guard.now }
+    requires asked { CanAsk run.now.guard.now run.now.asked }
+    requires of { IsOf run.now.guard.now running.old.state }
+    requires stands { StandsUpTo running.old.last running.old.state }
+{
+    for _ in 0..most {
+        renew(alloc, run, running)?;
+        let Some(step) = next_step(alloc, reader, running.last)? else {
+            return Ok(());
+        };
+        answer_step(alloc, run, &step, running, out)?;
+        print_end(alloc, run.way, &running.state, out)?;
+    }
+    Ok(())
+}
+
+// Puts in the past's place, where it is wanted, one that is made of the rows that it keeps.
+fn renew(alloc: Global, run: &Run<'_, '_>, running: &mut Running) -> Result<(), CaseError>
+    requires fresh { IsFreshGuard run.now.guard.now }
+    requires of { IsOf run.now.guard.now running.old.state }
+    requires stands { StandsUpTo running.old.last running.old.state }
+    ensures of { OnOk result (IsOf run.now.guard.now running.new.state) }
+    ensures stands { OnOk result (StandsUpTo running.new.last running.new.state) }
+{
+    if let Way::Again = run.way {
+        running.state = restored(alloc, run.guard, running.last, &running.state)?;
+    }
+    Ok(())
+}
+
+// The next step of a log without ticks, which is not before the last one.
+fn next_step(
+    alloc: Global,
+    reader: &mut LogReader,
+    last: Option<u64>,
+) -> Result<Option<Step>, CaseError>
+    ensures { IfOk result (λ found. IfSome found (λ step. IsFrom last step.time)) }
+{
+    match reader.next_record(alloc) {
+        Ok(Found::Item(LogItem::Step { time, events, .. })) => {
+            if is_from(last, time) {
+                Ok(Some(Step { time, events }))
+            } else {
+                Err(CaseError::Malformed)
+            }
+        }
+        Ok(Found::Pending) => Ok(None),
+        _ => Err(CaseError::Malformed),
+    }
+}
+
+fn is_from(last: Option<u64>, time: u64) -> bool
+    ensures { IsTrue result → IsFrom last time }
+{
+    match last {
+        Some(last) => last <= time,
+        None => true,
+    }
+}
+
+// Appends what is asked at a step, and makes it the last one.
+fn answer_step(
+    alloc: Global,
+    run: &Run<'_, '_>,
+    step: &Step,
+    running: &mut Running,
+    out: &mut Vec<u8>,
+) -> Result<(), CaseError>
+    requires asked { CanAsk run.now.guard.now run.now.asked }
+    requires from { IsFrom running.old.last step.now.time }
+    requires of { IsOf run.now.guard.now running.old.state }
+    requires stands { StandsUpTo running.old.last running.old.state }
+    ensures of { OnOk result (IsOf run.now.guard.now running.new.state) }
+    ensures stands { OnOk result (StandsUpTo running.new.last running.new.state) }
+{
+    let tables = running.state.tables(alloc, step.time, &step.events)?;
+    if let Way::Shared = run.way {
+        let held = running.state.tables(alloc, step.time, &step.events)?;
+        commit(step, tables, running)?;
+        print_asked(alloc, run, &step.events, &held, out)
+    } else {
+        print_asked(alloc, run, &step.events, &tables, out)?;
+        commit(step, tables, running)
+    }
+}
+
+// Makes the step of these tables the last one.
+fn commit(step: &Step, tables: Tables, running: &mut Running) -> Result<(), CaseError>
+    requires from { IsFrom running.old.last step.now.time }
+    requires are { AreOf running.old.state step.now.time step.now.events tables }
+    requires stands { StandsUpTo running.old.last running.old.state }
+    ensures guards { OnOk result (running.new.state.guards ≡ running.old.state.guards) }
+    ensures stands { OnOk result (StandsUpTo running.new.last running.new.state) }
+{
+    trace_grows();
+    // no event is there twice
+    let _events = step.events.as_slice();
+    running.state.commit(step.time, &step.events, tables)?;
+    running.last = Some(step.time);
+    Ok(())
+}
+
+// Appends what the tables tell of what is asked.
+fn print_asked(
+    alloc: Global,
+    run: &Run<'_, '_>,
+    events: &EventSet,
+    tables: &Tables,
+    out: &mut Vec<u8>,
+) -> Result<(), CaseError>
+    requires of { AreCopies (run.now.guard.now ∷ []) tables.now.guards }
+    requires asked { CanAsk run.now.guard.now run.now.asked }
+{
+    match run.asked {
+        Asked::Rows => print_rows_of(alloc, events, tables, out),
+        Asked::Holds(valuations) => print_held(alloc, valuations, events, tables, out),
+    }
+}
+
+fn print_rows_of(
+    alloc: Global,
+    events: &EventSet,
+    tables: &Tables,
+    out: &mut Vec<u8>,
+) -> Result<(), CaseError>
+    requires one { 0 < length tables.now.guards }
+    requires binds { BindsBound tables.now.guards 0 no_values }
+{
+    let rows = tables.rows(alloc, 0, events, &Valuation::empty(alloc))?;
+    print_table(&rows, out)
+}
+
+// Appends `1` for each valuation under which the guard holds, and `0` for each other.
+fn print_held(
+    alloc: Global,
+    valuations: &[Valuation],
+    events: &EventSet,
+    tables: &Tables,
+    out: &mut Vec<u8>,
+) -> Result<(), CaseError>
+    requires one { 0 < length tables.now.guards }
+    requires bind { All (BindsBound tables.now.guards 0) valuations.now }
+    requires test { IsTestOf tables.now.guards 0 }
+{
+    for v in valuations {
+        let holds = tables.holds(alloc, 0, events, v)?;
+        out.push(if holds { b'1' } else { b'0' })?;
+    }
+    Ok(())
+}
+
+// Appends what is kept behind a step, where it is wanted, and a `/`.
+fn print_end(
+    alloc: Global,
+    way: Way,
+    state: &PastState,
+    out: &mut Vec<u8>,
+) -> Result<(), CaseError> {
+    if let Way::Kept = way {
+        print_bytes(b"|", out)?;
+        print_kept(kept_rows(alloc, state)?.as_slice(), out)?;
+    }
+    Ok(print_bytes(b"/", out)?)
+}
+
+fn print_kept(rows: &[KeptRow], out: &mut Vec<u8>) -> Result<(), CaseError> {
+    for row in rows {
+        print_number(row.window.into(), out)?;
+        print_bytes(b":", out)?;
+        print_row_at(&row.row, row.time, out)?;
+    }
+    Ok(())
+}
