@@ -7,3 +7,4 @@ pub mod FreeVariables
 pub mod Laws
 pub mod Past
 pub mod Shape
+pub mod Scopes
