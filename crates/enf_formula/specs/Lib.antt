@@ -4,6 +4,7 @@ pub use Rattle.enf_value.specs.Valuations
 pub mod Satisfaction
 pub mod Cases
 pub mod FreeVariables
+pub mod Binding
 pub mod Laws
 pub mod Past
 pub mod Shape

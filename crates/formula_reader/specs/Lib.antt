@@ -13,3 +13,4 @@ pub mod Places
 pub mod Reading
 pub mod RoundTrip
 pub mod Within
+pub mod WellFormed

@@ -4,6 +4,7 @@ use Rattle.enf_value.specs.declared.intervals.Interval.{Interval}
 use Rattle.enf_value.specs.declared.terms.Term.{Term}
 use Rattle.enf_value.specs.declared.terms.Term.TheVariants.{Var, Const}
 use Rattle.enf_value.specs.declared.terms.VarId.{VarId}
+pub use Rattle.enf_formula.specs.Binding.{BindsFresh}
 use Rattle.enf_formula.specs.Formulas.{Formula, True, False, Atom, Equal, Less, AtMost, Not, And, Or, Implies}
 use Rattle.enf_formula.specs.Formulas.{Exists, Forall, Prev, Next, Once, Historically, Since, Eventually, Always}
 use Rattle.enf_formula.specs.Formulas.{Until}
@@ -95,28 +96,3 @@ HistoricallyAsksDenial = (place : ℕ) (interval : Interval) (g : Formula) (boun
 -- and then it is only asked whether it holds
 abbrev pub IsTest : Formula → (VarId → Type 0) → Type 0
 IsTest f B = Safe f B × FreeWithin f B
-
--- no quantifier binds a variable that is in scope where it stands
-abbrev pub BindsFresh : Formula → (VarId → Type 0) → Type 0
-BindsFresh (True place) scope = Unit {0}
-BindsFresh (False place) scope = Unit {0}
-BindsFresh (Atom place name terms) scope = Unit {0}
-BindsFresh (Equal place s t) scope = Unit {0}
-BindsFresh (Less place s t) scope = Unit {0}
-BindsFresh (AtMost place s t) scope = Unit {0}
-BindsFresh (Not place g) scope = BindsFresh g scope
-BindsFresh (And place g h) scope = BindsFresh g scope × BindsFresh h scope
-BindsFresh (Or place g h) scope = BindsFresh g scope × BindsFresh h scope
-BindsFresh (Implies place g h) scope = BindsFresh g scope × BindsFresh h scope
-BindsFresh (Exists place xs g) scope = ((x : VarId) → Contains xs x → scope x → ⊥)
-    × BindsFresh g (λ x. scope x ⊎ Contains xs x)
-BindsFresh (Forall place xs g) scope = ((x : VarId) → Contains xs x → scope x → ⊥)
-    × BindsFresh g (λ x. scope x ⊎ Contains xs x)
-BindsFresh (Prev place interval g) scope = BindsFresh g scope
-BindsFresh (Next place interval g) scope = BindsFresh g scope
-BindsFresh (Once place interval g) scope = BindsFresh g scope
-BindsFresh (Historically place interval g) scope = BindsFresh g scope
-BindsFresh (Since place interval g h) scope = BindsFresh g scope × BindsFresh h scope
-BindsFresh (Eventually place interval g) scope = BindsFresh g scope
-BindsFresh (Always place interval g) scope = BindsFresh g scope
-BindsFresh (Until place interval g h) scope = BindsFresh g scope × BindsFresh h scope
