@@ -1,12 +1,13 @@
 -- Traces that grow.
-use Rattle.std.proofs.Common.{◌≡◌, ℕ, zero, suc, ◌<◌, ◌≤◌, List, [], ◌∷◌, ◌++◌, length, refl, sym, subst, arith, length-append, ⊎_elim}
+use Rattle.std.proofs.Common.{◌≡◌, ℕ, zero, suc, ◌+◌, ◌<◌, ◌≤◌, List, [], ◌∷◌, ◌++◌, length, get_or, refl, sym, ap, subst, ◌∙◌, arith, length-append, ⊎_elim}
+use Rattle.std.specs.List.{All}
 use Rattle.std.proofs.lemmas.Bool.{cases_lt}
-use Rattle.std.proofs.lemmas.List.{get_or_append_left, get_or_at}
+use Rattle.std.proofs.lemmas.List.{get_or-append-add, get_or_append_left, get_or_at, get_or_default}
 use Rattle.enf_value.specs.Data.{IsTrace, step_at, no_step}
 use Rattle.enf_value.specs.Membership.{HasNoRepeats}
 use Rattle.enf_value.specs.declared.steps.Step.{Step}
 use Rattle.trace_meaning.specs.Continuation.{last_time}
-use Rattle.trace_meaning.specs.Laws.{TraceGrows, LastIsTheNew}
+use Rattle.trace_meaning.specs.Laws.{TraceGrows, LastIsTheNew, LastIsAtTheEnd, NoneIsLater}
 
 pub last_is_the_new : LastIsTheNew
 last_is_the_new [] step = refl
@@ -14,17 +15,17 @@ last_is_the_new (first ∷ []) step = refl
 last_is_the_new (first ∷ next ∷ trace) step = last_is_the_new (next ∷ trace) step
 
 -- the last time is that at the last position
-last_at : (trace : List Step) (k : ℕ) → suc k ≡ length trace → last_time trace ≡ (step_at trace k).time
+pub last_at : LastIsAtTheEnd
 last_at [] k e = absurd (omega arith)
 last_at (step ∷ []) zero e = refl
 last_at (step ∷ []) (suc k) e = absurd (omega arith)
 last_at (step ∷ next ∷ trace) zero e = absurd (omega arith)
 last_at (step ∷ next ∷ trace) (suc k) e = last_at (next ∷ trace) k (omega arith)
 
-no_later : (trace : List Step) (i : ℕ) → IsTrace trace → i < length trace → (step_at trace i).time ≤ last_time trace
+pub no_later : NoneIsLater
 no_later [] i t below = absurd (omega arith)
 no_later (step ∷ trace) i t below =
-    subst (λ time. (step_at (step ∷ trace) i).time ≤ time) (sym (last_at (step ∷ trace) (length trace) refl)) (t.ordered i (length trace) (omega arith) (omega arith))
+    subst (λ time. (step_at (step ∷ trace) i).time ≤ time) (sym (last_at (step ∷ trace) (length trace) (omega arith))) (t.ordered i (length trace) (omega arith) (omega arith))
 
 module _ (trace : List Step) (step : Step) where
   earlier_at : (i : ℕ) → i < length trace → step_at trace i ≡ step_at (trace ++ step ∷ []) i
@@ -60,3 +61,25 @@ trace_grows trace step t later distinct =
 
 pub trace_begins : IsTrace []
 trace_begins = record { distinct = λ i below. absurd (omega arith); ordered = λ i j order below. absurd (omega arith) }
+
+-- the front of a trace is one
+pub trace_front : (trace more : List Step) → IsTrace (trace ++ more) → IsTrace trace
+trace_front trace more t = record {
+  distinct = λ i below. subst (λ (s : Step). HasNoRepeats s.events) (left i below) (t.distinct i (omega (arith, below, length-append trace more)));
+  ordered = λ i j order below.
+      subst (λ (s : Step). (step_at trace i).time ≤ s.time) (left j below)
+      (subst (λ (s : Step). s.time ≤ (step_at (trace ++ more) j).time) (left i (omega (arith, order, below)))
+      (t.ordered i j order (omega (arith, below, length-append trace more))));
+}
+  where
+    left : (i : ℕ) → i < length trace → step_at (trace ++ more) i ≡ step_at trace i
+    left i below = get_or_append_left trace more no_step i below
+
+-- what stands behind steps of a trace is not earlier than the last of them
+pub not_earlier : (trace more : List Step) → IsTrace (trace ++ more) → All (λ step. last_time trace ≤ step.time) more
+not_earlier [] more t k d l = omega arith
+not_earlier (step ∷ trace) more t k d l =
+    let ordered = t.ordered (length trace) (suc (length trace) + k) (omega arith) (omega (arith, l, length-append (step ∷ trace) more)) in
+    let first : step_at ((step ∷ trace) ++ more) (length trace) ≡ step_at (step ∷ trace) (length trace) = get_or_append_left (step ∷ trace) more no_step (length trace) (omega arith) in
+    let second : step_at ((step ∷ trace) ++ more) (suc (length trace) + k) ≡ get_or more k d = get_or-append-add (step ∷ trace) more k no_step ∙ get_or_default more k no_step d l in
+    omega (arith, ordered, last_at (step ∷ trace) (length trace) (omega arith), ap (λ (s : Step). s.time) first, ap (λ (s : Step). s.time) second)

@@ -1,12 +1,12 @@
 -- The statements of the laws of records, traces, lawful change and good prefixes.
-use Rattle.std.specs.Prelude.{◌≡◌, ℕ, ◌<◌, ◌≤◌, Bool, List, [], ◌∷◌, ◌++◌, length, slice_index_or}
-use Rattle.enf_value.specs.Data.{IsTrace}
+use Rattle.std.specs.Prelude.{◌≡◌, ℕ, ◌+◌, ◌<◌, ◌≤◌, Bool, List, [], ◌∷◌, ◌++◌, length, slice_index_or}
+use Rattle.enf_value.specs.Data.{IsTrace, step_at}
 use Rattle.enf_value.specs.Membership.{HasNoRepeats}
 use Rattle.enf_value.specs.declared.events.NameId.{NameId}
 use Rattle.enf_value.specs.declared.steps.Step.{Step}
 use Rattle.enf_formula.specs.Formulas.{Formula}
 use Rattle.trace_meaning.specs.Continuation.{last_time}
-use Rattle.trace_meaning.specs.Good.{Good}
+use Rattle.trace_meaning.specs.Good.{Good, GoodPrefix}
 use Rattle.trace_meaning.specs.Lawful.{Lawful, AreInOrder, IsLaterThan}
 use Rattle.trace_meaning.specs.OutSteps.{OutStep, IsWithin}
 use Rattle.trace_meaning.specs.Records.{Record, NeverFall, clock_after}
@@ -33,6 +33,16 @@ TraceGrows = (trace : List Step) (step : Step)
 -- its time is then the last one
 abbrev pub LastIsTheNew : Type 0
 LastIsTheNew = (trace : List Step) (step : Step) → last_time (trace ++ step ∷ []) ≡ step.time
+
+-- the last time is that of the last position
+abbrev pub LastIsAtTheEnd : Type 0
+LastIsAtTheEnd = (trace : List Step) (position : ℕ) → position + 1 ≡ length trace
+    → last_time trace ≡ (step_at trace position).time
+
+-- and no position of a trace has a later one
+abbrev pub NoneIsLater : Type 0
+NoneIsLater = (trace : List Step) (position : ℕ) → IsTrace trace → position < length trace
+    → (step_at trace position).time ≤ last_time trace
 
 -- of two steps that are in order the later one has no smaller time, and a greater one
 -- where a system step comes after an inserted one
@@ -69,3 +79,12 @@ abbrev pub GoodFromLonger : Type 0
 GoodFromLonger = (policy : List Formula) (trace more : List Step) (clock : ℕ)
     → ((i : ℕ) → i < length more → clock ≤ (slice_index_or more i (record { time = 0; events = [] })).time)
     → Good policy (trace ++ more) clock → Good policy trace clock
+
+-- in truth with any times behind it, since those of a trace never fall
+abbrev pub FrontIsGood : Type 0
+FrontIsGood = (policy : List Formula) (trace more : List Step) (clock : ℕ)
+    → Good policy (trace ++ more) clock → GoodPrefix policy trace
+
+-- what can be continued well is a trace
+abbrev pub GoodIsTrace : Type 0
+GoodIsTrace = (policy : List Formula) (trace : List Step) (clock : ℕ) → Good policy trace clock → IsTrace trace

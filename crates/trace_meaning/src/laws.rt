@@ -1,7 +1,8 @@
 //! Laws of records, traces, lawful change and good prefixes, each the contract of a function with an empty body.
 ghost use Rattle.trace_meaning.specs.Laws.{RecordsJoin, ClockJoins, ClockRises, TraceGrows, LastIsTheNew};
+ghost use Rattle.trace_meaning.specs.Laws.{LastIsAtTheEnd, NoneIsLater};
 ghost use Rattle.trace_meaning.specs.Laws.{OrderOfAny, WithinJoins, LawfulJoins};
-ghost use Rattle.trace_meaning.specs.Laws.{SatisfyingIsGood, GoodFromEarlier, GoodFromLonger};
+ghost use Rattle.trace_meaning.specs.Laws.{SatisfyingIsGood, GoodFromEarlier, GoodFromLonger, FrontIsGood, GoodIsTrace};
 
 /// Records one behind another.
 pub fn records_join()
@@ -16,6 +17,12 @@ pub fn trace_grows()
     ensures last { LastIsTheNew }
 {}
 
+/// The last time of a trace.
+pub fn last_time_of_trace()
+    ensures at_the_end { LastIsAtTheEnd }
+    ensures none_later { NoneIsLater }
+{}
+
 /// Lawful changes one behind another.
 pub fn lawful_joins()
     ensures order { OrderOfAny }
@@ -28,4 +35,6 @@ pub fn good()
     ensures satisfying { SatisfyingIsGood }
     ensures earlier { GoodFromEarlier }
     ensures longer { GoodFromLonger }
+    ensures front { FrontIsGood }
+    ensures is_trace { GoodIsTrace }
 {}
