@@ -9,3 +9,4 @@ pub mod Laws
 pub mod Past
 pub mod Shape
 pub mod Scopes
+pub mod ScopeLaws
