@@ -1,5 +1,7 @@
--- What is known of the adapters over std, and how they count the errors of the outside.
-use Rattle.std.specs.Prelude.{ℕ, List, false, Option, None}
+-- What is known of the adapters over std: which call of the outside each of theirs is, and how errors are counted.
+use Rattle.std.specs.Prelude.{◌≡◌, ℕ, ◌==◌, List, [], ◌∷◌, false, None, Result, Ok, Err, if◌then◌else◌}
+use Rattle.std.specs.IoError.{error_kind}
+use Rattle.std.specs.declared.io.Error.{Error}
 use Rattle.std.specs.declared.io.ErrorKind.{ErrorKind}
 use Rattle.std.specs.declared.io.ErrorKind.TheVariants.{OutOfMemory}
 use Rattle.enf_io.specs.declared.devices.IoRefusal.{IoRefusal}
@@ -7,31 +9,58 @@ use Rattle.enf_io.specs.declared.devices.IoRefusal.TheVariants.{Failed, NoMemory
 use Rattle.enf_io.specs.Streams.{Stream}
 use Rattle.enf_io.specs.FileCalls.{FileView}
 
--- the bytes that the writer inside holds, where it is known, and the errors at writes so far
-pub record AdaptedOutput : Type 0 where
-  pub held : Option (List ℕ)
+-- a writer, and the errors at writes so far
+pub record AdaptedOutput (O : Type 0) : Type 0 where
+  pub writer : O
   pub write_faults : ℕ
 
--- the bytes that the reader inside has left, where it is known, and the errors at reads so far
-pub record AdaptedPair : Type 0 where
-  pub left : Option (List ℕ)
+-- a reader, the errors at reads so far, and the output
+pub record AdaptedPair (I O : Type 0) : Type 0 where
+  pub reader : I
   pub read_faults : ℕ
-  pub output : AdaptedOutput
+  pub output : AdaptedOutput O
 
--- the errors so far, at reads and at writes
-pub record FaultCounts : Type 0 where
-  pub reads : ℕ
-  pub writes : ℕ
+-- files, and the errors so far, at reads and at writes
+pub record AdaptedFiles (F : Type 0) : Type 0 where
+  pub files : F
+  pub read_faults : ℕ
+  pub write_faults : ℕ
 
 -- a device of the outside tells no bytes
 abbrev pub untold_stream : ℕ → ℕ → Stream
 untold_stream reads writes = record { told = None; read_faults = reads; write_faults = writes }
 
 -- files of the outside: no contents, and a fault at one counts for every name
-abbrev pub untold_files : FaultCounts → FileView
-untold_files x = record { contents = None; is_calm = false; read_faults = λ _. x.reads; write_faults = λ _. x.writes }
+abbrev pub untold_files : {F : Type 0} → AdaptedFiles F → FileView
+untold_files x = record {
+  contents = None;
+  is_calm = false;
+  read_faults = λ _. x.read_faults;
+  write_faults = λ _. x.write_faults;
+}
 
 -- the refusal for an error of this kind: only want of memory is no fault
 abbrev pub refusal_for : ErrorKind → IoRefusal
 refusal_for OutOfMemory = NoMemory
 refusal_for _ = Failed
+
+-- what an adapter answers where the outside answers so
+abbrev pub adapted : {T : Type 0} → Result T Error → Result T IoRefusal
+adapted (Ok value) = Ok value
+adapted (Err error) = Err (refusal_for (error_kind error))
+
+-- a writer that takes so many bytes of a piece: one that takes nothing of it has failed
+abbrev pub taken_of : List ℕ → ℕ → Result ℕ IoRefusal
+taken_of [] count = Ok count
+taken_of (byte ∷ bytes) count = if count == 0 then Err Failed else Ok count
+
+-- what an adapter answers where a writer that was given this piece answers so
+abbrev pub adapted_write : List ℕ → Result ℕ Error → Result ℕ IoRefusal
+adapted_write bytes (Ok count) = taken_of bytes count
+adapted_write bytes (Err error) = Err (refusal_for (error_kind error))
+
+-- a call is one call of the outside, and answers what is made of its answer
+pub record IsOneCall {A B : Type 0} (gives : A → Type 0) (made : A → B) (result : B) : Type 0 where
+  pub answer : A
+  pub called : gives answer
+  pub told : result ≡ made answer

@@ -1,34 +1,35 @@
-//! Gates, sinks and files over the readers, writers and files of std. They tell no bytes, only their counts,
-//! and hand on what std says of the reader and the writer inside.
+//! Gates, sinks and files over the readers, writers and files of std. They tell no bytes, only their counts. Each
+//! call of theirs is one call of the reader, the writer or the files inside: an error of it is handed on and counted.
 ghost use Rattle.std.specs.Prelude.{◌≡◌, ◌<◌, ◌≤◌, ℕ, List, Option, Err, Ok, IfOk, IfErr, length};
 ghost use Rattle.std.specs.Io.KnownBytes.{ReadConsumes, WriteAppends};
-ghost use Rattle.std.specs.IoError.{error_kind};
 ghost use Rattle.enf_io.specs.Counts.{faults_after};
 ghost use Rattle.enf_io.specs.Streams.{Stream, Reads, Writes};
 ghost use Rattle.enf_io.specs.FileCalls.{FileView, ReadsFile, WritesFile};
-ghost use Rattle.enf_io.specs.Adapted.{AdaptedOutput, AdaptedPair, FaultCounts, untold_stream, untold_files, refusal_for};
+ghost use Rattle.enf_io.specs.Adapted.{AdaptedFiles, AdaptedOutput, AdaptedPair, IsOneCall};
+ghost use Rattle.enf_io.specs.Adapted.{adapted, adapted_write, untold_files, untold_stream};
 
 use crate::devices::{Files, Gate, IoRefusal, Sink};
-use std::io::{ErrorKind, Read, Write};
+use crate::outside::{FilesOnce, ReadOnce, RuntimeFiles, WriteOnce};
+use std::io;
+use std::io::ErrorKind;
 use std::marker::Model;
-use std::{fs, io};
 
 /// A sink over a writer. Each write goes to the writer as it comes, so take one that keeps nothing back.
 #[derive(Drop)]
-pub struct StdSink<O: Write> {
+pub struct StdSink<O: WriteOnce> {
     output: O,
     write_faults: u64,
 }
 
-impl<O: Write> Model for StdSink<O> {
-    ghost Value = { AdaptedOutput };
+impl<O: WriteOnce> Model for StdSink<O> {
+    ghost Value = { AdaptedOutput O };
 
-    ghost view = { λ s. record { held = O.contents s.output; write_faults = s.write_faults } };
+    ghost view = { λ s. record { writer = s.output; write_faults = s.write_faults } };
 }
 
-impl<O: Write> StdSink<O> {
+impl<O: WriteOnce> StdSink<O> {
     pub fn new(output: O) -> StdSink<O>
-        ensures { result ≡ record { held = O.contents output; write_faults = 0 } }
+        ensures { result ≡ record { writer = output; write_faults = 0 } }
     {
         StdSink {
             output,
@@ -37,42 +38,40 @@ impl<O: Write> StdSink<O> {
     }
 }
 
-impl<O: Write> Sink for StdSink<O> {
+impl<O: WriteOnce> Sink for StdSink<O> {
     ghost seen = { λ s. untold_stream 0 s.write_faults };
 
     fn write(&mut self, bytes: &[u8]) -> Result<usize, IoRefusal>
-        ensures bytes { WriteAppends self.old.held self.new.held result bytes.now }
+        ensures once { IsOneCall (λ answer. O.write_gives self.old.writer bytes.now answer self.new.writer)
+            (adapted_write bytes.now) result }
+        ensures bytes { WriteAppends (O.held self.old.writer) (O.held self.new.writer) result bytes.now }
         ensures seen { Writes bytes.now result
             (untold_stream 0 self.old.write_faults) (untold_stream 0 self.new.write_faults) }
     {
-        let written = write_some(&mut self.output, bytes);
-        counted(written, &mut self.write_faults)
+        let answer = self.output.write_once(bytes);
+        counted(some_of(bytes, answer), &mut self.write_faults)
     }
 }
 
 /// A gate over a reader and a writer. Each write goes to the writer as it comes, so take one that keeps nothing back.
 #[derive(Drop)]
-pub struct StdGate<I: Read, O: Write> {
+pub struct StdGate<I: ReadOnce, O: WriteOnce> {
     input: I,
     read_faults: u64,
     output: StdSink<O>,
 }
 
-impl<I: Read, O: Write> Model for StdGate<I, O> {
-    ghost Value = { AdaptedPair };
+impl<I: ReadOnce, O: WriteOnce> Model for StdGate<I, O> {
+    ghost Value = { AdaptedPair I O };
 
-    ghost view = { λ g. record {
-      left = I.remaining g.input;
-      read_faults = g.read_faults;
-      output = g.output;
-    } };
+    ghost view = { λ g. record { reader = g.input; read_faults = g.read_faults; output = g.output } };
 }
 
-impl<I: Read, O: Write> StdGate<I, O> {
+impl<I: ReadOnce, O: WriteOnce> StdGate<I, O> {
     pub fn new(input: I, output: O) -> StdGate<I, O>
-        ensures input { result.left ≡ I.remaining input }
+        ensures reader { result.reader ≡ input }
         ensures read_faults { result.read_faults ≡ 0 }
-        ensures output { result.output ≡ record { held = O.contents output; write_faults = 0 } }
+        ensures output { result.output ≡ record { writer = output; write_faults = 0 } }
     {
         StdGate {
             input,
@@ -82,26 +81,32 @@ impl<I: Read, O: Write> StdGate<I, O> {
     }
 }
 
-impl<I: Read, O: Write> Gate for StdGate<I, O> {
+impl<I: ReadOnce, O: WriteOnce> Gate for StdGate<I, O> {
     fn read(&mut self, buf: &mut [u8]) -> Result<usize, IoRefusal>
         requires { 0 < length buf.old }
-        ensures bytes { ReadConsumes self.old.left self.new.left result buf.new }
+        ensures once { IsOneCall (λ answer. I.read_gives self.old.reader buf.new answer self.new.reader)
+            adapted result }
+        ensures bytes { ReadConsumes (I.left self.old.reader) (I.left self.new.reader) result buf.new }
         ensures output { self.new.output ≡ self.old.output }
         ensures seen { Reads buf.new result
             (untold_stream self.old.read_faults self.old.output.write_faults)
             (untold_stream self.new.read_faults self.new.output.write_faults) }
     {
-        let read = self.input.read(buf);
-        counted(read, &mut self.read_faults)
+        let answer = self.input.read_once(buf);
+        counted(answer, &mut self.read_faults)
     }
 }
 
-impl<I: Read, O: Write> Sink for StdGate<I, O> {
+impl<I: ReadOnce, O: WriteOnce> Sink for StdGate<I, O> {
     ghost seen = { λ g. untold_stream g.read_faults g.output.write_faults };
 
     fn write(&mut self, bytes: &[u8]) -> Result<usize, IoRefusal>
-        ensures bytes { WriteAppends self.old.output.held self.new.output.held result bytes.now }
-        ensures left { self.new.left ≡ self.old.left }
+        ensures once { IsOneCall
+            (λ answer. O.write_gives self.old.output.writer bytes.now answer self.new.output.writer)
+            (adapted_write bytes.now) result }
+        ensures bytes { WriteAppends (O.held self.old.output.writer) (O.held self.new.output.writer)
+            result bytes.now }
+        ensures reader { self.new.reader ≡ self.old.reader }
         ensures seen { Writes bytes.now result
             (untold_stream self.old.read_faults self.old.output.write_faults)
             (untold_stream self.new.read_faults self.new.output.write_faults) }
@@ -111,84 +116,75 @@ impl<I: Read, O: Write> Sink for StdGate<I, O> {
 }
 
 /// The files of a runtime, by path. A fault at one of them counts for every name.
+pub type StdFiles<'a, R> = AdaptedFiles<RuntimeFiles<'a, R>>;
+
+/// Files over those of the outside. A fault at one of them counts for every name.
 #[derive(Drop)]
-pub struct StdFiles<'a, R> {
-    rt: &'a R,
+pub struct AdaptedFiles<F: FilesOnce> {
+    files: F,
     read_faults: u64,
     write_faults: u64,
 }
 
-impl<'a, R> Model for StdFiles<'a, R> {
-    ghost Value = { FaultCounts };
+impl<F: FilesOnce> Model for AdaptedFiles<F> {
+    ghost Value = { AdaptedFiles F };
 
-    ghost view = { λ f. record { reads = f.read_faults; writes = f.write_faults } };
+    ghost view = { λ f. record { files = f.files; read_faults = f.read_faults; write_faults = f.write_faults } };
 }
 
-impl<'a, R: std::rt::Files + AllocGlobal> StdFiles<'a, R> {
+impl<'a, R: std::rt::Files + AllocGlobal> AdaptedFiles<RuntimeFiles<'a, R>> {
     pub fn new(rt: &'a R) -> StdFiles<'a, R>
-        ensures { result ≡ record { reads = 0; writes = 0 } }
+        ensures { result ≡ record { files = record { rt = rt.entry }; read_faults = 0; write_faults = 0 } }
     {
-        StdFiles {
-            rt,
+        AdaptedFiles {
+            files: RuntimeFiles { rt },
             read_faults: 0,
             write_faults: 0,
         }
     }
 }
 
-impl<'a, R: std::rt::Files + AllocGlobal> Files for StdFiles<'a, R> {
+impl<F: FilesOnce> Files for AdaptedFiles<F> {
     ghost seen = { untold_files };
 
     fn read(&mut self, name: &str, most: usize) -> Result<Vec<u8>, IoRefusal>
-        ensures counts { self.new
-            ≡ record { reads = faults_after result self.old.reads; writes = self.old.writes } }
+        ensures once { IsOneCall (λ answer. F.read_gives self.old.files name.now most answer self.new.files)
+            adapted result }
+        ensures reads { self.new.read_faults ≡ faults_after result self.old.read_faults }
+        ensures writes { self.new.write_faults ≡ self.old.write_faults }
         ensures seen { ReadsFile name.now most result (untold_files self.old) (untold_files self.new) }
     {
-        counted(read_front(self.rt, name, most), &mut self.read_faults)
+        let answer = self.files.read_once(name, most);
+        counted(answer, &mut self.read_faults)
     }
 
     fn write(&mut self, name: &str, bytes: &[u8]) -> Result<(), IoRefusal>
-        ensures counts { self.new
-            ≡ record { reads = self.old.reads; writes = faults_after result self.old.writes } }
+        ensures once { IsOneCall (λ answer. F.write_gives self.old.files name.now bytes.now answer self.new.files)
+            adapted result }
+        ensures reads { self.new.read_faults ≡ self.old.read_faults }
+        ensures writes { self.new.write_faults ≡ faults_after result self.old.write_faults }
         ensures seen { WritesFile name.now bytes.now result (untold_files self.old) (untold_files self.new) }
     {
-        counted(fs::write(self.rt, name, bytes), &mut self.write_faults)
+        let answer = self.files.write_once(name, bytes);
+        counted(answer, &mut self.write_faults)
     }
-}
-
-// Reads no further than `most` bytes, however long the file is.
-fn read_front<R: std::rt::Files + AllocGlobal>(
-    rt: &R,
-    name: &str,
-    most: usize,
-) -> io::Result<Vec<u8>>
-    ensures { IfOk result (λ bytes. length bytes.items ≤ most) }
-{
-    let mut bytes = Vec::new(rt.alloc());
-    fs::open(rt, name)?
-        .take(most as u64)
-        .read_to_end(&mut bytes)?;
-    bytes.truncate(most);
-    Ok(bytes)
 }
 
 // A writer that takes nothing of a piece has failed.
-fn write_some<W: Write>(output: &mut W, bytes: &[u8]) -> io::Result<usize>
-    ensures within { IfOk result (λ count. count ≤ length bytes.now) }
+fn some_of(bytes: &[u8], answer: io::Result<usize>) -> io::Result<usize>
+    ensures adapted { adapted result ≡ adapted_write bytes.now answer }
     ensures some { IfOk result (λ count. 0 < length bytes.now → 0 < count) }
-    ensures bytes { WriteAppends (W.contents output.old) (W.contents output.new) result bytes.now }
+    ensures same { IfOk result (λ count. answer ≡ Ok count) }
 {
-    let count = output.write(bytes)?;
-    if count == 0 && !bytes.is_empty() {
-        return Err(io::Error::from(ErrorKind::WriteZero));
+    match answer {
+        Ok(0) if !bytes.is_empty() => Err(io::Error::from(ErrorKind::WriteZero)),
+        other => other,
     }
-    Ok(count)
 }
 
 // Counts an error of the outside, which want of memory is not.
 fn counted<T>(answer: io::Result<T>, faults: &mut u64) -> Result<T, IoRefusal>
-    ensures ok { IfOk answer (λ value. result ≡ Ok value) }
-    ensures refused { IfErr answer (λ error. result ≡ Err (refusal_for (error_kind error))) }
+    ensures adapted { result ≡ adapted answer }
     ensures counted { faults.new ≡ faults_after result faults.old }
 {
     match answer {

@@ -1,5 +1,6 @@
 //! Files over memory.
-ghost use Rattle.std.specs.Prelude.{◌≡◌, ◌≢◌, ◌++◌, ◌∷◌, OnOk, OnErr, IfErr, IfOk, IsErrOf, List, [], ℕ, map, string_bytes};
+ghost use Rattle.std.specs.Prelude.{◌≡◌, ◌≢◌, ◌++◌, ◌∷◌, OnOk, OnErr, IfErr};
+ghost use Rattle.std.specs.Prelude.{IfOk, IsErrOf, List, [], ℕ, map, string_bytes};
 ghost use Rattle.enf_io.specs.Contents.{Missing, Holds, Gives, with_contents};
 ghost use Rattle.enf_io.specs.FileCalls.{FileView, ReadsFile, WritesFile};
 ghost use Rattle.enf_io.specs.Calm.{CalmContents, calm_files, contents_under};

@@ -1,5 +1,6 @@
 //! A gate over memory.
-ghost use Rattle.std.specs.Prelude.{◌≡◌, ◌++◌, OnOk, OnErr, IfErr, IfOk, List, [], ℕ, ◌<◌, ◌≤◌, length, take, drop, min};
+ghost use Rattle.std.specs.Prelude.{◌≡◌, ◌++◌, OnOk, OnErr, IfErr, IfOk, List};
+ghost use Rattle.std.specs.Prelude.{[], ℕ, ◌<◌, ◌≤◌, length, take, drop, min};
 ghost use Rattle.std.specs.Vec.Iter.{into_iter_items};
 ghost use Rattle.enf_io.specs.Exchange.{Exchange, left, with_taken, with_given, with_mark};
 ghost use Rattle.enf_io.specs.Calm.{CalmExchange, calm_stream, within_piece};

@@ -13,5 +13,6 @@ mod kept_files;
 pub mod mem_files;
 pub mod mem_gate;
 pub mod mem_sink;
+pub mod outside;
 pub mod turns;
 pub mod writing;

@@ -1,0 +1,103 @@
+//! What the adapters call: a reader, a writer and the files of std, each call once. std tells of a call which bytes
+//! it moves, and nothing of its errors; so each trait here names the calls themselves, as a relation between what
+//! was before a call, its answer, and what is after it. Code that is generic over the trait gets that relation by
+//! one call and by nothing else. Each impl hands on its call, and that it does no more is not proved.
+ghost use Rattle.std.specs.Prelude.{◌≡◌, ◌≤◌, List, ℕ, Option, Result, IfOk, ⊤, length};
+ghost use Rattle.std.specs.Io.{ReadsAtMost, WritesAtMost};
+ghost use Rattle.std.specs.Io.KnownBytes.{ReadConsumes, WriteAppends};
+ghost use Rattle.std.specs.declared.vec.Vec.{Vec as AnyVec};
+ghost use Rattle.std.specs.declared.alloc.Global.{Global as AnyGlobal};
+ghost use Rattle.std.specs.declared.io.Error.{Error};
+
+use std::io::{Read, Write};
+use std::{fs, io};
+
+/// A reader whose calls are told apart. Each reader of std is one.
+pub trait ReadOnce {
+    ghost left: { Self → Option (List ℕ) };
+
+    ghost read_gives: { Self → List ℕ → Result ℕ Error → Self → Type 0 };
+
+    /// As `Read::read`, called once.
+    fn read_once(&mut self, buf: &mut [u8]) -> io::Result<usize>
+        ensures bound { ReadsAtMost result buf.new }
+        ensures bytes { ReadConsumes (left self.old) (left self.new) result buf.new }
+        ensures once { read_gives self.old buf.new result self.new };
+}
+
+impl<R: Read> ReadOnce for R {
+    ghost left = { R.remaining };
+
+    ghost read_gives = { λ before buf answer after.
+        ReadConsumes (R.remaining before) (R.remaining after) answer buf };
+
+    fn read_once(&mut self, buf: &mut [u8]) -> io::Result<usize> {
+        self.read(buf)
+    }
+}
+
+/// A writer whose calls are told apart. Each writer of std is one.
+pub trait WriteOnce {
+    ghost held: { Self → Option (List ℕ) };
+
+    ghost write_gives: { Self → List ℕ → Result ℕ Error → Self → Type 0 };
+
+    /// As `Write::write`, called once.
+    fn write_once(&mut self, bytes: &[u8]) -> io::Result<usize>
+        ensures bound { WritesAtMost result bytes.now }
+        ensures bytes { WriteAppends (held self.old) (held self.new) result bytes.now }
+        ensures once { write_gives self.old bytes.now result self.new };
+}
+
+impl<W: Write> WriteOnce for W {
+    ghost held = { W.contents };
+
+    ghost write_gives = { λ before bytes answer after.
+        WriteAppends (W.contents before) (W.contents after) answer bytes };
+
+    fn write_once(&mut self, bytes: &[u8]) -> io::Result<usize> {
+        self.write(bytes)
+    }
+}
+
+/// Files by path whose calls are told apart. The files of a runtime are such.
+pub trait FilesOnce {
+    ghost read_gives: { Self → List ℕ → ℕ → Result (AnyVec ℕ AnyGlobal) Error → Self → Type 0 };
+
+    ghost write_gives: { Self → List ℕ → List ℕ → Result ⊤ Error → Self → Type 0 };
+
+    /// The bytes of a file, or its first `most` where it has more.
+    fn read_once(&mut self, name: &str, most: usize) -> io::Result<Vec<u8>>
+        ensures within { IfOk result (λ bytes. length bytes.items ≤ most) }
+        ensures once { read_gives self.old name.now most result self.new };
+
+    /// Makes these bytes the file's.
+    fn write_once(&mut self, name: &str, bytes: &[u8]) -> io::Result<()>
+        ensures once { write_gives self.old name.now bytes.now result self.new };
+}
+
+/// The files of a runtime.
+#[derive(Drop)]
+pub struct RuntimeFiles<'a, R> {
+    pub(crate) rt: &'a R,
+}
+
+impl<'a, R: std::rt::Files + AllocGlobal> FilesOnce for RuntimeFiles<'a, R> {
+    ghost read_gives = { λ before name most answer after. IfOk answer (λ bytes. length bytes.items ≤ most) };
+
+    ghost write_gives = { λ before name bytes answer after. ⊤ };
+
+    // Reads no further than `most` bytes, however long the file is.
+    fn read_once(&mut self, name: &str, most: usize) -> io::Result<Vec<u8>> {
+        let mut bytes = Vec::new(self.rt.alloc());
+        fs::open(self.rt, name)?
+            .take(most as u64)
+            .read_to_end(&mut bytes)?;
+        bytes.truncate(most);
+        Ok(bytes)
+    }
+
+    fn write_once(&mut self, name: &str, bytes: &[u8]) -> io::Result<()> {
+        fs::write(self.rt, name, bytes)
+    }
+}
