@@ -18,14 +18,8 @@ demo:
 try:
 	@./scripts/try.sh "$(SIG)" "$(POLICY)" "$(LOG)"
 
-# The program runs once, since `rt run` is what proves, compiles and links it.
 build:
-	@echo 'Proving the program and the crates below it; docs/DEVELOPING.md says how long that takes.'
-	cd crates/enf_cli && rt run -- enforce ../../examples/access.sig ../../examples/access.policy \
-		< ../../examples/access.log > /dev/null
-	mkdir -p bin
-	cp crates/enf_cli/out/enf_cli bin/enf
-	./scripts/sources.sh > bin/enf.sources
+	@./scripts/build.sh
 
 bench:
 	@./scripts/bench.sh
