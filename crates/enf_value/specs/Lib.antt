@@ -4,6 +4,7 @@ pub mod EqualityLaws
 pub mod FirstRefusal
 pub mod FirstRefusalLaws
 pub mod Kinds
+pub mod ListLaws
 pub mod Membership
 pub mod MembershipLaws
 pub mod Names
