@@ -17,14 +17,14 @@ use Rattle.formula_reader.specs.Sorts.{name_refusal, known_after, refusal_at, fi
 use Rattle.formula_reader.specs.declared.policies.PolicyRefusal.{PolicyRefusal}
 use Rattle.formula_reader.proofs.Answering.{answers_same}
 
--- each event name is in the signature, and each term stands for something
+-- each event name is in the signature with its number of columns, and each term stands for something
 abbrev pub AreKnown : List NameEntry → List Point → Type 0
 AreKnown entries [] = Unit {0}
-AreKnown entries (EventName place name terms ∷ rest) = ((number : ℕ) × (number_of entries name ≡ Some number)) × AreKnown entries rest
+AreKnown entries (EventName place name terms ∷ rest) = (name_refusal place terms (entry_named entries name) ≡ None) × AreKnown entries rest
 AreKnown entries (Binder place taken ∷ rest) = AreKnown entries rest
 AreKnown entries (Use place term wanted ∷ rest) = ((t : Term) × (term ≡ Some t)) × AreKnown entries rest
 
-name_known : (entries : List NameEntry) (place terms : ℕ) (number : Option ℕ)
+pub name_known : (entries : List NameEntry) (place terms : ℕ) (number : Option ℕ)
     → name_refusal place terms (option_and_then (slice_get entries) number) ≡ None → (n : ℕ) × (number ≡ Some n)
 name_known entries place terms None e = absurd (cc)
 name_known entries place terms (Some n) e = (n, refl)
@@ -34,11 +34,11 @@ or_none None b e = (refl, e)
 or_none (Some x) b e = absurd (cc)
 
 -- points without a refusal are known
-points_known : (entries : List NameEntry) (before points : List Point) → first_refusal entries before points ≡ None → AreKnown entries points
+pub points_known : (entries : List NameEntry) (before points : List Point) → first_refusal entries before points ≡ None → AreKnown entries points
 points_known entries before [] e = tt
 points_known entries before (EventName place name terms ∷ rest) e =
     let h = or_none (refusal_at entries (known_after before) (EventName place name terms)) (first_refusal entries (EventName place name terms ∷ before) rest) e in
-    (name_known entries place terms (number_of entries name) h.0, points_known entries (EventName place name terms ∷ before) rest h.1)
+    (h.0, points_known entries (EventName place name terms ∷ before) rest h.1)
 points_known entries before (Binder place taken ∷ rest) e =
     let h = or_none (refusal_at entries (known_after before) (Binder place taken)) (first_refusal entries (Binder place taken ∷ before) rest) e in
     points_known entries (Binder place taken ∷ before) rest h.1
@@ -47,13 +47,13 @@ points_known entries before (Use place (Some t) wanted ∷ rest) e =
     let h = or_none (refusal_at entries (known_after before) (Use place (Some t) wanted)) (first_refusal entries (Use place (Some t) wanted ∷ before) rest) e in
     ((t, refl), points_known entries (Use place (Some t) wanted ∷ before) rest h.1)
 
-known_front : (entries : List NameEntry) (front back : List Point) → AreKnown entries (front ++ back) → AreKnown entries front
+pub known_front : (entries : List NameEntry) (front back : List Point) → AreKnown entries (front ++ back) → AreKnown entries front
 known_front entries [] back h = tt
 known_front entries (EventName place name terms ∷ front) back h = (h.0, known_front entries front back h.1)
 known_front entries (Binder place taken ∷ front) back h = known_front entries front back h
 known_front entries (Use place term wanted ∷ front) back h = (h.0, known_front entries front back h.1)
 
-known_back : (entries : List NameEntry) (front back : List Point) → AreKnown entries (front ++ back) → AreKnown entries back
+pub known_back : (entries : List NameEntry) (front back : List Point) → AreKnown entries (front ++ back) → AreKnown entries back
 known_back entries [] back h = h
 known_back entries (EventName place name terms ∷ front) back h = known_back entries front back h.1
 known_back entries (Binder place taken ∷ front) back h = known_back entries front back h
@@ -94,7 +94,7 @@ formula_there entries names scope (True place) h = (tree.True place, refl)
 formula_there entries names scope (False place) h = (tree.False place, refl)
 formula_there entries names scope (Atom place name terms) h =
     both_there (tree.Atom place) (name_in entries name) (terms_in names scope terms)
-    (map_there (λ number. record { 0 = number }) (number_of entries name) h.0)
+    (map_there (λ number. record { 0 = number }) (number_of entries name) (name_known entries place (length terms) (number_of entries name) h.0))
     (terms_there entries names scope (columns (entry_named entries name)) terms h.1)
 formula_there entries names scope (Equal place s t) h = both_there (tree.Equal place) (term_in names scope s) (term_in names scope t) h.0 h.1.0
 formula_there entries names scope (Less place s t) h = both_there (tree.Less place) (term_in names scope s) (term_in names scope t) h.0 h.1.0

@@ -18,3 +18,5 @@ pub mod Rising
 pub mod RoundTrip
 pub mod LeastInRules
 pub mod Kept
+pub mod Scoped
+pub mod WellFormed

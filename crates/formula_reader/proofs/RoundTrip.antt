@@ -9,7 +9,7 @@ use Rattle.policy_syntax.specs.Limits.{IsRule}
 use Rattle.policy_syntax.specs.Reading.{IsPolicyText}
 use Rattle.policy_syntax.specs.Refusals as first_pass
 use Rattle.policy_syntax.specs.Trees as syntax
-use Rattle.policy_syntax.specs.Writing.{AreLow, IsWritableRule, TextsAreWritable, WrittenIsRead, kinds_written, rule_written}
+use Rattle.policy_syntax.specs.Writing.{AreLow, HasLevels, IsWritableRule, TextsAreWritable, WrittenHasLevels, WrittenIsRead, kinds_written, rule_written}
 use Rattle.policy_syntax.specs.declared.refusals.SyntaxRefusal.{SyntaxRefusal}
 use Rattle.signature.specs.declared.entries.NameEntry.{NameEntry}
 use Rattle.formula_reader.specs.Canonical.{rule_text}
@@ -54,10 +54,14 @@ source_at entries (source ∷ sources) rules rule k lt at clear found limits wri
     by x xs zero less there later here = here there
     by x xs (suc j) less there later here = later j (omega arith) there
 
-policy_of : (entries : List NameEntry) (rules : List Rule) (passed : Result (List syntax.Rule) SyntaxRefusal) → Follows entries passed (Ok rules)
+-- the rules of the syntax tree that rules came from
+pub policy_of : (entries : List NameEntry) (rules : List Rule) (passed : Result (List syntax.Rule) SyntaxRefusal) → Follows entries passed (Ok rules)
     → (sources : List syntax.Rule) × (passed ≡ Ok sources) × (policy_refusal entries sources ≡ None) × (rules_in entries sources ≡ Some rules)
 policy_of entries rules (Ok sources) h = (sources, refl, h.0, h.1)
 policy_of entries rules (Err refusal) h = absurd cc
+
+pub text_of : (bytes : List ℕ) (passed : Result (List syntax.Rule) SyntaxRefusal) (sources : List syntax.Rule) → passed ≡ Ok sources → first_pass.IsAnswer bytes passed → IsPolicyText bytes sources
+text_of bytes passed sources e is = subst (first_pass.IsAnswer bytes) e is
 
 pub source_of : TextsAreWritable → (entries : List NameEntry) (rule : Rule) → IsOfText entries rule → Source entries rule
 source_of texts entries rule h =
@@ -65,9 +69,6 @@ source_of texts entries rule h =
     let policy = policy_of entries h.rules answer.passed answer.follows in
     let text : IsPolicyText h.bytes policy.0 = text_of h.bytes answer.passed policy.0 policy.1 answer.read in
     source_at entries policy.0 h.rules rule h.there.0 h.there.1 h.there.2 policy.2 policy.3 text.within.each (texts h.bytes policy.0 text)
-  where
-    text_of : (bytes : List ℕ) (passed : Result (List syntax.Rule) SyntaxRefusal) (sources : List syntax.Rule) → passed ≡ Ok sources → first_pass.IsAnswer bytes passed → IsPolicyText bytes sources
-    text_of bytes passed sources e is = subst (first_pass.IsAnswer bytes) e is
 
 -- what is asked of the source is so of the rule written back
 back_is : (entries : List NameEntry) (rule : Rule) (s : Source entries rule) → rule_back entries rule ≡ rule_plain s.source
@@ -79,7 +80,7 @@ back_writable entries rule s =
     subst IsWritableRule (sym (back_is entries rule s)) w
 
 -- the lexemes of the canonical text are those written
-pub text_kinds : PrintedIsCut → (entries : List NameEntry) (rule : Rule) → Source entries rule
+text_kinds : PrintedIsCut → (entries : List NameEntry) (rule : Rule) → Source entries rule
     → map (λ (p : Placed). p.1) (lexemes (rule_text entries rule)) ≡ kinds_written (text_levels entries rule)
 text_kinds cut entries rule s =
     let w = back_writable entries rule s in
@@ -94,6 +95,13 @@ some_bare (Some again) rule e = (again, refl, cc)
 none_bare : (x : Option PolicyRefusal) → option_map bare_refusal x ≡ None → x ≡ None
 none_bare None e = refl
 none_bare (Some refusal) e = absurd cc
+
+-- the lexemes of the canonical text stand at the levels written
+pub text_has_levels : PrintedIsCut → WrittenHasLevels → (entries : List NameEntry) (rule : Rule) → Source entries rule → HasLevels (lexemes (rule_text entries rule)) (text_levels entries rule)
+text_has_levels cut written entries rule s =
+    let levels : text_levels entries rule ≡ rule_written s.source = ap rule_written (back_is entries rule s) ∙ rule_alike s.source in
+    subst (HasLevels (lexemes (rule_text entries rule))) (sym levels)
+    (written s.source (lexemes (rule_text entries rule)) s.limits s.writable (text_kinds cut entries rule s ∙ ap kinds_written levels))
 
 pub read_back : PrintedIsCut → WrittenIsRead → (entries : List NameEntry) (rule : Rule) → Source entries rule → AreLow (text_levels entries rule) → IsReadAs entries (rule_text entries rule) rule
 read_back cut written entries rule s low =

@@ -1,5 +1,5 @@
 -- What both passes answer to a text.
-use Rattle.std.proofs.Common.{◌≡◌, ℕ, List, Result, Ok, Err, IsErrAnd, refl, sym, subst}
+use Rattle.std.proofs.Common.{◌≡◌, ℕ, List, Result, Ok, Err, IfOk, IsErrAnd, refl, sym, subst}
 use Rattle.policy_syntax.specs.Refusals as first_pass
 use Rattle.policy_syntax.specs.Trees as syntax
 use Rattle.policy_syntax.specs.declared.refusals.SyntaxRefusal.{SyntaxRefusal}
@@ -7,7 +7,8 @@ use Rattle.policy_syntax.specs.declared.refusals.SyntaxRefusal.TheVariants as fi
 use Rattle.signature.specs.declared.entries.NameEntry.{NameEntry}
 use Rattle.formula_reader.specs.Answers.{Gives, GivesAnswer, IsAnswer, answer_of}
 use Rattle.formula_reader.specs.Reading.{Follows, GivesTextAnswer, IsTextAnswer, of_first_pass}
-use Rattle.formula_reader.specs.Resolution.{Rule}
+use Rattle.formula_reader.specs.Resolution.{Rule, rules_of}
+use Rattle.formula_reader.specs.WellFormed.{IsWellFormedPolicy, ReadIsWellFormed}
 use Rattle.formula_reader.specs.declared.policies.Policy.{Policy}
 use Rattle.formula_reader.specs.declared.policies.PolicyRefusal.{PolicyRefusal}
 use Rattle.formula_reader.specs.declared.policies.PolicyRefusal.TheVariants.{Syntax, UnknownName, Arity, SortClash, FreeVariable, Rebound, Limit, NoMemory}
@@ -89,3 +90,9 @@ text_answer_of entries bytes (Err refusal, read, only) = (
   λ other h.
       follows_refusal entries refusal h.passed other (sym (only h.passed h.read)) h.follows,
 )
+
+-- a policy that a call gives is one that a text is read as
+pub text_good_of : ReadIsWellFormed → (entries : List NameEntry) (bytes : List ℕ) (rules : List syntax.Rule) (result : Result Policy PolicyRefusal)
+    → first_pass.IsAnswer bytes (Ok rules) → GivesAnswer entries rules (answer_of result) → IfOk result (λ policy. IsWellFormedPolicy entries (rules_of policy))
+text_good_of good entries bytes rules (Ok policy) read h = good entries bytes (rules_of policy) (text_gives entries bytes rules (Ok (rules_of policy)) read h)
+text_good_of good entries bytes rules (Err refusal) read h = tt

@@ -1,8 +1,8 @@
 -- The canonical text of a rule of a policy is read as that rule but for its places.
-use Rattle.std.specs.Prelude.{◌≡◌, ℕ, List, [], ◌∷◌, Ok, map}
+use Rattle.std.specs.Prelude.{◌≡◌, ℕ, List, [], ◌∷◌, Ok}
 use Rattle.std.specs.List.{Contains}
 use Rattle.policy_syntax.specs.Lexemes.{lexemes}
-use Rattle.policy_syntax.specs.Writing.{AreLow, Leveled, kinds_written, rule_written}
+use Rattle.policy_syntax.specs.Writing.{HasLevels, Leveled, StandLow, rule_written}
 use Rattle.signature.specs.declared.entries.NameEntry.{NameEntry}
 use Rattle.formula_reader.specs.Canonical.{rule_text}
 use Rattle.formula_reader.specs.Places.{bare_resolved}
@@ -10,7 +10,7 @@ use Rattle.formula_reader.specs.Reading.{IsTextAnswer}
 use Rattle.formula_reader.specs.Resolution.{Rule}
 use Rattle.formula_reader.specs.Written.{rule_back}
 
--- the lexemes of the canonical text, each with its level
+-- the lexemes that are written for the rule, each with its level
 abbrev pub text_levels : List NameEntry → Rule → List Leveled
 text_levels entries rule = rule_written (rule_back entries rule)
 
@@ -27,14 +27,14 @@ pub record IsReadAs (entries : List NameEntry) (bytes : List ℕ) (rule : Rule) 
   pub answer : IsTextAnswer entries bytes (Ok (again ∷ []))
   pub same : bare_resolved again ≡ bare_resolved rule
 
--- those are the lexemes of the canonical text
+-- those of the canonical text are these, at these levels
 abbrev pub TextsHaveLevels : Type 0
 TextsHaveLevels =
     (entries : List NameEntry) (rule : Rule) → IsOfText entries rule
-    → map (λ token. token.1) (lexemes (rule_text entries rule)) ≡ kinds_written (text_levels entries rule)
+    → HasLevels (lexemes (rule_text entries rule)) (text_levels entries rule)
 
--- where none is at a level above the limit, the canonical text is read as the rule
+-- where none of them is at a level above the limit, the canonical text is read as the rule
 abbrev pub PrintedIsRead : Type 0
 PrintedIsRead =
-    (entries : List NameEntry) (rule : Rule) → IsOfText entries rule → AreLow (text_levels entries rule)
+    (entries : List NameEntry) (rule : Rule) → IsOfText entries rule → StandLow (lexemes (rule_text entries rule))
     → IsReadAs entries (rule_text entries rule) rule

@@ -1,5 +1,5 @@
 -- What a policy that was read is: the rules of policies under a signature.
-use Rattle.std.specs.Prelude.{◌≡◌, ℕ, ◌+◌, ◌≤◌, List, [], Option, Some, IsTrue}
+use Rattle.std.specs.Prelude.{◌≡◌, ℕ, ◌+◌, ◌≤◌, List, [], Option, Some, Ok, IsTrue}
 use Rattle.std.specs.Prelude.{length, map, slice_get}
 use Rattle.std.specs.List.{AllByRecursion}
 use Rattle.std.specs.Option.{option_map}
@@ -15,6 +15,7 @@ use Rattle.enf_formula.specs.Shape.{size_of}
 use Rattle.policy_syntax.specs.Limits.{IsBounded}
 use Rattle.policy_syntax.specs.declared.limits.TheConstants.{MOST_NODES, MOST_RULES, MOST_VARIABLES}
 use Rattle.signature.specs.declared.entries.NameEntry.{NameEntry}
+use Rattle.formula_reader.specs.Reading.{IsTextAnswer}
 use Rattle.formula_reader.specs.Resolution.{Rule}
 
 -- how many columns the name with a number has
@@ -71,3 +72,8 @@ pub record IsWellFormedPolicy (entries : List NameEntry) (rules : List Rule) : T
   pub few : length rules ≤ MOST_RULES
   pub each : AllByRecursion (IsWellFormedRule entries) rules
   pub distinct : HasNoRepeats (map (λ (rule : Rule). rule.name) rules)
+
+-- what a text is read as
+abbrev pub ReadIsWellFormed : Type 0
+ReadIsWellFormed = (entries : List NameEntry) (bytes : List ℕ) (rules : List Rule)
+    → IsTextAnswer entries bytes (Ok rules) → IsWellFormedPolicy entries rules

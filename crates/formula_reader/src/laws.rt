@@ -18,6 +18,7 @@ ghost use Rattle.policy_syntax.specs.Places.{bare_rule};
 ghost use Rattle.formula_reader.specs.Sorts.{first_refusal, policy_refusal, rule_refusal};
 ghost use Rattle.formula_reader.specs.RoundTrip.{PrintedIsRead, TextsHaveLevels};
 ghost use Rattle.formula_reader.specs.Standing.{IsLeast, IsLeastInRules, Rises, Stands, StandsInRules};
+ghost use Rattle.formula_reader.specs.WellFormed.{ReadIsWellFormed};
 ghost use Rattle.formula_reader.specs.Written.{rule_back, rule_plain};
 ghost use Rattle.formula_reader.specs.declared.policies.PolicyRefusal.{PolicyRefusal};
 
@@ -38,6 +39,14 @@ pub fn one_text_answer()
         × ((other : Result (List Rule) PolicyRefusal) → IsTextAnswer entries bytes other → other ≡ answer) }
 {
     policy_syntax::laws::one_answer();
+}
+
+/// What a text is read as is a policy of the signature: its rules are closed, and keep to the limits and to the names
+/// of the signature with their numbers of columns.
+pub fn read_is_well_formed()
+    ensures { ReadIsWellFormed }
+{
+    texts_are_writable();
 }
 
 /// Where the places of the points of a rule rise, the first refusal is the one that stands at the least place.

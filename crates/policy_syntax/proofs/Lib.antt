@@ -29,3 +29,4 @@ pub mod Moves
 pub mod FormulaMoves
 pub mod RuleMoves
 pub mod Answering
+pub mod Levels

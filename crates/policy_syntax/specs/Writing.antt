@@ -7,12 +7,13 @@ use Rattle.enf_value.specs.Names.{is_word}
 use Rattle.enf_value.specs.TokenLaws.{value_token}
 use Rattle.enf_value.specs.Tokens.{IsProper, Digits as DigitsToken}
 use Rattle.enf_value.specs.declared.intervals.Interval.{Interval}
-use Rattle.policy_syntax.specs.Grammar.{end_lexeme}
+use Rattle.policy_syntax.specs.Grammar.{PolicyFits, RulePhrase, end_lexeme, policy_fold, spell}
 use Rattle.policy_syntax.specs.Lexemes.{Lexeme, Symbol, Truth, Prefix, Infix, Quantifier, Sign, Name, of_token, of_word}
 use Rattle.policy_syntax.specs.Lexemes.{Digits, Placed}
 use Rattle.policy_syntax.specs.Limits.{IsPolicy, IsRule}
 use Rattle.policy_syntax.specs.Places.{bare_rule}
 use Rattle.policy_syntax.specs.Reading.{IsPolicyText, PolicyRead}
+use Rattle.policy_syntax.specs.Refusals.{Deep, deepen}
 use Rattle.policy_syntax.specs.Trees.{Formula, Rule, True, False, Atom, Equal, Less, AtMost, Not, And, Or, Implies}
 use Rattle.policy_syntax.specs.Trees.{Exists, Forall, Prev, Next, Once, Historically, Since, Eventually, Always}
 use Rattle.policy_syntax.specs.Trees.{Until}
@@ -132,9 +133,28 @@ rule_written rule =
 abbrev pub kinds_written : List Leveled → List Lexeme
 kinds_written written = map (λ leveled. leveled.1) written
 
+-- the level and the kind of a lexeme
+abbrev pub level_of : Deep → Leveled
+level_of deep = (deep.level, deep.placed.1)
+
+-- those of the lexemes of a policy
+abbrev pub levels_of : List RulePhrase → List Leveled
+levels_of rules = map level_of (policy_fold deepen rules [])
+
+-- the lexemes are those of a policy, and stand at these levels
+pub record HasLevels (placed : List Placed) (written : List Leveled) : Type 0 where
+  pub rules : List RulePhrase
+  pub fits : PolicyFits rules
+  pub spells : policy_fold spell rules [] ≡ placed
+  pub levels : levels_of rules ≡ written
+
 -- none stands at a level above the limit
 abbrev pub AreLow : List Leveled → Type 0
 AreLow written = AllByRecursion (λ leveled. leveled.0 ≤ MOST_LEVEL) written
+
+-- so do the lexemes, at whatever levels they stand
+abbrev pub StandLow : List Placed → Type 0
+StandLow placed = (written : List Leveled) → HasLevels placed written → AreLow written
 
 -- ---- what can be written: names are words of their own, values and ends of intervals are those of the program, and a
 -- quantifier has a variable
@@ -197,6 +217,12 @@ abbrev pub WrittenIsRead : Type 0
 WrittenIsRead =
     (rule : Rule) (placed : List Placed) → IsRule rule → IsWritableRule rule → AreLow (rule_written rule)
     → map (λ token. token.1) placed ≡ kinds_written (rule_written rule) → IsReadAgain placed rule
+
+-- and they stand at the levels at which they are written
+abbrev pub WrittenHasLevels : Type 0
+WrittenHasLevels =
+    (rule : Rule) (placed : List Placed) → IsRule rule → IsWritableRule rule
+    → map (λ token. token.1) placed ≡ kinds_written (rule_written rule) → HasLevels placed (rule_written rule)
 
 -- the rules of a text can be written
 abbrev pub TextsAreWritable : Type 0

@@ -5,7 +5,7 @@ ghost use Rattle.policy_syntax.specs.Lexemes.{Placed};
 ghost use Rattle.policy_syntax.specs.Reading.{IsPolicyText};
 ghost use Rattle.policy_syntax.specs.Refusals.{OneAnswer};
 ghost use Rattle.policy_syntax.specs.Trees.{Rule};
-ghost use Rattle.policy_syntax.specs.Writing.{TextsAreWritable, WrittenIsRead};
+ghost use Rattle.policy_syntax.specs.Writing.{TextsAreWritable, WrittenHasLevels, WrittenIsRead};
 
 use enf_value::laws::texts_are_cut;
 
@@ -27,8 +27,10 @@ pub fn texts_are_writable()
 
 /// The lexemes that are written for a rule within the limits, with parentheses round each operand that is neither an
 /// event nor `true` nor `false`, none of them at a level above the limit, are read as that rule but for its places.
+/// Whatever their levels, they are the lexemes of a policy, at the levels at which they are written.
 pub fn written_is_read()
-    ensures { WrittenIsRead }
+    ensures read { WrittenIsRead }
+    ensures levels { WrittenHasLevels }
 {}
 
 /// Each text has exactly one answer.
