@@ -64,3 +64,14 @@ pub record IsOneCall {A B : Type 0} (gives : A → Type 0) (made : A → B) (res
   pub answer : A
   pub called : gives answer
   pub told : result ≡ made answer
+
+-- a file that one call opened is asked by one call more; where it was not opened, that is the answer
+abbrev pub AsksFile : {F T : Type 0} → (F → Result T Error → F → Type 0) → Result F Error → Result T Error → Type 0
+AsksFile {F = F} asks (Ok file) answer = (after : F) × asks file answer after
+AsksFile asks (Err error) answer = answer ≡ Err error
+
+pub record AsksOpened {F T : Type 0} (opens : Result F Error → Type 0) (asks : F → Result T Error → F → Type 0)
+    (answer : Result T Error) : Type 0 where
+  pub opened : Result F Error
+  pub called : opens opened
+  pub asked : AsksFile asks opened answer

@@ -5,11 +5,12 @@ ghost use Rattle.std.specs.Io.KnownBytes.{ReadConsumes, WriteAppends};
 ghost use Rattle.enf_io.specs.Counts.{faults_after};
 ghost use Rattle.enf_io.specs.Streams.{Stream, Reads, Writes};
 ghost use Rattle.enf_io.specs.FileCalls.{FileView, ReadsFile, WritesFile};
-ghost use Rattle.enf_io.specs.Adapted.{AdaptedFiles, AdaptedOutput, AdaptedPair, IsOneCall};
+ghost use Rattle.enf_io.specs.Adapted.{AdaptedFiles, AdaptedOutput, AdaptedPair, AsksOpened, IsOneCall};
 ghost use Rattle.enf_io.specs.Adapted.{adapted, adapted_write, untold_files, untold_stream};
 
 use crate::devices::{Files, Gate, IoRefusal, Sink};
-use crate::outside::{FilesOnce, ReadOnce, RuntimeFiles, WriteOnce};
+use crate::outside::{FileOnce, FilesOnce, ReadOnce, RuntimeFiles, WriteOnce};
+use std::alloc::Global;
 use std::io;
 use std::io::ErrorKind;
 use std::marker::Model;
@@ -121,6 +122,7 @@ pub type StdFiles<'a, R> = AdaptedFiles<RuntimeFiles<'a, R>>;
 /// Files over those of the outside. A fault at one of them counts for every name.
 #[derive(Drop)]
 pub struct AdaptedFiles<F: FilesOnce> {
+    alloc: Global,
     files: F,
     read_faults: u64,
     write_faults: u64,
@@ -137,6 +139,7 @@ impl<'a, R: std::rt::Files + AllocGlobal> AdaptedFiles<RuntimeFiles<'a, R>> {
         ensures { result ≡ record { files = record { rt = rt.entry }; read_faults = 0; write_faults = 0 } }
     {
         AdaptedFiles {
+            alloc: rt.alloc(),
             files: RuntimeFiles { rt },
             read_faults: 0,
             write_faults: 0,
@@ -148,25 +151,53 @@ impl<F: FilesOnce> Files for AdaptedFiles<F> {
     ghost seen = { untold_files };
 
     fn read(&mut self, name: &str, most: usize) -> Result<Vec<u8>, IoRefusal>
-        ensures once { IsOneCall (λ answer. F.read_gives self.old.files name.now most answer self.new.files)
-            adapted result }
+        ensures once { IsOneCall (λ answer. AsksOpened
+            (λ opened. F.open_gives self.old.files name.now opened self.new.files)
+            (λ file answer after. F.File.read_gives file most answer after) answer) adapted result }
         ensures reads { self.new.read_faults ≡ faults_after result self.old.read_faults }
         ensures writes { self.new.write_faults ≡ self.old.write_faults }
         ensures seen { ReadsFile name.now most result (untold_files self.old) (untold_files self.new) }
     {
-        let answer = self.files.read_once(name, most);
+        let answer = read_front(&mut self.files, self.alloc, name, most);
         counted(answer, &mut self.read_faults)
     }
 
     fn write(&mut self, name: &str, bytes: &[u8]) -> Result<(), IoRefusal>
-        ensures once { IsOneCall (λ answer. F.write_gives self.old.files name.now bytes.now answer self.new.files)
-            adapted result }
+        ensures once { IsOneCall (λ answer. AsksOpened
+            (λ opened. F.create_gives self.old.files name.now opened self.new.files)
+            (λ file answer after. F.File.write_gives file bytes.now answer after) answer) adapted result }
         ensures reads { self.new.read_faults ≡ self.old.read_faults }
         ensures writes { self.new.write_faults ≡ faults_after result self.old.write_faults }
         ensures seen { WritesFile name.now bytes.now result (untold_files self.old) (untold_files self.new) }
     {
-        let answer = self.files.write_once(name, bytes);
+        let answer = write_whole(&mut self.files, name, bytes);
         counted(answer, &mut self.write_faults)
+    }
+}
+
+fn read_front<F: FilesOnce>(
+    files: &mut F,
+    alloc: Global,
+    name: &str,
+    most: usize,
+) -> io::Result<Vec<u8>>
+    ensures within { IfOk result (λ bytes. length bytes.items ≤ most) }
+    ensures once { AsksOpened (λ opened. F.open_gives files.old name.now opened files.new)
+        (λ file answer after. F.File.read_gives file most answer after) result }
+{
+    match files.open_once(name) {
+        Ok(mut file) => file.read_front_once(alloc, most),
+        Err(error) => Err(error),
+    }
+}
+
+fn write_whole<F: FilesOnce>(files: &mut F, name: &str, bytes: &[u8]) -> io::Result<()>
+    ensures { AsksOpened (λ opened. F.create_gives files.old name.now opened files.new)
+        (λ file answer after. F.File.write_gives file bytes.now answer after) result }
+{
+    match files.create_once(name) {
+        Ok(mut file) => file.write_all_once(bytes),
+        Err(error) => Err(error),
     }
 }
 

@@ -9,6 +9,7 @@ ghost use Rattle.std.specs.declared.vec.Vec.{Vec as AnyVec};
 ghost use Rattle.std.specs.declared.alloc.Global.{Global as AnyGlobal};
 ghost use Rattle.std.specs.declared.io.Error.{Error};
 
+use std::alloc::Global;
 use std::io::{Read, Write};
 use std::{fs, io};
 
@@ -60,20 +61,57 @@ impl<W: Write> WriteOnce for W {
     }
 }
 
-/// Files by path whose calls are told apart. The files of a runtime are such.
-pub trait FilesOnce {
-    ghost read_gives: { Self → List ℕ → ℕ → Result (AnyVec ℕ AnyGlobal) Error → Self → Type 0 };
+/// A file that was opened, whose calls are told apart. Each file of std is one.
+pub trait FileOnce {
+    ghost read_gives: { Self → ℕ → Result (AnyVec ℕ AnyGlobal) Error → Self → Type 0 };
 
-    ghost write_gives: { Self → List ℕ → List ℕ → Result ⊤ Error → Self → Type 0 };
+    ghost write_gives: { Self → List ℕ → Result ⊤ Error → Self → Type 0 };
 
-    /// The bytes of a file, or its first `most` where it has more.
-    fn read_once(&mut self, name: &str, most: usize) -> io::Result<Vec<u8>>
+    /// The bytes from here on, or the first `most` where there are more.
+    fn read_front_once(&mut self, alloc: Global, most: usize) -> io::Result<Vec<u8>>
         ensures within { IfOk result (λ bytes. length bytes.items ≤ most) }
-        ensures once { read_gives self.old name.now most result self.new };
+        ensures once { read_gives self.old most result self.new };
 
-    /// Makes these bytes the file's.
-    fn write_once(&mut self, name: &str, bytes: &[u8]) -> io::Result<()>
-        ensures once { write_gives self.old name.now bytes.now result self.new };
+    /// As `Write::write_all`, called once.
+    fn write_all_once(&mut self, bytes: &[u8]) -> io::Result<()>
+        ensures once { write_gives self.old bytes.now result self.new };
+}
+
+impl<F: Read + Write> FileOnce for F {
+    ghost read_gives = { λ before most answer after. IfOk answer (λ bytes. length bytes.items ≤ most) };
+
+    ghost write_gives = { λ before bytes answer after. ⊤ };
+
+    // Reads no further than `most` bytes, however long the file is.
+    fn read_front_once(&mut self, alloc: Global, most: usize) -> io::Result<Vec<u8>> {
+        let mut bytes = Vec::new(alloc);
+        Read::by_ref(self)
+            .take(most as u64)
+            .read_to_end(&mut bytes)?;
+        bytes.truncate(most);
+        Ok(bytes)
+    }
+
+    fn write_all_once(&mut self, bytes: &[u8]) -> io::Result<()> {
+        self.write_all(bytes)
+    }
+}
+
+/// Files by path whose openings are told apart. The files of a runtime are such.
+pub trait FilesOnce {
+    type File: FileOnce + Drop;
+
+    ghost open_gives: { Self → List ℕ → Result Self.File Error → Self → Type 0 };
+
+    ghost create_gives: { Self → List ℕ → Result Self.File Error → Self → Type 0 };
+
+    /// As `fs::open`, called once.
+    fn open_once(&mut self, name: &str) -> io::Result<Self::File>
+        ensures once { open_gives self.old name.now result self.new };
+
+    /// As `fs::create`, called once.
+    fn create_once(&mut self, name: &str) -> io::Result<Self::File>
+        ensures once { create_gives self.old name.now result self.new };
 }
 
 /// The files of a runtime.
@@ -82,22 +120,18 @@ pub struct RuntimeFiles<'a, R> {
     pub(crate) rt: &'a R,
 }
 
-impl<'a, R: std::rt::Files + AllocGlobal> FilesOnce for RuntimeFiles<'a, R> {
-    ghost read_gives = { λ before name most answer after. IfOk answer (λ bytes. length bytes.items ≤ most) };
+impl<'a, R: std::rt::Files> FilesOnce for RuntimeFiles<'a, R> {
+    type File = R::File;
 
-    ghost write_gives = { λ before name bytes answer after. ⊤ };
+    ghost open_gives = { λ before name answer after. ⊤ };
 
-    // Reads no further than `most` bytes, however long the file is.
-    fn read_once(&mut self, name: &str, most: usize) -> io::Result<Vec<u8>> {
-        let mut bytes = Vec::new(self.rt.alloc());
-        fs::open(self.rt, name)?
-            .take(most as u64)
-            .read_to_end(&mut bytes)?;
-        bytes.truncate(most);
-        Ok(bytes)
+    ghost create_gives = { λ before name answer after. ⊤ };
+
+    fn open_once(&mut self, name: &str) -> io::Result<R::File> {
+        fs::open(self.rt, name)
     }
 
-    fn write_once(&mut self, name: &str, bytes: &[u8]) -> io::Result<()> {
-        fs::write(self.rt, name, bytes)
+    fn create_once(&mut self, name: &str) -> io::Result<R::File> {
+        fs::create(self.rt, name)
     }
 }
