@@ -1,1 +1,4 @@
 pub mod Finding
+pub mod ScopeLemmas
+pub mod TriggerLemmas
+pub mod CaseLemmas

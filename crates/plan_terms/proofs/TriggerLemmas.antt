@@ -10,7 +10,7 @@ use Rattle.enf_value.specs.declared.steps.Step.{Step}
 use Rattle.enf_value.specs.declared.values.Value.{Value}
 use Rattle.enf_formula.specs.Formulas.{Formula, Atom, And, Or, Exists}
 use Rattle.enf_formula.specs.Satisfaction.{Sat, Classically, IsAmong}
-use Rattle.rank_check.specs.Paths.{triggers, of_each}
+use Rattle.plan_terms.specs.Triggers.{of_each, triggers}
 
 abbrev Met : List Event → List NameId → Type 0
 Met events names = Classically ((event : Event) × Contains events event × Contains names event.name)

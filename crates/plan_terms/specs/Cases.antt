@@ -2,7 +2,10 @@
 use Rattle.std.specs.Prelude.{ℕ, ◌+◌, List, [], ◌∷◌, Option, map}
 use Rattle.std.specs.List.{find}
 use Rattle.enf_value.specs.declared.terms.Term.TheVariants.{Var}
-use Rattle.enf_formula.specs.Cases.{x, name_p, name_q, formula_p, formula_p_x}
+use Rattle.enf_value.specs.declared.terms.VarId.{VarId}
+use Rattle.enf_formula.specs.Cases.{x, name_p, name_q, formula_p, formula_p_x, formula_q_x, from_on, within}
+use Rattle.enf_formula.specs.Formulas as tree
+use Rattle.enf_formula.specs.Formulas.{Formula}
 use Rattle.plan_terms.specs.Nodes.{nodes, has_number, number_of}
 use Rattle.plan_terms.specs.Plans.{Plan, Cause, Suppress, Both, Either, TestOr, Guarded, Eventually, Until}
 
@@ -37,3 +40,25 @@ wait_and_choice = Both 0 (wait 1) (choice 4)
 -- both sides have the number 1
 abbrev pub twice_one : Plan
 twice_one = Both 0 (Cause 1 3 name_p []) (Cause 1 5 name_q [])
+
+-- a second variable, and q(x, y)
+abbrev pub y : VarId
+y = record { 0 = 1 }
+
+abbrev pub cause_q_x_y : Plan
+cause_q_x_y = Cause 2 9 name_q (Var x ∷ Var y ∷ [])
+
+-- for each x with p(x) and then for each of these variables with p of them, q(x, y)
+abbrev pub each_of : List VarId → Formula → Plan
+each_of xs test = Guarded 0 (x ∷ []) 0 formula_p_x (Guarded 1 xs 1 test cause_q_x_y)
+
+abbrev pub p_y : Formula
+p_y = tree.Atom 0 name_p (Var y ∷ [])
+
+-- p holds of some value
+abbrev pub some_p : VarId → Formula
+some_p bound = tree.Exists 0 (bound ∷ []) (tree.Atom 0 name_p (Var bound ∷ []))
+
+-- the only guard of each_soon
+abbrev pub guards_soon : List (Formula × List VarId)
+guards_soon = (formula_p_x, []) ∷ []

@@ -1,4 +1,12 @@
 pub mod Plans
 pub mod Nodes
 pub mod PlanFormula
+pub mod Scopes
+pub mod Guards
+pub mod Limits
+pub mod Changes
+pub mod Triggers
+pub mod Names
+pub mod WellFormed
+pub mod ScopeLaws
 pub mod Cases

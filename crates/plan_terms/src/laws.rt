@@ -1,7 +1,38 @@
 //! Laws of plans, each the contract of a function with an empty body.
 ghost use Rattle.plan_terms.specs.Nodes.{NumberIsPlace};
+ghost use Rattle.plan_terms.specs.ScopeLaws.{FoundBeginsWithScope, FoundEndsInTime, FoundHasListedGuards};
+ghost use Rattle.plan_terms.specs.ScopeLaws.{FoundHasRisingScope, FoundHasSafeGuards, FoundIsFirst, FoundIsScoped};
+ghost use Rattle.plan_terms.specs.ScopeLaws.{FreeIsInScope, NodesHaveScopes};
+ghost use Rattle.plan_terms.specs.Triggers.{TriggersAreMet};
 
 /// Where the nodes are numbered in pre-order from 0, the node with a number is the one at that place.
 pub fn number_is_place()
     ensures { NumberIsPlace }
+{}
+
+/// Each node of a plan has its variables in scope: those at the root and then those that were bound above it, which
+/// rise.
+pub fn nodes_have_scopes()
+    ensures nodes { NodesHaveScopes }
+    ensures found { FoundIsFirst }
+    ensures begins { FoundBeginsWithScope }
+    ensures rises { FoundHasRisingScope }
+{}
+
+/// The node that is found by a number inherits what is asked of a plan, with the variables in scope there.
+pub fn found_node_inherits()
+    ensures scoped { FoundIsScoped }
+    ensures safe { FoundHasSafeGuards }
+    ensures listed { FoundHasListedGuards }
+    ensures ends { FoundEndsInTime }
+{}
+
+/// What is free in the formula that a plan stands for is in scope at its root.
+pub fn free_is_in_scope()
+    ensures { FreeIsInScope }
+{}
+
+/// Where a guard with triggers holds, the step has an event of one of them.
+pub fn triggers_are_met()
+    ensures { TriggersAreMet }
 {}

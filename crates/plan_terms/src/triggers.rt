@@ -1,18 +1,18 @@
-//! The names that trigger a guard.
+//! The names whose events trigger a guard.
 ghost use Rattle.std.specs.Prelude.{◌≡◌, IfOk, is_some};
 ghost use Rattle.std.specs.Option.{option_map};
 ghost use Rattle.enf_formula.specs.Formulas.{tree_of};
-ghost use Rattle.rank_check.specs.Paths.{triggers as names_of};
+ghost use Rattle.plan_terms.specs.Triggers.{triggers as trigger_names};
 
 use enf_formula::Formula;
 use enf_value::events::NameId;
 use enf_value::memory::NoMemory;
 use std::alloc::Global;
 
-// The names of which one has an event wherever the formula holds, or none: of `and` those of the first side that has
-// some, of `or` those of both sides.
+/// The names of which one has an event wherever the formula holds, or none: of `and` those of the first side that has
+/// some, of `or` those of both sides.
 pub fn triggers(alloc: Global, formula: &Formula) -> Result<Option<Vec<NameId>>, NoMemory>
-    ensures { IfOk result (λ names. option_map (λ all. all.items) names ≡ names_of (tree_of formula.now)) }
+    ensures { IfOk result (λ names. option_map (λ all. all.items) names ≡ trigger_names (tree_of formula.now)) }
 {
     match formula {
         Formula::Atom(_, name, _) => {
@@ -54,9 +54,9 @@ pub fn triggers(alloc: Global, formula: &Formula) -> Result<Option<Vec<NameId>>,
     }
 }
 
-// Whether it has triggers.
+/// Whether it has triggers.
 pub fn has_triggers(formula: &Formula) -> bool
-    ensures { result ≡ is_some (names_of (tree_of formula.now)) }
+    ensures { result ≡ is_some (trigger_names (tree_of formula.now)) }
 {
     match formula {
         Formula::Atom(_, _, _) => true,

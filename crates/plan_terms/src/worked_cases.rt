@@ -1,10 +1,17 @@
 //! Worked cases of plans, each a clause of a function with an empty body.
 ghost use Rattle.std.specs.Prelude.{◌≡◌, [], ◌∷◌, true, false, length, Some, None};
 ghost use Rattle.std.specs.List.{list_any};
-ghost use Rattle.enf_formula.specs.Cases.{x, name_p, name_q, formula_p, formula_p_x, within};
+ghost use Rattle.enf_formula.specs.Cases.{x, name_p, name_q, formula_p, formula_p_x, formula_q, within};
 ghost use Rattle.enf_formula.specs.Formulas as tree;
-ghost use Rattle.plan_terms.specs.Cases.{numbers, node_with, cause_q_x, each_soon};
-ghost use Rattle.plan_terms.specs.Cases.{wait, choice, wait_and_choice, twice_one};
+ghost use Rattle.plan_terms.specs.Cases.{numbers, node_with, cause_q_x, each_soon, soon_q_x, guards_soon};
+ghost use Rattle.plan_terms.specs.Cases.{wait, choice, wait_and_choice, twice_one, y, each_of, p_y, some_p};
+ghost use Rattle.plan_terms.specs.Changes.{NothingClashes};
+ghost use Rattle.plan_terms.specs.Guards.{GuardsAreListed, GuardsAreSafe, IsFresh, all_guards};
+ghost use Rattle.plan_terms.specs.Limits.{EndsInTime};
+ghost use Rattle.plan_terms.specs.Names.{LooksBelow, names_in};
+ghost use Rattle.plan_terms.specs.Scopes.{IsScoped, scope_at};
+ghost use Rattle.plan_terms.specs.Triggers.{triggers};
+ghost use Rattle.plan_terms.specs.WellFormed.{AreWellFormed};
 ghost use Rattle.plan_terms.specs.Nodes.{nodes, is_future, IsNumbered};
 ghost use Rattle.plan_terms.specs.PlanFormula.{formula_for};
 ghost use Rattle.plan_terms.specs.Plans as plan;
@@ -41,5 +48,78 @@ pub fn formulas()
     ensures choice { formula_for (choice 0) ≡ tree.Or 0 (tree.Atom 8 name_p [])
         (tree.Or 0 formula_p (tree.Atom 9 name_q [])) }
     ensures next { formula_for (plan.Next 0 5 30 cause_q_x) ≡ tree.Next 5 (within 0 30) (formula_for cause_q_x) }
-    ensures always { formula_for (plan.Always 0 5 1 30 cause_q_x) ≡ tree.Always 5 (within 1 30) (formula_for cause_q_x) }
+    ensures always { formula_for (plan.Always 0 5 1 30 cause_q_x)
+        ≡ tree.Always 5 (within 1 30) (formula_for cause_q_x) }
+{}
+
+/// The variables in scope at a node, and plans whose variables are in scope where they stand.
+pub fn scopes()
+    ensures root { scope_at 0 each_soon ≡ Some [] }
+    ensures below_guard { scope_at 1 each_soon ≡ Some (x ∷ []) }
+    ensures below_two { scope_at 2 (each_of (y ∷ []) p_y) ≡ Some (x ∷ y ∷ []) }
+    ensures no_node { scope_at 3 each_soon ≡ None }
+    ensures scoped { IsScoped each_soon [] }
+    ensures scoped_twice { IsScoped (each_of (y ∷ []) p_y) [] }
+    ensures not_in_scope { IsScoped soon_q_x [] → ⊥ }
+    ensures bound_again { IsScoped (each_of (x ∷ []) formula_p_x) [] → ⊥ }
+    ensures bound_twice { IsScoped (plan.Guarded 0 (x ∷ x ∷ []) 0 formula_p_x cause_q_x) [] → ⊥ }
+    ensures falling { IsScoped (plan.Guarded 0 (y ∷ x ∷ []) 0 formula_p_x cause_q_x) [] → ⊥ }
+    ensures guard_not_in_scope { IsScoped (plan.Guarded 0 (x ∷ []) 0 p_y cause_q_x) [] → ⊥ }
+    ensures test_not_in_scope { IsScoped (plan.TestOr 0 0 formula_p_x (plan.Cause 1 2 name_q [])) [] → ⊥ }
+{}
+
+/// Guards and tests at their numbers, that can be evaluated where they stand.
+pub fn guards()
+    ensures those { all_guards (each_of (y ∷ []) p_y ∷ each_soon ∷ [])
+        ≡ (formula_p_x, []) ∷ (p_y, x ∷ []) ∷ (formula_p_x, []) ∷ [] }
+    ensures listed { GuardsAreListed guards_soon each_soon [] }
+    ensures second { GuardsAreListed ((formula_p_x, []) ∷ (p_y, x ∷ []) ∷ []) (each_of (y ∷ []) p_y) [] }
+    ensures not_listed { GuardsAreListed [] each_soon [] → ⊥ }
+    ensures another_test { GuardsAreListed ((formula_p, []) ∷ []) each_soon [] → ⊥ }
+    ensures more_in_scope { GuardsAreListed ((formula_p_x, x ∷ []) ∷ []) each_soon [] → ⊥ }
+    ensures another_number { GuardsAreListed guards_soon (plan.Guarded 0 (x ∷ []) 1 formula_p_x cause_q_x) []
+        → ⊥ }
+    ensures safe { GuardsAreSafe each_soon [] }
+    ensures tells_nothing { GuardsAreSafe (plan.Guarded 0 (x ∷ []) 0 formula_p cause_q_x) [] → ⊥ }
+    ensures no_test { GuardsAreSafe (plan.TestOr 0 0 formula_p_x cause_q_x) [] → ⊥ }
+    ensures looks_ahead { GuardsAreSafe (plan.TestOr 0 0 (tree.Eventually 0 (within 0 5) formula_p) cause_q_x) [] → ⊥ }
+    ensures fresh { IsFresh (some_p y, x ∷ []) }
+    ensures bound_in_scope { IsFresh (some_p x, x ∷ []) → ⊥ }
+    ensures bound_and_free { IsFresh (tree.And 0 formula_p_x (some_p x), []) → ⊥ }
+{}
+
+/// The names that trigger a guard, and those that it looks for.
+pub fn names_of_guards()
+    ensures atom { triggers formula_p ≡ Some (name_p ∷ []) }
+    ensures first_side { triggers (tree.And 0 formula_p formula_q) ≡ Some (name_p ∷ []) }
+    ensures second_side { triggers (tree.And 0 (tree.True 0) formula_q) ≡ Some (name_q ∷ []) }
+    ensures either_side { triggers (tree.Or 0 formula_p formula_q) ≡ Some (name_p ∷ name_q ∷ []) }
+    ensures one_side_alone { triggers (tree.Or 0 formula_p (tree.True 0)) ≡ None }
+    ensures some { triggers (tree.Exists 0 (x ∷ []) formula_p) ≡ Some (name_p ∷ []) }
+    ensures denied { triggers (tree.Not 0 formula_p) ≡ None }
+    ensures looked_for { names_in (tree.And 0 formula_q (tree.Not 0 formula_p)) ≡ name_q ∷ name_p ∷ [] }
+    ensures below { LooksBelow 1 (formula_p_x, []) }
+    ensures not_below { LooksBelow 0 (formula_p_x, []) → ⊥ }
+{}
+
+/// Intervals that end in time, for each operator on the future.
+pub fn ends()
+    ensures last { EndsInTime (plan.Always 0 1 0 1000000000 cause_q_x) }
+    ensures one_point { EndsInTime (plan.Until 0 1 7 7 cause_q_x cause_q_x) }
+    ensures eventually { EndsInTime (plan.Eventually 0 1 0 1000000001 cause_q_x) → ⊥ }
+    ensures always { EndsInTime (plan.Always 0 1 0 1000000001 cause_q_x) → ⊥ }
+    ensures until { EndsInTime (plan.Until 0 1 0 1000000001 cause_q_x cause_q_x) → ⊥ }
+    ensures next { EndsInTime (plan.Next 0 1 1000000001 cause_q_x) → ⊥ }
+    ensures eventually_falls { EndsInTime (plan.Eventually 0 1 5 4 cause_q_x) → ⊥ }
+    ensures always_falls { EndsInTime (plan.Always 0 1 5 4 cause_q_x) → ⊥ }
+    ensures until_falls { EndsInTime (plan.Until 0 1 5 4 cause_q_x cause_q_x) → ⊥ }
+{}
+
+/// Plans with their guards.
+pub fn well_formed()
+    ensures none { AreWellFormed [] [] }
+    ensures one { AreWellFormed (each_soon ∷ []) guards_soon }
+    ensures guard_of_none { AreWellFormed [] guards_soon → ⊥ }
+    ensures not_numbered { AreWellFormed (twice_one ∷ []) [] → ⊥ }
+    ensures clash { NothingClashes (plan.Both 0 (plan.Cause 1 3 name_q []) (plan.Suppress 2 5 name_q []) ∷ []) → ⊥ }
 {}
