@@ -6,8 +6,9 @@ use Rattle.signature.specs.declared.entries.NameEntry.{NameEntry}
 use Rattle.enf_io.specs.Contents.{Missing}
 use Rattle.enf_cli.specs.Calls.{Call}
 use Rattle.enf_cli.specs.Files.{FailsToRead, HoldsSignature}
-use Rattle.enf_cli.specs.Outcomes.{BreaksOffLog, MissesFile, Outcome}
+use Rattle.enf_cli.specs.Outcomes.{BreaksOffLog, IsCut, MissesFile, Outcome}
 use Rattle.enf_cli.specs.Words.{NamesFiles}
+use Rattle.enf_cli.specs.declared.endings.Cut.TheVariants as cuts
 use Rattle.enf_cli.specs.declared.refusals.Status.TheVariants as statuses
 use Rattle.enf_cli.proofs.DueLemmas.{one_form}
 
@@ -41,6 +42,9 @@ module _ {Gate : Type 0} (call : Call Gate) (x : CalmContents) (files : call.bef
 
   -- no write fault comes
   pub no_write_fault : call.before.gate.write_faults ≡ 0 → call.after.gate.write_faults ≡ 0 → Outcome call statuses.WriteFault → ⊥
-  no_write_fault before after (inl (inl o), same) = none_more call.before.gate.write_faults call.after.gate.write_faults before after o.cut.2
-  no_write_fault before after (inl (inr o), same) = none_more call.before.gate.write_faults call.after.gate.write_faults before after o.writes
-  no_write_fault before after (inr o, same) = none_more call.before.gate.write_faults call.after.gate.write_faults before after o.writes
+  no_write_fault before after o = by o.cut
+    where
+      by : IsCut call cuts.WriteFault → ⊥
+      by (inl (inl failed)) = none_more call.before.gate.write_faults call.after.gate.write_faults before after failed.cut.2
+      by (inl (inr generated)) = none_more call.before.gate.write_faults call.after.gate.write_faults before after generated.writes
+      by (inr checked) = none_more call.before.gate.write_faults call.after.gate.write_faults before after checked.writes

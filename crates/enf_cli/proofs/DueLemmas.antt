@@ -37,7 +37,8 @@ use Rattle.enf_cli.specs.Exchanges.{Exchanged, IsExchange}
 use Rattle.enf_cli.specs.Files.{AreHeld, AreUnder, HoldsSignature, IsRefusedPolicy, IsRefusedSignature}
 use Rattle.enf_cli.specs.Limits.{most_log_bytes}
 use Rattle.enf_cli.specs.Logs.{IsFalling, IsRefusedAs, RunsLog}
-use Rattle.enf_cli.specs.Outcomes.{Asks, AsksToEnforce, ChecksPolicy, GeneratesLog, IsDone, Outcome, Refuses, RefusesPolicyFile, RefusesRecord, RefusesSignatureFile, RefusesWords}
+use Rattle.enf_cli.specs.Owed.{anew}
+use Rattle.enf_cli.specs.Outcomes.{Asks, AsksToEnforce, ChecksPolicy, GeneratesLog, IsDone, IsFinished, Outcome, Refuses, RefusesPolicyFile, RefusesRecord, RefusesSignatureFile, RefusesWords}
 use Rattle.enf_cli.specs.Policies.{CanBeBuilt, HasUnbuilt, ReadsPolicy, SpellsPolicy, SpellsRefused, formulas}
 use Rattle.enf_cli.specs.Signatures.{SpellsSignature}
 use Rattle.enf_cli.specs.Words.{IsCheck, IsEnforce, IsGenerate, MatchNoForm, NamesFiles}
@@ -300,8 +301,8 @@ module _ (one : OneAnswer) (one_text : OneTextAnswer) (accepted : AcceptedIsNotR
         (one_policy call entries named.asks named.bytes named.told others policy' (asks_named call others policy' (inl a.asks))).0
 
     -- the log is run under the entries that are told
-    ran_told : (others : List NameEntry) (policy' : List Rule) (verdict : Verdict) → AsksToEnforce call others policy' → RunsLog others (formulas policy') verdict call.before.gate call.after.gate → RunsLog entries (formulas policy') verdict call.before.gate call.after.gate
-    ran_told others policy' verdict asks ran = subst (λ (es : List NameEntry). RunsLog es (formulas policy') verdict call.before.gate call.after.gate) (sym (asked_same others policy' asks)) ran
+    ran_told : (others : List NameEntry) (policy' : List Rule) (verdict : Verdict) → AsksToEnforce call others policy' → RunsLog (anew others (formulas policy')) verdict call.before.gate call.after.gate → RunsLog (anew entries (formulas policy')) verdict call.before.gate call.after.gate
+    ran_told others policy' verdict asks ran = subst (λ (es : List NameEntry). RunsLog (anew es (formulas policy')) verdict call.before.gate call.after.gate) (sym (asked_same others policy' asks)) ran
 
   -- ---- a log is read in one way
 
@@ -355,7 +356,7 @@ module _ (one : OneAnswer) (one_text : OneTextAnswer) (accepted : AcceptedIsNotR
     blank_stops : (entries : List NameEntry) (clock : ℕ) (rest : List ℕ) → behind_blanks rest ≡ [] → Stops entries clock rest
     blank_stops entries clock rest blank item more begins = absurd (none_some begins.0 (sym (ap record_length blank) ∙ begins.1))
 
-    falling_stops : (entries : List NameEntry) (clock : ℕ) (rest : List ℕ) (given : ℕ) → IsFalling entries clock rest given → Stops entries clock rest
+    falling_stops : (entries : List NameEntry) (clock : ℕ) (rest : List ℕ) (given : ℕ) → IsFalling entries Input clock rest given → Stops entries clock rest
     falling_stops entries clock rest given falling item more begins =
         let same = begins_same entries rest falling.item item falling.more more falling.begins begins in
         omega (arith, falling.below, ap (λ (x : LogItem). time_of (record_of x)) same.0)
@@ -371,7 +372,7 @@ module _ (one : OneAnswer) (one_text : OneTextAnswer) (accepted : AcceptedIsNotR
     blank_not_refused entries rest log.TimeTooLarge blank h = none_some h.0 (sym (ap record_length blank) ∙ h.1)
 
     -- where a record is refused, records stop
-    refusal_stops : (entries : List NameEntry) (clock count : ℕ) (rest : List ℕ) (after : Stream) (why : RecordRefusal) → IsRefusedAs entries clock count rest after why → Stops entries clock rest
+    refusal_stops : (entries : List NameEntry) (clock count : ℕ) (rest : List ℕ) (after : Stream) (why : RecordRefusal) → IsRefusedAs entries Input clock count rest after why → Stops entries clock rest
     refusal_stops entries clock count rest after (records.Bad place) h = refused_stops entries clock rest (log.BadRecord place) h
     refusal_stops entries clock count rest after (records.UnknownName place) h = refused_stops entries clock rest (log.UnknownName place) h
     refusal_stops entries clock count rest after (records.Arity place) h = refused_stops entries clock rest (log.Arity place) h
@@ -435,25 +436,25 @@ module _ (one : OneAnswer) (one_text : OneTextAnswer) (accepted : AcceptedIsNotR
 
     -- a run that is done meets no refusal
     done_meets_none : {Gate : Type 0} (call : Call Gate) → IsDone call → MeetsRefusal call → ⊥
-    done_meets_none call d m = by m.why m.refused (read_same m.entries 0 bytes m.read m.rest d.answers.read d.rest (refusal_stops m.entries (clock_after 0 (records_of m.read)) (length bytes) m.rest call.after.gate m.why m.refused)
-        (blank_stops m.entries (clock_after 0 (records_of d.answers.read)) d.rest d.nothing_left) m.accepts.spelled m.accepts.rising mine d.answers.accepts.rising)
+    done_meets_none call d m = by m.why m.refused (read_same m.entries 0 bytes m.read m.rest d.ran.answers.read d.ran.rest (refusal_stops m.entries (clock_after 0 (records_of m.read)) (length bytes) m.rest call.after.gate m.why m.refused)
+        (blank_stops m.entries (clock_after 0 (records_of d.ran.answers.read)) d.ran.rest d.ran.ends.0) m.accepts.spelled m.accepts.rising mine d.ran.answers.accepts.rising)
       where
         bytes : List ℕ
         bytes = taken_between m.x m.y
 
-        taken : d.taken ≡ taken_between m.x m.y
-        taken = taken_at (UpToDate d.entries (formulas d.policy)) d.taken d.given call.before.gate.told call.after.gate.told m.x m.y m.told m.told' d.exchanged
+        taken : d.ran.taken ≡ taken_between m.x m.y
+        taken = taken_at (UpToDate (anew d.entries (formulas d.policy))) d.ran.taken d.ran.given call.before.gate.told call.after.gate.told m.x m.y m.told m.told' d.ran.exchanged
 
-        mine : Spells m.entries Input (taken_between m.x m.y) d.answers.read d.rest
-        mine = subst (λ (b : List ℕ). Spells m.entries Input b d.answers.read d.rest) taken (subst (λ (es : List NameEntry). Spells es Input d.taken d.answers.read d.rest) (sym (asked_same call m.entries m.policy m.asks d.entries d.policy d.asks)) d.answers.accepts.spelled)
+        mine : Spells m.entries Input (taken_between m.x m.y) d.ran.answers.read d.ran.rest
+        mine = subst (λ (b : List ℕ). Spells m.entries Input b d.ran.answers.read d.ran.rest) taken (subst (λ (es : List NameEntry). Spells es Input d.ran.taken d.ran.answers.read d.ran.rest) (sym (asked_same call m.entries m.policy m.asks d.entries d.policy d.asks)) d.ran.answers.accepts.spelled)
 
-        blank : (m.read ≡ d.answers.read) × (behind_blanks m.rest ≡ behind_blanks d.rest) → behind_blanks m.rest ≡ []
-        blank same = same.1 ∙ d.nothing_left
+        blank : (m.read ≡ d.ran.answers.read) × (behind_blanks m.rest ≡ behind_blanks d.ran.rest) → behind_blanks m.rest ≡ []
+        blank same = same.1 ∙ d.ran.ends.0
 
         no_record : behind_blanks m.rest ≡ [] → (n : ℕ) → HasRecord m.rest n → ⊥
         no_record empty n whole = none_some n (sym (ap record_length empty) ∙ whole)
 
-        by : (why : RecordRefusal) → IsRefusedAs m.entries (clock_after 0 (records_of m.read)) (length (taken_between m.x m.y)) m.rest call.after.gate why → (m.read ≡ d.answers.read) × (behind_blanks m.rest ≡ behind_blanks d.rest) → ⊥
+        by : (why : RecordRefusal) → IsRefusedAs m.entries Input (clock_after 0 (records_of m.read)) (length (taken_between m.x m.y)) m.rest call.after.gate why → (m.read ≡ d.ran.answers.read) × (behind_blanks m.rest ≡ behind_blanks d.ran.rest) → ⊥
         by (records.Bad place) h same = no_record (blank same) h.0 h.1
         by (records.UnknownName place) h same = no_record (blank same) h.0 h.1
         by (records.Arity place) h same = no_record (blank same) h.0 h.1
@@ -462,10 +463,10 @@ module _ (one : OneAnswer) (one_text : OneTextAnswer) (accepted : AcceptedIsNotR
         by records.TimeTooLarge h same = no_record (blank same) h.0 h.1
         by records.Truncated h same = omega (arith, h.0.1, ap length (blank same))
         by (records.Falling given at) h same = no_record (blank same) h.1.begins.0 h.1.begins.1
-        by records.InputLimit h same = omega (arith, h.1, d.whole.0, ap length taken)
+        by records.InputLimit h same = omega (arith, h.1, d.ran.ends.1.0, ap length taken)
 
     module _ {Gate : Type 0} (call : Call Gate) (entries : List NameEntry) (policy : List Formula) (why : RecordRefusal)
-        (ran : RunsLog entries policy (verdicts.Refused why) call.before.gate call.after.gate) (x : Exchange) (told : call.before.gate.told ≡ Some x) where
+        (ran : RunsLog (anew entries policy) (verdicts.Refused why) call.before.gate call.after.gate) (x : Exchange) (told : call.before.gate.told ≡ Some x) where
       -- a refusal behind the bytes taken is one behind a whole log, whose records end there
       module _ (read : List LogItem) (is_log : IsLog entries Input (left x) read None) (rising : NeverFall 0 (records_of read)) (y : Exchange) (told' : call.after.gate.told ≡ Some y) (grew : Grew x y) where
         more : List ℕ
@@ -473,7 +474,7 @@ module _ (one : OneAnswer) (one_text : OneTextAnswer) (accepted : AcceptedIsNotR
 
         whole : ran.taken ++ drop (y.taken - x.taken) (left x) ≡ left x
         whole =
-            ap (λ (t : List ℕ). t ++ drop (y.taken - x.taken) (left x)) (taken_at (UpToDate entries policy) ran.taken ran.given call.before.gate.told call.after.gate.told x y told told' ran.exchanged)
+            ap (λ (t : List ℕ). t ++ drop (y.taken - x.taken) (left x)) (taken_at (UpToDate (anew entries policy)) ran.taken ran.given call.before.gate.told call.after.gate.told x y told told' ran.exchanged)
             ∙ take-append-drop (y.taken - x.taken) (left x)
 
         -- what is left of it is all of it
@@ -494,7 +495,7 @@ module _ (one : OneAnswer) (one_text : OneTextAnswer) (accepted : AcceptedIsNotR
         not_acceptable : length (left x) < most_log_bytes → ⊥
         not_acceptable below = by why ran.ends.0
           where
-            by : (why : RecordRefusal) → IsRefusedAs entries (clock_after 0 (records_of ran.answers.read)) (length ran.taken) ran.rest call.after.gate why → ⊥
+            by : (why : RecordRefusal) → IsRefusedAs entries Input (clock_after 0 (records_of ran.answers.read)) (length ran.taken) ran.rest call.after.gate why → ⊥
             by (records.Bad place) h = not_refused (log.BadRecord place) h
             by (records.UnknownName place) h = not_refused (log.UnknownName place) h
             by (records.Arity place) h = not_refused (log.Arity place) h
@@ -503,18 +504,18 @@ module _ (one : OneAnswer) (one_text : OneTextAnswer) (accepted : AcceptedIsNotR
             by records.TimeTooLarge h = not_refused log.TimeTooLarge h
             by records.Truncated h =
                 let ended = subst IsAtEnd told' h.1.1 in
-                let all = taken_at (UpToDate entries policy) ran.taken ran.given call.before.gate.told call.after.gate.told x y told told' ran.exchanged ∙ all_between x y grew ended in
+                let all = taken_at (UpToDate (anew entries policy)) ran.taken ran.given call.before.gate.told call.after.gate.told x y told told' ran.exchanged ∙ all_between x y grew ended in
                 let spelled = subst (λ (b : List ℕ). Spells entries Input b ran.answers.read ran.rest) all ran.answers.accepts.spelled in
                 omega (arith, h.0.1, ap length (nothing_more ran.rest (pending_stops entries (clock_after 0 (records_of ran.answers.read)) ran.rest h.0.0) spelled))
             by (records.Falling given at) h =
                 let f = h.1 in
                 let begins = BeginsWith-append entries Input ran.rest f.item f.more (drop (y.taken - x.taken) (left x)) f.begins in
-                let still : IsFalling entries (clock_after 0 (records_of ran.answers.read)) (ran.rest ++ drop (y.taken - x.taken) (left x)) given =
+                let still : IsFalling entries Input (clock_after 0 (records_of ran.answers.read)) (ran.rest ++ drop (y.taken - x.taken) (left x)) given =
                 record { item = f.item; more = f.more ++ drop (y.taken - x.taken) (left x); begins = begins; time = f.time; below = f.below } in
                 let blank = nothing_more (ran.rest ++ drop (y.taken - x.taken) (left x)) (falling_stops entries (clock_after 0 (records_of ran.answers.read)) (ran.rest ++ drop (y.taken - x.taken) (left x)) given still) longer in
                 none_some begins.0 (sym (ap record_length blank) ∙ begins.1)
             by records.InputLimit h =
-                let all = taken_at (UpToDate entries policy) ran.taken ran.given call.before.gate.told call.after.gate.told x y told told' ran.exchanged in
+                let all = taken_at (UpToDate (anew entries policy)) ran.taken ran.given call.before.gate.told call.after.gate.told x y told told' ran.exchanged in
                 omega (arith, h.1, ap length all, between_le x y, below)
 
     -- ---- where each status must come
@@ -532,8 +533,8 @@ module _ (one : OneAnswer) (one_text : OneTextAnswer) (accepted : AcceptedIsNotR
             words = λ due. absurd (due.enforce o.asks.asks.signature_file o.asks.asks.policy_file o.asks.asks.form);
             files = λ due. absurd (not_asked call due o.entries o.policy o.asks);
             refused_record = λ due. absurd (done_meets_none call o due);
-            read_fault = λ due. absurd (no_read_fault o.files o.reads due);
-            write_fault = λ due. absurd (due o.writes);
+            read_fault = λ due. absurd (no_read_fault o.files o.ran.ends.2 due);
+            write_fault = λ due. absurd (due o.ran.writes);
           }
 
       dues_generated : GeneratesLog call → Dues call statuses.Done
@@ -633,9 +634,12 @@ module _ (one : OneAnswer) (one_text : OneTextAnswer) (accepted : AcceptedIsNotR
 
       -- what holds at a status leaves no room for another that is due
       pub dues_of : (result : Status) → Outcome call result → Dues call result
-      dues_of statuses.Done (inl (inl o), same) = dues_done o
-      dues_of statuses.Done (inl (inr o), same) = dues_generated o
-      dues_of statuses.Done (inr o, same) = dues_checked o
+      dues_of statuses.Done o = by o.finished
+        where
+          by : IsFinished call → Dues call statuses.Done
+          by (inl (inl done)) = dues_done done
+          by (inl (inr generated)) = dues_generated generated
+          by (inr checked) = dues_checked checked
       dues_of statuses.Words o = dues_words o.meets
       dues_of statuses.Files o = dues_files o
       dues_of statuses.Record o = dues_record o.0 o.1 o.2.meets

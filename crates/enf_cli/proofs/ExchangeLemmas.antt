@@ -142,6 +142,13 @@ module _ (P : List ℕ → List ℕ → Type 0) where
         (OfCalls-weaker (IsExchange P taken given) (λ x. take (length bytes) (left x) ≡ bytes → 0 < length (with_taken (length bytes) (with_mark x)).marks) a b
         (λ x i next. omega (arith, length-append x.marks ((x.taken, length x.given) ∷ []))) e.calls)
 
+    -- also one that fails
+    pub begun_marked : Marked b c → IsBegun a c
+    begun_marked marked =
+        OfCalls-marked (λ x. 0 < length x.marks) a b c e.grew marked
+        (OfCalls-weaker (IsExchange P taken given) (λ x. 0 < length (with_mark x).marks) a b
+        (λ x i. omega (arith, length-append x.marks ((x.taken, length x.given) ∷ []))) e.calls)
+
     -- and it stays begun
     pub begun_gave : (bytes : List ℕ) → Gave bytes b c → IsBegun a b → IsBegun a c
     begun_gave bytes gave h = OfCalls-gave (λ x. 0 < length x.marks) bytes a b c e.grew gave h

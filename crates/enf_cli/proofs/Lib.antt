@@ -2,13 +2,13 @@ pub mod BuildingLemmas
 pub mod CutLemmas
 pub mod ExchangeLemmas
 pub mod FileLemmas
-pub mod FrontLemmas
 pub mod GeneratingLemmas
 pub mod LogLemmas
 pub mod LogProgress
 pub mod ReportLemmas
 pub mod TextLemmas
 pub mod TurnLemmas
+pub mod LogTurns
 pub mod RunLemmas
 pub mod DueLemmas
 pub mod CalmLemmas

@@ -18,11 +18,11 @@ use Rattle.log_stream.specs.declared.items.LogRefusal.TheVariants as log
 use Rattle.signature.specs.declared.entries.NameEntry.{NameEntry}
 use Rattle.enf_cli.specs.Accepted.{record_of}
 use Rattle.enf_cli.specs.Limits.{most_log_bytes}
-use Rattle.enf_cli.specs.Progress.{CutsItem, CutsNext, EndsTurn, JudgesEnd, LeavesItem, MeetsEnd, RefusesNext, TakesBytes, TakesMore, TakesPiece, TakesTurn, WaitsForMore, reads_on, refusal_for}
+use Rattle.enf_cli.specs.Progress.{CutsItem, CutsNext, EndsTurn, JudgesEnd, LeavesItem, MeetsEnd, Moment, RefusesNext, TakesBytes, TakesMore, TakesPiece, ReadsPiece, WaitsForMore, front, reads_on, refusal_for}
 use Rattle.enf_cli.specs.declared.endings.Cut.{Cut}
 use Rattle.enf_cli.specs.declared.endings.Cut.TheVariants as cuts
 use Rattle.enf_cli.specs.declared.log.Enforcement.{Enforcement}
-use Rattle.enf_cli.specs.declared.log.Turn.TheVariants as turns
+use Rattle.enf_cli.specs.declared.log.Piece.TheVariants as pieces
 use Rattle.enf_cli.specs.declared.log.Verdict.{Verdict}
 use Rattle.enf_cli.specs.declared.log.Verdict.TheVariants as verdicts
 use Rattle.enf_cli.specs.declared.refusals.RecordRefusal.{RecordRefusal}
@@ -62,20 +62,20 @@ module _ (entries : List NameEntry) (before after : Reader) (going : before ≡ 
   reads_refused clock log.NoMemory why is h = cc
 
 -- a record whose time is below the clock is refused
-pub falls : (entries : List NameEntry) (rest more : List ℕ) (item : LogItem) (why : RecordRefusal) (now : Enforcing) (told told' : Option Exchange) → BeginsWith entries Input rest item more
-    → LeavesItem (record_of item) why now told told' → RefusesNext entries rest now.clock why × (told' ≡ told)
-falls entries rest more item why now told told' begins l =
-    (subst (RefusesNext entries rest now.clock) (sym l.falls) (record { item = item; more = more; begins = begins; is = refl; below = l.below }), l.given)
+pub falls : (entries : List NameEntry) (rest more : List ℕ) (item : LogItem) (why : RecordRefusal) (from to : Moment) → BeginsWith entries Input rest item more
+    → LeavesItem (record_of item) why from to → RefusesNext entries rest from.enforcer.clock why × (to.enforcer ≡ from.enforcer) × (to.told ≡ from.told)
+falls entries rest more item why from to begins l =
+    (subst (RefusesNext entries rest from.enforcer.clock) (sym l.falls) (record { item = item; more = more; begins = begins; is = refl; below = l.below }), l.enforcer, l.given)
 
 -- what cut the answer of a record cut that of the front
-pub cuts_next : (entries : List NameEntry) (rest more : List ℕ) (item : LogItem) (now : Enforcing) (told told' : Option Exchange) (cut : Cut) → BeginsWith entries Input rest item more
-    → CutsItem entries (record_of item) now told told' cut → CutsNext entries rest now told told' cut
-cuts_next entries rest more item now told told' cuts.WriteFault begins c = record { item = item; more = more; begins = begins; cut = c }
-cuts_next entries rest more item now told told' cuts.NoMemory begins (inl same) = inl same
-cuts_next entries rest more item now told told' cuts.NoMemory begins (inr c) = inr (record { item = item; more = more; begins = begins; cut = c })
+pub cuts_next : (entries : List NameEntry) (rest more : List ℕ) (item : LogItem) (from : Moment) (told : Option Exchange) (cut : Cut) → BeginsWith entries Input rest item more
+    → CutsItem entries (record_of item) from told cut → CutsNext entries rest from told cut
+cuts_next entries rest more item from told cuts.WriteFault begins c = record { item = item; more = more; begins = begins; cut = c }
+cuts_next entries rest more item from told cuts.NoMemory begins (inl same) = inl same
+cuts_next entries rest more item from told cuts.NoMemory begins (inr c) = inr (record { item = item; more = more; begins = begins; cut = c })
 
 module _ (entries : List NameEntry) (old : Enforcement) (middle reader : Reader) (now : Enforcing) (a b c : Stream)
-    (waits : WaitsForMore entries old.reader middle old.enforcer now a.told b.told) (same_reads : b.read_faults ≡ a.read_faults) where
+    (waits : WaitsForMore entries (front old.reader old.enforcer a) (front middle now b)) (same_reads : b.read_faults ≡ a.read_faults) where
   -- what a read took
   takes_bytes : (bytes : List ℕ) → TakesBytes (most_log_bytes - old.taken) bytes b.told c.told → TakesBytes (most_log_bytes - old.taken) bytes a.told c.told
   takes_bytes bytes t = record { took = subst (λ (o : Option Exchange). Took bytes o c.told) waits.given t.took; piece = t.piece; within = t.within }
@@ -103,7 +103,7 @@ module _ (entries : List NameEntry) (old : Enforcement) (middle reader : Reader)
       (subst (λ (r : Reader). IsPending r.rest) (sym is) (IsPending-blanks old.reader.rest waits.pending), ap (λ (r : Reader). r.refused) is)
 
   -- the end was met
-  pub ends_turn : (verdict : Verdict) → TakesTurn turns.Ended (most_log_bytes - old.taken) middle reader b c → JudgesEnd reader.rest verdict → EndsTurn entries old a c verdict
+  pub ends_turn : (verdict : Verdict) → ReadsPiece pieces.Ended (most_log_bytes - old.taken) middle reader b c → JudgesEnd reader.rest verdict → EndsTurn entries old a c verdict
   ends_turn verdict t judged = by judged
     where
       meets : MeetsEnd old a c

@@ -1,16 +1,16 @@
 -- Which records of a log are accepted, and what is given for them.
-use Rattle.std.specs.Prelude.{ℕ, List, map}
-use Rattle.enf_formula.specs.Formulas.{Formula}
-use Rattle.enforcer_core.specs.Follows.{FollowsPolicy}
+use Rattle.std.specs.Prelude.{◌≡◌, ℕ, List, map}
+use Rattle.log_stream.specs.Lines.{text_of}
 use Rattle.log_stream.specs.Logs.{IsPending, Spells}
 use Rattle.log_stream.specs.declared.items.LogItem.{LogItem}
 use Rattle.log_stream.specs.declared.items.LogItem.TheVariants as items
+use Rattle.log_stream.specs.declared.items.LogMode.{LogMode}
 use Rattle.log_stream.specs.declared.items.LogMode.TheVariants.{Input}
+use Rattle.signature.specs.Grammar.{names as names_of}
 use Rattle.signature.specs.declared.entries.NameEntry.{NameEntry}
-use Rattle.trace_meaning.specs.Good.{Good}
-use Rattle.trace_meaning.specs.OutSteps.{IsWithin, trace_of}
-use Rattle.trace_meaning.specs.Records.{NeverFall, Record, StepRecord, Tick, clock_after}
-use Rattle.enf_cli.specs.Enforcement.{IsEnforced}
+use Rattle.trace_meaning.specs.OutSteps.{OutStep}
+use Rattle.trace_meaning.specs.Records.{NeverFall, Record, StepRecord, Tick}
+use Rattle.enf_cli.specs.Owed.{IsOwedInAll, IsOwedSoFar, Setting}
 
 -- what an item of a log is for an enforcer
 abbrev pub record_of : LogItem → Record
@@ -20,23 +20,30 @@ record_of (items.Tick time) = Tick time
 abbrev pub records_of : List LogItem → List Record
 records_of read = map record_of read
 
--- whole records whose times never fall are accepted, in order, and a rest is left
-pub record Accepts (entries : List NameEntry) (bytes : List ℕ) (read : List LogItem) (rest : List ℕ) : Type 0 where
-  pub spelled : Spells entries Input bytes read rest
-  pub rising : NeverFall 0 (records_of read)
+-- whole records whose times never fall from a clock on are accepted, in order, and a rest is left
+pub record Accepts (entries : List NameEntry) (mode : LogMode) (clock : ℕ) (bytes : List ℕ)
+    (read : List LogItem) (rest : List ℕ) : Type 0 where
+  pub spelled : Spells entries mode bytes read rest
+  pub rising : NeverFall clock (records_of read)
 
--- the records of the bytes taken, up to a rest, are accepted; the bytes given are what is owed to them, as the rules of
--- the policy decide it, and the steps can be continued well from the clock on
-pub record AnswersBytes (entries : List NameEntry) (policy : List Formula) (taken given rest : List ℕ) : Type 0 where
+-- the records of the bytes taken, up to a rest, are accepted, and the bytes given are the text of what is owed to them
+pub record Gives (IsOwed : List Record → List OutStep → Type 0) (s : Setting)
+    (taken given rest : List ℕ) : Type 0 where
   pub read : List LogItem
-  pub accepts : Accepts entries taken read rest
-  pub enforced : IsEnforced entries policy (records_of read) given
-  pub decided : FollowsPolicy policy (records_of read) enforced.out
-  pub within : IsWithin 0 (clock_after 0 (records_of read)) enforced.out
-  pub good : Good policy (trace_of enforced.out) (clock_after 0 (records_of read))
+  pub accepts : Accepts s.entries Input s.start.clock taken read rest
+  pub out : List OutStep
+  pub text : given ≡ text_of (names_of s.entries) out
+  pub owed : IsOwed (records_of read) out
 
--- so it is of all whole records of the bytes taken, and none behind them is refused
-pub record UpToDate (entries : List NameEntry) (policy : List Formula) (taken given : List ℕ) : Type 0 where
+-- of what is owed so far, and in all
+abbrev pub GivesSoFar : Setting → List ℕ → List ℕ → List ℕ → Type 0
+GivesSoFar s taken given rest = Gives (IsOwedSoFar s) s taken given rest
+
+abbrev pub GivesInAll : Setting → List ℕ → List ℕ → List ℕ → Type 0
+GivesInAll s taken given rest = Gives (IsOwedInAll s) s taken given rest
+
+-- all whole records of the bytes taken are answered so far, and none behind them is refused
+pub record UpToDate (s : Setting) (taken given : List ℕ) : Type 0 where
   pub rest : List ℕ
-  pub answers : AnswersBytes entries policy taken given rest
+  pub answers : GivesSoFar s taken given rest
   pub pending : IsPending rest

@@ -31,7 +31,3 @@ LeavesGate call = (call.after.gate_itself ≡ call.before.gate_itself) × (call.
 -- the files are as they were: what they hold, and the counts of their faults
 abbrev pub LeavesFiles : {Gate : Type 0} → Call Gate → Type 0
 LeavesFiles call = call.after.files ≡ call.before.files
-
--- nothing was put on the report, and no write to it failed
-abbrev pub LeavesReport : {Gate : Type 0} → Call Gate → Type 0
-LeavesReport call = call.after.report ≡ call.before.report

@@ -115,10 +115,10 @@ pub record MeetsRefusal {Gate : Type 0} (call : Call Gate) : Type 0 where
   pub told' : call.after.gate.told ≡ Some y
   pub read : List LogItem
   pub rest : List ℕ
-  pub accepts : Accepts entries (taken_between x y) read rest
+  pub accepts : Accepts entries Input 0 (taken_between x y) read rest
   pub why : RecordRefusal
   pub refused :
-      IsRefusedAs entries (clock_after 0 (records_of read)) (length (taken_between x y)) rest call.after.gate why
+      IsRefusedAs entries Input (clock_after 0 (records_of read)) (length (taken_between x y)) rest call.after.gate why
 
 -- a read of a file failed, or one of the gate
 abbrev pub MeetsReadFault : {Gate : Type 0} → Call Gate → Type 0

@@ -1,13 +1,12 @@
 -- What a run of the log takes from the gate and gives to it, by how it ends.
-use Rattle.std.specs.Prelude.{◌≡◌, ◌≢◌, ℕ, ◌+◌, ◌<◌, List, [], ◌∷◌, ◌++◌, length, Result, Ok, Err}
+use Rattle.std.specs.Prelude.{◌≡◌, ◌≢◌, ℕ, ◌+◌, ◌<◌, List, [], ◌∷◌, ◌++◌, length, ◌⊎◌, Result, Ok, Err}
 use Rattle.enf_io.specs.Counts.{one_more}
 use Rattle.enf_io.specs.Exchange.{IsAtEnd}
 use Rattle.enf_io.specs.Streams.{Stream}
-use Rattle.enf_formula.specs.Formulas.{Formula}
-use Rattle.enforcer_core.specs.Follows.{FollowsPolicy}
 use Rattle.log_stream.specs.Lines.{line_of, text_of}
 use Rattle.log_stream.specs.Logs.{BeginsWith, IsPending, IsTruncated, Refuses, behind_blanks}
 use Rattle.log_stream.specs.declared.items.LogItem.{LogItem}
+use Rattle.log_stream.specs.declared.items.LogMode.{LogMode}
 use Rattle.log_stream.specs.declared.items.LogMode.TheVariants.{Input}
 use Rattle.log_stream.specs.declared.items.LogRefusal.TheVariants as log
 use Rattle.signature.specs.Grammar.{names as names_of}
@@ -15,8 +14,8 @@ use Rattle.signature.specs.declared.entries.NameEntry.{NameEntry}
 use Rattle.trace_meaning.specs.Good.{GoodPrefix}
 use Rattle.trace_meaning.specs.OutSteps.{OutStep, trace_of}
 use Rattle.trace_meaning.specs.Records.{clock_after, time_of}
-use Rattle.enf_cli.specs.Accepted.{Accepts, AnswersBytes, UpToDate, record_of, records_of}
-use Rattle.enf_cli.specs.Enforcement.{IsEnforced}
+use Rattle.enf_cli.specs.Accepted.{Accepts, GivesInAll, UpToDate, record_of, records_of}
+use Rattle.enf_cli.specs.Owed.{IsOwedInAll, IsOwedSoFar, Setting}
 use Rattle.enf_cli.specs.Endings.{IsPart}
 use Rattle.enf_cli.specs.Exchanges.{Exchanged, IsBegun}
 use Rattle.enf_cli.specs.declared.endings.Cut.{Cut}
@@ -31,10 +30,11 @@ use Rattle.enf_cli.specs.declared.refusals.Refusal.{Refusal}
 use Rattle.enf_cli.specs.declared.refusals.Refusal.TheVariants as refusals
 
 -- a record stands at the front whose time is below the clock
-pub record IsFalling (entries : List NameEntry) (clock : ℕ) (rest : List ℕ) (given : ℕ) : Type 0 where
+pub record IsFalling (entries : List NameEntry) (mode : LogMode) (clock : ℕ) (rest : List ℕ)
+    (given : ℕ) : Type 0 where
   pub item : LogItem
   pub more : List ℕ
-  pub begins : BeginsWith entries Input rest item more
+  pub begins : BeginsWith entries mode rest item more
   pub time : given ≡ time_of (record_of item)
   pub below : time_of (record_of item) < clock
 
@@ -43,43 +43,44 @@ abbrev pub MetEnd : ℕ → Stream → Type 0
 MetEnd count after = (count < most_log_bytes) × IsAtEnd after.told
 
 -- why the rest behind the accepted records is refused, after so many bytes were taken, at this clock
-abbrev pub IsRefusedAs : List NameEntry → ℕ → ℕ → List ℕ → Stream → RecordRefusal → Type 0
-IsRefusedAs entries clock count rest after (records.Bad place) = Refuses entries Input rest (log.BadRecord place)
-IsRefusedAs entries clock count rest after (records.UnknownName place) =
-    Refuses entries Input rest (log.UnknownName place)
-IsRefusedAs entries clock count rest after (records.Arity place) = Refuses entries Input rest (log.Arity place)
-IsRefusedAs entries clock count rest after (records.Sort place) = Refuses entries Input rest (log.SortClash place)
-IsRefusedAs entries clock count rest after records.TooLong = Refuses entries Input rest log.TooLong
-IsRefusedAs entries clock count rest after records.TimeTooLarge = Refuses entries Input rest log.TimeTooLarge
-IsRefusedAs entries clock count rest after records.Truncated = IsTruncated rest × MetEnd count after
-IsRefusedAs entries clock count rest after (records.Falling given at) =
-    (at ≡ clock) × IsFalling entries clock rest given
-IsRefusedAs entries clock count rest after records.InputLimit = IsPending rest × (count ≡ most_log_bytes)
+abbrev pub IsRefusedAs : List NameEntry → LogMode → ℕ → ℕ → List ℕ → Stream → RecordRefusal → Type 0
+IsRefusedAs entries mode clock count rest after (records.Bad place) =
+    Refuses entries mode rest (log.BadRecord place)
+IsRefusedAs entries mode clock count rest after (records.UnknownName place) =
+    Refuses entries mode rest (log.UnknownName place)
+IsRefusedAs entries mode clock count rest after (records.Arity place) = Refuses entries mode rest (log.Arity place)
+IsRefusedAs entries mode clock count rest after (records.Sort place) =
+    Refuses entries mode rest (log.SortClash place)
+IsRefusedAs entries mode clock count rest after records.TooLong = Refuses entries mode rest log.TooLong
+IsRefusedAs entries mode clock count rest after records.TimeTooLarge = Refuses entries mode rest log.TimeTooLarge
+IsRefusedAs entries mode clock count rest after records.Truncated = IsTruncated rest × MetEnd count after
+IsRefusedAs entries mode clock count rest after (records.Falling given at) =
+    (at ≡ clock) × IsFalling entries mode clock rest given
+IsRefusedAs entries mode clock count rest after records.InputLimit = IsPending rest × (count ≡ most_log_bytes)
 
 -- how the log ends behind the accepted records: nothing is left of it, a read failed, or a record is refused
-abbrev pub EndsAs : List NameEntry → ℕ → ℕ → List ℕ → Stream → Stream → Verdict → Type 0
-EndsAs entries clock count rest before after verdicts.Accepted =
+abbrev pub EndsAs : List NameEntry → LogMode → ℕ → ℕ → List ℕ → Stream → Stream → Verdict → Type 0
+EndsAs entries mode clock count rest before after verdicts.Accepted =
     (behind_blanks rest ≡ []) × MetEnd count after × (after.read_faults ≡ before.read_faults)
-EndsAs entries clock count rest before after verdicts.Fault =
+EndsAs entries mode clock count rest before after verdicts.Fault =
     IsPending rest × (after.read_faults ≡ one_more before.read_faults)
-EndsAs entries clock count rest before after (verdicts.Refused why) =
-    IsRefusedAs entries clock count rest after why × (after.read_faults ≡ before.read_faults)
+EndsAs entries mode clock count rest before after (verdicts.Refused why) =
+    IsRefusedAs entries mode clock count rest after why × (after.read_faults ≡ before.read_faults)
 
--- the log was begun and ended so, and what was given is what is owed to its accepted records
-pub record RunsLog (entries : List NameEntry) (policy : List Formula) (verdict : Verdict)
-    (before after : Stream) : Type 0 where
+-- the log was begun and ended so, and what was given is what is owed in all to its accepted records
+pub record RunsLog (s : Setting) (verdict : Verdict) (before after : Stream) : Type 0 where
   pub taken : List ℕ
   pub given : List ℕ
-  pub exchanged : Exchanged (UpToDate entries policy) taken given before.told after.told
+  pub exchanged : Exchanged (UpToDate s) taken given before.told after.told
   pub rest : List ℕ
-  pub answers : AnswersBytes entries policy taken given rest
-  pub ends : EndsAs entries (clock_after 0 (records_of answers.read)) (length taken) rest before after verdict
+  pub answers : GivesInAll s taken given rest
+  pub ends : EndsAs s.entries Input (clock_after s.start.clock (records_of answers.read)) (length taken) rest
+      before after verdict
   pub writes : after.write_faults ≡ before.write_faults
 
 -- the run of the log ended as it was judged, behind so many accepted records
-pub record RanAsJudged (entries : List NameEntry) (policy : List Formula) (judged : Judged)
-    (before after : Stream) : Type 0 where
-  pub ran : RunsLog entries policy judged.verdict before after
+pub record RanAsJudged (s : Setting) (judged : Judged) (before after : Stream) : Type 0 where
+  pub ran : RunsLog s judged.verdict before after
   pub count : judged.accepted ≡ length ran.answers.read
 
 -- of a line that is cut, a part; where no step is left there is no such line
@@ -87,35 +88,44 @@ abbrev pub IsCutLine : List (List ℕ) → List OutStep → List ℕ → Type 0
 IsCutLine names [] front = front ≡ []
 IsCutLine names (next ∷ behind) front = IsPart front (line_of names next)
 
+-- the log ended behind these accepted records
+abbrev pub HasEnded : Setting → List LogItem → ℕ → List ℕ → Stream → Stream → Type 0
+HasEnded s read count rest before after = (verdict : Verdict)
+    × EndsAs s.entries Input (clock_after s.start.clock (records_of read)) count rest before after verdict
+
+-- within the log no read failed, and the steps are owed so far; behind its end they may be owed in all
+abbrev pub IsOwedWhere : Setting → List LogItem → ℕ → List ℕ → Stream → Stream → List OutStep → Type 0
+IsOwedWhere s read count rest before after out =
+    (IsOwedSoFar s (records_of read) out × (after.read_faults ≡ before.read_faults))
+    ⊎ ((IsOwedSoFar s (records_of read) out ⊎ IsOwedInAll s (records_of read) out)
+    × HasEnded s read count rest before after)
+
 -- some of the log was taken; of the steps that are owed to its first accepted records the first were given, in
 -- whole lines, and of the next one's line at most a part; those that were given whole can be continued well
-pub record RunsShort (entries : List NameEntry) (policy : List Formula) (before after : Stream) : Type 0 where
+pub record RunsShort (s : Setting) (before after : Stream) : Type 0 where
   pub taken : List ℕ
   pub given : List ℕ
-  pub exchanged : Exchanged (UpToDate entries policy) taken given before.told after.told
+  pub exchanged : Exchanged (UpToDate s) taken given before.told after.told
   pub read : List LogItem
   pub rest : List ℕ
-  pub accepts : Accepts entries taken read rest
-  pub text : List ℕ
-  pub enforced : IsEnforced entries policy (records_of read) text
-  pub decided : FollowsPolicy policy (records_of read) enforced.out
+  pub accepts : Accepts s.entries Input s.start.clock taken read rest
+  pub out : List OutStep
+  pub owed : IsOwedWhere s read (length taken) rest before after out
   pub whole : List OutStep
   pub behind : List OutStep
-  pub split : enforced.out ≡ whole ++ behind
+  pub split : out ≡ whole ++ behind
   pub cut : List ℕ
-  pub line : IsCutLine (names_of entries) behind cut
-  pub lines : given ≡ text_of (names_of entries) whole ++ cut
-  pub good : GoodPrefix policy (trace_of whole)
-  pub reads : after.read_faults ≡ before.read_faults
+  pub line : IsCutLine (names_of s.entries) behind cut
+  pub lines : given ≡ text_of (names_of s.entries) whole ++ cut
+  pub good : GoodPrefix s.policy (s.start.trace ++ trace_of whole)
 
 -- the run of the log was cut: by a write that failed, behind a read at least and with a line still to give, or by want
 -- of memory
-abbrev pub CutsRun : List NameEntry → List Formula → Stream → Stream → Cut → Type 0
-CutsRun entries policy before after cuts.WriteFault =
-    ((short : RunsShort entries policy before after) × (short.behind ≢ [])) × IsBegun before.told after.told
+abbrev pub CutsRun : Setting → Stream → Stream → Cut → Type 0
+CutsRun s before after cuts.WriteFault =
+    ((short : RunsShort s before after) × (short.behind ≢ [])) × IsBegun before.told after.told
     × (after.write_faults ≡ one_more before.write_faults)
-CutsRun entries policy before after cuts.NoMemory =
-    RunsShort entries policy before after × (after.write_faults ≡ before.write_faults)
+CutsRun s before after cuts.NoMemory = RunsShort s before after × (after.write_faults ≡ before.write_faults)
 
 -- what the judgement of the log makes of a run; the number is that of the record behind the accepted ones
 abbrev pub conclusion_of : ℕ → Verdict → Result (Unit {0}) Refusal

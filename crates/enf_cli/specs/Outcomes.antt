@@ -1,21 +1,22 @@
 -- What holds of a run at each status.
 use Rattle.std.specs.Prelude.{◌≡◌, ℕ, ◌+◌, List, [], length, All, ◌⊎◌, Option, Result, Ok, Err}
+use Rattle.std.proofs.Common.{inl, inr}
 use Rattle.enf_io.specs.Counts.{one_more}
 use Rattle.enf_io.specs.Exchange.{Exchange, Gave}
 use Rattle.enforce_types.specs.Accepted.{IsTyped}
 use Rattle.enforce_types.specs.Typed.{Typed}
 use Rattle.formula_reader.specs.Resolution.{Rule}
 use Rattle.signature.specs.declared.entries.NameEntry.{NameEntry}
+use Rattle.trace_meaning.specs.OutSteps.{OutStep}
 use Rattle.log_gen.specs.Generated.{generated_text}
-use Rattle.log_stream.specs.Logs.{behind_blanks}
-use Rattle.enf_cli.specs.Accepted.{AnswersBytes, UpToDate}
-use Rattle.enf_cli.specs.Calls.{Call, LeavesFiles, LeavesGate, LeavesReport}
+use Rattle.enf_cli.specs.Actions.{SaysActions, SaysActionsInPart, SaysThen}
+use Rattle.enf_cli.specs.Calls.{Call, LeavesFiles, LeavesGate}
 use Rattle.enf_cli.specs.Checking.{check_text}
 use Rattle.enf_cli.specs.Files.{FailsToRead, HoldsPolicy, HoldsRefusedPolicy, HoldsRefusedSignature, HoldsSignature}
-use Rattle.enf_cli.specs.Exchanges.{Exchanged}
 use Rattle.enf_cli.specs.Generating.{AddsPartOrNothing}
 use Rattle.enf_cli.specs.Policies.{CanBeBuilt, HasUnbuilt, formulas}
-use Rattle.enf_cli.specs.Logs.{CutsRun, MetEnd, RunsLog}
+use Rattle.enf_cli.specs.Logs.{CutsRun, RunsLog}
+use Rattle.enf_cli.specs.Owed.{anew}
 use Rattle.enf_cli.specs.Refusals.{text_of_refusal}
 use Rattle.enf_cli.specs.Reports.{AddsPart, IsReported, IsReportedInPart, SaysNoMemory}
 use Rattle.enf_cli.specs.Words.{IsCheck, IsEnforce, IsGenerate, MatchNoForm, NamesFiles}
@@ -87,7 +88,7 @@ pub record RefusesRecord {Gate : Type 0} (call : Call Gate) (number : ℕ) (why 
   pub entries : List NameEntry
   pub policy : List Rule
   pub asks : AsksToEnforce call entries policy
-  pub ran : RunsLog entries (formulas policy) (verdicts.Refused why) call.before.gate call.after.gate
+  pub ran : RunsLog (anew entries (formulas policy)) (verdicts.Refused why) call.before.gate call.after.gate
   pub number_is : number ≡ length ran.answers.read + 1
   pub files : LeavesFiles call
 
@@ -106,7 +107,7 @@ pub record BreaksOffLog {Gate : Type 0} (call : Call Gate) : Type 0 where
   pub entries : List NameEntry
   pub policy : List Rule
   pub asks : AsksToEnforce call entries policy
-  pub ran : RunsLog entries (formulas policy) verdicts.Fault call.before.gate call.after.gate
+  pub ran : RunsLog (anew entries (formulas policy)) verdicts.Fault call.before.gate call.after.gate
   pub failed : call.after.gate.read_faults ≡ one_more call.before.gate.read_faults
   pub files : LeavesFiles call
 
@@ -120,20 +121,12 @@ Meets call (refusals.Record number why) = RefusesRecord call number why
 Meets call refusals.ReadFault = MissesFile call ⊎ BreaksOffLog call
 
 -- the run is done: the whole log was taken, nothing is left behind its accepted records, and what was given is what is
--- owed to them: the text of steps that are a lawful change of them and a trace that satisfies the policy
+-- owed to them in all
 pub record IsDone {Gate : Type 0} (call : Call Gate) : Type 0 where
   pub entries : List NameEntry
   pub policy : List Rule
   pub asks : AsksToEnforce call entries policy
-  pub taken : List ℕ
-  pub given : List ℕ
-  pub rest : List ℕ
-  pub answers : AnswersBytes entries (formulas policy) taken given rest
-  pub nothing_left : behind_blanks rest ≡ []
-  pub whole : MetEnd (length taken) call.after.gate
-  pub exchanged : Exchanged (UpToDate entries (formulas policy)) taken given call.before.gate.told call.after.gate.told
-  pub reads : call.after.gate.read_faults ≡ call.before.gate.read_faults
-  pub writes : call.after.gate.write_faults ≡ call.before.gate.write_faults
+  pub ran : RunsLog (anew entries (formulas policy)) verdicts.Accepted call.before.gate call.after.gate
   pub files : LeavesFiles call
 
 -- a write to the gate failed, behind a front of what the log lets out
@@ -141,7 +134,7 @@ pub record FailsToWrite {Gate : Type 0} (call : Call Gate) : Type 0 where
   pub entries : List NameEntry
   pub policy : List Rule
   pub asks : AsksToEnforce call entries policy
-  pub cut : CutsRun entries (formulas policy) call.before.gate call.after.gate cuts.WriteFault
+  pub cut : CutsRun (anew entries (formulas policy)) call.before.gate call.after.gate cuts.WriteFault
   pub files : LeavesFiles call
 
 -- memory ran out before the log was begun, or before anything was said of a policy
@@ -157,7 +150,7 @@ pub record RunsOutWithin {Gate : Type 0} (call : Call Gate) : Type 0 where
   pub entries : List NameEntry
   pub policy : List Rule
   pub asks : AsksToEnforce call entries policy
-  pub cut : CutsRun entries (formulas policy) call.before.gate call.after.gate cuts.NoMemory
+  pub cut : CutsRun (anew entries (formulas policy)) call.before.gate call.after.gate cuts.NoMemory
   pub files : LeavesFiles call
 
 -- the words ask to generate a log, and what was given to the gate is so of its text; nothing was taken from the gate,
@@ -230,30 +223,67 @@ Performs call (Ok done) = IsFinished call
 Performs call (Err (endings.Refused why)) = Meets call why
 Performs call (Err (endings.Cut cut)) = IsCut call cut
 
--- a run ends with a refusal, which the last line on the report says
+-- the steps that went out where a run is done, where it is refused, and where it is cut
+abbrev pub steps_done : {Gate : Type 0} (call : Call Gate) → IsFinished call → List OutStep
+steps_done call (inl (inl done)) = done.ran.answers.out
+steps_done call (inl (inr generated)) = []
+steps_done call (inr checked) = []
+
+abbrev pub steps_met : {Gate : Type 0} (call : Call Gate) (why : Refusal) → Meets call why → List OutStep
+steps_met call (refusals.Record number why) met = met.ran.answers.out
+steps_met call refusals.ReadFault (inl missed) = []
+steps_met call refusals.ReadFault (inr broken) = broken.ran.answers.out
+steps_met call refusals.Words met = []
+steps_met call (refusals.Signature why) met = []
+steps_met call (refusals.Policy why) met = []
+steps_met call refusals.NotBuilt met = []
+
+abbrev pub steps_cut : {Gate : Type 0} (call : Call Gate) (cut : Cut) → IsCut call cut → List OutStep
+steps_cut call cuts.WriteFault (inl (inl failed)) = failed.cut.0.0.out
+steps_cut call cuts.WriteFault (inl (inr generated)) = []
+steps_cut call cuts.WriteFault (inr checked) = []
+steps_cut call cuts.NoMemory (inl (inl before)) = []
+steps_cut call cuts.NoMemory (inl (inr within)) = within.cut.0.out
+steps_cut call cuts.NoMemory (inr other) = []
+
+-- a run ends with a refusal: the report gained the lines of the actions, and the line that says the refusal
 pub record Refuses {Gate : Type 0} (call : Call Gate) (why : Refusal) : Type 0 where
   pub meets : Meets call why
-  pub line : IsReported (text_of_refusal why) call.before.report call.after.report
+  pub report : SaysThen (SaysActions (steps_met call why meets)) (IsReported (text_of_refusal why))
+      call.before.report call.after.report
 
 -- a run ends with a refusal, and memory ran out within its line on the report
 pub record RunsOutInLine {Gate : Type 0} (call : Call Gate) : Type 0 where
   pub why : Refusal
   pub meets : Meets call why
-  pub line : IsReportedInPart (text_of_refusal why) call.before.report call.after.report
+  pub report : SaysThen (SaysActions (steps_met call why meets)) (IsReportedInPart (text_of_refusal why))
+      call.before.report call.after.report
 
--- a run ends for want of memory, and as much of the line that says so is on the report as it took
+-- a run ends for want of memory: the report gained a front of the lines of the actions, and as much of the line that
+-- says the want as it took
 pub record RunsOut {Gate : Type 0} (call : Call Gate) : Type 0 where
   pub cut : IsCut call cuts.NoMemory
-  pub line : SaysNoMemory call.before.report call.after.report
+  pub report : SaysThen (SaysActionsInPart (steps_cut call cuts.NoMemory cut)) SaysNoMemory
+      call.before.report call.after.report
+
+-- a run is done: the report gained the lines of the actions
+pub record IsDoneWhole {Gate : Type 0} (call : Call Gate) : Type 0 where
+  pub finished : IsFinished call
+  pub report : SaysActions (steps_done call finished) call.before.report call.after.report
+
+-- a run ends with a write that failed: the report gained a front of the lines of the actions
+pub record FailsInWriting {Gate : Type 0} (call : Call Gate) : Type 0 where
+  pub cut : IsCut call cuts.WriteFault
+  pub report : SaysActionsInPart (steps_cut call cuts.WriteFault cut) call.before.report call.after.report
 
 -- what holds at each status
 abbrev pub Outcome : {Gate : Type 0} → Call Gate → Status → Type 0
-Outcome call statuses.Done = IsFinished call × LeavesReport call
+Outcome call statuses.Done = IsDoneWhole call
 Outcome call statuses.Words = Refuses call refusals.Words
 Outcome call statuses.Files =
     ((why : SignatureRefusal) × Refuses call (refusals.Signature why))
     ⊎ (((why : PolicyRefusal) × Refuses call (refusals.Policy why)) ⊎ Refuses call refusals.NotBuilt)
 Outcome call statuses.Record = (number : ℕ) × (why : RecordRefusal) × Refuses call (refusals.Record number why)
 Outcome call statuses.ReadFault = Refuses call refusals.ReadFault
-Outcome call statuses.WriteFault = IsCut call cuts.WriteFault × LeavesReport call
+Outcome call statuses.WriteFault = FailsInWriting call
 Outcome call statuses.NoMemory = RunsOut call ⊎ RunsOutInLine call

@@ -6,8 +6,8 @@ use Rattle.enf_io.specs.Exchange.{Exchange, Gave, IsAtEnd, Marked, Took}
 use Rattle.enf_io.specs.Streams.{Stream}
 use Rattle.enforcer_core.specs.Answered.{Answered, ChangesLawfully}
 use Rattle.enforcer_core.specs.Enforcers.{Enforcing, out_steps}
-use Rattle.enforcer_core.specs.Follows.{Follows}
-use Rattle.enforcer_core.specs.Stands.{KeepsStanding}
+use Rattle.enforcer_core.specs.Follows.{FollowsDrainFrom, FollowsFrom}
+use Rattle.enforcer_core.specs.Stands.{KeepsStanding, SatisfiesBehind}
 use Rattle.enforcer_core.specs.declared.steps.StepOut.{StepOut}
 use Rattle.log_stream.specs.Lines.{text_of}
 use Rattle.log_stream.specs.Logs.{BeginsWith, IsPending, IsTruncated, Refuses, behind_blanks}
@@ -27,8 +27,8 @@ use Rattle.enf_cli.specs.declared.endings.Cut.TheVariants as cuts
 use Rattle.enf_cli.specs.declared.log.Enforcement.{Enforcement}
 use Rattle.enf_cli.specs.declared.log.Next.{Next}
 use Rattle.enf_cli.specs.declared.log.Next.TheVariants as nexts
-use Rattle.enf_cli.specs.declared.log.Turn.{Turn}
-use Rattle.enf_cli.specs.declared.log.Turn.TheVariants as turns
+use Rattle.enf_cli.specs.declared.log.Piece.{Piece}
+use Rattle.enf_cli.specs.declared.log.Piece.TheVariants as pieces
 use Rattle.enf_cli.specs.declared.log.Verdict.{Verdict}
 use Rattle.enf_cli.specs.declared.log.Verdict.TheVariants as verdicts
 use Rattle.enf_cli.specs.declared.refusals.RecordRefusal.{RecordRefusal}
@@ -41,69 +41,85 @@ reads_on entries rest = record { entries = entries; mode = Input; rest = rest; r
 -- a log of which nothing was taken yet, under these entries
 pub record IsNew (entries : List NameEntry) (log : Enforcement) : Type 0 where
   pub reader : log.reader ≡ reads_on entries []
-  pub clock : log.enforcer.clock ≡ 0
   pub going : log.enforcer.stopped ≡ false
   pub accepted : log.accepted ≡ 0
   pub taken : log.taken ≡ 0
   pub room : length log.piece.items ≡ most_read_bytes
+
+-- an enforcer, and what its gate tells, before a call or after it
+pub record Moment : Type 0 where
+  pub enforcer : Enforcing
+  pub told : Option Exchange
+
+abbrev pub moment : Enforcing → Stream → Moment
+moment enforcer gate = record { enforcer = enforcer; told = gate.told }
+
+-- and with them the reader of the log
+pub record Front : Type 0 where
+  pub reader : Reader
+  pub now : Moment
+
+abbrev pub front : Reader → Enforcing → Stream → Front
+front reader enforcer gate = record { reader = reader; now = moment enforcer gate }
 
 -- the enforcer took the record, and this is what it lets out for it
 pub record TakesRecord (before : Enforcing) (next : Record) (made : StepOut) (after : Enforcing) : Type 0 where
   pub answered : Answered before (time_of next) (Ok made) after
   pub stands : KeepsStanding before after (out_steps made.steps)
   pub changed : ChangesLawfully before.rules before.clock (time_of next) (next ∷ []) (out_steps made.steps)
-  pub decided : Follows before.rules (next ∷ []) (out_steps made.steps)
+  pub decided : FollowsFrom before (next ∷ []) (out_steps made.steps)
+
+-- it drained, and this is what it lets out for that
+pub record Drains (before : Enforcing) (made : StepOut) (after : Enforcing) : Type 0 where
+  pub stands : KeepsStanding before after (out_steps made.steps)
+  pub changed : ChangesLawfully before.rules before.clock after.clock [] (out_steps made.steps)
+  pub decided : FollowsDrainFrom before (out_steps made.steps)
+  pub satisfied : SatisfiesBehind before (out_steps made.steps)
 
 -- the lines of what is let out
 abbrev pub lines_of : List NameEntry → StepOut → List ℕ
 lines_of entries made = text_of (names_of entries) (out_steps made.steps)
 
 -- the record was taken, and what is let out for it is given; or its time is below the clock
-pub record TakesItem (entries : List NameEntry) (next : Record) (before after : Enforcing)
-    (told told' : Option Exchange) : Type 0 where
+pub record TakesItem (entries : List NameEntry) (next : Record) (from to : Moment) : Type 0 where
   pub made : StepOut
-  pub takes : TakesRecord before next made after
-  pub given : Gave (lines_of entries made) told told'
+  pub takes : TakesRecord from.enforcer next made to.enforcer
+  pub given : Gave (lines_of entries made) from.told to.told
 
-pub record LeavesItem (next : Record) (why : RecordRefusal) (before : Enforcing)
-    (told told' : Option Exchange) : Type 0 where
-  pub falls : why ≡ records.Falling (time_of next) before.clock
-  pub below : time_of next < before.clock
-  pub given : told' ≡ told
+pub record LeavesItem (next : Record) (why : RecordRefusal) (from to : Moment) : Type 0 where
+  pub falls : why ≡ records.Falling (time_of next) from.enforcer.clock
+  pub below : time_of next < from.enforcer.clock
+  pub enforcer : to.enforcer ≡ from.enforcer
+  pub given : to.told ≡ from.told
 
-abbrev pub AnswersItem : List NameEntry → Record → Option RecordRefusal → Enforcing → Enforcing
-    → Option Exchange → Option Exchange → Type 0
-AnswersItem entries next None before after told told' = TakesItem entries next before after told told'
-AnswersItem entries next (Some why) before after told told' = LeavesItem next why before told told'
+abbrev pub AnswersItem : List NameEntry → Record → Option RecordRefusal → Moment → Moment → Type 0
+AnswersItem entries next None from to = TakesItem entries next from to
+AnswersItem entries next (Some why) from to = LeavesItem next why from to
 
 -- the record was taken, and its lines were not all given
-pub record CutsLines (entries : List NameEntry) (next : Record) (before : Enforcing)
-    (told told' : Option Exchange) : Type 0 where
+pub record CutsLines (entries : List NameEntry) (next : Record) (from : Moment) (told : Option Exchange) : Type 0 where
   pub made : StepOut
   pub after : Enforcing
-  pub takes : TakesRecord before next made after
-  pub given : GaveLines (names_of entries) (out_steps made.steps) told told'
+  pub takes : TakesRecord from.enforcer next made after
+  pub given : GaveLines (names_of entries) (out_steps made.steps) from.told told
 
-abbrev pub CutsItem : List NameEntry → Record → Enforcing → Option Exchange → Option Exchange → Cut → Type 0
-CutsItem entries next before told told' cuts.WriteFault = CutsLines entries next before told told'
-CutsItem entries next before told told' cuts.NoMemory =
-    (told' ≡ told) ⊎ CutsLines entries next before told told'
+abbrev pub CutsItem : List NameEntry → Record → Moment → Option Exchange → Cut → Type 0
+CutsItem entries next from told cuts.WriteFault = CutsLines entries next from told
+CutsItem entries next from told cuts.NoMemory = (told ≡ from.told) ⊎ CutsLines entries next from told
 
 -- a whole record was taken from the front of the rest and answered
-pub record TakesNext (entries : List NameEntry) (reader reader' : Reader) (before after : Enforcing)
-    (told told' : Option Exchange) : Type 0 where
+pub record TakesNext (entries : List NameEntry) (from to : Front) : Type 0 where
   pub item : LogItem
-  pub begins : BeginsWith entries Input reader.rest item reader'.rest
-  pub reader_is : reader' ≡ reads_on entries reader'.rest
-  pub taken : TakesItem entries (record_of item) before after told told'
+  pub begins : BeginsWith entries Input from.reader.rest item to.reader.rest
+  pub reader_is : to.reader ≡ reads_on entries to.reader.rest
+  pub taken : TakesItem entries (record_of item) from.now to.now
 
 -- no record is whole yet, and blanks are let go
-pub record WaitsForMore (entries : List NameEntry) (reader reader' : Reader) (before after : Enforcing)
-    (told told' : Option Exchange) : Type 0 where
-  pub pending : IsPending reader.rest
-  pub reader_is : reader' ≡ reads_on entries (behind_blanks reader.rest)
-  pub enforcer : after ≡ before
-  pub given : told' ≡ told
+pub record WaitsForMore (entries : List NameEntry) (from to : Front) : Type 0 where
+  pub pending : IsPending from.reader.rest
+  pub reader_is : to.reader ≡ reads_on entries (behind_blanks from.reader.rest)
+  pub enforcer : to.now.enforcer ≡ from.now.enforcer
+  pub given : to.now.told ≡ from.now.told
 
 -- why the record at the front is refused: by the grammar, or since its time is below the clock
 pub record Falls (entries : List NameEntry) (rest : List ℕ) (clock : ℕ) (why : RecordRefusal) : Type 0 where
@@ -122,27 +138,23 @@ RefusesNext entries rest clock records.TooLong = Refuses entries Input rest log.
 RefusesNext entries rest clock records.TimeTooLarge = Refuses entries Input rest log.TimeTooLarge
 RefusesNext entries rest clock why = Falls entries rest clock why
 
-abbrev pub AnswersNext : List NameEntry → Next → Reader → Reader → Enforcing → Enforcing
-    → Option Exchange → Option Exchange → Type 0
-AnswersNext entries nexts.Taken reader reader' before after told told' =
-    TakesNext entries reader reader' before after told told'
-AnswersNext entries nexts.Pending reader reader' before after told told' =
-    WaitsForMore entries reader reader' before after told told'
-AnswersNext entries (nexts.Refused why) reader reader' before after told told' =
-    RefusesNext entries reader.rest before.clock why × (told' ≡ told)
+abbrev pub AnswersNext : List NameEntry → Next → Front → Front → Type 0
+AnswersNext entries nexts.Taken from to = TakesNext entries from to
+AnswersNext entries nexts.Pending from to = WaitsForMore entries from to
+AnswersNext entries (nexts.Refused why) from to =
+    RefusesNext entries from.reader.rest from.now.enforcer.clock why
+    × (to.now.enforcer ≡ from.now.enforcer) × (to.now.told ≡ from.now.told)
 
 -- the answer of the record at the front was cut
-pub record CutsTaken (entries : List NameEntry) (rest : List ℕ) (before : Enforcing)
-    (told told' : Option Exchange) : Type 0 where
+pub record CutsTaken (entries : List NameEntry) (rest : List ℕ) (from : Moment) (told : Option Exchange) : Type 0 where
   pub item : LogItem
   pub more : List ℕ
   pub begins : BeginsWith entries Input rest item more
-  pub cut : CutsLines entries (record_of item) before told told'
+  pub cut : CutsLines entries (record_of item) from told
 
-abbrev pub CutsNext : List NameEntry → List ℕ → Enforcing → Option Exchange → Option Exchange → Cut → Type 0
-CutsNext entries rest before told told' cuts.WriteFault = CutsTaken entries rest before told told'
-CutsNext entries rest before told told' cuts.NoMemory =
-    (told' ≡ told) ⊎ CutsTaken entries rest before told told'
+abbrev pub CutsNext : List NameEntry → List ℕ → Moment → Option Exchange → Cut → Type 0
+CutsNext entries rest from told cuts.WriteFault = CutsTaken entries rest from told
+CutsNext entries rest from told cuts.NoMemory = (told ≡ from.told) ⊎ CutsTaken entries rest from told
 
 -- a read took these bytes, no more than one read may take, and no more than may still be taken
 pub record TakesBytes (left : ℕ) (bytes : List ℕ) (told told' : Option Exchange) : Type 0 where
@@ -160,14 +172,14 @@ pub record TakesPiece (count left : ℕ) (reader reader' : Reader) (before after
   pub reads : after.read_faults ≡ before.read_faults
 
 -- what a read did, where so many bytes may still be taken; with none left there is no read
-abbrev pub TakesTurn : Turn → ℕ → Reader → Reader → Stream → Stream → Type 0
-TakesTurn (turns.More count) left reader reader' before after = TakesPiece count left reader reader' before after
-TakesTurn turns.Ended left reader reader' before after =
+abbrev pub ReadsPiece : Piece → ℕ → Reader → Reader → Stream → Stream → Type 0
+ReadsPiece (pieces.More count) left reader reader' before after = TakesPiece count left reader reader' before after
+ReadsPiece pieces.Ended left reader reader' before after =
     (0 < left) × (reader' ≡ reader) × Took [] before.told after.told × IsAtEnd after.told
     × (after.read_faults ≡ before.read_faults)
-TakesTurn turns.Fault left reader reader' before after =
+ReadsPiece pieces.Fault left reader reader' before after =
     (reader' ≡ reader) × Marked before.told after.told × (after.read_faults ≡ one_more before.read_faults)
-TakesTurn turns.Limit left reader reader' before after = (left ≡ 0) × (reader' ≡ reader) × (after ≡ before)
+ReadsPiece pieces.Limit left reader reader' before after = (left ≡ 0) × (reader' ≡ reader) × (after ≡ before)
 
 -- memory ran out at a read, or behind one
 abbrev pub LosesPiece : ℕ → Stream → Stream → Type 0
@@ -194,7 +206,7 @@ JudgesEnd rest verdict =
 
 -- a record was enforced
 pub record EnforcesOne (entries : List NameEntry) (log log' : Enforcement) (before after : Stream) : Type 0 where
-  pub takes : TakesNext entries log.reader log'.reader log.enforcer log'.enforcer before.told after.told
+  pub takes : TakesNext entries (front log.reader log.enforcer before) (front log'.reader log'.enforcer after)
   pub accepted : log'.accepted ≡ log.accepted + 1
   pub taken : log'.taken ≡ log.taken
   pub reads : after.read_faults ≡ before.read_faults
@@ -241,7 +253,7 @@ abbrev pub AnswersTurn : List NameEntry → Option Verdict → Enforcement → E
 AnswersTurn entries None log log' before after =
     EnforcesOne entries log log' before after ⊎ TakesMore entries log log' before after
 AnswersTurn entries (Some verdict) log log' before after =
-    (log'.accepted ≡ log.accepted) × EndsTurn entries log before after verdict
+    (log'.accepted ≡ log.accepted) × (log'.enforcer ≡ log.enforcer) × EndsTurn entries log before after verdict
 
 -- a piece was taken, and lost for want of memory
 pub record LosesBytes (log : Enforcement) (told told' : Option Exchange) : Type 0 where
@@ -252,10 +264,27 @@ pub record LosesBytes (log : Enforcement) (told told' : Option Exchange) : Type 
 -- the turn was cut: nothing was done, a piece was lost, or the lines for the record at the front were not all given
 abbrev pub CutsTurn : List NameEntry → Enforcement → Stream → Stream → Cut → Type 0
 CutsTurn entries log before after cuts.WriteFault =
-    CutsTaken entries log.reader.rest log.enforcer before.told after.told
+    CutsTaken entries log.reader.rest (moment log.enforcer before) after.told
     × (after.read_faults ≡ before.read_faults)
 CutsTurn entries log before after cuts.NoMemory =
     ((after.told ≡ before.told)
     ⊎ (LosesBytes log before.told after.told
-    ⊎ CutsTaken entries log.reader.rest log.enforcer before.told after.told))
+    ⊎ CutsTaken entries log.reader.rest (moment log.enforcer before) after.told))
     × (after.read_faults ≡ before.read_faults)
+
+-- what is still owed at the end of the log was given
+pub record GivesDrain (entries : List NameEntry) (from to : Moment) : Type 0 where
+  pub made : StepOut
+  pub drains : Drains from.enforcer made to.enforcer
+  pub given : Gave (lines_of entries made) from.told to.told
+
+-- or its lines were not all given
+pub record CutsDrainLines (entries : List NameEntry) (from : Moment) (told : Option Exchange) : Type 0 where
+  pub made : StepOut
+  pub after : Enforcing
+  pub drains : Drains from.enforcer made after
+  pub given : GaveLines (names_of entries) (out_steps made.steps) from.told told
+
+abbrev pub CutsDrain : List NameEntry → Moment → Option Exchange → Cut → Type 0
+CutsDrain entries from told cuts.WriteFault = CutsDrainLines entries from told
+CutsDrain entries from told cuts.NoMemory = (told ≡ from.told) ⊎ CutsDrainLines entries from told

@@ -1,7 +1,8 @@
 //! What is to be said of a policy, and its way out, a line a piece.
 ghost use Rattle.std.specs.Prelude.{map};
 ghost use Rattle.formula_reader.specs.Resolution.{rule_of};
-ghost use Rattle.enf_cli.specs.Checking.{check_text, horizon_line, mark_line, role_line, role_lines, rule_line, rule_lines};
+ghost use Rattle.enf_cli.specs.Checking.{check_text, horizon_line, mark_line, role_line, role_lines};
+ghost use Rattle.enf_cli.specs.Checking.{rule_line, rule_lines};
 ghost use Rattle.enf_cli.specs.Reports.{WritesText};
 
 use crate::endings::Cut;

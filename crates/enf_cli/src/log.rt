@@ -1,14 +1,19 @@
 //! The log: it is taken from the gate piece by piece, and all records that a piece completes are
 //! enforced, and their lines given, before the next read.
-ghost use Rattle.std.specs.Prelude.{◌≡◌, ◌<◌, ◌≤◌, ◌^◌, IfOk, IfErr, IsTrue, List, All, OnErr, None, Some, length};
+ghost use Rattle.std.specs.Prelude.{◌≡◌, ◌<◌, ◌≤◌, ◌^◌, IfOk, IfErr, IsTrue, List, [], All, OnOk, OnErr, None, Some, false, length};
 ghost use Rattle.enf_formula.specs.Formulas.{Formula as Tree};
+ghost use Rattle.enf_value.specs.declared.steps.Step.{Step};
 ghost use Rattle.enforcer_core.specs.Rules.{AreBuilt};
+ghost use Rattle.enforcer_core.specs.Stands.{Stands};
+ghost use Rattle.enf_cli.specs.Owed.{setting_of};
 ghost use Rattle.enf_cli.specs.Limits.{most_log_bytes, most_read_bytes};
 ghost use Rattle.enf_cli.specs.Accepted.{record_of};
 ghost use Rattle.enf_cli.specs.Endings.{write_faults_behind};
 ghost use Rattle.enforce_types.specs.Given.{is_causable};
 ghost use Rattle.enf_cli.specs.Logs.{CutsRun, RanAsJudged};
-ghost use Rattle.enf_cli.specs.Progress.{AnswersItem, AnswersNext, AnswersTurn, CutsItem, CutsNext, CutsTurn, IsNew, JudgesEnd, LosesPiece, TakesTurn, reads_on, refusal_for};
+ghost use Rattle.enf_cli.specs.Progress.{AnswersItem, AnswersNext, AnswersTurn, CutsDrain, CutsItem, CutsNext};
+ghost use Rattle.enf_cli.specs.Progress.{CutsTurn, GivesDrain, IsNew, JudgesEnd, LosesPiece, ReadsPiece, reads_on};
+ghost use Rattle.enf_cli.specs.Progress.{front, moment, refusal_for};
 ghost use Rattle.log_stream.specs.Logs.{IsPending};
 ghost use Rattle.trace_meaning.specs.Records.{most_time, time_of};
 ghost use Rattle.trace_meaning.specs.declared.kinds.StepKind.TheVariants.{System};
@@ -55,7 +60,7 @@ enum Next {
 }
 
 // What a read gave.
-enum Turn {
+enum Piece {
     More { count: usize },
     Ended,
     Fault,
@@ -82,7 +87,9 @@ impl Enforcement {
         rules: Vec<CauseRule>,
     ) -> Result<Enforcement, NoMemory>
         ensures new { IfOk result (IsNew signature.now) }
-        ensures rules { IfOk result (λ log. log.enforcer.rules ≡ rules.items) }
+        ensures enforcer { IfOk result
+            (λ log. log.enforcer ≡ record { rules = rules.items; clock = 0; stopped = false }) }
+        ensures stands { IfOk result (λ log. Stands log.enforcer []) }
     {
         Ok(Enforcement {
             reader: LogReader::new(alloc, signature.duplicate(alloc)?, LogMode::Input),
@@ -94,7 +101,8 @@ impl Enforcement {
     }
 }
 
-/// Takes the log from the gate, enforces its whole records and gives their lines.
+/// Takes the log from the gate, enforces its whole records from where the enforcer stands, and gives their lines,
+/// and at its end those of what is still owed.
 pub fn enforce_log<G: Gate>(
     alloc: Global,
     signature: &Signature,
@@ -103,21 +111,49 @@ pub fn enforce_log<G: Gate>(
 ) -> Result<Judged, Cut>
     requires new { IsNew signature.now log }
     requires causable { All (λ rule. IsTrue (is_causable signature.now rule.cause)) log.enforcer.rules }
-    ensures ran { (policy : List Tree) → AreBuilt policy log.enforcer.rules → IfOk result
-        (λ judged. RanAsJudged signature.now policy judged (G.seen gate.old) (G.seen gate.new)) }
+    ensures ran { (policy : List Tree) (trace : List Step) → AreBuilt policy log.enforcer.rules →
+        Stands log.enforcer trace → IfOk result
+        (λ judged. RanAsJudged (setting_of signature.now policy log.enforcer trace) judged
+        (G.seen gate.old) (G.seen gate.new)) }
     ensures few { IfOk result (λ judged. judged.accepted < 2 ^ 63) }
-    ensures cut { (policy : List Tree) → AreBuilt policy log.enforcer.rules → IfErr result
-        (CutsRun signature.now policy (G.seen gate.old) (G.seen gate.new)) }
+    ensures cut { (policy : List Tree) (trace : List Step) → AreBuilt policy log.enforcer.rules →
+        Stands log.enforcer trace → IfErr result
+        (CutsRun (setting_of signature.now policy log.enforcer trace) (G.seen gate.old) (G.seen gate.new)) }
 {
     laws::course();
-    laws::stands_for_good();
     laws::built();
+    trace_meaning::laws::good();
     loop {
         if let Some(verdict) = go_on(alloc, signature, &mut log, gate)? {
+            drain(alloc, signature, &mut log.enforcer, gate)?;
             return Ok(Judged {
                 accepted: log.accepted,
                 verdict,
             });
+        }
+    }
+}
+
+// Gives the lines of what is still owed at the end of the log.
+fn drain<S: Sink>(
+    alloc: Global,
+    signature: &Signature,
+    enforcer: &mut Enforcer,
+    sink: &mut S,
+) -> Result<(), Cut>
+    ensures drained { OnOk result (GivesDrain signature.now
+        (moment enforcer.old (S.seen sink.old)) (moment enforcer.new (S.seen sink.new))) }
+    ensures cut { IfErr result (CutsDrain signature.now
+        (moment enforcer.old (S.seen sink.old)) (S.seen sink.new).told) }
+    ensures writes { (S.seen sink.new).write_faults ≡
+        write_faults_behind result (S.seen sink.old).write_faults }
+    ensures reads { (S.seen sink.new).read_faults ≡ (S.seen sink.old).read_faults }
+{
+    match enforcer.drain(alloc) {
+        Ok(out) => write_steps(alloc, signature, out.steps.as_slice(), sink),
+        // No time is given, so none falls.
+        Err(StepRefusal::Falling { .. } | StepRefusal::Stopped | StepRefusal::NoMemory) => {
+            Err(Cut::NoMemory)
         }
     }
 }
@@ -151,13 +187,13 @@ fn go_on<G: Gate>(
         Next::Pending => {
             let left = MOST_LOG_BYTES - log.taken;
             match take_piece(gate, &mut log.piece, left, &mut log.reader)? {
-                Turn::More { count } => {
+                Piece::More { count } => {
                     log.taken += count;
                     Ok(None)
                 }
-                Turn::Ended => Ok(Some(judge_end(&mut log.reader))),
-                Turn::Fault => Ok(Some(Verdict::Fault)),
-                Turn::Limit => Ok(Some(Verdict::Refused(RecordRefusal::InputLimit))),
+                Piece::Ended => Ok(Some(judge_end(&mut log.reader))),
+                Piece::Fault => Ok(Some(Verdict::Fault)),
+                Piece::Limit => Ok(Some(Verdict::Refused(RecordRefusal::InputLimit))),
             }
         }
     }
@@ -169,24 +205,24 @@ fn take_piece<G: Gate>(
     piece: &mut [u8],
     left: usize,
     reader: &mut LogReader,
-) -> Result<Turn, NoMemory>
+) -> Result<Piece, NoMemory>
     requires { length piece.old ≡ most_read_bytes }
     ensures turn { IfOk result
-        (λ turn. TakesTurn turn left reader.old reader.new (G.seen gate.old) (G.seen gate.new)) }
+        (λ read. ReadsPiece read left reader.old reader.new (G.seen gate.old) (G.seen gate.new)) }
     ensures lost { OnErr result (LosesPiece left (G.seen gate.old) (G.seen gate.new)) }
     ensures writes { (G.seen gate.new).write_faults ≡ (G.seen gate.old).write_faults }
 {
     if left == 0 {
-        return Ok(Turn::Limit);
+        return Ok(Piece::Limit);
     }
     let most = piece.len().min(left);
     match gate.read(&mut piece[..most]) {
-        Ok(0) => Ok(Turn::Ended),
+        Ok(0) => Ok(Piece::Ended),
         Ok(count) => {
             reader.feed(&piece[..count])?;
-            Ok(Turn::More { count })
+            Ok(Piece::More { count })
         }
-        Err(IoRefusal::Failed) => Ok(Turn::Fault),
+        Err(IoRefusal::Failed) => Ok(Piece::Fault),
         Err(IoRefusal::NoMemory) => Err(NoMemory),
     }
 }
@@ -213,10 +249,10 @@ fn enforce_next<S: Sink>(
 ) -> Result<Next, Cut>
     requires { reader.old ≡ reads_on signature.now reader.old.rest }
     ensures next { IfOk result
-        (λ next. AnswersNext signature.now next reader.old reader.new enforcer.old enforcer.new
-        (S.seen sink.old).told (S.seen sink.new).told) }
-    ensures cut { IfErr result (CutsNext signature.now reader.old.rest enforcer.old
-        (S.seen sink.old).told (S.seen sink.new).told) }
+        (λ next. AnswersNext signature.now next (front reader.old enforcer.old (S.seen sink.old))
+        (front reader.new enforcer.new (S.seen sink.new))) }
+    ensures cut { IfErr result (CutsNext signature.now reader.old.rest
+        (moment enforcer.old (S.seen sink.old)) (S.seen sink.new).told) }
     ensures writes { (S.seen sink.new).write_faults ≡
         write_faults_behind result (S.seen sink.old).write_faults }
     ensures reads { (S.seen sink.new).read_faults ≡ (S.seen sink.old).read_faults }
@@ -241,10 +277,10 @@ fn enforce_item<S: Sink>(
 ) -> Result<Option<RecordRefusal>, Cut>
     requires { time_of (record_of item) ≤ most_time System }
     ensures answer { IfOk result
-        (λ refused. AnswersItem signature.now (record_of item) refused enforcer.old enforcer.new
-        (S.seen sink.old).told (S.seen sink.new).told) }
-    ensures cut { IfErr result (CutsItem signature.now (record_of item) enforcer.old
-        (S.seen sink.old).told (S.seen sink.new).told) }
+        (λ refused. AnswersItem signature.now (record_of item) refused
+        (moment enforcer.old (S.seen sink.old)) (moment enforcer.new (S.seen sink.new))) }
+    ensures cut { IfErr result (CutsItem signature.now (record_of item)
+        (moment enforcer.old (S.seen sink.old)) (S.seen sink.new).told) }
     ensures writes { (S.seen sink.new).write_faults ≡
         write_faults_behind result (S.seen sink.old).write_faults }
     ensures reads { (S.seen sink.new).read_faults ≡ (S.seen sink.old).read_faults }

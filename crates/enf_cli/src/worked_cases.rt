@@ -1,12 +1,14 @@
 //! The limits of the definitions, which are those of the code, and what is said of small policies.
-ghost use Rattle.std.specs.Prelude.{◌≡◌, ◌≢◌, ◌∷◌, [], codes};
+ghost use Rattle.std.specs.Prelude.{◌≡◌, ◌≢◌, ◌∷◌, ◌++◌, [], codes};
 ghost use Rattle.enf_cli.specs.Cases.{erase, erase_ranked, other_ranked};
 ghost use Rattle.enf_cli.specs.Checking.{check_text};
 ghost use Rattle.enf_cli.specs.Limits.{most_log_bytes, most_read_bytes};
 ghost use Rattle.enf_cli.specs.declared.log.TheConstants.{MOST_LOG_BYTES, MOST_READ_BYTES};
 ghost use Rattle.log_gen.specs.Samples.{sample_entries};
-ghost use Rattle.enf_value.specs.declared.limits.TheConstants.{MOST_COLUMNS, MOST_FILE_BYTES, MOST_NAME_BYTES, MOST_NAMES, MOST_TEXT_BYTES};
-ghost use Rattle.policy_syntax.specs.declared.limits.TheConstants.{MOST_INTERVAL_END, MOST_LEVEL, MOST_NODES, MOST_RULES, MOST_VARIABLES};
+ghost use Rattle.enf_value.specs.declared.limits.TheConstants.{MOST_COLUMNS, MOST_FILE_BYTES, MOST_NAME_BYTES};
+ghost use Rattle.enf_value.specs.declared.limits.TheConstants.{MOST_NAMES, MOST_TEXT_BYTES};
+ghost use Rattle.policy_syntax.specs.declared.limits.TheConstants.{MOST_INTERVAL_END, MOST_LEVEL, MOST_NODES};
+ghost use Rattle.policy_syntax.specs.declared.limits.TheConstants.{MOST_RULES, MOST_VARIABLES};
 
 /// The limits of logs.
 pub fn limits()
@@ -36,7 +38,8 @@ pub fn limits_of_policies()
 /// has none.
 pub fn checked()
     ensures erase { check_text sample_entries (erase ∷ []) erase_ranked
-        ≡ codes "rule erase: forall u. (request(u) -> (eventually[0,30] delete(u)));\ntransparent yes\nhorizon 210\ncause delete\n" }
+        ≡ codes "rule erase: forall u. (request(u) -> (eventually[0,30] delete(u)));\n"
+        ++ codes "transparent yes\nhorizon 210\ncause delete\n" }
     ensures other { check_text sample_entries [] other_ranked
         ≡ codes "transparent no\nhorizon 0\nsuppress consent\ncause use\n" }
     ensures order { check_text sample_entries [] other_ranked

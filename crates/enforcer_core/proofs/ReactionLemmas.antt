@@ -2,6 +2,7 @@
 use Rattle.std.proofs.Common.{◌≡◌, List, [], ◌∷◌, ◌++◌, refl, sym, ap, subst, ◌∙◌, append_assoc, inl, inr, Contains}
 use Rattle.std.proofs.lemmas.List.{append-nil}
 use Rattle.enf_value.specs.declared.events.Event.{Event}
+use Rattle.trace_meaning.specs.OutSteps.{Change}
 use Rattle.enforcer_core.specs.Reactions.{AddsReaction, IsTriggered, Reacts, ReactAll, caused}
 use Rattle.enforcer_core.specs.declared.enforcer.CauseRule.{CauseRule}
 
@@ -25,6 +26,6 @@ Reacts-present rule events p = inr (refl, λ _. p)
 pub Reacts-untriggered : (rule : CauseRule) (events : List Event) → (IsTriggered rule events → ⊥) → Reacts rule events []
 Reacts-untriggered rule events n = inr (refl, λ t. absurd (n t))
 
-pub adds_nothing : (rule : CauseRule) (events events' added : List Event) → Reacts rule events [] → events' ≡ events → AddsReaction rule events events' added added
-adds_nothing rule events events' added r e =
-    record { first = []; reacts = r; events_after = e ∙ sym (append-nil events); added_after = sym (append-nil added) }
+pub adds_nothing : (rule : CauseRule) (events events' : List Event) (changes : List Change) → Reacts rule events [] → events' ≡ events → AddsReaction rule events events' changes changes
+adds_nothing rule events events' changes r e =
+    record { first = []; reacts = r; events_after = e ∙ sym (append-nil events); changes_after = sym (append-nil changes) }

@@ -1,11 +1,12 @@
 -- When each answer of a call at a time comes, and what it leaves.
-use Rattle.std.specs.Prelude.{◌≡◌, ℕ, ◌<◌, ◌≤◌, Bool, true, false, IsTrue, List, All, Result, Ok, Err}
+use Rattle.std.specs.Prelude.{◌≡◌, ℕ, ◌+◌, ◌<◌, ◌≤◌, Bool, true, false, IsTrue, List, [], ◌∷◌, All, Result, Ok, Err}
 use Rattle.enf_value.specs.declared.events.NameId.{NameId}
 use Rattle.trace_meaning.specs.Lawful.{Lawful}
 use Rattle.trace_meaning.specs.OutSteps.{OutStep, IsWithin}
 use Rattle.trace_meaning.specs.Records.{Record}
-use Rattle.enforcer_core.specs.Enforcers.{Enforcing}
+use Rattle.enforcer_core.specs.Enforcers.{Enforcing, out_steps}
 use Rattle.enforcer_core.specs.declared.enforcer.CauseRule.{CauseRule}
+use Rattle.enforcer_core.specs.declared.steps.StepOut.{StepOut}
 use Rattle.enforcer_core.specs.declared.steps.StepRefusal.{StepRefusal}
 use Rattle.enforcer_core.specs.declared.steps.StepRefusal.TheVariants.{Falling, Stopped, NoMemory}
 use Rattle.enforcer_core.specs.declared.steps.Untaken.{Untaken}
@@ -44,6 +45,24 @@ abbrev pub Answered : {X : Type 0} → Enforcing → ℕ → Result X StepRefusa
 Answered before time (Ok out) after =
     IsInTime before time × (after ≡ record { rules = before.rules; clock = time; stopped = false })
 Answered before time (Err refusal) after = Refuses before time refusal × (after ≡ left_by refusal before)
+
+-- the clock behind a drain: behind the last step that it lets out, or where it was
+abbrev pub clock_drained : ℕ → List OutStep → ℕ
+clock_drained clock [] = clock
+clock_drained clock (o ∷ out) = clock_drained (o.step.time + 1) out
+
+-- why a drain is refused: no time is given, so none falls
+abbrev pub RefusesDrain : Enforcing → StepRefusal → Type 0
+RefusesDrain enforcer Stopped = enforcer.stopped ≡ true
+RefusesDrain enforcer (Falling clock given) = ⊥
+RefusesDrain enforcer NoMemory = enforcer.stopped ≡ false
+
+-- each answer of a drain
+abbrev pub AnsweredDrain : Enforcing → Result StepOut StepRefusal → Enforcing → Type 0
+AnsweredDrain before (Ok made) after =
+    (before.stopped ≡ false)
+    × (after ≡ record { rules = before.rules; clock = clock_drained before.clock (out_steps made.steps); stopped = false })
+AnsweredDrain before (Err refusal) after = RefusesDrain before refusal × (after ≡ left_by refusal before)
 
 -- what goes out while the clock goes from a time to another changes the records lawfully,
 -- wherever what the rules cause may be caused

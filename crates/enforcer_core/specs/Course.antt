@@ -4,7 +4,7 @@ use Rattle.enf_value.specs.declared.steps.Step.{Step}
 use Rattle.trace_meaning.specs.OutSteps.{OutStep, trace_of}
 use Rattle.trace_meaning.specs.Records.{Record, NeverFall, clock_after}
 use Rattle.enforcer_core.specs.Answered.{ChangesLawfully}
-use Rattle.enforcer_core.specs.Enforcers.{Enforcing}
+use Rattle.enforcer_core.specs.Enforcers.{Enforcing, start_of}
 use Rattle.enforcer_core.specs.Follows.{Follows}
 use Rattle.enforcer_core.specs.Stands.{Stands}
 
@@ -16,4 +16,4 @@ pub record Course (start : Enforcing) (trace : List Step) (records : List Record
   pub in_time : NeverFall start.clock records
   pub stands : Stands now (trace ++ trace_of out)
   pub changed : ChangesLawfully start.rules start.clock now.clock records out
-  pub decided : Follows start.rules records out
+  pub decided : Follows start.rules (start_of start trace) records out

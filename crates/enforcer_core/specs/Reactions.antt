@@ -3,7 +3,7 @@ use Rattle.std.specs.Prelude.{◌≡◌, ◌==◌, ◌&&◌, Bool, length, List,
 use Rattle.enf_value.specs.declared.steps.Step.{Step}
 use Rattle.enf_value.specs.declared.events.Event.{Event}
 use Rattle.enf_value.specs.declared.values.Value.{Value}
-use Rattle.trace_meaning.specs.OutSteps.{OutStep, Cause}
+use Rattle.trace_meaning.specs.OutSteps.{Change, Cause, OutStep}
 use Rattle.trace_meaning.specs.declared.kinds.StepKind.TheVariants.{System}
 use Rattle.enforcer_core.specs.declared.enforcer.CauseRule.{CauseRule}
 
@@ -33,12 +33,19 @@ ReactAll (rule ∷ rules) events added =
     (first rest : List Event) × Reacts rule events first × ReactAll rules (events ++ first) rest
     × (added ≡ first ++ rest)
 
--- what a rule adds to the events goes to what was added too
-pub record AddsReaction (rule : CauseRule) (events events' added added' : List Event) : Type 0 where
+-- what a rule adds to the events is a change more
+pub record AddsReaction (rule : CauseRule) (events events' : List Event) (changes changes' : List Change) : Type 0 where
   pub first : List Event
   pub reacts : Reacts rule events first
   pub events_after : events' ≡ events ++ first
-  pub added_after : added' ≡ added ++ first
+  pub changes_after : changes' ≡ changes ++ map Cause first
+
+-- what the rules add are the changes
+pub record AddsReactions (rules : List CauseRule) (events events' : List Event) (changes : List Change) : Type 0 where
+  pub added : List Event
+  pub reacted : ReactAll rules events added
+  pub events_after : events' ≡ events ++ added
+  pub changes_are : changes ≡ map Cause added
 
 -- one step of the system goes out for a record: its events, and behind them what the rules add
 pub record Decides (rules : List CauseRule) (before : Step) (out : OutStep) : Type 0 where

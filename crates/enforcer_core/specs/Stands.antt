@@ -25,3 +25,8 @@ abbrev pub KeepsRules : List CauseRule → ℕ → List OutStep → Type 0
 KeepsRules rules time out =
     (trace : List Step) → IsTrace trace → last_time trace ≤ time → Satisfies trace (policy_of rules)
     → Stands (record { rules = rules; clock = time; stopped = false }) (trace ++ trace_of out)
+
+-- and that satisfies the rules
+abbrev pub SatisfiesBehind : Enforcing → List OutStep → Type 0
+SatisfiesBehind before out =
+    (trace : List Step) → Stands before trace → Satisfies (trace ++ trace_of out) (policy_of before.rules)

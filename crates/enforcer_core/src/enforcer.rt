@@ -1,22 +1,22 @@
 //! Cause rules, and the enforcer that keeps them.
-ghost use Rattle.std.specs.Prelude.{◌≡◌, ◌≢◌, ℕ, ◌≤◌, [], ◌∷◌, ◌++◌, ◌↔◌, false, IsTrue, Contains};
+ghost use Rattle.std.specs.Prelude.{◌≡◌, ◌≢◌, ℕ, ◌≤◌, [], ◌∷◌, ◌++◌, ◌↔◌, false, IsTrue};
 ghost use Rattle.std.specs.Prelude.{IfOk, IfNone, IfSome, OnOk, Err};
 ghost use Rattle.enf_formula.specs.Formulas.{tree_of};
 ghost use Rattle.enf_value.specs.declared.events.NameId.{NameId as Name};
 ghost use Rattle.enf_value.specs.declared.terms.Term.TheVariants.{Var as Variable};
 ghost use Rattle.enf_value.specs.declared.terms.VarId.{VarId as VariableNumber};
-ghost use Rattle.enf_value.specs.declared.events.Event.{Event};
 ghost use Rattle.trace_meaning.specs.Records.{StepRecord, Tick, most_time};
+ghost use Rattle.trace_meaning.specs.Start.{Start};
 ghost use Rattle.trace_meaning.specs.declared.kinds.StepKind.TheVariants.{System};
-ghost use Rattle.enforcer_core.specs.Answered.{Admits, Answered, ChangesLawfully};
-ghost use Rattle.enforcer_core.specs.Enforcers.{out_step, out_steps};
-ghost use Rattle.enforcer_core.specs.Follows.{Follows};
-ghost use Rattle.enforcer_core.specs.Reactions.{AddsReaction, Decides, IsTriggered, ReactAll};
+ghost use Rattle.enforcer_core.specs.Answered.{Admits, Answered, AnsweredDrain, ChangesLawfully};
+ghost use Rattle.enforcer_core.specs.Enforcers.{changes_of, out_step, out_steps};
+ghost use Rattle.enforcer_core.specs.Follows.{Follows, FollowsDrainFrom, FollowsFrom};
+ghost use Rattle.enforcer_core.specs.Reactions.{AddsReaction, AddsReactions, Decides, IsTriggered};
 ghost use Rattle.enforcer_core.specs.Rules.{IsAtom, IsBuilt};
-ghost use Rattle.enforcer_core.specs.Stands.{KeepsRules, KeepsStanding, Stands};
+ghost use Rattle.enforcer_core.specs.Stands.{KeepsRules, KeepsStanding, SatisfiesBehind, Stands};
 ghost use Rattle.enforcer_core.specs.declared.enforcer.CauseRule.{CauseRule as Rule};
 
-use crate::steps::{OutStep, OutSteps, StepOut, StepRefusal, Untaken};
+use crate::steps::{Change, Changes, OutStep, OutSteps, StepOut, StepRefusal, Untaken};
 use enf_formula::Formula;
 use enf_value::event_sets::EventSet;
 use enf_value::events::{Event, NameId};
@@ -140,7 +140,7 @@ impl Enforcer {
             (λ out. ChangesLawfully self.old.rules self.old.clock time
             (StepRecord (record { time = time; events = events }) ∷ []) (out_steps out.steps)) }
         ensures decided { IfOk result
-            (λ out. Follows self.old.rules
+            (λ out. FollowsFrom self.old
             (StepRecord (record { time = time; events = events }) ∷ []) (out_steps out.steps)) }
     {
         self.admit(time)?;
@@ -169,10 +169,32 @@ impl Enforcer {
             (λ out. ChangesLawfully self.old.rules self.old.clock time (Tick time ∷ [])
             (out_steps out.steps)) }
         ensures decided { IfOk result
-            (λ out. Follows self.old.rules (Tick time ∷ []) (out_steps out.steps)) }
+            (λ out. FollowsFrom self.old (Tick time ∷ []) (out_steps out.steps)) }
     {
         self.admit(time)?;
         self.clock = time;
+        Ok(StepOut {
+            steps: OutSteps::new(alloc),
+        })
+    }
+
+    /// Lets out what is still owed to the steps that were taken, after which the rules are satisfied whatever comes:
+    /// of rules of this form nothing.
+    pub fn drain(&mut self, alloc: Global) -> Result<StepOut, StepRefusal>
+        ensures answered { AnsweredDrain self.old result self.new }
+        ensures stands { IfOk result
+            (λ out. KeepsStanding self.old self.new (out_steps out.steps)) }
+        ensures changed { IfOk result
+            (λ out. ChangesLawfully self.old.rules self.old.clock self.new.clock []
+            (out_steps out.steps)) }
+        ensures decided { IfOk result
+            (λ out. FollowsDrainFrom self.old (out_steps out.steps)) }
+        ensures satisfied { IfOk result
+            (λ out. SatisfiesBehind self.old (out_steps out.steps)) }
+    {
+        if self.stopped {
+            return Err(StepRefusal::Stopped);
+        }
         Ok(StepOut {
             steps: OutSteps::new(alloc),
         })
@@ -242,8 +264,8 @@ fn let_out(
         (λ out. (from : ℕ) → from ≤ time → ChangesLawfully rules.now from time
         (StepRecord (record { time = time; events = events }) ∷ []) (out_steps out.steps)) }
     ensures decided { IfOk result
-        (λ out. Follows rules.now (StepRecord (record { time = time; events = events }) ∷ [])
-        (out_steps out.steps)) }
+        (λ out. (start : Start) → Follows rules.now start
+        (StepRecord (record { time = time; events = events }) ∷ []) (out_steps out.steps)) }
 {
     laws::trace_grows();
     // Its clause says that no event stands twice.
@@ -266,36 +288,36 @@ fn decide(
     ensures { IfOk result
         (λ out. Decides rules.now (record { time = time; events = events }) (out_step out)) }
 {
-    let added = react(alloc, rules, &mut events)?;
+    let changes = react(alloc, rules, &mut events)?;
     Ok(OutStep {
         kind: StepKind::System,
         time,
         events,
-        added,
+        changes,
     })
 }
 
-// Lets the rules react in order, and gives what they added.
-fn react(alloc: Global, rules: &[CauseRule], events: &mut EventSet) -> Result<EventSet, NoMemory>
-    ensures added { IfOk result (λ added. events.new ≡ events.old ++ added) }
-    ensures reacted { IfOk result (λ added. ReactAll rules.now events.old added) }
+// Lets the rules react in order, and gives the changes that they made.
+fn react(alloc: Global, rules: &[CauseRule], events: &mut EventSet) -> Result<Changes, NoMemory>
+    ensures { IfOk result
+        (λ changes. AddsReactions rules.now events.old events.new (changes_of changes)) }
 {
-    let mut added = EventSet::new(alloc);
+    let mut changes = Changes::new(alloc);
     for rule in rules {
-        react_to(alloc, rule, events, &mut added)?;
+        react_to(alloc, rule, events, &mut changes)?;
     }
-    Ok(added)
+    Ok(changes)
 }
 
-// Lets one rule react, and adds what it causes to both sets.
+// Lets one rule react: what it causes goes to the events, and to the changes.
 fn react_to(
     alloc: Global,
     rule: &CauseRule,
     events: &mut EventSet,
-    added: &mut EventSet,
+    changes: &mut Changes,
 ) -> Result<(), NoMemory>
-    requires { (event : Event) → Contains added.old event → Contains events.old event }
-    ensures { OnOk result (AddsReaction rule.now events.old events.new added.old added.new) }
+    ensures { OnOk result (AddsReaction rule.now events.old events.new
+        (changes_of changes.old) (changes_of changes.new)) }
 {
     if !rule.is_triggered(events.as_slice()) {
         return Ok(());
@@ -306,7 +328,7 @@ fn react_to(
     if !is_new {
         return Ok(());
     }
-    let Ok(_) = added.insert(rule.caused(alloc)) else {
+    let Ok(()) = changes.push(Change::Cause(rule.caused(alloc))) else {
         return Err(NoMemory);
     };
     Ok(())

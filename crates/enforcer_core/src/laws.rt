@@ -1,6 +1,7 @@
 //! Laws of enforcers, each the contract of a function that does nothing.
-ghost use Rattle.enforcer_core.specs.Laws.{CourseBegins, CourseGoesOn, CourseEnforces};
-ghost use Rattle.enforcer_core.specs.Laws.{StandsForGood, SomeDecision, OneDecision, BuiltAreSatisfied, OneRule};
+ghost use Rattle.enforcer_core.specs.Laws.{CourseBegins, CourseGoesOn, CourseKeepsUp, CourseEnforces};
+ghost use Rattle.enforcer_core.specs.Laws.{CourseFollows, CourseFollowsToEnd, StandsForGood};
+ghost use Rattle.enforcer_core.specs.Laws.{SomeDecision, SomeDrain, OneDecision, OneDrain, BuiltAreSatisfied, OneRule};
 
 use trace_meaning::laws;
 
@@ -8,10 +9,14 @@ use trace_meaning::laws;
 pub fn course()
     ensures begins { CourseBegins }
     ensures goes_on { CourseGoesOn }
+    ensures keeps_up { CourseKeepsUp }
     ensures enforces { CourseEnforces }
+    ensures follows { CourseFollows }
+    ensures follows_to_end { CourseFollowsToEnd }
 {
     laws::records_join();
     laws::lawful_joins();
+    laws::good();
 }
 
 /// What an enforcer stands for can be continued well.
@@ -24,7 +29,9 @@ pub fn stands_for_good()
 /// The rules leave no choice.
 pub fn one_decision()
     ensures some { SomeDecision }
+    ensures some_drain { SomeDrain }
     ensures one { OneDecision }
+    ensures one_drain { OneDrain }
 {}
 
 /// Policies, and the rules that are built from them.

@@ -8,4 +8,4 @@ pub mod laws;
 pub mod steps;
 
 pub use enforcer::{CauseRule, Enforcer};
-pub use steps::{OutStep, OutSteps, StepOut, StepRefusal};
+pub use steps::{Change, Changes, OutStep, OutSteps, StepOut, StepRefusal};

@@ -4,17 +4,28 @@ ghost use Rattle.enforcer_core.specs.Answered.{refused_as};
 ghost use Rattle.std.specs.Prelude.{◌≡◌};
 
 use enf_value::event_sets::EventSet;
+use enf_value::events::Event;
 use enf_value::items::Items;
 use enf_value::memory::NoMemory;
 use trace_meaning::kinds::StepKind;
 
-/// A step that goes out, with the events that were added to it.
+/// An event that was added to a step, or one that was taken out.
+#[derive(Drop)]
+pub enum Change {
+    Cause(Event),
+    Suppress(Event),
+}
+
+/// A list of changes.
+pub type Changes = Items<Change>;
+
+/// A step that goes out, with the changes that made it, in their order.
 #[derive(Drop)]
 pub struct OutStep {
     pub kind: StepKind,
     pub time: u64,
     pub events: EventSet,
-    pub added: EventSet,
+    pub changes: Changes,
 }
 
 /// A list of steps that go out.

@@ -10,3 +10,4 @@ pub mod Lawful
 pub mod OutSteps
 pub mod Records
 pub mod Satisfies
+pub mod Start

@@ -2,11 +2,14 @@
 ghost use Rattle.std.specs.Prelude.{[], ◌∷◌};
 ghost use Rattle.enf_formula.specs.Cases.{event_p, event_q, at_time};
 ghost use Rattle.trace_meaning.specs.Cases.{IsLawful, IsUnlawful, IsNeverLawful, recorded_at};
-ghost use Rattle.trace_meaning.specs.Cases.{system_at, inserted_at, q_at_1, q_then_p, p_in_time};
+ghost use Rattle.trace_meaning.specs.Cases.{may_cause, may_suppress, system_at, inserted_at};
+ghost use Rattle.trace_meaning.specs.Cases.{q_at_1, q_then_p, p_in_time};
 ghost use Rattle.trace_meaning.specs.Continuation.{Continuation};
+ghost use Rattle.trace_meaning.specs.Enforced.{Enforced, KeepsUp};
 ghost use Rattle.trace_meaning.specs.Good.{Good, GoodPrefix};
 ghost use Rattle.trace_meaning.specs.OutSteps.{Cause, Suppress};
 ghost use Rattle.trace_meaning.specs.Records.{Tick, NeverFall};
+ghost use Rattle.trace_meaning.specs.Start.{from_nothing};
 
 /// Changes of the records' own steps.
 pub fn changes()
@@ -52,7 +55,7 @@ pub fn insertions()
         (inserted_at 3 (event_p ∷ []) [] ∷ []) }
 {}
 
-/// Clocks, continuations and good prefixes.
+/// Clocks, continuations and good prefixes, and what is owed so far and in all.
 pub fn continuing()
     ensures from_any_clock { NeverFall 2 (recorded_at 2 [] ∷ Tick 5 ∷ recorded_at 5 [] ∷ []) }
     ensures behind_a_tick { NeverFall 0 (Tick 5 ∷ recorded_at 4 [] ∷ []) → ⊥ }
@@ -62,4 +65,13 @@ pub fn continuing()
     ensures good_at_the_last_moment { Good p_in_time q_at_1 3 }
     ensures good_prefix { GoodPrefix p_in_time q_at_1 }
     ensures too_late { Good p_in_time q_at_1 4 → ⊥ }
+    ensures keeps_up { KeepsUp may_cause may_suppress p_in_time from_nothing
+        (recorded_at 1 (event_q ∷ []) ∷ Tick 3 ∷ []) (system_at 1 (event_q ∷ []) [] ∷ []) }
+    ensures keeps_up_no_more { KeepsUp may_cause may_suppress p_in_time from_nothing
+        (recorded_at 1 (event_q ∷ []) ∷ Tick 4 ∷ []) (system_at 1 (event_q ∷ []) [] ∷ []) → ⊥ }
+    ensures not_all_that_is_owed { Enforced may_cause may_suppress p_in_time from_nothing
+        (recorded_at 1 (event_q ∷ []) ∷ Tick 3 ∷ []) (system_at 1 (event_q ∷ []) [] ∷ []) → ⊥ }
+    ensures all_that_is_owed { Enforced may_cause may_suppress p_in_time
+        (record { trace = q_at_1; clock = 2 }) []
+        (inserted_at 3 (event_p ∷ []) (Cause event_p ∷ []) ∷ []) }
 {}

@@ -1,22 +1,25 @@
-use Rattle.std.proofs.Common.{◌∙◌, [], ℕ, Option, ap, sym, subst, arith}
+use Rattle.std.proofs.Common.{◌∙◌, [], ℕ, Option, length, ap, sym, subst, arith}
 use Rattle.std.proofs.lemmas.Result.{err_from_is_err_and}
 use Rattle.log_stream.specs.Readers.{Reader}
-use Rattle.enforcer_core.specs.Rules.{policy_of}
 use Rattle.enf_cli.specs.Logs.{RanAsJudged}
-use Rattle.enf_cli.specs.Progress.{reads_on}
+use Rattle.enf_cli.specs.Owed.{setting_of}
+use Rattle.enforcer_core.specs.Enforcers.{Enforcing}
+use Rattle.enf_cli.specs.Progress.{CutsDrain, GivesDrain, moment, reads_on}
 use Rattle.enf_cli.specs.declared.log.Verdict.{Verdict}
-use Rattle.enf_cli.proofs.LogProgress.{Laws}
-use Rattle.enf_cli.proofs.RunLemmas.{cut_run, done_none, goes_on, own_built, runs_log}
+use Rattle.enf_cli.proofs.LogProgress.{Laws, cut_drain, ran_judged}
+use Rattle.enf_cli.proofs.LogTurns.{cut_run, done_none, ends_log, goes_on}
 use Rattle.enf_cli.proofs.log.enforce_log.Goals as goal
 
 pub loop-log-init : goal.loop-log-init
 loop-log-init g c =
-    let laws : Laws = record { begins = c.course.ensures.begins; goes_on = c.course.ensures.goes_on; enforces = c.course.ensures.enforces; good = c.stands_for_good.ensures; built = c.built.ensures.satisfied } in
+    let k = c.course.ensures in
+    let laws : Laws = record { begins = k.begins; goes_on = k.goes_on; keeps_up = k.keeps_up; enforces = k.enforces; follows = k.follows; follows_to_end = k.follows_to_end; built = c.built.ensures.satisfied; front = c.good.ensures.front; satisfying = c.good.ensures.satisfying } in
     let new = c.requires.new in
     record {
       bytes = [];
       count = new.taken;
       most = omega (arith, new.taken);
+      left = omega (arith, new.accepted, ap (λ (r : Reader). length r.rest) new.reader);
       reader = new.reader ∙ (λ i. reads_on c.args.signature.now (sym (ap (λ (r : Reader). r.rest) new.reader) i));
       room = new.room;
       done = done_none c.args.signature.now c.args.log laws c.requires.causable (g.G.Sink.seen c.args.gate.now) new;
@@ -24,48 +27,61 @@ loop-log-init g c =
 
 pub loop-log-preserved : goal.loop-log-preserved
 loop-log-preserved g c =
-    let laws : Laws = record { begins = c.course.ensures.begins; goes_on = c.course.ensures.goes_on; enforces = c.course.ensures.enforces; good = c.stands_for_good.ensures; built = c.built.ensures.satisfied } in
+    let k = c.course.ensures in
+    let laws : Laws = record { begins = k.begins; goes_on = k.goes_on; keeps_up = k.keeps_up; enforces = k.enforces; follows = k.follows; follows_to_end = k.follows_to_end; built = c.built.ensures.satisfied; front = c.good.ensures.front; satisfying = c.good.ensures.satisfying } in
     let inv = c.loop-log.invariant in
     let turn = rw c.in_default.is at c.in_ok-verdict.ensures.turn in
-    let go = goes_on c.args.signature.now c.args.log.enforcer.rules laws c.requires.causable (g.G.Sink.seen c.args.gate.now) c.loop-log.log c.go_on.new.log inv.bytes (g.G.Sink.seen c.loop-log.gate) (g.G.Sink.seen c.go_on.new.gate)
-    inv.done inv.count inv.most c.in_ok-verdict.ensures.writes turn in
-    record { bytes = go.bytes; count = go.count_is; most = go.within; reader = go.reader_is; room = c.in_ok-verdict.ensures.room; done = go.progress }
+    let go = goes_on c.args.signature.now c.args.log.enforcer laws c.requires.causable (g.G.Sink.seen c.args.gate.now) c.loop-log.log c.go_on.new.log inv.bytes (g.G.Sink.seen c.loop-log.gate) (g.G.Sink.seen c.go_on.new.gate)
+    inv.done inv.count inv.most inv.left c.in_ok-verdict.ensures.writes turn in
+    record { bytes = go.bytes; count = go.count_is; most = go.within; left = go.room_is; reader = go.reader_is; room = c.in_ok-verdict.ensures.room; done = go.progress }
 
 pub loop-log-smaller : goal.loop-log-smaller
 loop-log-smaller g c =
-    let laws : Laws = record { begins = c.course.ensures.begins; goes_on = c.course.ensures.goes_on; enforces = c.course.ensures.enforces; good = c.stands_for_good.ensures; built = c.built.ensures.satisfied } in
+    let k = c.course.ensures in
+    let laws : Laws = record { begins = k.begins; goes_on = k.goes_on; keeps_up = k.keeps_up; enforces = k.enforces; follows = k.follows; follows_to_end = k.follows_to_end; built = c.built.ensures.satisfied; front = c.good.ensures.front; satisfying = c.good.ensures.satisfying } in
     let inv = c.loop-log.invariant in
     let turn = rw c.in_default.is at c.in_ok-verdict.ensures.turn in
-    let go = goes_on c.args.signature.now c.args.log.enforcer.rules laws c.requires.causable (g.G.Sink.seen c.args.gate.now) c.loop-log.log c.go_on.new.log inv.bytes (g.G.Sink.seen c.loop-log.gate) (g.G.Sink.seen c.go_on.new.gate)
-    inv.done inv.count inv.most c.in_ok-verdict.ensures.writes turn in
+    let go = goes_on c.args.signature.now c.args.log.enforcer laws c.requires.causable (g.G.Sink.seen c.args.gate.now) c.loop-log.log c.go_on.new.log inv.bytes (g.G.Sink.seen c.loop-log.gate) (g.G.Sink.seen c.go_on.new.gate)
+    inv.done inv.count inv.most inv.left c.in_ok-verdict.ensures.writes turn in
     go.less
 
 pub returns-in_err-verdict-clause-cut : goal.returns-in_err-verdict-clause-cut
-returns-in_err-verdict-clause-cut g c policy built =
-    let laws : Laws = record { begins = c.course.ensures.begins; goes_on = c.course.ensures.goes_on; enforces = c.course.ensures.enforces; good = c.stands_for_good.ensures; built = c.built.ensures.satisfied } in
+returns-in_err-verdict-clause-cut g c policy trace built stands =
+    let k = c.course.ensures in
+    let laws : Laws = record { begins = k.begins; goes_on = k.goes_on; keeps_up = k.keeps_up; enforces = k.enforces; follows = k.follows; follows_to_end = k.follows_to_end; built = c.built.ensures.satisfied; front = c.good.ensures.front; satisfying = c.good.ensures.satisfying } in
     let inv = c.loop-log.invariant in
     let p = err_from_is_err_and c.from_residual.result c.from_residual.ensures.1 in
-    rw (p.1, p.2) (cut_run (Option Verdict) c.args.signature.now c.args.log.enforcer.rules policy laws c.requires.causable built (g.G.Sink.seen c.args.gate.now) inv.bytes c.loop-log.log (g.G.Sink.seen c.loop-log.gate) (g.G.Sink.seen c.go_on.new.gate)
-    (inv.done policy built) inv.count c.in_err-verdict.field-0.0 c.in_err-verdict.ensures.cut c.in_err-verdict.ensures.writes)
+    rw (p.1, p.2) (cut_run (Option Verdict) c.args.signature.now policy c.args.log.enforcer trace laws c.requires.causable built (g.G.Sink.seen c.args.gate.now) inv.bytes c.loop-log.log (g.G.Sink.seen c.loop-log.gate) (g.G.Sink.seen c.go_on.new.gate)
+    (inv.done policy trace built stands) inv.count inv.left c.in_err-verdict.field-0.0 c.in_err-verdict.ensures.cut c.in_err-verdict.ensures.writes)
+
+pub returns-in_err-drain-clause-cut : goal.returns-in_err-drain-clause-cut
+returns-in_err-drain-clause-cut g c policy trace built stands =
+    let k = c.course.ensures in
+    let laws : Laws = record { begins = k.begins; goes_on = k.goes_on; keeps_up = k.keeps_up; enforces = k.enforces; follows = k.follows; follows_to_end = k.follows_to_end; built = c.built.ensures.satisfied; front = c.good.ensures.front; satisfying = c.good.ensures.satisfying } in
+    let inv = c.loop-log.invariant in
+    let seen = g.G.Sink.seen in
+    let p = err_from_is_err_and c.from_residual-in_err-drain.result c.from_residual-in_err-drain.ensures.1 in
+    let turn = rw c.in-Some.is at c.in_ok-verdict.ensures.turn in
+    let old = c.loop-log.log in
+    let cut = c.in_err-drain.field-0.0 in
+    let ended = ends_log c.args.signature.now policy c.args.log.enforcer trace laws c.requires.causable built (seen c.args.gate.now) old inv.bytes (seen c.loop-log.gate) (seen c.go_on.new.gate)
+    (inv.done policy trace built stands) inv.count inv.left c.in_ok-verdict.ensures.writes c.in-Some.verdict turn.2 in
+    let drained = subst (λ (e : Enforcing). CutsDrain c.args.signature.now (moment e (seen c.go_on.new.gate)) (seen c.drain.new.sink).told cut) turn.1 c.in_err-drain.ensures.cut in
+    rw (p.1, p.2) (cut_drain c.args.signature.now policy c.args.log.enforcer trace laws c.requires.causable built (seen c.args.gate.now) inv.bytes old.reader.rest old.accepted old.enforcer c.in-Some.verdict (seen c.go_on.new.gate) (seen c.drain.new.sink)
+    ended c.in_err-drain.ensures.reads (Unit {0}) cut drained c.in_err-drain.ensures.writes)
 
 pub returns-in-Some-clause-ran : goal.returns-in-Some-clause-ran
-returns-in-Some-clause-ran g c policy built =
-    let laws : Laws = record { begins = c.course.ensures.begins; goes_on = c.course.ensures.goes_on; enforces = c.course.ensures.enforces; good = c.stands_for_good.ensures; built = c.built.ensures.satisfied } in
+returns-in-Some-clause-ran g c policy trace built stands =
+    let k = c.course.ensures in
+    let laws : Laws = record { begins = k.begins; goes_on = k.goes_on; keeps_up = k.keeps_up; enforces = k.enforces; follows = k.follows; follows_to_end = k.follows_to_end; built = c.built.ensures.satisfied; front = c.good.ensures.front; satisfying = c.good.ensures.satisfying } in
     let inv = c.loop-log.invariant in
+    let seen = g.G.Sink.seen in
     let turn = rw c.in-Some.is at c.in_ok-verdict.ensures.turn in
-    let judged = runs_log c.args.signature.now c.args.log.enforcer.rules policy laws c.requires.causable built (g.G.Sink.seen c.args.gate.now) c.loop-log.log inv.bytes (g.G.Sink.seen c.loop-log.gate) (g.G.Sink.seen c.go_on.new.gate)
-    (inv.done policy built) inv.count c.in_ok-verdict.ensures.writes c.in-Some.verdict turn.1 in
-    subst (λ (n : ℕ). RanAsJudged c.args.signature.now policy (record { accepted = n; verdict = c.in-Some.verdict }) (g.G.Sink.seen c.args.gate.now) (g.G.Sink.seen c.go_on.new.gate)) (sym turn.0) judged
-
-pub go_on-requires-clause-count : goal.go_on-requires-clause-count
-go_on-requires-clause-count g c =
-    let inv = c.loop-log.invariant in
-    let rules = c.args.log.enforcer.rules in
-    omega (arith, (inv.done (policy_of rules) (own_built rules)).room, inv.count, inv.most)
-
-pub returns-in-Some-clause-few : goal.returns-in-Some-clause-few
-returns-in-Some-clause-few g c =
-    let inv = c.loop-log.invariant in
-    let rules = c.args.log.enforcer.rules in
-    let turn = rw c.in-Some.is at c.in_ok-verdict.ensures.turn in
-    omega (arith, turn.0, (inv.done (policy_of rules) (own_built rules)).room, inv.count, inv.most)
+    let old = c.loop-log.log in
+    let verdict = c.in-Some.verdict in
+    let ended = ends_log c.args.signature.now policy c.args.log.enforcer trace laws c.requires.causable built (seen c.args.gate.now) old inv.bytes (seen c.loop-log.gate) (seen c.go_on.new.gate)
+    (inv.done policy trace built stands) inv.count inv.left c.in_ok-verdict.ensures.writes verdict turn.2 in
+    let drained = subst (λ (e : Enforcing). GivesDrain c.args.signature.now (moment e (seen c.go_on.new.gate)) (moment c.drain.new.enforcer (seen c.drain.new.sink))) turn.1 c.in_ok-drain.ensures.drained in
+    let judged = ran_judged c.args.signature.now policy c.args.log.enforcer trace laws c.requires.causable built (seen c.args.gate.now) inv.bytes old.reader.rest old.accepted old.enforcer verdict (seen c.go_on.new.gate) (seen c.drain.new.sink)
+    ended c.in_ok-drain.ensures.reads c.drain.new.enforcer drained c.in_ok-drain.ensures.writes in
+    subst (λ (n : ℕ). RanAsJudged (setting_of c.args.signature.now policy c.args.log.enforcer trace) (record { accepted = n; verdict = verdict }) (seen c.args.gate.now) (seen c.drain.new.sink)) (sym turn.0) judged

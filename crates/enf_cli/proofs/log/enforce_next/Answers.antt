@@ -13,7 +13,7 @@ pub returns-in_err-enforce_item-in-Ok-Item-clause-cut : goal.returns-in_err-enfo
 returns-in_err-enforce_item-in-Ok-Item-clause-cut g c =
     let r = reads_item c.args.signature.now c.args.reader.now c.next_record.new.self c.requires c.in-Ok-Item.item (rw c.in-Ok-Item.field-0-is at c.in-Ok-Item.ensures) in
     let p = err_from_is_err_and c.from_residual.result c.from_residual.ensures.1 in
-    rw (p.1, p.2) (cuts_next c.args.signature.now c.args.reader.now.rest _ c.in-Ok-Item.item c.args.enforcer.now _ _ c.in_err-enforce_item-in-Ok-Item.field-0.0 r.0 c.in_err-enforce_item-in-Ok-Item.ensures.cut)
+    rw (p.1, p.2) (cuts_next c.args.signature.now c.args.reader.now.rest _ c.in-Ok-Item.item _ _ c.in_err-enforce_item-in-Ok-Item.field-0.0 r.0 c.in_err-enforce_item-in-Ok-Item.ensures.cut)
 
 pub returns-in-None-clause-next : goal.returns-in-None-clause-next
 returns-in-None-clause-next g c =
@@ -23,8 +23,8 @@ returns-in-None-clause-next g c =
 pub returns-in-Some-clause-next : goal.returns-in-Some-clause-next
 returns-in-Some-clause-next g c =
     let r = reads_item c.args.signature.now c.args.reader.now c.next_record.new.self c.requires c.in-Ok-Item.item (rw c.in-Ok-Item.field-0-is at c.in-Ok-Item.ensures) in
-    falls c.args.signature.now c.args.reader.now.rest _ c.in-Ok-Item.item c.in-Some.why c.args.enforcer.now _ _ r.0 (rw c.in-Some.is at c.in_ok-enforce_item-in-Ok-Item.ensures.answer)
+    falls c.args.signature.now c.args.reader.now.rest _ c.in-Ok-Item.item c.in-Some.why _ _ r.0 (rw c.in-Some.is at c.in_ok-enforce_item-in-Ok-Item.ensures.answer)
 
 pub returns-in_ok-refusal_of-in-Err-clause-next : goal.returns-in_ok-refusal_of-in-Err-clause-next
 returns-in_ok-refusal_of-in-Err-clause-next g c =
-    (reads_refused c.args.signature.now c.args.reader.now c.next_record.new.self c.requires c.args.enforcer.now.clock c.in-Err.refusal c.in_ok-refusal_of-in-Err.field-0 c.in_ok-refusal_of-in-Err.ensures c.in-Err.ensures, refl)
+    (reads_refused c.args.signature.now c.args.reader.now c.next_record.new.self c.requires c.args.enforcer.now.clock c.in-Err.refusal c.in_ok-refusal_of-in-Err.field-0 c.in_ok-refusal_of-in-Err.ensures c.in-Err.ensures, refl, refl)

@@ -21,4 +21,4 @@ pub returns-in-Ended-clause-turn : goal.returns-in-Ended-clause-turn
 returns-in-Ended-clause-turn g c =
     let waits = rw c.in-Pending.is at c.in_ok-enforce_next.ensures.next in
     let t = rw c.in-Ended.is at c.in_ok-count-in-Pending.ensures.turn in
-    (refl, ends_turn c.args.signature.now c.args.log.now _ c.take_piece.new.reader _ (g.G.Sink.seen c.args.gate.now) (g.G.Sink.seen c.enforce_next.new.sink) (g.G.Sink.seen c.take_piece.new.gate) waits c.in_ok-enforce_next.ensures.reads c.judge_end.result t c.judge_end.ensures)
+    (refl, waits.enforcer, ends_turn c.args.signature.now c.args.log.now _ c.take_piece.new.reader _ (g.G.Sink.seen c.args.gate.now) (g.G.Sink.seen c.enforce_next.new.sink) (g.G.Sink.seen c.take_piece.new.gate) waits c.in_ok-enforce_next.ensures.reads c.judge_end.result t c.judge_end.ensures)

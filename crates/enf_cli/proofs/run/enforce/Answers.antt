@@ -1,12 +1,14 @@
-use Rattle.std.proofs.Common.{◌∙◌, inl, refl, subst, sym}
+use Rattle.std.proofs.Common.{◌∙◌, [], ap, inl, refl, subst, sym}
 use Rattle.std.proofs.lemmas.Result.{err_from_is_err_and}
 use Rattle.enf_io.specs.FileCalls.{FileView}
+use Rattle.enforcer_core.specs.Enforcers.{Enforcing}
 use Rattle.enforcer_core.specs.Rules.{AreBuilt}
 use Rattle.formula_reader.specs.Resolution.{rules_of}
 use Rattle.enf_cli.specs.Policies.{formulas}
 use Rattle.enf_cli.specs.Files.{EndsFile, HoldsPolicy, HoldsRefusedPolicy}
 use Rattle.enf_cli.proofs.BuildingLemmas.{all_can_be_built}
-use Rattle.enf_cli.proofs.RunLemmas.{log_done, log_ends, log_refused, memory_ends, policy_ends, signature_ends}
+use Rattle.enf_cli.specs.Logs.{CutsRun, RanAsJudged}
+use Rattle.enf_cli.proofs.RunLemmas.{from_the_start, log_done, log_ends, log_refused, memory_ends, policy_ends, signature_ends}
 use Rattle.enf_cli.proofs.run.enforce.Goals as goal
 
 pub returns-in_err-signature : goal.returns-in_err-signature
@@ -41,8 +43,11 @@ returns-in_err-judged g c words report report' form =
     let holds = subst (λ (v : FileView). HoldsPolicy v.contents c.args.policy_file.now entries policy) first c.in_ok-accepted.ensures.held in
     let are_built : AreBuilt (formulas policy) c.in-Some.built.items = rw c.as_slice-rules.ensures at (rw c.in-Some.is at c.in_ok-built.ensures.built) in
     let can = all_can_be_built entries (formulas policy) c.in-Some.built.items are_built (rw c.in-Some.is at c.in_ok-built.ensures.causable) in
-    let built = subst (AreBuilt (formulas policy)) (sym c.in_ok-log.ensures.rules) are_built in
-    rw (p.1, p.2) (log_ends _ c.args.signature_file.now c.args.policy_file.now form entries policy c.in_ok-signature.ensures.held holds can (c.in_ok-accepted.ensures.same ∙ first) c.in_err-judged.field-0.0 (c.in_err-judged.ensures.cut (formulas policy) built))
+    let log = c.in_ok-log.ensures in
+    let built = subst (AreBuilt (formulas policy)) (sym (ap (λ (e : Enforcing). e.rules) log.enforcer)) are_built in
+    let cut = c.in_err-judged.field-0.0 in
+    let short = from_the_start entries (formulas policy) c.in_ok-log.log.enforcer c.in-Some.built.items log.enforcer (λ s. CutsRun s (g.G.Sink.seen c.args.gate.now) (g.G.Sink.seen c.enforce_log.new.gate) cut) (c.in_err-judged.ensures.cut (formulas policy) [] built log.stands) in
+    rw (p.1, p.2) (log_ends _ c.args.signature_file.now c.args.policy_file.now form entries policy c.in_ok-signature.ensures.held holds can (c.in_ok-accepted.ensures.same ∙ first) cut short)
 
 pub returns-in_err-conclude : goal.returns-in_err-conclude
 returns-in_err-conclude g c words report report' form =
@@ -53,9 +58,10 @@ returns-in_err-conclude g c words report report' form =
     let holds = subst (λ (v : FileView). HoldsPolicy v.contents c.args.policy_file.now entries policy) first c.in_ok-accepted.ensures.held in
     let are_built : AreBuilt (formulas policy) c.in-Some.built.items = rw c.as_slice-rules.ensures at (rw c.in-Some.is at c.in_ok-built.ensures.built) in
     let can = all_can_be_built entries (formulas policy) c.in-Some.built.items are_built (rw c.in-Some.is at c.in_ok-built.ensures.causable) in
-    let built = subst (AreBuilt (formulas policy)) (sym c.in_ok-log.ensures.rules) are_built in
+    let log = c.in_ok-log.ensures in
+    let built = subst (AreBuilt (formulas policy)) (sym (ap (λ (e : Enforcing). e.rules) log.enforcer)) are_built in
     let judged = c.in_ok-judged.judged in
-    let ran = c.in_ok-judged.ensures.ran (formulas policy) built in
+    let ran = from_the_start entries (formulas policy) c.in_ok-log.log.enforcer c.in-Some.built.items log.enforcer (λ s. RanAsJudged s judged (g.G.Sink.seen c.args.gate.now) (g.G.Sink.seen c.enforce_log.new.gate)) (c.in_ok-judged.ensures.ran (formulas policy) [] built log.stands) in
     rw (p.1, p.2) (log_refused _ c.args.signature_file.now c.args.policy_file.now form entries policy c.in_ok-signature.ensures.held holds can (c.in_ok-accepted.ensures.same ∙ first) judged.accepted judged.verdict ran.ran c.in_err-conclude.field-0.0 ran.count c.in_err-conclude.ensures)
 
 pub returns : goal.returns
@@ -66,6 +72,8 @@ returns g c words report report' form =
     let holds = subst (λ (v : FileView). HoldsPolicy v.contents c.args.policy_file.now entries policy) first c.in_ok-accepted.ensures.held in
     let are_built : AreBuilt (formulas policy) c.in-Some.built.items = rw c.as_slice-rules.ensures at (rw c.in-Some.is at c.in_ok-built.ensures.built) in
     let can = all_can_be_built entries (formulas policy) c.in-Some.built.items are_built (rw c.in-Some.is at c.in_ok-built.ensures.causable) in
-    let built = subst (AreBuilt (formulas policy)) (sym c.in_ok-log.ensures.rules) are_built in
+    let log = c.in_ok-log.ensures in
+    let built = subst (AreBuilt (formulas policy)) (sym (ap (λ (e : Enforcing). e.rules) log.enforcer)) are_built in
     let judged = c.in_ok-judged.judged in
-    inl (inl (log_done _ c.args.signature_file.now c.args.policy_file.now form entries policy c.in_ok-signature.ensures.held holds can (c.in_ok-accepted.ensures.same ∙ first) judged.accepted judged.verdict (c.in_ok-judged.ensures.ran (formulas policy) built).ran c.in_ok-conclude.ensures))
+    let ran = from_the_start entries (formulas policy) c.in_ok-log.log.enforcer c.in-Some.built.items log.enforcer (λ s. RanAsJudged s judged (g.G.Sink.seen c.args.gate.now) (g.G.Sink.seen c.enforce_log.new.gate)) (c.in_ok-judged.ensures.ran (formulas policy) [] built log.stands) in
+    inl (inl (log_done _ c.args.signature_file.now c.args.policy_file.now form entries policy c.in_ok-signature.ensures.held holds can (c.in_ok-accepted.ensures.same ∙ first) judged.accepted judged.verdict ran.ran c.in_ok-conclude.ensures))

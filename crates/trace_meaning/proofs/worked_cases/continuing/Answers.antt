@@ -1,16 +1,19 @@
-use Rattle.std.proofs.Common.{◌≡◌, ℕ, zero, suc, ◌<◌, ◌≤◌, List, [], ◌∷◌, ◌++◌, length, Contains, arith, refl, sym, ap, subst, lit<, lit≤}
+use Rattle.std.proofs.Common.{◌≡◌, ℕ, zero, suc, ◌<◌, ◌≤◌, List, [], ◌∷◌, ◌++◌, length, map, Contains, arith, refl, sym, ap, subst, lit<, lit≤}
 use Rattle.std.proofs.lemmas.Bool.Decides.{not_from_Decides}
 use Rattle.std.proofs.lemmas.List.Elements.{All-cons, All-nil, All-from_recursion}
 use Rattle.enf_value.specs.Data.{IsTrace, step_at, no_step}
 use Rattle.enf_value.specs.Decided.{has_event-Decides}
-use Rattle.enf_value.specs.Membership.{IsIn}
 use Rattle.enf_value.specs.Valuations.{no_values}
 use Rattle.enf_value.specs.declared.steps.Step.{Step}
 use Rattle.enf_formula.specs.Cases.{event_p, event_q, at_time, within, formula_p, formula_q}
 use Rattle.enf_formula.specs.Formulas.{Formula, Implies, Eventually}
 use Rattle.enf_formula.specs.Satisfaction.{Sat, elapsed}
-use Rattle.trace_meaning.specs.Cases.{q_at_1, q_then_p, p_in_time}
+use Rattle.enf_value.specs.Membership.{HasNoRepeats, IsIn}
+use Rattle.trace_meaning.specs.Cases.{inserted_at, may_cause, may_suppress, p_in_time, q_at_1, q_then_p, system_at}
 use Rattle.trace_meaning.specs.Good.{Good}
+use Rattle.trace_meaning.specs.Lawful.{IsCause, IsInsertedLawfully, IsLaterThan}
+use Rattle.trace_meaning.specs.OutSteps.{Cause, IsUntil, OutStep, event_of}
+use Rattle.trace_meaning.specs.declared.kinds.StepKind.TheVariants.{System, Inserted}
 use Rattle.trace_meaning.proofs.Growth.{trace_begins, trace_grows}
 use Rattle.trace_meaning.proofs.worked_cases.continuing.Goals as goal
 
@@ -75,3 +78,46 @@ returns-clause-too_late c good =
     let all : (i : ℕ) → i < length (q_at_1 ++ more) → Sat (q_at_1 ++ more) i no_values rule =
     subst (λ (t : List Step). (i : ℕ) → i < length t → Sat t i no_values rule) continued.begins (good.2 0 rule (lit< tt)) in
     all 0 (omega arith) (0, lit< tt, refl) (λ some. late more (λ i below. continued.later i no_step below) some.0 some.2 some.3 some.4)
+
+-- q() at time 1, as it came
+abbrev as_it_came : List OutStep
+as_it_came = system_at 1 (event_q ∷ []) [] ∷ []
+
+-- and p() that was put in at time 3
+abbrev put_in : List OutStep
+put_in = inserted_at 3 (event_p ∷ []) (Cause event_p ∷ []) ∷ []
+
+pub returns-clause-keeps_up : goal.returns-clause-keeps_up
+returns-clause-keeps_up c = record {
+  lawful = record {
+    answered = (record { same_time = refl; changed = refl }, tt);
+    inserted = All-from_recursion (λ o. IsInsertedLawfully may_cause may_suppress o o.kind) as_it_came (tt, tt);
+    once = All-from_recursion (λ (o : OutStep). HasNoRepeats (map event_of o.changes)) as_it_came (tt, tt);
+    in_order = (All-nil (λ (p : OutStep). IsLaterThan System p.kind 1 p.step.time), tt);
+  };
+  within = record {
+    from = All-from_recursion (λ (o : OutStep). 0 ≤ o.step.time) as_it_came (lit≤ tt, tt);
+    until = All-from_recursion (λ (o : OutStep). IsUntil 3 o.kind o.step.time) as_it_came (lit≤ tt, tt);
+  };
+  good = good_until_3 3 (lit≤ tt);
+}
+
+pub returns-clause-keeps_up_no_more : goal.returns-clause-keeps_up_no_more
+returns-clause-keeps_up_no_more c keeps = returns-clause-too_late c keeps.good
+
+pub returns-clause-not_all_that_is_owed : goal.returns-clause-not_all_that_is_owed
+returns-clause-not_all_that_is_owed c e =
+    e.satisfied 0 rule (lit< tt) 0 (lit< tt) (0, lit< tt, refl) (λ some. late [] (λ i below. absurd (omega (arith, below))) some.0 some.2 some.3 some.4)
+
+pub returns-clause-all_that_is_owed : goal.returns-clause-all_that_is_owed
+returns-clause-all_that_is_owed c = record {
+  lawful = record {
+    answered = tt;
+    inserted = All-from_recursion (λ o. IsInsertedLawfully may_cause may_suppress o o.kind) put_in
+        (((event_p ∷ [], (refl, no_p_in_nothing, refl), refl), All-from_recursion IsCause (Cause event_p ∷ []) (tt, tt)), tt);
+    once = All-from_recursion (λ (o : OutStep). HasNoRepeats (map event_of o.changes)) put_in ((no_p_in_nothing, tt), tt);
+    in_order = (All-nil (λ (p : OutStep). IsLaterThan Inserted p.kind 3 p.step.time), tt);
+  };
+  is_trace = trace;
+  satisfied = All-from_recursion (λ f. (i : ℕ) → i < length q_then_p → Sat q_then_p i no_values f) p_in_time (satisfied, tt);
+}

@@ -1,0 +1,199 @@
+-- One turn more of the run of a log, and how it ends.
+use Rattle.std.proofs.Common.{◌≡◌, ℕ, ◌+◌, ◌*◌, ◌-◌, ◌<◌, ◌≤◌, List, [], ◌++◌, length, length-append, None, inl, inr, sym, ap, subst, ◌∙◌, Option, Err, IsTrue, arith}
+use Rattle.std.specs.List.{All}
+use Rattle.enf_io.specs.Counts.{one_more}
+use Rattle.enf_io.specs.Exchange.{Exchange}
+use Rattle.enf_io.specs.Streams.{Stream}
+use Rattle.enforcer_core.specs.Enforcers.{Enforcing}
+use Rattle.enforcer_core.specs.Rules.{AreBuilt}
+use Rattle.enforcer_core.specs.Stands.{Stands}
+use Rattle.enf_value.specs.declared.steps.Step.{Step}
+use Rattle.enf_formula.specs.Formulas.{Formula}
+use Rattle.log_stream.specs.Lines.{text_of}
+use Rattle.log_stream.specs.LogLaws.{end_stays}
+use Rattle.log_stream.specs.Logs.{HasRecord, IsPending, behind_blanks}
+use Rattle.log_stream.specs.declared.scanning.Scan.TheVariants.{Outside}
+use Rattle.log_stream.specs.Readers.{Reader}
+use Rattle.log_stream.specs.declared.items.LogMode.TheVariants.{Input}
+use Rattle.signature.specs.Grammar.{names as names_of}
+use Rattle.signature.specs.declared.entries.NameEntry.{NameEntry}
+use Rattle.trace_meaning.specs.Records.{clock_after, time_of}
+use Rattle.enf_cli.specs.Accepted.{UpToDate, record_of, records_of}
+use Rattle.enf_cli.specs.Endings.{write_faults_behind}
+use Rattle.enforce_types.specs.Given.{is_causable}
+use Rattle.enf_cli.specs.Exchanges.{Exchanged, IsBegun}
+use Rattle.enf_cli.specs.Limits.{most_log_bytes}
+use Rattle.enf_cli.specs.Logs.{CutsRun, EndsAs, IsRefusedAs, MetEnd}
+use Rattle.enf_cli.specs.Owed.{Setting, setting_of}
+use Rattle.enf_cli.specs.Progress.{AnswersTurn, CutsTurn, EndsByRefusal, EndsTurn, EnforcesOne, IsLeft, IsNew, MeetsEnd, RefusesNext, TakesBytes, TakesMore, reads_on}
+use Rattle.enf_cli.specs.declared.endings.Cut.{Cut}
+use Rattle.enf_cli.specs.declared.endings.Cut.TheVariants as cuts
+use Rattle.enf_cli.specs.declared.log.Enforcement.{Enforcement}
+use Rattle.enf_cli.specs.declared.log.Verdict.{Verdict}
+use Rattle.enf_cli.specs.declared.log.Verdict.TheVariants as verdicts
+use Rattle.enf_cli.specs.declared.refusals.RecordRefusal.{RecordRefusal}
+use Rattle.enf_cli.specs.declared.refusals.RecordRefusal.TheVariants as records
+use Rattle.enf_cli.proofs.ExchangeLemmas.{begun_marked, begun_took, exchanged_ended, exchanged_marked}
+use Rattle.enf_cli.proofs.LogLemmas.{begins_shorter, behind_le}
+use Rattle.enf_cli.proofs.LogProgress.{Ended, Laws, Progress, cut_memory, cut_write, progress_more, progress_none, progress_one, setting, up_to_date}
+
+-- where a record is whole there is something
+record_some : (rest : List ℕ) (n : ℕ) → HasRecord rest n → 0 < length rest
+record_some rest n whole =
+    let end = end_stays Outside 65536 (behind_blanks rest) [] n whole in
+    omega (arith, end.1, end.2, behind_le rest)
+
+-- and where one is refused
+refused_some : (entries : List NameEntry) (rest : List ℕ) (clock : ℕ) (why : RecordRefusal) → RefusesNext entries rest clock why → 0 < length rest
+refused_some entries rest clock (records.Bad place) r = record_some rest r.0 r.1
+refused_some entries rest clock (records.UnknownName place) r = record_some rest r.0 r.1
+refused_some entries rest clock (records.Arity place) r = record_some rest r.0 r.1
+refused_some entries rest clock (records.Sort place) r = record_some rest r.0 r.1
+refused_some entries rest clock records.TooLong r = omega (arith, r.1, behind_le rest)
+refused_some entries rest clock records.TimeTooLarge r = record_some rest r.0 r.1
+refused_some entries rest clock records.Truncated r = record_some rest r.begins.0 r.begins.1
+refused_some entries rest clock (records.Falling given at) r = record_some rest r.begins.0 r.begins.1
+refused_some entries rest clock records.InputLimit r = record_some rest r.begins.0 r.begins.1
+
+module _ (entries : List NameEntry) (policy : List Formula) (first : Enforcing) (trace : List Step) (laws : Laws) (may : All (λ rule. IsTrue (is_causable entries rule.cause)) first.rules) (built : AreBuilt policy first.rules) where
+  module _ (before : Stream) (old : Enforcement) (taken : List ℕ) (b c : Stream) (h : Progress entries policy first trace before taken old.reader.rest old.accepted old.enforcer b) (count : old.taken ≡ length taken)
+      (room : old.accepted + length old.reader.rest ≤ old.taken) (writes : c.write_faults ≡ b.write_faults) where
+    abbrev here : Setting
+    here = setting entries policy first trace
+
+    abbrev given : List ℕ
+    given = text_of (names_of entries) h.so_far.out
+
+    -- what the exchange was before the last turn it still is, where that left the gate
+    left_as_it_was : c.told ≡ b.told → Exchanged (UpToDate here) taken given before.told c.told
+    left_as_it_was same = subst (λ (o : Option Exchange). Exchanged (UpToDate here) taken given before.told o) (sym same) h.exchanged
+
+    now_up_to_date : IsPending old.reader.rest → UpToDate here taken given
+    now_up_to_date pending = up_to_date entries policy first trace laws may built taken old.reader.rest old.enforcer h.so_far pending
+
+    abbrev EndedSo : Verdict → Type 0
+    EndedSo verdict = Ended entries policy first trace before taken old.reader.rest old.accepted old.enforcer verdict c
+
+    ends_with : (verdict : Verdict) → Exchanged (UpToDate here) taken given before.told c.told → EndsAs entries Input (clock_after first.clock (records_of h.so_far.read)) (length taken) old.reader.rest before c verdict
+        → IsBegun before.told c.told → EndedSo verdict
+    ends_with verdict exchanged ends begun = record { so_far = h.so_far; count = h.count; exchanged = exchanged; ends = ends; begun = begun; writes = writes ∙ h.writes }
+
+    met_end : MeetsEnd old b c → MetEnd (length taken) c
+    met_end m = (omega (arith, m.below, count), m.at_end)
+
+    -- a read that took nothing ended the log
+    ended_read : (verdict : Verdict) → MeetsEnd old b c → EndsAs entries Input (clock_after first.clock (records_of h.so_far.read)) (length taken) old.reader.rest before c verdict → EndedSo verdict
+    ended_read verdict m ends =
+        ends_with verdict (exchanged_ended (UpToDate here) taken given before.told b.told c.told h.exchanged (now_up_to_date m.pending) h.steady m.took) ends
+        (begun_took (UpToDate here) taken given before.told b.told c.told h.exchanged [] m.took)
+
+    refused : (why : RecordRefusal) → IsRefusedAs entries Input (clock_after first.clock (records_of h.so_far.read)) (length taken) old.reader.rest c why → IsLeft b c → 0 < length taken → EndedSo (verdicts.Refused why)
+    refused why is left some =
+        ends_with (verdicts.Refused why) (left_as_it_was left.0) (is, left.1 ∙ h.reads) (subst (λ (o : Option Exchange). IsBegun before.told o) (sym left.0) (h.begun some))
+
+    some_taken : (why : RecordRefusal) → RefusesNext entries old.reader.rest old.enforcer.clock why → 0 < length taken
+    some_taken why r = omega (arith, room, count, refused_some entries old.reader.rest old.enforcer.clock why r)
+
+    ends_refused : (why : RecordRefusal) → EndsByRefusal entries old b c why → EndedSo (verdicts.Refused why)
+    ends_refused (records.Bad place) e = refused (records.Bad place) e.0 e.1 (some_taken (records.Bad place) e.0)
+    ends_refused (records.UnknownName place) e = refused (records.UnknownName place) e.0 e.1 (some_taken (records.UnknownName place) e.0)
+    ends_refused (records.Arity place) e = refused (records.Arity place) e.0 e.1 (some_taken (records.Arity place) e.0)
+    ends_refused (records.Sort place) e = refused (records.Sort place) e.0 e.1 (some_taken (records.Sort place) e.0)
+    ends_refused records.TooLong e = refused records.TooLong e.0 e.1 (some_taken records.TooLong e.0)
+    ends_refused records.TimeTooLarge e = refused records.TimeTooLarge e.0 e.1 (some_taken records.TimeTooLarge e.0)
+    ends_refused records.Truncated e = ended_read (verdicts.Refused records.Truncated) e.1 ((e.0, met_end e.1), e.1.reads ∙ h.reads)
+    ends_refused (records.Falling given' at) e =
+        let f = e.0 in
+        let at_is : at ≡ old.enforcer.clock = clock_is given' at f.is in
+        let given_is : given' ≡ time_of (record_of f.item) = time_is given' at f.is in
+        let clock = h.so_far.course.clock in
+        refused (records.Falling given' at) (at_is ∙ clock, record { item = f.item; more = f.more; begins = f.begins; time = given_is; below = omega (arith, f.below, clock) }) e.1 (some_taken (records.Falling given' at) f)
+      where
+        clock_is : (x y : ℕ) {t k : ℕ} → ◌≡◌ {A = RecordRefusal} (records.Falling x y) (records.Falling t k) → y ≡ k
+        clock_is x y e = cc
+
+        time_is : (x y : ℕ) {t k : ℕ} → ◌≡◌ {A = RecordRefusal} (records.Falling x y) (records.Falling t k) → x ≡ t
+        time_is x y e = cc
+    ends_refused records.InputLimit e = refused records.InputLimit (e.0, sym count ∙ e.1) e.2 (omega (arith, count, e.1))
+
+    -- a turn ended the log
+    pub ends_log : (verdict : Verdict) → EndsTurn entries old b c verdict → EndedSo verdict
+    ends_log verdicts.Accepted e = ended_read verdicts.Accepted e.1 (e.0, met_end e.1, e.1.reads ∙ h.reads)
+    ends_log verdicts.Fault e =
+        ends_with verdicts.Fault (exchanged_marked (UpToDate here) taken given before.told b.told c.told h.exchanged (now_up_to_date e.0) h.steady e.1) (e.0, e.2 ∙ ap one_more h.reads)
+        (begun_marked (UpToDate here) taken given before.told b.told c.told h.exchanged e.1)
+    ends_log (verdicts.Refused why) e = ends_refused why e
+
+-- for each trace that the enforcer stood for, and each policy of which its rules are built, so much was done
+abbrev pub Done : List NameEntry → Enforcing → Stream → List ℕ → Enforcement → Stream → Type 0
+Done entries first before taken log after = (policy : List Formula) (trace : List Step) → AreBuilt policy first.rules → Stands first trace
+    → Progress entries policy first trace before taken log.reader.rest log.accepted log.enforcer after
+
+-- of a new log nothing was taken
+pub done_none : (entries : List NameEntry) (log : Enforcement) (laws : Laws) (may : All (λ rule. IsTrue (is_causable entries rule.cause)) log.enforcer.rules) (before : Stream) → IsNew entries log
+    → Done entries log.enforcer before [] log before
+done_none entries log laws may before new policy trace built stands =
+    let none = progress_none entries policy log.enforcer trace laws may built stands before in
+    let at_rest = subst (λ (r : List ℕ). Progress entries policy log.enforcer trace before [] r 0 log.enforcer before) (sym (ap (λ (r : Reader). r.rest) new.reader)) none in
+    subst (λ (n : ℕ). Progress entries policy log.enforcer trace before [] log.reader.rest n log.enforcer before) (sym new.accepted) at_rest
+
+-- a turn that does not end the log
+module _ (entries : List NameEntry) (first : Enforcing) (laws : Laws) (may : All (λ rule. IsTrue (is_causable entries rule.cause)) first.rules) (before : Stream) (old new : Enforcement) (taken : List ℕ) (b c : Stream)
+    (h : Done entries first before taken old b) (count : old.taken ≡ length taken) (most : old.taken ≤ most_log_bytes) (room : old.accepted + length old.reader.rest ≤ old.taken) (writes : c.write_faults ≡ b.write_faults) where
+  -- what is known behind it, and that less is left to do
+  pub record GoesOn : Type 0 where
+    pub bytes : List ℕ
+    pub count_is : new.taken ≡ length bytes
+    pub within : new.taken ≤ most_log_bytes
+    pub room_is : new.accepted + length new.reader.rest ≤ new.taken
+    pub reader_is : new.reader ≡ reads_on entries new.reader.rest
+    pub progress : Done entries first before bytes new c
+    pub less : 2 * (most_log_bytes - new.taken) + length new.reader.rest < 2 * (most_log_bytes - old.taken) + length old.reader.rest
+
+  record_more : EnforcesOne entries old new b c → Done entries first before taken new c
+  record_more one policy trace built stands =
+      let t = one.takes in
+      let more = progress_one entries policy first trace laws may built before taken old.reader.rest old.accepted old.enforcer b c (h policy trace built stands) new.reader.rest t.item new.enforcer t.begins t.taken one.reads writes in
+      subst (λ (n : ℕ). Progress entries policy first trace before taken new.reader.rest n new.enforcer c) (sym one.accepted) more
+
+  piece_more : (piece : TakesMore entries old new b c) → Done entries first before (taken ++ piece.bytes) new c
+  piece_more piece policy trace built stands =
+      let rest_is : new.reader.rest ≡ behind_blanks old.reader.rest ++ piece.bytes = ap (λ (r : Reader). r.rest) piece.reader in
+      let takes = subst (λ (n : ℕ). TakesBytes (most_log_bytes - n) piece.bytes b.told c.told) count piece.takes in
+      let more = progress_more entries policy first trace laws may built before taken old.reader.rest old.accepted old.enforcer b c (h policy trace built stands) piece.pending piece.bytes takes piece.some piece.reads writes in
+      let at_rest = subst (λ (r : List ℕ). Progress entries policy first trace before (taken ++ piece.bytes) r old.accepted old.enforcer c) (sym rest_is) more in
+      let at_count = subst (λ (n : ℕ). Progress entries policy first trace before (taken ++ piece.bytes) new.reader.rest n old.enforcer c) (sym piece.accepted) at_rest in
+      subst (λ (e : Enforcing). Progress entries policy first trace before (taken ++ piece.bytes) new.reader.rest new.accepted e c) (sym piece.enforcer) at_count
+
+  pub goes_on : AnswersTurn entries None old new b c → GoesOn
+  goes_on (inl one) =
+      let t = one.takes in
+      let shorter = begins_shorter entries Input old.reader.rest t.item new.reader.rest t.begins in
+      record {
+        bytes = taken;
+        count_is = one.taken ∙ count;
+        within = omega (arith, one.taken, most);
+        room_is = omega (arith, one.taken, one.accepted, room, shorter);
+        reader_is = t.reader_is;
+        progress = record_more one;
+        less = omega (arith, one.taken, shorter);
+      }
+  goes_on (inr piece) =
+      let rest_is : new.reader.rest ≡ behind_blanks old.reader.rest ++ piece.bytes = ap (λ (r : Reader). r.rest) piece.reader in
+      record {
+        bytes = taken ++ piece.bytes;
+        count_is = omega (arith, piece.taken, count, length-append taken piece.bytes);
+        within = omega (arith, piece.taken, piece.takes.within, most);
+        room_is = omega (arith, piece.taken, piece.accepted, room, ap length rest_is, length-append (behind_blanks old.reader.rest) piece.bytes, behind_le old.reader.rest);
+        reader_is = piece.reader ∙ (λ i. reads_on entries (sym rest_is i));
+        progress = piece_more piece;
+        less = omega (arith, piece.taken, piece.takes.within, most, piece.some, ap length rest_is, length-append (behind_blanks old.reader.rest) piece.bytes, behind_le old.reader.rest);
+      }
+
+-- a turn was cut
+pub cut_run : (T : Type 0) (entries : List NameEntry) (policy : List Formula) (first : Enforcing) (trace : List Step) (laws : Laws) (may : All (λ rule. IsTrue (is_causable entries rule.cause)) first.rules) (built : AreBuilt policy first.rules)
+    (before : Stream) (taken : List ℕ) (log : Enforcement) (b c : Stream) → Progress entries policy first trace before taken log.reader.rest log.accepted log.enforcer b → log.taken ≡ length taken → log.accepted + length log.reader.rest ≤ log.taken
+    → (cut : Cut) → CutsTurn entries log b c cut → c.write_faults ≡ write_faults_behind {T = T} (Err cut) b.write_faults → CutsRun (setting_of entries policy first trace) before c cut
+cut_run T entries policy first trace laws may built before taken log b c h count room cuts.WriteFault t writes =
+    cut_write entries policy first trace laws may built before taken log.reader.rest log.accepted log.enforcer b c h (omega (arith, room, count)) t writes
+cut_run T entries policy first trace laws may built before taken log b c h count room cuts.NoMemory t writes = cut_memory entries policy first trace laws may built before taken log b c h count t writes
