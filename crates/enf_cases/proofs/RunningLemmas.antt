@@ -10,7 +10,7 @@ use Rattle.past_state.specs.Guarded.{AreCopies, tree_in}
 use Rattle.past_state.specs.GuardLaws.{copies_formulas}
 use Rattle.past_state.specs.Operators.{all_operators}
 use Rattle.past_state.specs.Past.{BindsBound, IsTestOf, Past, PastStands, formula_of}
-use Rattle.past_state.specs.Restoring.{IsFrom, IsLastTime}
+use Rattle.past_state.specs.LastTimes.{IsFrom, IsLastTime}
 use Rattle.past_state.specs.Runs.{AreUpToTimeOf}
 use Rattle.past_state.specs.Saved.{AreKeptOf, AreRowsKept}
 use Rattle.past_state.specs.declared.guards.PlacedGuard.{PlacedGuard}

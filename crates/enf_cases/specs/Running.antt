@@ -7,7 +7,7 @@ use Rattle.monitorable_guard.specs.Guards.{BoundFormula}
 use Rattle.monitorable_guard.specs.Safety.{FreeWithin}
 use Rattle.past_state.specs.Guarded.{AreCopies, tree_in}
 use Rattle.past_state.specs.Past.{Past, PastStands}
-use Rattle.past_state.specs.Restoring.{IsLastTime, IsUpToLast}
+use Rattle.past_state.specs.LastTimes.{IsLastTime, IsUpToLast}
 use Rattle.valuations.specs.Just.{Binds}
 use Rattle.enf_cases.specs.declared.running.Asked.{Asked}
 use Rattle.enf_cases.specs.declared.running.Asked.TheVariants.{Rows, Holds}

@@ -4,7 +4,7 @@ ghost use Rattle.enf_cases.specs.Running.{CanAsk, IsOf, StandsUpTo};
 ghost use Rattle.enf_value.specs.Valuations.{no_values};
 ghost use Rattle.past_state.specs.Guarded.{AreCopies, IsFreshGuard};
 ghost use Rattle.past_state.specs.Past.{AreOf, BindsBound, IsTestOf};
-ghost use Rattle.past_state.specs.Restoring.{IsFrom};
+ghost use Rattle.past_state.specs.LastTimes.{IsFrom};
 
 use crate::case::CaseError;
 use crate::parts::open_log;

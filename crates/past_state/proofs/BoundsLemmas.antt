@@ -1,9 +1,8 @@
 -- What has to be kept of a trace is within the bounds at its last time.
-use Rattle.std.proofs.Common.{◌≡◌, ◌∙◌, ℕ, ◌+◌, ◌-◌, ◌<◌, ◌≤◌, List, [], ◌∷◌, ◌++◌, take, length, Contains, None, Some, refl, sym, ap, subst, arith}
+use Rattle.std.proofs.Common.{◌≡◌, ◌∙◌, ℕ, List, [], ◌∷◌, length, Contains, None, Some, refl, sym, ap, subst, arith}
 use Rattle.std.specs.Prelude.{slice_get}
-use Rattle.std.proofs.lemmas.List.{take_all, take_more}
 use Rattle.std.proofs.lemmas.Option.{same_Some}
-use Rattle.enf_value.specs.Data.{IsTrace, no_step, step_at}
+use Rattle.enf_value.specs.Data.{IsTrace}
 use Rattle.enf_value.specs.Valuations.{Valuation}
 use Rattle.enf_value.specs.declared.intervals.Interval.{Interval}
 use Rattle.enf_value.specs.declared.steps.Step.{Step}
@@ -13,13 +12,14 @@ use Rattle.enf_formula.specs.FreeVariables.{AreFreeVariables}
 use Rattle.enf_formula.specs.Satisfaction.{Sat, Anywhere}
 use Rattle.monitorable_guard.specs.Safety.{denial}
 use Rattle.trace_meaning.specs.Continuation.{last_time}
-use Rattle.trace_meaning.specs.Laws.{LastIsTheNew}
+use Rattle.trace_meaning.specs.Laws.{NoneIsLater}
 use Rattle.valuations.specs.Columns.{here, none_in_nil}
 use Rattle.valuations.specs.Tables.{valuation_of}
 use Rattle.windows.specs.Kept.{ChosenBy}
 use Rattle.windows.specs.KeptPairs.{pair}
 use Rattle.past_state.specs.Kept.{HasPairAt, KeptAt}
-use Rattle.past_state.specs.Restoring.{HaveTime, IsKeepable, IsTimely, IsTimelyIn, KeptAreWithinBounds}
+use Rattle.past_state.specs.Bounds.{HaveTime, IsKeepable, IsTimely, IsTimelyIn}
+use Rattle.past_state.specs.Restoring.{KeptAreWithinBounds}
 use Rattle.past_state.specs.Saved.{AreKeptOf, IsKept, KeptFor, kept_operand, kept_row}
 use Rattle.past_state.specs.declared.kept.KeptRow.{KeptRow}
 use Rattle.past_state.proofs.ChosenLemmas.{not_below}
@@ -34,25 +34,12 @@ kept_with trace fs r f columns at free k =
     let same : k.columns ≡ columns = same_free (kept_operand f) k.columns columns (subst (λ g. AreFreeVariables (kept_operand g) k.columns) is k.free) free in
     subst (λ l. KeptFor trace f (valuation_of l r.row) r.time) same (subst (λ g. KeptFor trace g (valuation_of k.columns r.row) r.time) is k.kept)
 
--- ---- no position is later than the last time
-
-last_at : LastIsTheNew → (trace : List Step) → 0 < length trace → last_time trace ≡ (step_at trace (length trace - 1)).time
-last_at law trace some =
-    let whole : take (length trace - 1) trace ++ step_at trace (length trace - 1) ∷ [] ≡ trace =
-    sym (take_more trace (length trace - 1) no_step (omega (arith, some))) ∙ take_all (length trace - 1 + 1) trace (omega (arith, some)) in
-    ap last_time (sym whole) ∙ law (take (length trace - 1) trace) (step_at trace (length trace - 1))
-
-none_after : LastIsTheNew → (trace : List Step) → IsTrace trace → (i : ℕ) → i < length trace → (step_at trace i).time ≤ last_time trace
-none_after law trace is_trace i below =
-    let some : 0 < length trace = omega (arith, below) in
-    omega (arith, is_trace.ordered i (length trace - 1) (omega (arith, below)) (omega (arith, below)), last_at law trace some)
-
 -- ---- the times that are kept could not be left out
 
-module _ (law : LastIsTheNew) (trace : List Step) (is_trace : IsTrace trace) (last : ℕ) (at : last ≡ last_time trace) (P : ℕ → Type 0) (time : ℕ) where
+module _ (law : NoneIsLater) (trace : List Step) (is_trace : IsTrace trace) (last : ℕ) (at : last ≡ last_time trace) (P : ℕ → Type 0) (time : ℕ) where
   timely_in : (interval : Interval) (F G : ℕ → Type 0) → ((other : ℕ) → P other → KeptAt trace interval F G other) → KeptAt trace interval F G time → IsTimelyIn interval last P time
   timely_in interval F G each held = (
-    not_below time last (λ above. held.0 (λ h. omega (arith, above, h.2, at, none_after law trace is_trace h.0 h.1))),
+    not_below time last (λ above. held.0 (λ h. omega (arith, above, h.2, at, law trace h.0 is_trace h.1))),
     chosen_fewer interval.high interval.low last (HasPairAt trace F G) P time (λ other there. (each other there).0)
         (subst (λ l. ChosenBy interval.high interval.low l (HasPairAt trace F G) time) (sym at) held.1),
   )
@@ -80,7 +67,7 @@ kept_of_nothing fs rows none r = (
   λ k. absurd (none_of_nothing k.operator (valuation_of k.columns r.row) r.time k.kept),
 )
 
-pub kept_are_within : LastIsTheNew → KeptAreWithinBounds
+pub kept_are_within : NoneIsLater → KeptAreWithinBounds
 kept_are_within law trace None fs [] is_trace at rising are = refl
 kept_are_within law trace None fs (r ∷ rows) is_trace at rising are =
     let k = (are r).0 (here r rows) in

@@ -32,8 +32,8 @@ use Rattle.past_state.specs.Runs.{AreFor}
 use Rattle.past_state.specs.declared.left.Left.{Left}
 use Rattle.past_state.specs.declared.left.Left.TheVariants as side
 use Rattle.past_state.specs.declared.memories.Memory.{Memory}
-use Rattle.past_state.specs.declared.memories.Memory.TheVariants as kept
-use Rattle.past_state.specs.declared.operators.Operator.{Operator}
+use Rattle.past_state.specs.declared.memories.Memory.TheVariants as memories
+use Rattle.past_state.specs.declared.operators.OperatorState.{OperatorState}
 use Rattle.past_state.proofs.ColumnLemmas.{after}
 
 pub distinct : (xs : List VarId) → IsStrictlySortedBy variable_cmp xs → HasNoRepeats xs
@@ -95,44 +95,44 @@ asks_denied f g place columns guard is alone fresh = (
 -- ---- what is kept for one operator
 
 pub for_prev : (place : ℕ) (interval : Interval) (g : Formula) (slot : Slot) (operand : BoundFormula) (columns : List VarId) → slot ≡ record { interval = interval; columns = columns; last = None }
-    → AreFreeVariables g columns → Asks g [] operand → IsFor (Prev place interval g) (kept.Prev slot operand)
+    → AreFreeVariables g columns → Asks g [] operand → IsFor (Prev place interval g) (memories.Prev slot operand)
 for_prev place interval g slot operand columns is free asks =
     (asks, subst (λ s. AreFreeVariables g s.columns) (sym is) free, ap (λ s. s.interval) is, subst (λ s. LastHasColumns s.columns s.last) (sym is) tt)
 
 pub for_once : (place : ℕ) (interval : Interval) (g : Formula) (window : Window) (right : BoundFormula) (columns : List VarId) → window.interval ≡ interval → window.columns ≡ columns
-    → AreFreeVariables g columns → Asks g [] right → IsFor (Once place interval g) (kept.Once window right)
+    → AreFreeVariables g columns → Asks g [] right → IsFor (Once place interval g) (memories.Once window right)
 for_once place interval g window right columns interval_is columns_are free asks = (asks, subst (AreFreeVariables g) (sym columns_are) free, interval_is)
 
 pub for_since : (place : ℕ) (interval : Interval) (g h : Formula) (window : Window) (left : Left) (left_tables : ℕ) (right : BoundFormula) (columns : List VarId)
     → window.interval ≡ interval → window.columns ≡ columns → AreFreeVariables h columns → Asks h [] right → AsksLeft g columns left → left_tables ≡ length (outermost g)
-    → ((x : VarId) → IsFree x g → IsFree x h) → IsFor (Since place interval g h) (kept.Since window left left_tables right)
+    → ((x : VarId) → IsFree x g → IsFree x h) → IsFor (Since place interval g h) (memories.Since window left left_tables right)
 for_since place interval g h window left left_tables right columns interval_is columns_are free asks_right asks_left counted within =
     (asks_right, subst (AreFreeVariables h) (sym columns_are) free, interval_is, subst (λ l. AsksLeft g l left) (sym columns_are) asks_left, counted, within)
 
 pub for_denied : (place : ℕ) (interval : Interval) (g : Formula) (m : Memory) → IsFor (Once place interval (denial g)) m → IsFor (Historically place interval g) m
-for_denied place interval g (kept.Once window right) for = for
-for_denied place interval g (kept.Prev slot operand) for = absurd for
-for_denied place interval g (kept.Since window left left_tables right) for = absurd for
+for_denied place interval g (memories.Once window right) for = for
+for_denied place interval g (memories.Prev slot operand) for = absurd for
+for_denied place interval g (memories.Since window left left_tables right) for = absurd for
 
 -- ---- operators put last
 
-for_append : (fs gs : List Formula) (os ps : List Operator) → AreFor fs os → AreFor gs ps → AreFor (fs ++ gs) (os ++ ps)
+for_append : (fs gs : List Formula) (os ps : List OperatorState) → AreFor fs os → AreFor gs ps → AreFor (fs ++ gs) (os ++ ps)
 for_append [] gs [] ps a b = b
 for_append [] gs (o ∷ os) ps a b = absurd a
 for_append (f ∷ fs) gs [] ps a b = absurd a
 for_append (f ∷ fs) gs (o ∷ os) ps a b = (a.0, a.1, for_append fs gs os ps a.2 b)
 
-pub pushes_none : (before : List Operator) → PushesFor [] before before
+pub pushes_none : (before : List OperatorState) → PushesFor [] before before
 pushes_none before = record { added = []; grown = sym (append-nil before); are_for = tt }
 
-pub pushes_then : (fs gs : List Formula) (before middle after : List Operator) → PushesFor fs before middle → PushesFor gs middle after → PushesFor (fs ++ gs) before after
+pub pushes_then : (fs gs : List Formula) (before middle after : List OperatorState) → PushesFor fs before middle → PushesFor gs middle after → PushesFor (fs ++ gs) before after
 pushes_then fs gs before middle after first second = record {
   added = first.added ++ second.added;
   grown = second.grown ∙ ap (λ l. l ++ second.added) first.grown ∙ append_assoc before first.added second.added;
   are_for = for_append fs gs first.added second.added first.are_for second.are_for;
 }
 
-pub pushes_one : (f : Formula) (m : Memory) (taken : ℕ) (before after : List Operator) → IsFor f m → taken ≡ length (inner f) → after ≡ before ++ record { taken = taken; memory = m } ∷ [] → PushesFor (f ∷ []) before after
+pub pushes_one : (f : Formula) (m : Memory) (taken : ℕ) (before after : List OperatorState) → IsFor f m → taken ≡ length (inner f) → after ≡ before ++ record { taken = taken; memory = m } ∷ [] → PushesFor (f ∷ []) before after
 pushes_one f m taken before after for takes grown = record {
   added = record { taken = taken; memory = m } ∷ [];
   grown = grown;
@@ -140,12 +140,12 @@ pushes_one f m taken before after for takes grown = record {
 }
 
 -- of a formula whose operators come behind those of its operands
-pub pushes_up : (f : Formula) (fs : List Formula) (m : Memory) (taken : ℕ) (before middle after : List Operator) → PushesFor (reverse fs) before middle → IsFor f m → taken ≡ length (inner f)
+pub pushes_up : (f : Formula) (fs : List Formula) (m : Memory) (taken : ℕ) (before middle after : List OperatorState) → PushesFor (reverse fs) before middle → IsFor f m → taken ≡ length (inner f)
     → after ≡ middle ++ record { taken = taken; memory = m } ∷ [] → PushesFor (reverse (f ∷ fs)) before after
 pushes_up f fs m taken before middle after inside for takes grown =
     subst (λ l. PushesFor l before after) (sym (reverse-append (f ∷ []) fs)) (pushes_then (reverse fs) (f ∷ []) before middle after inside (pushes_one f m taken middle after for takes grown))
 
-pub pushes_both : (gs hs : List Formula) (before middle after : List Operator) → PushesFor (reverse hs) before middle → PushesFor (reverse gs) middle after → PushesFor (reverse (gs ++ hs)) before after
+pub pushes_both : (gs hs : List Formula) (before middle after : List OperatorState) → PushesFor (reverse hs) before middle → PushesFor (reverse gs) middle after → PushesFor (reverse (gs ++ hs)) before after
 pushes_both gs hs before middle after second first = subst (λ l. PushesFor l before after) (sym (reverse-append gs hs)) (pushes_then (reverse hs) (reverse gs) before middle after second first)
 
 -- ---- no more outermost operators than operators, and no more of these than were put
@@ -172,13 +172,13 @@ outermost_fewer (Eventually place interval g) = omega arith
 outermost_fewer (Always place interval g) = omega arith
 outermost_fewer (Until place interval g h) = omega arith
 
-for_long : (fs : List Formula) (os : List Operator) → AreFor fs os → length os ≡ length fs
+for_long : (fs : List Formula) (os : List OperatorState) → AreFor fs os → length os ≡ length fs
 for_long [] [] for = refl
 for_long [] (o ∷ os) for = absurd for
 for_long (f ∷ fs) [] for = absurd for
 for_long (f ∷ fs) (o ∷ os) for = ap suc (for_long fs os for.2)
 
-pub pushed_long : (fs : List Formula) (before after : List Operator) → PushesFor (reverse fs) before after → length after ≡ length before + length fs
+pub pushed_long : (fs : List Formula) (before after : List OperatorState) → PushesFor (reverse fs) before after → length after ≡ length before + length fs
 pushed_long fs before after pushes = ap length pushes.grown ∙ length-append before pushes.added ∙ ap (λ n. length before + n) (for_long (reverse fs) pushes.added pushes.are_for ∙ length-reverse fs)
 
 -- ---- what can be kept of the parts of a formula
@@ -201,7 +201,7 @@ keep_rest f fs all = All-tail CanKeep f fs all
 pub keep_first : (f : Formula) (fs : List Formula) → All CanKeep (f ∷ fs) → CanKeep f
 keep_first f fs all = All-head CanKeep f fs all
 
-pub both_fewer : (f g : Formula) (before middle after : List Operator) (left right : ℕ) → left ≡ length (outermost f) → right ≡ length (outermost g) → PushesFor (reverse (operators g)) before middle
+pub both_fewer : (f g : Formula) (before middle after : List OperatorState) (left right : ℕ) → left ≡ length (outermost f) → right ≡ length (outermost g) → PushesFor (reverse (operators g)) before middle
     → PushesFor (reverse (operators f)) middle after → left + right ≤ length after
 both_fewer f g before middle after left right l r second first =
     omega (arith, l, r, outermost_fewer f, outermost_fewer g, pushed_long (operators g) before middle second, pushed_long (operators f) middle after first)

@@ -81,7 +81,7 @@ known_from events tables f bound v t none known row there value inside =
 -- the kept rows under which a guard holds are those that survive
 pub surviving_in : (events : List Event) (tables : List Relation) (guard : BoundFormula) (window : Window) (lasting surviving : Relation) → lasting.columns ≡ window.columns
     → ((v : Valuation) → Has lasting v ↔ Keeps window window.last v) → surviving.columns ≡ lasting.columns
-    → ((v : Valuation) → Has surviving v ↔ (Has lasting v × HoldsNow events tables v (tree_of guard.formula))) → AreSurvivors events tables (side.Asked guard) window (told.Only surviving)
+    → ((v : Valuation) → Has surviving v ↔ (Has lasting v × HoldsNow events tables v (tree_of guard.formula))) → AreSurvivors events tables (side.ByRow guard) window (told.Only surviving)
 surviving_in events tables guard window lasting surviving columns lasts surviving_columns survives = record {
   fit = surviving_columns ∙ columns;
   exact = λ v binds keeps. (λ h. ((survives v).0 h).1, λ holds. (survives v).1 ((lasts v).1 keeps, holds));

@@ -2,37 +2,37 @@
 use Rattle.std.proofs.Common.{◌≡◌, ◌∙◌, ℕ, zero, suc, ◌+◌, ◌<◌, ◌≤◌, List, [], ◌∷◌, ◌++◌, length, get_or, set, refl, sym, ap, subst, arith, length-append}
 use Rattle.std.proofs.lemmas.List.Elements.{All-get_or, All-nil, All-cons}
 use Rattle.past_state.specs.declared.memories.Memory.{Memory}
-use Rattle.past_state.specs.declared.memories.Memory.TheVariants as kept
+use Rattle.past_state.specs.declared.memories.Memory.TheVariants as memories
 use Rattle.past_state.specs.Memories.{FitMemory, IsUpToTimeOf, IsCommittedTo, IsSameMemory}
 use Rattle.past_state.specs.Runs.{AllFit, AreUpToTimeOf, OneCommitted, AllCommitted, AreSameKinds}
 use Rattle.past_state.specs.declared.memories.StepTables.{StepTables}
-use Rattle.past_state.specs.declared.operators.Operator.{Operator}
+use Rattle.past_state.specs.declared.operators.OperatorState.{OperatorState}
 use Rattle.past_state.proofs.MemoryLemmas.{same_itself, same_then}
 
-pub within : (operators : List Operator) (front back : List StepTables) (t : StepTables) → AllFit operators (front ++ t ∷ back) → length front < length operators
+pub within : (operators : List OperatorState) (front back : List StepTables) (t : StepTables) → AllFit operators (front ++ t ∷ back) → length front < length operators
 within [] [] back t fit = absurd fit
 within [] (s ∷ front) back t fit = absurd fit
 within (o ∷ operators) [] back t fit = omega arith
 within (o ∷ operators) (s ∷ front) back t fit = omega (arith, within operators front back t fit.1)
 
-pub fit_at : (operators : List Operator) (front back : List StepTables) (t : StepTables) (d : Operator) → AllFit operators (front ++ t ∷ back) → FitMemory (get_or operators (length front) d).memory t
+pub fit_at : (operators : List OperatorState) (front back : List StepTables) (t : StepTables) (d : OperatorState) → AllFit operators (front ++ t ∷ back) → FitMemory (get_or operators (length front) d).memory t
 fit_at [] [] back t d fit = absurd fit
 fit_at [] (s ∷ front) back t d fit = absurd fit
 fit_at (o ∷ operators) [] back t d fit = fit.0
 fit_at (o ∷ operators) (s ∷ front) back t d fit = fit_at operators front back t d fit.1
 
-pub commit_none : (time : ℕ) (operators : List Operator) → AllCommitted time operators [] operators
+pub commit_none : (time : ℕ) (operators : List OperatorState) → AllCommitted time operators [] operators
 commit_none time [] = refl
 commit_none time (o ∷ operators) = refl
 
-pub uncommitted : (time : ℕ) (operators : List Operator) (front : List StepTables) (now : List Operator) (d : Operator) → AllCommitted time operators front now
+pub uncommitted : (time : ℕ) (operators : List OperatorState) (front : List StepTables) (now : List OperatorState) (d : OperatorState) → AllCommitted time operators front now
     → length front < length operators → get_or now (length front) d ≡ get_or operators (length front) d
 uncommitted time [] front now d committed below = absurd (omega (arith, below))
 uncommitted time (o ∷ operators) [] now d committed below = ap (λ l. get_or l 0 d) committed
 uncommitted time (o ∷ operators) (s ∷ front) [] d committed below = absurd committed
 uncommitted time (o ∷ operators) (s ∷ front) (p ∷ now) d committed below = uncommitted time operators front now d committed.1 (omega (arith, below))
 
-pub commit_next : (time : ℕ) (operators : List Operator) (front : List StepTables) (t : StepTables) (now : List Operator) (after : Operator) (d : Operator) → length front < length operators
+pub commit_next : (time : ℕ) (operators : List OperatorState) (front : List StepTables) (t : StepTables) (now : List OperatorState) (after : OperatorState) (d : OperatorState) → length front < length operators
     → AllCommitted time operators front now → OneCommitted time (get_or operators (length front) d) t after → AllCommitted time operators (front ++ t ∷ []) (set now (length front) after)
 commit_next time [] front t now after d below committed one = absurd (omega (arith, below))
 commit_next time (o ∷ operators) [] t now after d below committed one =
@@ -40,23 +40,23 @@ commit_next time (o ∷ operators) [] t now after d below committed one =
 commit_next time (o ∷ operators) (s ∷ front) t [] after d below committed one = absurd committed
 commit_next time (o ∷ operators) (s ∷ front) t (p ∷ now) after d below committed one = (committed.0, commit_next time operators front t now after d (omega (arith, below)) committed.1 one)
 
-pub same_length : (time : ℕ) (operators : List Operator) (front : List StepTables) (now : List Operator) → AllCommitted time operators front now → length now ≡ length operators
+pub same_length : (time : ℕ) (operators : List OperatorState) (front : List StepTables) (now : List OperatorState) → AllCommitted time operators front now → length now ≡ length operators
 same_length time [] front now committed = ap length committed
 same_length time (o ∷ operators) [] now committed = ap length committed
 same_length time (o ∷ operators) (t ∷ front) [] committed = absurd committed
 same_length time (o ∷ operators) (t ∷ front) (p ∷ now) committed = ap suc (same_length time operators front now committed.1)
 
-pub up_to_at : (time : ℕ) (operators : List Operator) (front back : List StepTables) (t : StepTables) (d : Operator) → AllFit operators (front ++ t ∷ back) → AreUpToTimeOf time operators
+pub up_to_at : (time : ℕ) (operators : List OperatorState) (front back : List StepTables) (t : StepTables) (d : OperatorState) → AllFit operators (front ++ t ∷ back) → AreUpToTimeOf time operators
     → IsUpToTimeOf time (get_or operators (length front) d).memory
 up_to_at time operators front back t d fit up_to = All-get_or (λ o. IsUpToTimeOf time o.memory) operators (length front) d (within operators front back t fit) up_to
 
-pub below : (time : ℕ) (operators now : List Operator) (steps front back : List StepTables) (t : StepTables) (place : ℕ) → AllFit operators steps → steps ≡ front ++ t ∷ back → place ≡ length front
+pub below : (time : ℕ) (operators now : List OperatorState) (steps front back : List StepTables) (t : StepTables) (place : ℕ) → AllFit operators steps → steps ≡ front ++ t ∷ back → place ≡ length front
     → AllCommitted time operators front now → place < length now
 below time operators now steps front back t place fit split at committed_so_far =
     omega (arith, at, within operators front back t (subst (AllFit operators) split fit), same_length time operators front now committed_so_far)
 
 -- the turn of the loop at the next step
-module _ (time : ℕ) (operators now : List Operator) (steps front back : List StepTables) (t : StepTables) (place : ℕ) (o : Operator)
+module _ (time : ℕ) (operators now : List OperatorState) (steps front back : List StepTables) (t : StepTables) (place : ℕ) (o : OperatorState)
     (fit : AllFit operators steps) (split : steps ≡ front ++ t ∷ back) (at : place ≡ length front) (committed_so_far : AllCommitted time operators front now) where
   fits : AllFit operators (front ++ t ∷ back)
   fits = subst (AllFit operators) split fit
@@ -73,17 +73,17 @@ module _ (time : ℕ) (operators now : List Operator) (steps front back : List S
   pub up_to_here : o ≡ get_or now place o → AreUpToTimeOf time operators → IsUpToTimeOf time o.memory
   up_to_here is up_to = subst (λ p. IsUpToTimeOf time p.memory) (sym (is_old is)) (up_to_at time operators front back t o fits up_to)
 
-  pub next_committed : (after : Operator) → o ≡ get_or now place o → OneCommitted time o t after → AllCommitted time operators (front ++ t ∷ []) (set now place after)
+  pub next_committed : (after : OperatorState) → o ≡ get_or now place o → OneCommitted time o t after → AllCommitted time operators (front ++ t ∷ []) (set now place after)
   next_committed after is one =
       subst (λ n. AllCommitted time operators (front ++ t ∷ []) (set now n after)) (sym at)
       (commit_next time operators front t now after o (within operators front back t fits) committed_so_far (subst (λ p. OneCommitted time p t after) (is_old is) one))
 
 -- each stays of its kind
-pub same_all : (operators : List Operator) → AreSameKinds operators operators
+pub same_all : (operators : List OperatorState) → AreSameKinds operators operators
 same_all [] = refl
 same_all (o ∷ operators) = (refl, same_itself o.memory, same_all operators)
 
-pub same_set : (operators now : List Operator) (place : ℕ) (o after : Operator) → AreSameKinds operators now → place < length now → o ≡ get_or now place o → after.taken ≡ o.taken → IsSameMemory o.memory after.memory
+pub same_set : (operators now : List OperatorState) (place : ℕ) (o after : OperatorState) → AreSameKinds operators now → place < length now → o ≡ get_or now place o → after.taken ≡ o.taken → IsSameMemory o.memory after.memory
     → AreSameKinds operators (set now place after)
 same_set [] now place o after same below is taken memory = absurd (omega (arith, below, ap length same))
 same_set (p ∷ operators) [] place o after same below is taken memory = absurd same
@@ -96,11 +96,11 @@ lengths_add front x place e = omega (arith, e, length-append front (x ∷ []))
 
 -- what is committed at a time is not later than it
 one_up_to : (time later : ℕ) (m : Memory) (t : StepTables) (after : Memory) → time ≤ later → IsCommittedTo m time t after → IsUpToTimeOf later after
-one_up_to time later (kept.Prev slot operand) t after within committed = subst (IsUpToTimeOf later) (sym committed) within
-one_up_to time later (kept.Once window right) t after within committed = subst (IsUpToTimeOf later) (sym committed.2) (omega (arith, committed.1.last_is))
-one_up_to time later (kept.Since window left left_tables right) t after within committed = subst (IsUpToTimeOf later) (sym committed.2) (omega (arith, committed.1.last_is))
+one_up_to time later (memories.Prev slot operand) t after within committed = subst (IsUpToTimeOf later) (sym committed) within
+one_up_to time later (memories.Once window right) t after within committed = subst (IsUpToTimeOf later) (sym committed.2) (omega (arith, committed.1.last_is))
+one_up_to time later (memories.Since window left left_tables right) t after within committed = subst (IsUpToTimeOf later) (sym committed.2) (omega (arith, committed.1.last_is))
 
-pub all_up_to : (time later : ℕ) (operators : List Operator) (steps : List StepTables) (after : List Operator) → time ≤ later → AllFit operators steps → AllCommitted time operators steps after → AreUpToTimeOf later after
+pub all_up_to : (time later : ℕ) (operators : List OperatorState) (steps : List StepTables) (after : List OperatorState) → time ≤ later → AllFit operators steps → AllCommitted time operators steps after → AreUpToTimeOf later after
 all_up_to time later [] steps after within fit committed = subst (AreUpToTimeOf later) (sym committed) (All-nil _)
 all_up_to time later (o ∷ operators) [] after within fit committed = absurd fit
 all_up_to time later (o ∷ operators) (t ∷ steps) [] within fit committed = absurd committed

@@ -15,7 +15,7 @@ use Rattle.past_state.specs.Runs.{AreFor}
 use Rattle.monitorable_guard.specs.Safety.{BindsFresh}
 use Rattle.enf_formula.specs.FreeVariables.{IsFree}
 use Rattle.past_state.specs.declared.guards.PlacedGuard.{PlacedGuard}
-use Rattle.past_state.specs.declared.operators.Operator.{Operator}
+use Rattle.past_state.specs.declared.operators.OperatorState.{OperatorState}
 use Rattle.past_state.proofs.BuildingLemmas.{pushes_both, pushes_none, outermost_fewer, pushed_long}
 
 nothing_behind : {X : Type 0} (xs : List X) → drop (length xs) xs ≡ []
@@ -39,7 +39,7 @@ counted_none guards counts e =
     let all : length guards ≡ length guards - 0 = omega arith in
     e ∙ ap (λ l. reverse (map count_in l)) (sym (nothing_behind guards) ∙ ap (λ n. drop n guards) all)
 
-pub pushed_none : (guards : List BoundFormula) (before : List Operator) → PushesFor (reverse (all_operators (map tree_in (drop (length guards - 0) guards)))) before before
+pub pushed_none : (guards : List BoundFormula) (before : List OperatorState) → PushesFor (reverse (all_operators (map tree_in (drop (length guards - 0) guards)))) before before
 pushed_none guards before =
     let all : length guards ≡ length guards - 0 = omega arith in
     subst (λ l. PushesFor (reverse (all_operators (map tree_in l))) before before) (sym (nothing_behind guards) ∙ ap (λ n. drop n guards) all) (pushes_none before)
@@ -50,7 +50,7 @@ counted_more guards p g counts after count below is so_far counted grown =
     grown ∙ (λ i. so_far i ++ counted i ∷ []) ∙ sym (reversed count_in g (drop (length guards - p) guards))
     ∙ ap (λ l. reverse (map count_in l)) (ap (λ h. h ∷ drop (length guards - p) guards) is ∙ sym (one_before guards p g below))
 
-pub pushed_more : (guards : List BoundFormula) (p : ℕ) (g : BoundFormula) (before middle after : List Operator) → p < length guards → g ≡ get_or guards (length guards - 1 - p) g
+pub pushed_more : (guards : List BoundFormula) (p : ℕ) (g : BoundFormula) (before middle after : List OperatorState) → p < length guards → g ≡ get_or guards (length guards - 1 - p) g
     → PushesFor (reverse (all_operators (map tree_in (drop (length guards - p) guards)))) before middle → PushesFor (reverse (operators (tree_in g))) middle after
     → PushesFor (reverse (all_operators (map tree_in (drop (length guards - (p + 1)) guards)))) before after
 pushed_more guards p g before middle after below is so_far pushed =
@@ -155,7 +155,7 @@ all_outermost_fewer : (fs : List Formula) → length (all_outermost fs) ≤ leng
 all_outermost_fewer [] = omega arith
 all_outermost_fewer (f ∷ fs) = omega (arith, outermost_fewer f, all_outermost_fewer fs, length-append (outermost f) (all_outermost fs), length-append (operators f) (all_operators fs))
 
-pub few_outermost : (fs : List Formula) (before after : List Operator) → before ≡ [] → PushesFor (reverse (all_operators fs)) before after → length (all_outermost fs) ≤ length after
+pub few_outermost : (fs : List Formula) (before after : List OperatorState) → before ≡ [] → PushesFor (reverse (all_operators fs)) before after → length (all_outermost fs) ≤ length after
 few_outermost fs before after none pushes = omega (arith, all_outermost_fewer fs, pushed_long (all_operators fs) before after pushes)
 
 copies_sound : (guards : List BoundFormula) (placed : List PlacedGuard) → AreCopies guards placed → All IsPastGuard guards → All IsFreshGuard guards → All IsSound placed
@@ -168,7 +168,7 @@ copies_sound (g ∷ guards) (p ∷ placed) copies past fresh =
     subst (λ f. BindsFresh f (λ x. Contains p.guard.bound x ⊎ IsFree x f)) (sym copies.0) (subst (λ b. BindsFresh (tree_in g) (λ x. Contains b x ⊎ IsFree x (tree_in g))) (sym copies.1) (All-head IsFreshGuard g guards fresh)) in
     All-cons IsSound p placed (back, scoped) (copies_sound guards placed copies.2 (All-tail IsPastGuard g guards past) (All-tail IsFreshGuard g guards fresh))
 
-pub new_past : (guards : List BoundFormula) (placed : List PlacedGuard) (before after : List Operator) → AreCopies guards placed → BeginAt 0 placed → All IsPastGuard guards → All IsFreshGuard guards → before ≡ []
+pub new_past : (guards : List BoundFormula) (placed : List PlacedGuard) (before after : List OperatorState) → AreCopies guards placed → BeginAt 0 placed → All IsPastGuard guards → All IsFreshGuard guards → before ≡ []
     → PushesFor (reverse (all_operators (map tree_in guards))) before after → IsPast (record { guards = placed; operators = after })
 new_past guards placed before after copies begin past fresh none pushes = record {
   sound = copies_sound guards placed copies past fresh;

@@ -28,10 +28,10 @@ use Rattle.past_state.specs.Saved.{StoresFor, kept_row}
 use Rattle.past_state.specs.Survivors.{survives_by}
 use Rattle.past_state.specs.declared.guards.PlacedGuard.{PlacedGuard}
 use Rattle.past_state.specs.declared.memories.Memory.{Memory}
-use Rattle.past_state.specs.declared.memories.Memory.TheVariants as kept
+use Rattle.past_state.specs.declared.memories.Memory.TheVariants as memories
 use Rattle.past_state.specs.declared.memories.StepTables.{StepTables}
-use Rattle.past_state.specs.declared.operators.Operator.{Operator}
-use Rattle.past_state.proofs.PastLemmas.{Asked, all_reverse, same_guard}
+use Rattle.past_state.specs.declared.operators.OperatorState.{OperatorState}
+use Rattle.past_state.proofs.PastLemmas.{OfGuard, all_reverse, same_guard}
 use Rattle.past_state.proofs.SavedLemmas.{counted_back}
 
 -- ---- constants
@@ -94,12 +94,12 @@ tabled_behind n tables value some = (some.0, among some.0 some.1, some.2)
     among t there = (n + there.0, omega (arith, there.1, length-drop n tables), sym (get_or-drop n tables there.0 t) ∙ there.2)
 
 -- each operator has a number
-number_of : (os : List Operator) (o : Operator) → Contains os o → (n : ℕ) × (slice_get (reverse os) n ≡ Some o)
+number_of : (os : List OperatorState) (o : OperatorState) → Contains os o → (n : ℕ) × (slice_get (reverse os) n ≡ Some o)
 number_of os o there =
     (length os - 1 - there.0, counted_back os (length os - 1 - there.0) o (omega (arith, there.1)) (sym there.2 ∙ ap (λ k. get_or os k o) (omega (arith, there.1))))
 
 -- so what is kept for it is a row of that number
-kept_value : (os : List Operator) (o : Operator) → Contains os o → (p : KeptPair) → StoresFor o.memory p → (value : Value) → Contains p.row value → IsKeptValue os value
+kept_value : (os : List OperatorState) (o : OperatorState) → Contains os o → (p : KeptPair) → StoresFor o.memory p → (value : Value) → Contains p.row value → IsKeptValue os value
 kept_value os o there p stored value inside = let number = number_of os o there in (kept_row number.0 p, (o, number.1, stored), inside)
 
 -- ---- values, of which those of the events are such
@@ -124,21 +124,21 @@ module _ (events : List Event) (S : Value → Type 0) (argument : (value : Value
 
   given_known : (f : Formula) (m : Memory) (stack : List Relation) (time : ℕ) (t : StepTables) → IsFor f m → AreStepTables events stack m t → ((value : Value) → IsTabled stack value → S value)
       → ((value : Value) → IsConstant value f → S value) → KeptSuch m → AllSuch (given_by m time t)
-  given_known (Prev place interval g) (kept.Prev slot operand) stack time t for are tabled constant keeps = λ row there value inside.
+  given_known (Prev place interval g) (memories.Prev slot operand) stack time t for are tabled constant keeps = λ row there value inside.
       let from = given_last_from slot time row there in
       keeps (pair row from.0) from.1 value inside
-  given_known (Once place interval g) (kept.Once window right) stack time t for are tabled constant keeps =
+  given_known (Once place interval g) (memories.Once window right) stack time t for are tabled constant keeps =
       window_known window time t (right_known stack g right window.columns t.right for.0.formula_is tabled constant are.0) keeps
-  given_known (Historically place interval g) (kept.Once window right) stack time t for are tabled constant keeps =
+  given_known (Historically place interval g) (memories.Once window right) stack time t for are tabled constant keeps =
       window_known window time t (right_known stack (denial g) right window.columns t.right for.0.formula_is tabled (λ value is. constant value (denial_constant g value is)) are.0) keeps
-  given_known (Since place interval g h) (kept.Since window left left_tables right) stack time t for are tabled constant keeps =
+  given_known (Since place interval g h) (memories.Since window left left_tables right) stack time t for are tabled constant keeps =
       window_known window time t
       (right_known (drop left_tables stack) h right window.columns t.right for.0.formula_is (λ value is. tabled value (tabled_behind left_tables stack value is)) (λ value is. constant value (inr is)) are.0) keeps
   given_known f m stack time t for are tabled constant keeps = absurd for
 
-  known_run : (time : ℕ) (fs : List Formula) (os : List Operator) (steps : List StepTables) (stack final : List Relation) → AreFor fs os → Runs events time stack os steps final
+  known_run : (time : ℕ) (fs : List Formula) (os : List OperatorState) (steps : List StepTables) (stack final : List Relation) → AreFor fs os → Runs events time stack os steps final
       → ((f : Formula) → Contains fs f → (value : Value) → IsConstant value f → S value)
-      → ((o : Operator) → Contains os o → KeptSuch o.memory)
+      → ((o : OperatorState) → Contains os o → KeptSuch o.memory)
       → ((value : Value) → IsTabled stack value → S value) → (value : Value) → IsTabled final value → S value
   known_run time [] [] [] stack final for runs constant keeps tabled = λ value is. tabled value (subst (λ l. IsTabled l value) (sym runs) is)
   known_run time [] [] (t ∷ steps) stack final for runs constant keeps tabled = absurd runs
@@ -166,7 +166,7 @@ are_known past time events tables is are =
 
 -- ---- what a guard gives
 
-pub known_of_guard : (tables : PastTables) (number : ℕ) (g : PlacedGuard) (past : List Relation) (events : List Event) (v : Valuation) (t : Relation) → Asked tables number g past
+pub known_of_guard : (tables : PastTables) (number : ℕ) (g : PlacedGuard) (past : List Relation) (events : List Event) (v : Valuation) (t : Relation) → OfGuard tables number g past
     → HasKnownValues events (past) (formula_of g) g.guard.bound v t → IsKnownOfGuard tables number events v t
 known_of_guard tables number g past events v t asked known h is =
     subst (λ k. HasKnownValues events (tables_of k tables) (formula_of k) k.guard.bound v t) (same_guard tables.guards number g h asked.is is)

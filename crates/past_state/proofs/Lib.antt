@@ -1,6 +1,7 @@
 pub mod BoundsLemmas
 pub mod Decided
 pub mod CaseLemmas
+pub mod CountLemmas
 pub mod ChosenLemmas
 pub mod HeldLemmas
 pub mod KeptLemmas
@@ -23,4 +24,4 @@ pub mod KeepingLemmas
 pub mod GuardLemmas
 pub mod KnownLemmas
 pub mod SurvivorLemmas
-pub mod AskedLemmas
+pub mod LazyTableLemmas

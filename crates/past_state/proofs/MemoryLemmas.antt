@@ -32,7 +32,7 @@ use Rattle.past_state.specs.declared.left.Left.{Left}
 use Rattle.past_state.specs.declared.left.Left.TheVariants as side
 use Rattle.past_state.specs.declared.survivors.Survivors.TheVariants as told
 use Rattle.past_state.specs.declared.memories.Memory.{Memory}
-use Rattle.past_state.specs.declared.memories.Memory.TheVariants as kept
+use Rattle.past_state.specs.declared.memories.Memory.TheVariants as memories
 use Rattle.past_state.specs.declared.memories.StepTables.{StepTables}
 use Rattle.past_state.proofs.HeldLemmas.{new_at}
 use Rattle.past_state.proofs.SurvivorLemmas.{window_gives}
@@ -105,14 +105,14 @@ can_ask_left : (f : Formula) (columns : List VarId) (left : Left) (tables : List
     → FitOperators (outermost f) tables → CanAskLeft columns tables left
 can_ask_left f columns side.All tables asks free fit = tt
 can_ask_left f columns (side.Denied guard) tables asks free fit = can_ask_all asks.1 columns guard tables asks.3 asks.4 (subst (λ g. FitOperators (outermost g) tables) asks.2 fit)
-can_ask_left f columns (side.Asked guard) tables asks free fit = can_ask_under f columns guard tables asks free fit
+can_ask_left f columns (side.ByRow guard) tables asks free fit = can_ask_under f columns guard tables asks free fit
 
 pub can_step : (f : Formula) (m : Memory) (tables : List Relation) → IsFor f m → FitOperators (inner f) tables → CanStep tables m
-can_step (Prev place interval g) (kept.Prev slot operand) tables for fit = can_ask_all g slot.columns operand tables for.0 for.1 fit
-can_step (Once place interval g) (kept.Once window right) tables for fit = can_ask_all g window.columns right tables for.0 for.1 fit
-can_step (Historically place interval g) (kept.Once window right) tables for fit =
+can_step (Prev place interval g) (memories.Prev slot operand) tables for fit = can_ask_all g slot.columns operand tables for.0 for.1 fit
+can_step (Once place interval g) (memories.Once window right) tables for fit = can_ask_all g window.columns right tables for.0 for.1 fit
+can_step (Historically place interval g) (memories.Once window right) tables for fit =
     can_ask_all (denial g) window.columns right tables for.0 for.1 (subst (λ l. FitOperators l tables) (sym (denial_outermost g)) fit)
-can_step (Since place interval g h) (kept.Since window left left_tables right) tables for fit = (
+can_step (Since place interval g h) (memories.Since window left left_tables right) tables for fit = (
   subst (λ n. CanAskAll right window.columns (drop n tables)) (sym for.4)
       (can_ask_all h window.columns right (drop (length (outermost g)) tables) for.0 for.1 (fit_back (outermost g) (outermost h) tables fit)),
   can_ask_left g window.columns left tables for.3 (λ x free. (for.1.exact x).1 (for.5 x free)) (fit_front (outermost g) (outermost h) tables fit),
@@ -122,9 +122,9 @@ can_step f m tables for fit = absurd for
 
 -- what it brings fits
 pub step_fits : (events : List Event) (tables : List Relation) (m : Memory) (t : StepTables) → AreStepTables events tables m t → FitMemory m t
-step_fits events tables (kept.Prev slot operand) t are = are.columns_are
-step_fits events tables (kept.Once window right) t are = (subst (SurvivorsFit window.columns) (sym are.1) tt, are.0.columns_are)
-step_fits events tables (kept.Since window left left_tables right) t are = (are.1.fit, are.0.columns_are)
+step_fits events tables (memories.Prev slot operand) t are = are.columns_are
+step_fits events tables (memories.Once window right) t are = (subst (SurvivorsFit window.columns) (sym are.1) tt, are.0.columns_are)
+step_fits events tables (memories.Since window left left_tables right) t are = (are.1.fit, are.0.columns_are)
 
 -- ---- a step of a trace for which what is kept stands
 
@@ -179,7 +179,7 @@ module _ (laws : Laws) (trace : List Step) (step : Step) (later : last_time trac
       let denied = now_satisfied asks.1 guard tables asks.3.formula_is (subst (λ f. IsTrue (is_past f)) asks.2 past) (subst (λ f. StandFor (trace ++ step ∷ []) (length trace) (outermost f) tables) asks.2 stand) v
       (λ x free. binds x (subst (IsFree x) (sym asks.2) free)) in
       subst (λ f. LeftHolds step.events tables (side.Denied guard) v ↔ Sat (trace ++ step ∷ []) (length trace) v f) (sym asks.2) (λ fails holds. fails (denied.1 holds), λ fails holds. fails (denied.0 holds))
-  left_satisfied g (side.Asked guard) columns tables asks past stand v binds = now_satisfied g guard tables asks.formula_is past stand v binds
+  left_satisfied g (side.ByRow guard) columns tables asks past stand v binds = now_satisfied g guard tables asks.formula_is past stand v binds
 
   since_tables : (g h : Formula) (window : Window) (left : Left) (right : BoundFormula) (left_tables : ℕ) (tables : List Relation) (t : StepTables) → Asks h [] right → AreFreeVariables h window.columns
       → AsksLeft g window.columns left → left_tables ≡ length (outermost g) → ((x : VarId) → IsFree x g → IsFree x h) → IsTrue (is_past g) → IsTrue (is_past h)
@@ -204,26 +204,26 @@ module _ (laws : Laws) (trace : List Step) (step : Step) (later : last_time trac
 
   pub given_stands : (f : Formula) (m : Memory) (tables : List Relation) (t : StepTables) → IsTrue (is_past f) → IsFor f m → MemoryStands trace f m
       → StandFor (trace ++ step ∷ []) (length trace) (inner f) tables → AreStepTables step.events tables m t → StandsFor (trace ++ step ∷ []) (length trace) f (given_by m step.time t)
-  given_stands (Prev place interval g) (kept.Prev slot operand) tables t past for stands inside are =
+  given_stands (Prev place interval g) (memories.Prev slot operand) tables t past for stands inside are =
       stands_by _ slot.columns (given_last slot step.time) refl (λ x there. (for.1.exact x).0 there)
       (λ v binds. then (given_last_answers slot step.time for.3 v) (laws.prev_answers trace step place interval g slot past later stands v binds))
-  given_stands (Once place interval g) (kept.Once window right) tables t past for stands inside are =
-      let fit = step_fits step.events tables (kept.Once window right) t are in
-      stands_by _ window.columns (given_by (kept.Once window right) step.time t) refl (λ x there. (for.1.exact x).0 there)
+  given_stands (Once place interval g) (memories.Once window right) tables t past for stands inside are =
+      let fit = step_fits step.events tables (memories.Once window right) t are in
+      stands_by _ window.columns (given_by (memories.Once window right) step.time t) refl (λ x there. (for.1.exact x).0 there)
       (λ v binds. then (window_gives window step.time t.surviving t.right fit.0 fit.1 v)
       (laws.once_answers trace step place interval g window t.surviving t.right past later stands (once_tables g interval window right tables t for.0 for.1 past inside are.0 are.1) v binds))
-  given_stands (Historically place interval g) (kept.Once window right) tables t past for stands inside are =
+  given_stands (Historically place interval g) (memories.Once window right) tables t past for stands inside are =
       let past' = denial_past g past in
-      let fit = step_fits step.events tables (kept.Once window right) t are in
-      stands_by _ window.columns (given_by (kept.Once window right) step.time t) refl (λ x there. (denial_free g x).0 ((for.1.exact x).0 there))
+      let fit = step_fits step.events tables (memories.Once window right) t are in
+      stands_by _ window.columns (given_by (memories.Once window right) step.time t) refl (λ x there. (denial_free g x).0 ((for.1.exact x).0 there))
       (λ v binds. then (window_gives window step.time t.surviving t.right fit.0 fit.1 v) (then
       (laws.once_answers trace step place interval (denial g) window t.surviving t.right past' later stands (once_tables (denial g) interval window right tables t for.0 for.1 past'
       (subst (λ l. StandFor (trace ++ step ∷ []) (length trace) l tables) (sym (denial_outermost g)) inside) are.0 are.1) v binds)
       (let d = laws.denied (trace ++ step ∷ []) (length trace) v place interval g in (d.1, d.0))))
-  given_stands (Since place interval g h) (kept.Since window left left_tables right) tables t past for stands inside are =
+  given_stands (Since place interval g h) (memories.Since window left left_tables right) tables t past for stands inside are =
       let pasts = and_parts (is_past g) (is_past h) past in
-      let fit = step_fits step.events tables (kept.Since window left left_tables right) t are in
-      stands_by _ window.columns (given_by (kept.Since window left left_tables right) step.time t) refl (λ x there. inr ((for.1.exact x).0 there))
+      let fit = step_fits step.events tables (memories.Since window left left_tables right) t are in
+      stands_by _ window.columns (given_by (memories.Since window left left_tables right) step.time t) refl (λ x there. inr ((for.1.exact x).0 there))
       (λ v binds. then (window_gives window step.time t.surviving t.right fit.0 fit.1 v)
       (laws.since_answers trace step place interval g h window t.surviving t.right pasts.0 pasts.1 later stands
       (since_tables g h window left right left_tables tables t for.0 for.1 for.3 for.4 for.5 pasts.0 pasts.1 inside are.0 are.1) v binds))
@@ -233,18 +233,18 @@ module _ (laws : Laws) (trace : List Step) (step : Step) (later : last_time trac
   pub committed_stands : (f : Formula) (m : Memory) (tables : List Relation) (t : StepTables) (after : Memory) → IsTrue (is_past f) → IsFor f m → MemoryStands trace f m
       → StandFor (trace ++ step ∷ []) (length trace) (inner f) tables → AreStepTables step.events tables m t → IsCommittedTo m step.time t after
       → MemoryStands (trace ++ step ∷ []) f after
-  committed_stands (Prev place interval g) (kept.Prev slot operand) tables t after past for stands inside are committed =
+  committed_stands (Prev place interval g) (memories.Prev slot operand) tables t after past for stands inside are committed =
       subst (MemoryStands (trace ++ step ∷ []) (Prev place interval g)) (sym committed)
       (laws.prev_goes_on trace step interval g slot t.right stands are.columns_are (is_answer g operand tables slot.columns t.right for.0 for.1 past inside are))
-  committed_stands (Once place interval g) (kept.Once window right) tables t after past for stands inside are committed =
+  committed_stands (Once place interval g) (memories.Once window right) tables t after past for stands inside are committed =
       subst (MemoryStands (trace ++ step ∷ []) (Once place interval g)) (sym committed.2)
       (laws.once_goes_on trace step interval g window t.surviving t.right past later stands (once_tables g interval window right tables t for.0 for.1 past inside are.0 are.1) committed.0 committed.1)
-  committed_stands (Historically place interval g) (kept.Once window right) tables t after past for stands inside are committed =
+  committed_stands (Historically place interval g) (memories.Once window right) tables t after past for stands inside are committed =
       let past' = denial_past g past in
       subst (MemoryStands (trace ++ step ∷ []) (Historically place interval g)) (sym committed.2)
       (laws.once_goes_on trace step interval (denial g) window t.surviving t.right past' later stands (once_tables (denial g) interval window right tables t for.0 for.1 past'
       (subst (λ l. StandFor (trace ++ step ∷ []) (length trace) l tables) (sym (denial_outermost g)) inside) are.0 are.1) committed.0 committed.1)
-  committed_stands (Since place interval g h) (kept.Since window left left_tables right) tables t after past for stands inside are committed =
+  committed_stands (Since place interval g h) (memories.Since window left left_tables right) tables t after past for stands inside are committed =
       let pasts = and_parts (is_past g) (is_past h) past in
       subst (MemoryStands (trace ++ step ∷ []) (Since place interval g h)) (sym committed.2)
       (laws.since_goes_on trace step interval g h window t.surviving t.right pasts.0 pasts.1 later stands
@@ -253,30 +253,30 @@ module _ (laws : Laws) (trace : List Step) (step : Step) (later : last_time trac
 
 -- what is kept is for the same operator
 pub still_for : (f : Formula) (m : Memory) (after : Memory) → IsFor f m → IsSameMemory m after → IsFor f after
-still_for (Prev place interval g) (kept.Prev slot operand) after for same =
+still_for (Prev place interval g) (memories.Prev slot operand) after for same =
     subst (IsFor (Prev place interval g)) (sym same.4) (for.0, subst (AreFreeVariables g) (sym same.2) for.1, same.1 ∙ for.2, subst (λ l. LastHasColumns l same.0.last) (sym same.2) (same.3 for.3))
-still_for (Once place interval g) (kept.Once window right) after for same =
+still_for (Once place interval g) (memories.Once window right) after for same =
     subst (IsFor (Once place interval g)) (sym same.2) (for.0, subst (AreFreeVariables g) (sym same.1.columns_are) for.1, same.1.interval_is ∙ for.2)
-still_for (Historically place interval g) (kept.Once window right) after for same =
+still_for (Historically place interval g) (memories.Once window right) after for same =
     subst (IsFor (Historically place interval g)) (sym same.2) (for.0, subst (AreFreeVariables (denial g)) (sym same.1.columns_are) for.1, same.1.interval_is ∙ for.2)
-still_for (Since place interval g h) (kept.Since window left left_tables right) after for same =
+still_for (Since place interval g h) (memories.Since window left left_tables right) after for same =
     subst (IsFor (Since place interval g h)) (sym same.2)
     (for.0, subst (AreFreeVariables h) (sym same.1.columns_are) for.1, same.1.interval_is ∙ for.2, subst (λ l. AsksLeft g l left) (sym same.1.columns_are) for.3, for.4, for.5)
 still_for f m after for same = absurd for
 
 -- and so it goes on
 pub same_itself : (m : Memory) → IsSameMemory m m
-same_itself (kept.Prev slot operand) = (slot, refl, refl, λ fits. fits, refl)
-same_itself (kept.Once window right) = (window, record { interval_is = refl; columns_are = refl }, refl)
-same_itself (kept.Since window left left_tables right) = (window, record { interval_is = refl; columns_are = refl }, refl)
+same_itself (memories.Prev slot operand) = (slot, refl, refl, λ fits. fits, refl)
+same_itself (memories.Once window right) = (window, record { interval_is = refl; columns_are = refl }, refl)
+same_itself (memories.Since window left left_tables right) = (window, record { interval_is = refl; columns_are = refl }, refl)
 
 pub same_then : (a b c : Memory) → IsSameMemory a b → IsSameMemory b c → IsSameMemory a c
-same_then (kept.Prev slot operand) b c first second =
-    let next : IsSameMemory (kept.Prev first.0 operand) c = subst (λ m. IsSameMemory m c) first.4 second in
+same_then (memories.Prev slot operand) b c first second =
+    let next : IsSameMemory (memories.Prev first.0 operand) c = subst (λ m. IsSameMemory m c) first.4 second in
     (next.0, next.1 ∙ first.1, next.2 ∙ first.2, λ fits. subst (λ l. LastHasColumns l next.0.last) first.2 (next.3 (subst (λ l. LastHasColumns l first.0.last) (sym first.2) (first.3 fits))), next.4)
-same_then (kept.Once window right) b c first second =
-    let next : IsSameMemory (kept.Once first.0 right) c = subst (λ m. IsSameMemory m c) first.2 second in
+same_then (memories.Once window right) b c first second =
+    let next : IsSameMemory (memories.Once first.0 right) c = subst (λ m. IsSameMemory m c) first.2 second in
     (next.0, record { interval_is = next.1.interval_is ∙ first.1.interval_is; columns_are = next.1.columns_are ∙ first.1.columns_are }, next.2)
-same_then (kept.Since window left left_tables right) b c first second =
-    let next : IsSameMemory (kept.Since first.0 left left_tables right) c = subst (λ m. IsSameMemory m c) first.2 second in
+same_then (memories.Since window left left_tables right) b c first second =
+    let next : IsSameMemory (memories.Since first.0 left left_tables right) c = subst (λ m. IsSameMemory m c) first.2 second in
     (next.0, record { interval_is = next.1.interval_is ∙ first.1.interval_is; columns_are = next.1.columns_are ∙ first.1.columns_are }, next.2)

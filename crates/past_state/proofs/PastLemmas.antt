@@ -24,7 +24,7 @@ use Rattle.past_state.specs.Past.{Past, PastTables, IsPast, IsSound, TablesStand
 use Rattle.past_state.specs.Runs.{AllStand, AreInsideOut, AreOrdered, AllFit, Runs, outer_onto, AllCommitted, AreSameKinds}
 use Rattle.past_state.specs.declared.guards.PlacedGuard.{PlacedGuard}
 use Rattle.past_state.specs.declared.memories.StepTables.{StepTables}
-use Rattle.past_state.specs.declared.operators.Operator.{Operator}
+use Rattle.past_state.specs.declared.operators.OperatorState.{OperatorState}
 use Rattle.past_state.proofs.MemoryLemmas.{Laws, fit_back, fit_front, fit_long, stand_back, stand_front, step_fits}
 use Rattle.past_state.proofs.OrderLemmas.{all_go}
 use Rattle.past_state.proofs.RunLemmas.{fit_run, stand_run, committed_run, still_all_for}
@@ -96,7 +96,7 @@ commit_stands laws past time events tables after is committed trace step same_ti
     (all_reverse ahead (all_operators (formulas past.guards)) (all_past past.guards is.sound)) (inside_out (formulas past.guards)) stands tt runs
     (subst (λ t. AllCommitted t past.operators tables.steps after.operators) (sym same_time) committed.1))
 
-pub still_past : (past : Past) (after : List Operator) → IsPast past → AreSameKinds past.operators after → IsPast (record past { operators = after })
+pub still_past : (past : Past) (after : List OperatorState) → IsPast past → AreSameKinds past.operators after → IsPast (record past { operators = after })
 still_past past after is same =
     record { sound = is.sound; begin = is.begin; kept = still_all_for (reverse (all_operators (formulas past.guards))) past.operators after is.kept same }
 
@@ -111,7 +111,7 @@ tables_are past time events tables is are = record {
       (fit_run events time [] [] (reverse (all_operators (formulas past.guards))) past.operators tables.steps tables.stack is.kept (inside_out (formulas past.guards)) tt are.1));
 }
 
-pub fits_run : (events : List Event) (time : ℕ) (stack : List Relation) (operators : List Operator) (steps : List StepTables) (final : List Relation) → Runs events time stack operators steps final → AllFit operators steps
+pub fits_run : (events : List Event) (time : ℕ) (stack : List Relation) (operators : List OperatorState) (steps : List StepTables) (final : List Relation) → Runs events time stack operators steps final → AllFit operators steps
 fits_run events time stack [] [] final runs = tt
 fits_run events time stack [] (t ∷ steps) final runs = absurd runs
 fits_run events time stack (o ∷ operators) [] final runs = absurd runs
@@ -195,20 +195,20 @@ pub enough_asked : (tables : PastTables) (number : ℕ) (g : PlacedGuard) (guard
 enough_asked tables number g guards are same below is = (guard_tables tables number g are (get_is tables.guards number g below (is ∙ ap (λ l. get_or l number g) same))).enough
 
 -- the guard at the place, and the part of the stack that is its own
-pub record Asked (tables : PastTables) (number : ℕ) (g : PlacedGuard) (past : List Relation) : Type 0 where
+pub record OfGuard (tables : PastTables) (number : ℕ) (g : PlacedGuard) (past : List Relation) : Type 0 where
   pub is : IsGuard tables.guards number g
   pub are : ArePastTables tables
   pub part : past ≡ tables_of g tables
 
 pub asked : (tables : PastTables) (number : ℕ) (g : PlacedGuard) (guards : List PlacedGuard) (past : List Relation) → ArePastTables tables → guards ≡ tables.guards → number < length tables.guards
-    → g ≡ get_or guards number g → past ≡ tables_of g tables → Asked tables number g past
+    → g ≡ get_or guards number g → past ≡ tables_of g tables → OfGuard tables number g past
 asked tables number g guards past are same below is part = record {
   is = get_is tables.guards number g below (is ∙ ap (λ l. get_or l number g) same);
   are = are;
   part = part;
 }
 
-pub can_evaluate : (tables : PastTables) (number : ℕ) (g : PlacedGuard) (past : List Relation) (v : Valuation) → Asked tables number g past → BindsBound tables.guards number v
+pub can_evaluate : (tables : PastTables) (number : ℕ) (g : PlacedGuard) (past : List Relation) (v : Valuation) → OfGuard tables number g past → BindsBound tables.guards number v
     → CanEvaluate (formula_of g) g.guard.bound (past) v
 can_evaluate tables number g past v asked binds = record {
   fresh = (guard_tables tables number g asked.are asked.is).sound.1;
@@ -219,17 +219,17 @@ can_evaluate tables number g past v asked binds = record {
 pub same_guard : (guards : List PlacedGuard) (number : ℕ) (g h : PlacedGuard) → IsGuard guards number g → IsGuard guards number h → g ≡ h
 same_guard guards number g h a b = same_Some g h (sym a ∙ b)
 
-pub are_open : (tables : PastTables) (number : ℕ) (g : PlacedGuard) (past : List Relation) (t : Relation) → Asked tables number g past → AreOpen (formula_of g) g.guard.bound t.columns
+pub are_open : (tables : PastTables) (number : ℕ) (g : PlacedGuard) (past : List Relation) (t : Relation) → OfGuard tables number g past → AreOpen (formula_of g) g.guard.bound t.columns
     → HasOpenColumns tables number t
 are_open tables number g past t asked opened h is = subst (λ k. AreOpen (formula_of k) k.guard.bound t.columns) (same_guard tables.guards number g h asked.is is) opened
 
-pub are_evaluated : (tables : PastTables) (number : ℕ) (g : PlacedGuard) (past : List Relation) (events : List Event) (v : Valuation) (t : Relation) → Asked tables number g past
+pub are_evaluated : (tables : PastTables) (number : ℕ) (g : PlacedGuard) (past : List Relation) (events : List Event) (v : Valuation) (t : Relation) → OfGuard tables number g past
     → HoldsFor events (past) (formula_of g) g.guard.bound v t → AreEvaluated tables number events v t
 are_evaluated tables number g past events v t asked holds h is =
     subst (λ k. HoldsFor events (tables_of k tables) (formula_of k) k.guard.bound v t) (same_guard tables.guards number g h asked.is is)
     (subst (λ l. HoldsFor events l (formula_of g) g.guard.bound v t) asked.part holds)
 
-pub are_satisfied : PresentIsSatisfied → (tables : PastTables) (number : ℕ) (g : PlacedGuard) (past : List Relation) (events : List Event) (v : Valuation) (t : Relation) → Asked tables number g past
+pub are_satisfied : PresentIsSatisfied → (tables : PastTables) (number : ℕ) (g : PlacedGuard) (past : List Relation) (events : List Event) (v : Valuation) (t : Relation) → OfGuard tables number g past
     → BindsBound tables.guards number v → AreOpen (formula_of g) g.guard.bound t.columns → HoldsFor events (past) (formula_of g) g.guard.bound v t
     → AreSatisfied tables number events v t
 are_satisfied present tables number g past events v t asked binds opened holds h is trace step same stand w agree bound =
@@ -239,7 +239,7 @@ are_satisfied present tables number g past events v t asked binds opened holds h
 
 -- ---- a test
 
-pub test_evaluated : (tables : PastTables) (number : ℕ) (g : PlacedGuard) (past : List Relation) (events : List Event) (v : Valuation) (t : Relation) (empty : Bool) → Asked tables number g past
+pub test_evaluated : (tables : PastTables) (number : ℕ) (g : PlacedGuard) (past : List Relation) (events : List Event) (v : Valuation) (t : Relation) (empty : Bool) → OfGuard tables number g past
     → IsTestOf tables.guards number → AreOpen (formula_of g) g.guard.bound t.columns → HoldsFor events (past) (formula_of g) g.guard.bound v t
     → (IsTrue empty ↔ (t.rows ≡ [])) → IsEvaluated tables number events v (not empty)
 test_evaluated tables number g past events v t empty asked test opened holds tells h is =

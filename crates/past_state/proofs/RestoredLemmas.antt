@@ -30,14 +30,15 @@ use Rattle.windows.specs.declared.steps.LastStep.{LastStep}
 use Rattle.past_state.specs.Held.{HeldAt, HeldWhere}
 use Rattle.past_state.specs.Kept.{HasPairAt, KeptAt}
 use Rattle.past_state.specs.Memories.{IsFor, IsUpToTimeOf, MemoryStands, columns_of}
-use Rattle.past_state.specs.Restoring.{AreRestored, IsLastTime, start}
+use Rattle.past_state.specs.LastTimes.{IsLastTime, start}
+use Rattle.past_state.specs.Restored.{AreRestored}
 use Rattle.past_state.specs.Runs.{AreFor, AllStand}
 use Rattle.past_state.specs.Saved.{AreKeptOf, IsKept, IsWhole, KeptFor, StoresFor, kept_row}
 use Rattle.past_state.specs.Stands.{WindowStands}
 use Rattle.past_state.specs.declared.kept.KeptRow.{KeptRow}
 use Rattle.past_state.specs.declared.memories.Memory.{Memory}
-use Rattle.past_state.specs.declared.memories.Memory.TheVariants as kept
-use Rattle.past_state.specs.declared.operators.Operator.{Operator}
+use Rattle.past_state.specs.declared.memories.Memory.TheVariants as memories
+use Rattle.past_state.specs.declared.operators.OperatorState.{OperatorState}
 use Rattle.past_state.proofs.BoundsLemmas.{kept_with}
 use Rattle.past_state.proofs.KeptLemmas.{remembers_held}
 use Rattle.past_state.proofs.MemoryLemmas.{still_for}
@@ -85,14 +86,14 @@ HaveSame columns v w = (x : VarId) → Contains columns x → value_at v x ≡ v
 
 kept_under : FreeVariablesDecide → (trace : List Step) (f : Formula) (m : Memory) (v w : Valuation) (time : ℕ) → IsFor f m → HaveSame (columns_of m) v w → KeptFor trace f v time → KeptFor trace f w time
 unfolding HaveSame
-kept_under decides trace (Prev place interval g) (kept.Prev slot operand) v w time for same held =
+kept_under decides trace (Prev place interval g) (memories.Prev slot operand) v w time for same held =
     (held.0, held.1, (decides trace (length trace - 1) v w g (λ x free. same x ((for.1.exact x).1 free))).0 held.2)
-kept_under decides trace (Once place interval g) (kept.Once window right) v w time for same held =
+kept_under decides trace (Once place interval g) (memories.Once window right) v w time for same held =
     kept_same trace interval Anywhere (λ i. Sat trace i v g) Anywhere (λ i. Sat trace i w g) time (λ k. (λ h. h, λ h. h)) (λ k. decides trace k v w g (λ x free. same x ((for.1.exact x).1 free))) held
-kept_under decides trace (Historically place interval g) (kept.Once window right) v w time for same held =
+kept_under decides trace (Historically place interval g) (memories.Once window right) v w time for same held =
     kept_same trace interval Anywhere (λ i. Sat trace i v (denial g)) Anywhere (λ i. Sat trace i w (denial g)) time (λ k. (λ h. h, λ h. h))
     (λ k. decides trace k v w (denial g) (λ x free. same x ((for.1.exact x).1 free))) held
-kept_under decides trace (Since place interval g h) (kept.Since window left left_tables right) v w time for same held =
+kept_under decides trace (Since place interval g h) (memories.Since window left left_tables right) v w time for same held =
     kept_same trace interval (λ i. Sat trace i v g) (λ i. Sat trace i v h) (λ i. Sat trace i w g) (λ i. Sat trace i w h) time
     (λ k. decides trace k v w g (λ x free. same x ((for.1.exact x).1 (for.5 x free)))) (λ k. decides trace k v w h (λ x free. same x ((for.1.exact x).1 free))) held
 kept_under decides trace f m v w time for same held = absurd for
@@ -176,11 +177,11 @@ to_last slot whole v time row agrees there = by slot.last whole.0.fits there
 -- what stores just the kept rows stands for the trace
 one_stands : FreeVariablesDecide → (trace : List Step) (fs : List Formula) (rows : List KeptRow) → AreKeptOf trace fs rows → (number : ℕ) (f : Formula) → slice_get fs number ≡ Some f → (m : Memory) → IsFor f m
     → IsWhole m → IsUpToTimeOf (last_time trace) m → ((p : KeptPair) → StoresFor m p ↔ Contains rows (kept_row number p)) → MemoryStands trace f m
-one_stands decides trace fs rows are number (Prev place interval g) at (kept.Prev slot operand) for whole up_to stores =
+one_stands decides trace fs rows are number (Prev place interval g) at (memories.Prev slot operand) for whole up_to stores =
     let held : (v : Valuation) → Binds v slot.columns → (time : ℕ) → HasLast slot.last v time ↔ ((0 < length trace) × (time ≡ last_time trace) × Sat trace (length trace - 1) v g) = λ v binds time. (
       λ has. of_last slot whole v time has (λ row long agrees stored.
-          kept_of_row decides trace fs rows are number (Prev place interval g) at (kept.Prev slot operand) for whole.0.distinct stores v row time long agrees stored),
-      λ k. let r = row_of_kept decides trace fs rows are number (Prev place interval g) at (kept.Prev slot operand) for whole.0.distinct stores v time binds k in
+          kept_of_row decides trace fs rows are number (Prev place interval g) at (memories.Prev slot operand) for whole.0.distinct stores v row time long agrees stored),
+      λ k. let r = row_of_kept decides trace fs rows are number (Prev place interval g) at (memories.Prev slot operand) for whole.0.distinct stores v time binds k in
           to_last slot whole v time r.0 r.2 r.3,
     ) in record {
       interval_is = for.2;
@@ -189,32 +190,32 @@ one_stands decides trace fs rows are number (Prev place interval g) at (kept.Pre
       gives = λ time from v binds. gives_last trace interval time slot.last v (Sat trace (length trace - 1) v g) (held v binds);
       kept = held;
     }
-one_stands decides trace fs rows are number (Once place interval g) at (kept.Once window right) for whole up_to stores =
+one_stands decides trace fs rows are number (Once place interval g) at (memories.Once window right) for whole up_to stores =
     window_stands trace interval (λ v. Anywhere) (λ v i. Sat trace i v g) g window for.2 for.1 up_to (λ v binds time. (
-      λ has. kept_of_row decides trace fs rows are number (Once place interval g) at (kept.Once window right) for whole.distinct stores v has.0 time
+      λ has. kept_of_row decides trace fs rows are number (Once place interval g) at (memories.Once window right) for whole.distinct stores v has.0 time
           (stored_long window has.0 time whole (has.1, has.2, has.3)) has.4 (has.1, has.2, has.3),
-      λ k. let r = row_of_kept decides trace fs rows are number (Once place interval g) at (kept.Once window right) for whole.distinct stores v time binds k in
+      λ k. let r = row_of_kept decides trace fs rows are number (Once place interval g) at (memories.Once window right) for whole.distinct stores v time binds k in
           (r.0, r.3.0, r.3.1, r.3.2, r.2),
     ))
-one_stands decides trace fs rows are number (Historically place interval g) at (kept.Once window right) for whole up_to stores =
+one_stands decides trace fs rows are number (Historically place interval g) at (memories.Once window right) for whole up_to stores =
     window_stands trace interval (λ v. Anywhere) (λ v i. Sat trace i v (denial g)) (denial g) window for.2 for.1 up_to (λ v binds time. (
-      λ has. kept_of_row decides trace fs rows are number (Historically place interval g) at (kept.Once window right) for whole.distinct stores v has.0 time
+      λ has. kept_of_row decides trace fs rows are number (Historically place interval g) at (memories.Once window right) for whole.distinct stores v has.0 time
           (stored_long window has.0 time whole (has.1, has.2, has.3)) has.4 (has.1, has.2, has.3),
-      λ k. let r = row_of_kept decides trace fs rows are number (Historically place interval g) at (kept.Once window right) for whole.distinct stores v time binds k in
+      λ k. let r = row_of_kept decides trace fs rows are number (Historically place interval g) at (memories.Once window right) for whole.distinct stores v time binds k in
           (r.0, r.3.0, r.3.1, r.3.2, r.2),
     ))
-one_stands decides trace fs rows are number (Since place interval g h) at (kept.Since window left left_tables right) for whole up_to stores =
+one_stands decides trace fs rows are number (Since place interval g h) at (memories.Since window left left_tables right) for whole up_to stores =
     window_stands trace interval (λ v i. Sat trace i v g) (λ v i. Sat trace i v h) h window for.2 for.1 up_to (λ v binds time. (
-      λ has. kept_of_row decides trace fs rows are number (Since place interval g h) at (kept.Since window left left_tables right) for whole.distinct stores v has.0 time
+      λ has. kept_of_row decides trace fs rows are number (Since place interval g h) at (memories.Since window left left_tables right) for whole.distinct stores v has.0 time
           (stored_long window has.0 time whole (has.1, has.2, has.3)) has.4 (has.1, has.2, has.3),
-      λ k. let r = row_of_kept decides trace fs rows are number (Since place interval g h) at (kept.Since window left left_tables right) for whole.distinct stores v time binds k in
+      λ k. let r = row_of_kept decides trace fs rows are number (Since place interval g h) at (memories.Since window left left_tables right) for whole.distinct stores v time binds k in
           (r.0, r.3.0, r.3.1, r.3.2, r.2),
     ))
 one_stands decides trace fs rows are number f at m for whole up_to stores = absurd for
 
 -- ---- all of them
 
-each_stands : FreeVariablesDecide → (trace : List Step) (last : Option ℕ) (rows : List KeptRow) (gs more : List Formula) → start last ≡ last_time trace → AreKeptOf trace (reverse gs ++ more) rows → (operators after : List Operator)
+each_stands : FreeVariablesDecide → (trace : List Step) (last : Option ℕ) (rows : List KeptRow) (gs more : List Formula) → start last ≡ last_time trace → AreKeptOf trace (reverse gs ++ more) rows → (operators after : List OperatorState)
     → AreFor gs operators → AreRestored last rows 0 operators after → AllStand trace gs after
 each_stands decides trace last rows [] more is are operators after for restored = tt
 each_stands decides trace last rows (g ∷ gs) more is are [] after for restored = absurd for
@@ -227,12 +228,12 @@ each_stands decides trace last rows (g ∷ gs) more is are (o ∷ operators) (p 
       each_stands decides trace last rows gs (g ∷ more) is (subst (λ l. AreKeptOf trace l rows) (reversed_front g gs more) are) operators after for.2 restored.1,
     )
 
-pub all_stand : FreeVariablesDecide → (trace : List Step) (last : Option ℕ) (rows : List KeptRow) (fs : List Formula) → start last ≡ last_time trace → AreKeptOf trace fs rows → (operators after : List Operator)
+pub all_stand : FreeVariablesDecide → (trace : List Step) (last : Option ℕ) (rows : List KeptRow) (fs : List Formula) → start last ≡ last_time trace → AreKeptOf trace fs rows → (operators after : List OperatorState)
     → AreFor (reverse fs) operators → AreRestored last rows 0 operators after → AllStand trace (reverse fs) after
 all_stand decides trace last rows fs is are operators after for restored =
     each_stands decides trace last rows (reverse fs) [] is (subst (λ l. AreKeptOf trace l rows) (sym (append-nil (reverse (reverse fs)) ∙ reverse-reverse fs)) are) operators after for restored
 
-pub made_stands : FreeVariablesDecide → (trace : List Step) (last : Option ℕ) (rows : List KeptRow) (fs : List Formula) → IsLastTime trace last → AreKeptOf trace fs rows → (operators after : List Operator)
+pub made_stands : FreeVariablesDecide → (trace : List Step) (last : Option ℕ) (rows : List KeptRow) (fs : List Formula) → IsLastTime trace last → AreKeptOf trace fs rows → (operators after : List OperatorState)
     → AreFor (reverse fs) operators → AreRestored last rows 0 operators after → AllStand trace (reverse fs) after
 made_stands decides trace None rows fs at are = all_stand decides trace None rows fs (ap last_time (sym at)) are
 made_stands decides trace (Some last) rows fs at are = all_stand decides trace (Some last) rows fs at.1 are

@@ -21,14 +21,16 @@ use Rattle.windows.specs.declared.steps.LastStep.{LastStep}
 use Rattle.monitorable_guard.specs.Guards.{BoundFormula}
 use Rattle.past_state.specs.Keeping.{PushesFor}
 use Rattle.past_state.specs.Memories.{IsFor, IsUpToTimeOf, columns_of}
-use Rattle.past_state.specs.Restoring.{AreByWindow, AreKeepableFor, ArePairsIn, AreRestored, AreWithinBounds, CanRestore, HaveTime, IsAtLast, IsFrom, IsKeepable, IsOneRestored, IsRestored, IsRestoredSlot, IsRestoredWindow, IsTimely, IsTimelyIn, start}
+use Rattle.past_state.specs.Bounds.{AreWithinBounds, HaveTime, IsKeepable, IsTimely, IsTimelyIn}
+use Rattle.past_state.specs.LastTimes.{IsAtLast, IsFrom, start}
+use Rattle.past_state.specs.Restored.{AreByWindow, AreKeepableFor, ArePairsIn, AreRestored, CanRestore, IsOneRestored, IsRestored, IsRestoredSlot, IsRestoredWindow}
 use Rattle.past_state.specs.Runs.{AreFor, AreSameKinds, AreUpToTimeOf}
 use Rattle.past_state.specs.Saved.{AreRowsRising, IsRowBefore, StoresAt, StoresFor, kept_operand, kept_row, pair_of}
 use Rattle.past_state.specs.declared.kept.KeptRow.{KeptRow}
 use Rattle.past_state.specs.declared.left.Left.{Left}
 use Rattle.past_state.specs.declared.memories.Memory.{Memory}
-use Rattle.past_state.specs.declared.memories.Memory.TheVariants as kept
-use Rattle.past_state.specs.declared.operators.Operator.{Operator}
+use Rattle.past_state.specs.declared.memories.Memory.TheVariants as memories
+use Rattle.past_state.specs.declared.operators.OperatorState.{OperatorState}
 use Rattle.past_state.proofs.BuildingLemmas.{distinct}
 use Rattle.past_state.proofs.SavedLemmas.{at_place, columns_free, lengths}
 
@@ -38,7 +40,7 @@ all_of P xs each = All-weaker (Contains xs) P each xs (All-contains_itself xs)
 -- ---- one window or slot
 
 pub restored_prev : (slot : Slot) (operand : BoundFormula) (last : Option ℕ) (pairs : List KeptPair) (after : Slot) → All (λ p. length p.row ≡ length slot.columns) pairs → IsRestoredSlot slot last pairs after
-    → IsRestored (kept.Prev slot operand) last pairs (kept.Prev after operand)
+    → IsRestored (memories.Prev slot operand) last pairs (memories.Prev after operand)
 restored_prev slot operand last pairs after fit r = record {
   same = (after, r.interval_is, r.columns_are, (λ was. subst (λ l. LastHasColumns l after.last) r.columns_are r.is_slot.fits), refl);
   whole = (
@@ -51,7 +53,7 @@ restored_prev slot operand last pairs after fit r = record {
 }
 
 pub restored_once : (window : Window) (right : BoundFormula) (last : Option ℕ) (pairs : List KeptPair) (after : Window) → IsRestoredWindow window last pairs after
-    → IsRestored (kept.Once window right) last pairs (kept.Once after right)
+    → IsRestored (memories.Once window right) last pairs (memories.Once after right)
 restored_once window right last pairs after r = record {
   same = (after, record { interval_is = r.interval_is; columns_are = r.columns_are }, refl);
   whole = r.least;
@@ -60,7 +62,7 @@ restored_once window right last pairs after r = record {
 }
 
 pub restored_since : (window : Window) (left : Left) (left_tables : ℕ) (right : BoundFormula) (last : Option ℕ) (pairs : List KeptPair) (after : Window) → IsRestoredWindow window last pairs after
-    → IsRestored (kept.Since window left left_tables right) last pairs (kept.Since after left left_tables right)
+    → IsRestored (memories.Since window left left_tables right) last pairs (memories.Since after left left_tables right)
 restored_since window left left_tables right last pairs after r = record {
   same = (after, record { interval_is = r.interval_is; columns_are = r.columns_are }, refl);
   whole = r.least;
@@ -184,17 +186,17 @@ module _ (fs : List Formula) (last : ℕ) (rows : List KeptRow) (window : ℕ) (
 
 keepable_some : (fs : List Formula) (last : ℕ) (rows : List KeptRow) (window : ℕ) (f : Formula) (m : Memory) (pairs : List KeptPair) → slice_get fs window ≡ Some f → IsFor f m
     → AreWithinBounds fs (Some last) rows → ArePairsIn rows window pairs → AreKeepableFor m (Some last) pairs
-keepable_some fs last rows window (Prev place interval g) (kept.Prev slot operand) pairs at for bounds are = (
+keepable_some fs last rows window (Prev place interval g) (memories.Prev slot operand) pairs at for bounds are = (
   all_of (λ p. length p.row ≡ length slot.columns) pairs (is_long fs last rows window (Prev place interval g) pairs at bounds are slot.columns for.1),
   all_of (λ p. p.time ≡ last) pairs (is_timely fs last rows window (Prev place interval g) pairs at bounds are),
 )
-keepable_some fs last rows window (Once place interval g) (kept.Once w right) pairs at for bounds are =
+keepable_some fs last rows window (Once place interval g) (memories.Once w right) pairs at for bounds are =
     subst (λ i. AreKeepable i w.columns last pairs) (sym for.2) (in_window fs last rows window (Once place interval g) pairs at bounds are interval w.columns for.1
     (is_timely fs last rows window (Once place interval g) pairs at bounds are))
-keepable_some fs last rows window (Historically place interval g) (kept.Once w right) pairs at for bounds are =
+keepable_some fs last rows window (Historically place interval g) (memories.Once w right) pairs at for bounds are =
     subst (λ i. AreKeepable i w.columns last pairs) (sym for.2) (in_window fs last rows window (Historically place interval g) pairs at bounds are interval w.columns for.1
     (is_timely fs last rows window (Historically place interval g) pairs at bounds are))
-keepable_some fs last rows window (Since place interval g h) (kept.Since w left left_tables right) pairs at for bounds are =
+keepable_some fs last rows window (Since place interval g h) (memories.Since w left left_tables right) pairs at for bounds are =
     subst (λ i. AreKeepable i w.columns last pairs) (sym for.2) (in_window fs last rows window (Since place interval g h) pairs at bounds are interval w.columns for.1
     (is_timely fs last rows window (Since place interval g h) pairs at bounds are))
 keepable_some fs last rows window f m pairs at for bounds are = absurd for
@@ -215,12 +217,12 @@ no_pairs_in [] none = refl
 no_pairs_in (p ∷ pairs) none = absurd (none p (here p pairs))
 
 keepable_none : (m : Memory) (rows : List KeptRow) (window : ℕ) (pairs : List KeptPair) → rows ≡ [] → ArePairsIn rows window pairs → AreKeepableFor m None pairs
-keepable_none (kept.Prev slot operand) rows window pairs none are = (
+keepable_none (memories.Prev slot operand) rows window pairs none are = (
   all_of (λ p. length p.row ≡ length slot.columns) pairs (λ p there. absurd (nothing_in rows window pairs none are p there)),
   no_pairs_in pairs (nothing_in rows window pairs none are),
 )
-keepable_none (kept.Once w right) rows window pairs none are = window_empty w.interval w.columns rows window pairs none are
-keepable_none (kept.Since w left left_tables right) rows window pairs none are = window_empty w.interval w.columns rows window pairs none are
+keepable_none (memories.Once w right) rows window pairs none are = window_empty w.interval w.columns rows window pairs none are
+keepable_none (memories.Since w left left_tables right) rows window pairs none are = window_empty w.interval w.columns rows window pairs none are
 
 pub keepable_for : (fs : List Formula) (last : Option ℕ) (rows : List KeptRow) (window : ℕ) (f : Formula) (m : Memory) (pairs : List KeptPair) → slice_get fs window ≡ Some f → IsFor f m
     → AreWithinBounds fs last rows → ArePairsIn rows window pairs → AreKeepableFor m last pairs
@@ -244,7 +246,7 @@ get_front (x ∷ xs) more zero g e = e
 get_front (x ∷ xs) more (suc n) g e = get_front xs more n g e
 
 -- the operator at its number, counted from the last one
-pub numbered : (g : Formula) (gs more : List Formula) (o : Operator) (operators : List Operator) → AreFor (g ∷ gs) (o ∷ operators) → slice_get (reverse (g ∷ gs) ++ more) (length operators) ≡ Some g
+pub numbered : (g : Formula) (gs more : List Formula) (o : OperatorState) (operators : List OperatorState) → AreFor (g ∷ gs) (o ∷ operators) → slice_get (reverse (g ∷ gs) ++ more) (length operators) ≡ Some g
 numbered g gs more o operators are = subst (λ l. slice_get l (length operators) ≡ Some g) (sym (reversed_front g gs more))
     (at_front (reverse gs) more g (length operators) (length-reverse gs ∙ lengths gs operators are.2))
 
@@ -255,21 +257,21 @@ within_rows rows front back r count split all =
     All-contains (λ s. s.window < count) rows r all (subst (λ l. Contains l r) (sym split) (Contains-append_right front (r ∷ back) r (here r back)))
 
 -- each row is for one of the operators
-pub rows_within : (operators : List Operator) (last : Option ℕ) (rows : List KeptRow) → CanRestore operators last rows → All (λ r. r.window < length operators) rows
+pub rows_within : (operators : List OperatorState) (last : Option ℕ) (rows : List KeptRow) → CanRestore operators last rows → All (λ r. r.window < length operators) rows
 rows_within operators None rows can = all_of (λ r. r.window < length operators) rows (λ r there. absurd (none_in_nil r (subst (λ l. Contains l r) can.bounds there)))
 rows_within operators (Some last) rows can = all_of (λ r. r.window < length operators) rows (λ r there.
     let k = All-contains (IsKeepable can.formulas last rows) rows r can.bounds.1 there in
     omega (arith, slice_get_within can.formulas r.window k.operator k.numbered, length-reverse can.formulas, lengths (reverse can.formulas) operators can.are_for))
 
 -- the operator of a number, counted from the last one, is of one of the formulas
-numbered_for : (gs more : List Formula) (front back : List Operator) (o : Operator) → AreFor gs (front ++ o ∷ back) → (f : Formula) × (slice_get (reverse gs ++ more) (length back) ≡ Some f) × IsFor f o.memory
+numbered_for : (gs more : List Formula) (front back : List OperatorState) (o : OperatorState) → AreFor gs (front ++ o ∷ back) → (f : Formula) × (slice_get (reverse gs ++ more) (length back) ≡ Some f) × IsFor f o.memory
 numbered_for [] more [] back o are = absurd are
 numbered_for [] more (q ∷ front) back o are = absurd are
 numbered_for (g ∷ gs) more [] back o are = (g, numbered g gs more o back are, are.0)
 numbered_for (g ∷ gs) more (q ∷ front) back o are =
     let rest = numbered_for gs (g ∷ more) front back o are.2 in (rest.0, subst (λ l. slice_get l (length back) ≡ Some rest.0) (sym (reversed_front g gs more)) rest.1, rest.2)
 
-module _ (operators front back : List Operator) (o : Operator) (last : Option ℕ) (rows : List KeptRow) (can : CanRestore operators last rows) (split : operators ≡ front ++ o ∷ back) where
+module _ (operators front back : List OperatorState) (o : OperatorState) (last : Option ℕ) (rows : List KeptRow) (can : CanRestore operators last rows) (split : operators ≡ front ++ o ∷ back) where
   of : (f : Formula) × (slice_get can.formulas (length back) ≡ Some f) × IsFor f o.memory
   of =
       let found = numbered_for (reverse can.formulas) [] front back o (subst (AreFor (reverse can.formulas)) split can.are_for) in
@@ -281,7 +283,7 @@ module _ (operators front back : List Operator) (o : Operator) (last : Option �
   pub keepable_here : (pairs : List KeptPair) → ArePairsIn rows (length back) pairs → AreKeepableFor o.memory last pairs
   keepable_here pairs are = keepable_for can.formulas last rows (length back) of.0 o.memory pairs of.1 of.2 can.bounds are
 
-restored_snoc : (last : Option ℕ) (rows : List KeptRow) (behind : ℕ) (operators after : List Operator) (o p : Operator) → AreRestored last rows (behind + 1) operators after → IsOneRestored last rows behind o p
+restored_snoc : (last : Option ℕ) (rows : List KeptRow) (behind : ℕ) (operators after : List OperatorState) (o p : OperatorState) → AreRestored last rows (behind + 1) operators after → IsOneRestored last rows behind o p
     → AreRestored last rows behind (operators ++ o ∷ []) (after ++ p ∷ [])
 restored_snoc last rows behind [] [] o p so_far one = (subst (λ n. IsOneRestored last rows n o p) (omega arith) one, tt)
 restored_snoc last rows behind [] (q ∷ after) o p so_far one = absurd so_far
@@ -292,13 +294,13 @@ restored_snoc last rows behind (r ∷ operators) (q ∷ after) o p so_far one = 
 )
 
 -- the operators that are left, a list of pairs for each of them, and what was made of those in front
-pub record AreLeft (operators : List Operator) (last : Option ℕ) (rows : List KeptRow) (left : List Operator) (lists : List (Vec KeptPair Global)) (made : List Operator) : Type 0 where
-  pub front : List Operator
+pub record AreLeft (operators : List OperatorState) (last : Option ℕ) (rows : List KeptRow) (left : List OperatorState) (lists : List (Vec KeptPair Global)) (made : List OperatorState) : Type 0 where
+  pub front : List OperatorState
   pub split : operators ≡ front ++ left
   pub by_window : AreByWindow rows (length left) lists
   pub so_far : AreRestored last rows (length left) front made
 
-pub all_left : {operators made : List Operator} {last : Option ℕ} {rows : List KeptRow} {lists : List (Vec KeptPair Global)} → AreByWindow rows (length operators) lists → made ≡ [] → AreLeft operators last rows operators lists made
+pub all_left : {operators made : List OperatorState} {last : Option ℕ} {rows : List KeptRow} {lists : List (Vec KeptPair Global)} → AreByWindow rows (length operators) lists → made ≡ [] → AreLeft operators last rows operators lists made
 all_left {operators} {last = last} {rows = rows} are none = record {
   front = [];
   split = refl;
@@ -306,12 +308,12 @@ all_left {operators} {last = last} {rows = rows} are none = record {
   so_far = subst (AreRestored last rows (length operators) []) (sym none) tt;
 }
 
-pub none_left : {operators left made : List Operator} {last : Option ℕ} {rows : List KeptRow} {lists : List (Vec KeptPair Global)} → AreLeft operators last rows left lists made → length left ≡ 0 → AreRestored last rows 0 operators made
+pub none_left : {operators left made : List OperatorState} {last : Option ℕ} {rows : List KeptRow} {lists : List (Vec KeptPair Global)} → AreLeft operators last rows left lists made → length left ≡ 0 → AreRestored last rows 0 operators made
 none_left {left = []} {made} {last} {rows} are none = subst (λ l. AreRestored last rows 0 l made) (sym (are.split ∙ append-nil are.front)) are.so_far
 none_left {left = o ∷ left} are none = absurd (omega (arith, none))
 
 -- the next operator, with the last of the lists
-module _ {operators left behind made : List Operator} {last : Option ℕ} {rows : List KeptRow} {lists : List (Vec KeptPair Global)} {o : Operator} (are : AreLeft operators last rows left lists made) (taken : left ≡ o ∷ behind) where
+module _ {operators left behind made : List OperatorState} {last : Option ℕ} {rows : List KeptRow} {lists : List (Vec KeptPair Global)} {o : OperatorState} (are : AreLeft operators last rows left lists made) (taken : left ≡ o ∷ behind) where
   split_here : operators ≡ are.front ++ o ∷ behind
   split_here = are.split ∙ ap (λ l. are.front ++ l) taken
 
@@ -328,7 +330,7 @@ module _ {operators left behind made : List Operator} {last : Option ℕ} {rows 
     pub keepable_next : CanRestore operators last rows → AreKeepableFor o.memory last pairs.items
     keepable_next can = keepable_here operators are.front behind o last rows can split_here pairs.items pairs_here
 
-    pub one_less : (p : Operator) (after : List Operator) → p.taken ≡ o.taken → IsRestored o.memory last pairs.items p.memory → after ≡ made ++ p ∷ [] → AreLeft operators last rows behind earlier after
+    pub one_less : (p : OperatorState) (after : List OperatorState) → p.taken ≡ o.taken → IsRestored o.memory last pairs.items p.memory → after ≡ made ++ p ∷ [] → AreLeft operators last rows behind earlier after
     one_less p after same r grown = record {
       front = are.front ++ o ∷ [];
       split = split_here ∙ sym (append_assoc are.front (o ∷ []) behind);
@@ -345,13 +347,13 @@ module _ {operators left behind made : List Operator} {last : Option ℕ} {rows 
 
 -- ---- what is made again
 
-pub same_kinds : (last : Option ℕ) (rows : List KeptRow) (behind : ℕ) (operators after : List Operator) → AreRestored last rows behind operators after → AreSameKinds operators after
+pub same_kinds : (last : Option ℕ) (rows : List KeptRow) (behind : ℕ) (operators after : List OperatorState) → AreRestored last rows behind operators after → AreSameKinds operators after
 same_kinds last rows behind [] [] restored = refl
 same_kinds last rows behind [] (p ∷ after) restored = absurd restored
 same_kinds last rows behind (o ∷ operators) [] restored = absurd restored
 same_kinds last rows behind (o ∷ operators) (p ∷ after) restored = (restored.0.taken_is, restored.0.same, same_kinds last rows behind operators after restored.1)
 
-pub at_last : (last : Option ℕ) (rows : List KeptRow) (behind : ℕ) (operators after : List Operator) → AreRestored last rows behind operators after → All (λ o. IsAtLast last o.memory) after
+pub at_last : (last : Option ℕ) (rows : List KeptRow) (behind : ℕ) (operators after : List OperatorState) → AreRestored last rows behind operators after → All (λ o. IsAtLast last o.memory) after
 at_last last rows behind [] [] restored = All-nil (λ o. IsAtLast last o.memory)
 at_last last rows behind [] (p ∷ after) restored = absurd restored
 at_last last rows behind (o ∷ operators) [] restored = absurd restored
@@ -364,22 +366,22 @@ slot_up_to (Some step) None time at from = absurd (none-some step.time (sym at))
 slot_up_to (Some step) (Some last) time at from = omega (arith, from, same_Some step.time last at)
 
 pub up_to_from : (m : Memory) (last : Option ℕ) (time : ℕ) → IsAtLast last m → start last ≤ time → IsUpToTimeOf time m
-up_to_from (kept.Prev slot operand) last time at from = slot_up_to slot.last last time at from
-up_to_from (kept.Once window right) last time at from = omega (arith, at, from)
-up_to_from (kept.Since window left left_tables right) last time at from = omega (arith, at, from)
+up_to_from (memories.Prev slot operand) last time at from = slot_up_to slot.last last time at from
+up_to_from (memories.Once window right) last time at from = omega (arith, at, from)
+up_to_from (memories.Since window left left_tables right) last time at from = omega (arith, at, from)
 
-pub none_later : (last : Option ℕ) (rows : List KeptRow) (behind : ℕ) (operators after : List Operator) (time : ℕ) → AreRestored last rows behind operators after → start last ≤ time → AreUpToTimeOf time after
+pub none_later : (last : Option ℕ) (rows : List KeptRow) (behind : ℕ) (operators after : List OperatorState) (time : ℕ) → AreRestored last rows behind operators after → start last ≤ time → AreUpToTimeOf time after
 none_later last rows behind operators after time restored from =
     All-weaker (λ o. IsAtLast last o.memory) (λ o. IsUpToTimeOf time o.memory) (λ o at. up_to_from o.memory last time at from) after (at_last last rows behind operators after restored)
 
-same_count : (last : Option ℕ) (rows : List KeptRow) (operators after : List Operator) → AreRestored last rows 0 operators after → length after ≡ length operators
+same_count : (last : Option ℕ) (rows : List KeptRow) (operators after : List OperatorState) → AreRestored last rows 0 operators after → length after ≡ length operators
 same_count last rows [] [] restored = refl
 same_count last rows [] (p ∷ after) restored = absurd restored
 same_count last rows (o ∷ operators) [] restored = absurd restored
 same_count last rows (o ∷ operators) (p ∷ after) restored = ap suc (same_count last rows operators after restored.1)
 
 -- the rows of each are those of its window
-stored_at : (last : Option ℕ) (rows : List KeptRow) (operators after : List Operator) → AreRestored last rows 0 operators after → (k : ℕ) (p : Operator) → slice_get (reverse after) k ≡ Some p
+stored_at : (last : Option ℕ) (rows : List KeptRow) (operators after : List OperatorState) → AreRestored last rows 0 operators after → (k : ℕ) (p : OperatorState) → slice_get (reverse after) k ≡ Some p
     → (q : KeptPair) → StoresFor p.memory q ↔ Contains rows (kept_row k q)
 stored_at last rows operators [] restored k p e = absurd (none_at k p e)
 stored_at last rows [] (r ∷ after) restored k p e = absurd restored
@@ -390,7 +392,7 @@ stored_at last rows (o ∷ operators) (r ∷ after) restored k p e =
     subst (λ r. (q : KeptPair) → StoresFor r.memory q ↔ Contains rows (kept_row k q)) (sym here_is.1) (subst (λ n. (q : KeptPair) → StoresFor r.memory q ↔ Contains rows (kept_row n q)) number restored.0.stores))
     (slice_push (reverse after) k r p (subst (λ l. slice_get l k ≡ Some p) (reverse-append (r ∷ []) after) e))
 
-pub rows_exact : (last : Option ℕ) (rows : List KeptRow) (operators after : List Operator) → AreRestored last rows 0 operators after → All (λ r. r.window < length operators) rows
+pub rows_exact : (last : Option ℕ) (rows : List KeptRow) (operators after : List OperatorState) → AreRestored last rows 0 operators after → All (λ r. r.window < length operators) rows
     → (r : KeptRow) → Contains rows r ↔ StoresAt after r
 rows_exact last rows operators after restored within r = (
   λ there.
@@ -401,10 +403,10 @@ rows_exact last rows operators after restored within r = (
 
 -- ---- what was put last before the first step
 
-pub pushed_for : (fs : List Formula) (before after : List Operator) → before ≡ [] → PushesFor (reverse fs) before after → AreFor (reverse fs) after
+pub pushed_for : (fs : List Formula) (before after : List OperatorState) → before ≡ [] → PushesFor (reverse fs) before after → AreFor (reverse fs) after
 pushed_for fs before after none pushes = subst (AreFor (reverse fs)) (sym (pushes.grown ∙ ap (λ l. l ++ pushes.added) none)) pushes.are_for
 
-pub can_restore : (fs : List Formula) (before after : List Operator) (last : Option ℕ) (rows : List KeptRow) → before ≡ [] → PushesFor (reverse fs) before after → AreWithinBounds fs last rows → CanRestore after last rows
+pub can_restore : (fs : List Formula) (before after : List OperatorState) (last : Option ℕ) (rows : List KeptRow) → before ≡ [] → PushesFor (reverse fs) before after → AreWithinBounds fs last rows → CanRestore after last rows
 can_restore fs before after last rows none pushes bounds = record { formulas = fs; are_for = pushed_for fs before after none pushes; bounds = bounds }
 
 pub from_start : (last : Option ℕ) (time : ℕ) → IsFrom last time → start last ≤ time

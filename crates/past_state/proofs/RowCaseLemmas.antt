@@ -23,7 +23,7 @@ use Rattle.windows.specs.Cases.{columns, number, row, within}
 use Rattle.past_state.specs.Cases.{IsKeptInWindow, guards, numbers, p_of, p_of_x, q_since_p}
 use Rattle.past_state.specs.Kept.{HasPairAt}
 use Rattle.past_state.specs.Operators.{all_operators}
-use Rattle.past_state.specs.Restoring.{HaveTime, IsKeepable, IsTimely}
+use Rattle.past_state.specs.Bounds.{HaveTime, IsKeepable, IsTimely}
 use Rattle.past_state.specs.RestoringCases.{Fit, FitBoth, at, in_second, once_in}
 use Rattle.past_state.specs.Saved.{IsRowBefore, KeptFor, kept_operand}
 use Rattle.past_state.specs.declared.kept.KeptRow.{KeptRow}

@@ -17,25 +17,25 @@ use Rattle.past_state.specs.Memories.{IsFor, AreStepTables, CanStep, given_by}
 use Rattle.past_state.specs.Operators.{inner}
 use Rattle.past_state.specs.Runs.{AreFor, AllStand, outer_onto, AreInsideOut, Runs, AreOrdered, AllCommitted, AreSameKinds}
 use Rattle.past_state.specs.declared.memories.Memory.{Memory}
-use Rattle.past_state.specs.declared.memories.Memory.TheVariants as kept
+use Rattle.past_state.specs.declared.memories.Memory.TheVariants as memories
 use Rattle.past_state.specs.declared.memories.StepTables.{StepTables}
-use Rattle.past_state.specs.declared.operators.Operator.{Operator}
+use Rattle.past_state.specs.declared.operators.OperatorState.{OperatorState}
 use Rattle.past_state.proofs.MemoryLemmas.{Laws, fit_back, fit_front, fit_long, can_step, given_stands, committed_stands, denial_free, stand_front, stand_back, still_for}
 use Rattle.past_state.proofs.StackLemmas.{stack_below}
 
 -- the columns of what is given are the free variables
 given_columns : (f : Formula) (m : Memory) (time : ℕ) (t : StepTables) → IsFor f m → (x : VarId) → Contains (given_by m time t).columns x ↔ IsFree x f
-given_columns (Prev place interval g) (kept.Prev slot operand) time t for x = for.1.exact x
-given_columns (Once place interval g) (kept.Once window right) time t for x = for.1.exact x
-given_columns (Historically place interval g) (kept.Once window right) time t for x = (λ there. (denial_free g x).0 ((for.1.exact x).0 there), λ free. (for.1.exact x).1 ((denial_free g x).1 free))
-given_columns (Since place interval g h) (kept.Since window left left_tables right) time t for x = (λ there. inr ((for.1.exact x).0 there), λ either. (for.1.exact x).1 (⊎_elim (λ free. for.5 x free) (λ free. free) either))
+given_columns (Prev place interval g) (memories.Prev slot operand) time t for x = for.1.exact x
+given_columns (Once place interval g) (memories.Once window right) time t for x = for.1.exact x
+given_columns (Historically place interval g) (memories.Once window right) time t for x = (λ there. (denial_free g x).0 ((for.1.exact x).0 there), λ free. (for.1.exact x).1 ((denial_free g x).1 free))
+given_columns (Since place interval g h) (memories.Since window left left_tables right) time t for x = (λ there. inr ((for.1.exact x).0 there), λ either. (for.1.exact x).1 (⊎_elim (λ free. for.5 x free) (λ free. free) either))
 given_columns f m time t for x = absurd for
 
 -- behind the operators of the operands stand the others
 behind_inner : (f : Formula) (before more : List Formula) → before ≡ inner f ++ more → drop (length (inner f)) before ≡ more
 behind_inner f before more e = ap (λ l. drop (length (inner f)) l) e ∙ drop-append_seam (inner f) more
 
-pub fit_run : (events : List Event) (time : ℕ) (before : List Formula) (stack : List Relation) (fs : List Formula) (operators : List Operator) (steps : List StepTables) (final : List Relation)
+pub fit_run : (events : List Event) (time : ℕ) (before : List Formula) (stack : List Relation) (fs : List Formula) (operators : List OperatorState) (steps : List StepTables) (final : List Relation)
     → AreFor fs operators → AreInsideOut before fs → FitOperators before stack → Runs events time stack operators steps final → FitOperators (outer_onto before fs) final
 fit_run events time before stack [] [] [] final for order fit runs = subst (FitOperators before) runs fit
 fit_run events time before stack [] [] (t ∷ steps) final for order fit runs = absurd runs
@@ -50,7 +50,7 @@ fit_run events time before stack (f ∷ fs) (o ∷ operators) (t ∷ steps) fina
     fit_run events time (f ∷ drop (length (inner f)) before) (given_by o.memory time t ∷ drop o.taken stack) fs operators steps final for.2 order.1 (given_columns f o.memory time t for.0, rest) runs.1
 
 -- one operator more
-pub run_more : (events : List Event) (time : ℕ) (stack : List Relation) (operators : List Operator) (steps : List StepTables) (middle : List Relation) (o : Operator) (t : StepTables)
+pub run_more : (events : List Event) (time : ℕ) (stack : List Relation) (operators : List OperatorState) (steps : List StepTables) (middle : List Relation) (o : OperatorState) (t : StepTables)
     → Runs events time stack operators steps middle → AreStepTables events middle o.memory t → Runs events time stack (operators ++ o ∷ []) (steps ++ t ∷ []) (given_by o.memory time t ∷ drop o.taken middle)
 run_more events time stack [] [] middle o t runs are = (subst (λ l. AreStepTables events l o.memory t) (sym runs) are, ap (λ l. given_by o.memory time t ∷ drop o.taken l) runs)
 run_more events time stack [] (s ∷ steps) middle o t runs are = absurd runs
@@ -58,7 +58,7 @@ run_more events time stack (p ∷ operators) [] middle o t runs are = absurd run
 run_more events time stack (p ∷ operators) (s ∷ steps) middle o t runs are = (runs.0, run_more events time (given_by p.memory time s ∷ drop p.taken stack) operators steps middle o t runs.1 are)
 
 -- the part at the front
-pub for_front : (fs : List Formula) (operators : List Operator) (i : ℕ) → AreFor fs operators → AreFor (take i fs) (take i operators)
+pub for_front : (fs : List Formula) (operators : List OperatorState) (i : ℕ) → AreFor fs operators → AreFor (take i fs) (take i operators)
 for_front [] [] zero for = tt
 for_front [] [] (suc i) for = tt
 for_front [] (o ∷ operators) i for = absurd for
@@ -73,14 +73,14 @@ order_front before (f ∷ fs) zero order = tt
 order_front before (f ∷ fs) (suc i) order = (order.0, order_front (f ∷ drop (length (inner f)) before) fs i order.1)
 
 -- the operator at a place, and what stands on the stack before it
-pub record At (before fs : List Formula) (o : Operator) (i : ℕ) : Type 0 where
+pub record At (before fs : List Formula) (o : OperatorState) (i : ℕ) : Type 0 where
   pub formula : Formula
   pub is_for : IsFor formula o.memory
   pub takes : o.taken ≡ length (inner formula)
   pub more : List Formula
   pub stands_on : outer_onto before (take i fs) ≡ inner formula ++ more
 
-pub at : (before fs : List Formula) (operators : List Operator) (i : ℕ) (o : Operator) → AreFor fs operators → AreInsideOut before fs → i < length operators → o ≡ get_or operators i o
+pub at : (before fs : List Formula) (operators : List OperatorState) (i : ℕ) (o : OperatorState) → AreFor fs operators → AreInsideOut before fs → i < length operators → o ≡ get_or operators i o
     → At before fs o i
 at before [] [] i o for order below is = absurd (omega (arith, below))
 at before [] (p ∷ operators) i o for order below is = absurd for
@@ -97,11 +97,11 @@ at before (f ∷ fs) (p ∷ operators) (suc i) o for order below is =
     record { formula = found.formula; is_for = found.is_for; takes = found.takes; more = found.more; stands_on = found.stands_on }
 
 -- what the loop needs at a place
-pub record Ready (o : Operator) (middle : List Relation) : Type 0 where
+pub record Ready (o : OperatorState) (middle : List Relation) : Type 0 where
   pub can : CanStep middle o.memory
   pub enough : o.taken ≤ length middle
 
-pub ready : (events : List Event) (time : ℕ) (operators : List Operator) (i : ℕ) (o : Operator) (steps : List StepTables) (middle : List Relation) → AreOrdered operators → i < length operators
+pub ready : (events : List Event) (time : ℕ) (operators : List OperatorState) (i : ℕ) (o : OperatorState) (steps : List StepTables) (middle : List Relation) → AreOrdered operators → i < length operators
     → o ≡ get_or operators i o → Runs events time [] (take i operators) steps middle → Ready o middle
 ready events time operators i o steps middle ordered below is runs =
     let found = at [] ordered.formulas operators i o ordered.are_for ordered.inside_out below is in
@@ -113,7 +113,7 @@ ready events time operators i o steps middle ordered below is runs =
       enough = subst (λ n. n ≤ length middle) (sym found.takes) (fit_long (inner found.formula) middle inside);
     }
 
-pub run_at : (events : List Event) (time : ℕ) (operators : List Operator) (i : ℕ) (o : Operator) (steps : List StepTables) (stack after : List Relation) (t : StepTables) → i < length operators
+pub run_at : (events : List Event) (time : ℕ) (operators : List OperatorState) (i : ℕ) (o : OperatorState) (steps : List StepTables) (stack after : List Relation) (t : StepTables) → i < length operators
     → o ≡ get_or operators i o → o.taken ≤ length (reverse stack) → Runs events time [] (take i operators) steps (reverse stack) → AreStepTables events (reverse stack) o.memory t
     → after ≡ take (length stack - o.taken) stack ++ given_by o.memory time t ∷ [] → Runs events time [] (take (i + 1) operators) (steps ++ t ∷ []) (reverse after)
 run_at events time operators i o steps stack after t below is enough runs are e =
@@ -122,7 +122,7 @@ run_at events time operators i o steps stack after t below is enough runs are e 
     subst (λ l. Runs events time [] l (steps ++ t ∷ []) (reverse after)) (ap (λ p. take i operators ++ p ∷ []) is ∙ sym (take_more operators i o below))
     (subst (λ l. Runs events time [] (take i operators ++ o ∷ []) (steps ++ t ∷ []) l) (sym top) (run_more events time [] (take i operators) steps (reverse stack) o t runs are))
 
-pub run_all : (events : List Event) (time : ℕ) (operators : List Operator) (i : ℕ) (steps : List StepTables) (final : List Relation) → length operators ≤ i
+pub run_all : (events : List Event) (time : ℕ) (operators : List OperatorState) (i : ℕ) (steps : List StepTables) (final : List Relation) → length operators ≤ i
     → Runs events time [] (take i operators) steps final → Runs events time [] operators steps final
 run_all events time operators i steps final all runs = subst (λ l. Runs events time [] l steps final) (take_all i operators all) runs
 
@@ -132,7 +132,7 @@ abbrev pub AllPast : List Formula → Type 0
 AllPast fs = All (λ f. IsTrue (is_past f)) fs
 
 module _ (laws : Laws) (trace : List Step) (step : Step) (later : last_time trace ≤ step.time) where
-  pub stand_run : (before : List Formula) (stack : List Relation) (fs : List Formula) (operators : List Operator) (steps : List StepTables) (final : List Relation)
+  pub stand_run : (before : List Formula) (stack : List Relation) (fs : List Formula) (operators : List OperatorState) (steps : List StepTables) (final : List Relation)
       → AreFor fs operators → AllPast fs → AreInsideOut before fs → AllStand trace fs operators → StandFor (trace ++ step ∷ []) (length trace) before stack
       → Runs step.events step.time stack operators steps final → StandFor (trace ++ step ∷ []) (length trace) (outer_onto before fs) final
   stand_run before stack [] [] [] final for past order stands stand runs = subst (StandFor (trace ++ step ∷ []) (length trace) before) runs stand
@@ -150,7 +150,7 @@ module _ (laws : Laws) (trace : List Step) (step : Step) (later : last_time trac
       stand_run (f ∷ drop (length (inner f)) before) (given_by o.memory step.time t ∷ drop o.taken stack) fs operators steps final for.2 (All-tail (λ g. IsTrue (is_past g)) f fs past) order.1 stands.1
       (given_stands laws trace step later f o.memory stack t (All-head (λ g. IsTrue (is_past g)) f fs past) for.0 stands.0 inside runs.0, rest) runs.1
 
-  pub committed_run : (before : List Formula) (stack : List Relation) (fs : List Formula) (operators : List Operator) (steps : List StepTables) (final : List Relation) (after : List Operator)
+  pub committed_run : (before : List Formula) (stack : List Relation) (fs : List Formula) (operators : List OperatorState) (steps : List StepTables) (final : List Relation) (after : List OperatorState)
       → AreFor fs operators → AllPast fs → AreInsideOut before fs → AllStand trace fs operators → StandFor (trace ++ step ∷ []) (length trace) before stack
       → Runs step.events step.time stack operators steps final → AllCommitted step.time operators steps after → AllStand (trace ++ step ∷ []) fs after
   committed_run before stack [] operators steps final after for past order stands stand runs committed = tt
@@ -169,7 +169,7 @@ module _ (laws : Laws) (trace : List Step) (step : Step) (later : last_time trac
             (given_stands laws trace step later f o.memory stack t (All-head (λ g. IsTrue (is_past g)) f fs past) for.0 stands.0 inside runs.0, rest) runs.1 committed.1,
       )
 
-pub still_all_for : (fs : List Formula) (operators after : List Operator) → AreFor fs operators → AreSameKinds operators after → AreFor fs after
+pub still_all_for : (fs : List Formula) (operators after : List OperatorState) → AreFor fs operators → AreSameKinds operators after → AreFor fs after
 still_all_for [] [] after for same = subst (AreFor []) (sym same) tt
 still_all_for [] (o ∷ operators) after for same = absurd for
 still_all_for (f ∷ fs) [] after for same = absurd for

@@ -23,20 +23,20 @@ use Rattle.past_state.specs.Runs.{AreFor, AllStand}
 use Rattle.past_state.specs.Saved.{AreKeptOf, AreRowsRising, IsRowBefore, IsWhole, KeptFor, StoresAt, StoresFor, kept_operand, kept_row, pair_of}
 use Rattle.past_state.specs.declared.kept.KeptRow.{KeptRow}
 use Rattle.past_state.specs.declared.memories.Memory.{Memory}
-use Rattle.past_state.specs.declared.memories.Memory.TheVariants as kept
-use Rattle.past_state.specs.declared.operators.Operator.{Operator}
+use Rattle.past_state.specs.declared.memories.Memory.TheVariants as memories
+use Rattle.past_state.specs.declared.operators.OperatorState.{OperatorState}
 use Rattle.past_state.proofs.ColumnLemmas.{same_free}
 use Rattle.past_state.proofs.RowLemmas.{row_binds}
 
 -- ---- window by window
 
 -- the rows of the windows and slots up to a number
-pub record SavedUpTo (operators : List Operator) (n : ℕ) (rows : List KeptRow) : Type 0 where
+pub record SavedUpTo (operators : List OperatorState) (n : ℕ) (rows : List KeptRow) : Type 0 where
   pub rising : AreRowsRising rows
   pub exact : (r : KeptRow) → Contains rows r ↔ ((r.window < n) × StoresAt operators r)
-  pub whole : (k : ℕ) (o : Operator) → k < n → slice_get (reverse operators) k ≡ Some o → IsWhole o.memory
+  pub whole : (k : ℕ) (o : OperatorState) → k < n → slice_get (reverse operators) k ≡ Some o → IsWhole o.memory
 
-pub saved_none : (operators : List Operator) → SavedUpTo operators 0 []
+pub saved_none : (operators : List OperatorState) → SavedUpTo operators 0 []
 saved_none operators = record {
   rising = tt;
   exact = λ r. (λ there. absurd (none_in_nil r there), λ both. absurd (omega (arith, both.0)));
@@ -44,11 +44,11 @@ saved_none operators = record {
 }
 
 -- the operator of a number, counted from the last one
-pub counted_back : (operators : List Operator) (n : ℕ) (o : Operator) → n < length operators → o ≡ get_or operators (length operators - 1 - n) o → slice_get (reverse operators) n ≡ Some o
+pub counted_back : (operators : List OperatorState) (n : ℕ) (o : OperatorState) → n < length operators → o ≡ get_or operators (length operators - 1 - n) o → slice_get (reverse operators) n ≡ Some o
 counted_back operators n o below is =
     slice_get-get_or (reverse operators) n o (omega (arith, below, length-reverse operators)) ∙ ap Some (get_or-reverse operators n o below ∙ sym is)
 
-pub saved_more : (operators : List Operator) (n : ℕ) (o : Operator) (pairs : List KeptPair) (rows after : List KeptRow) → slice_get (reverse operators) n ≡ Some o → AreRising pairs
+pub saved_more : (operators : List OperatorState) (n : ℕ) (o : OperatorState) (pairs : List KeptPair) (rows after : List KeptRow) → slice_get (reverse operators) n ≡ Some o → AreRising pairs
     → ((p : KeptPair) → Contains pairs p ↔ StoresFor o.memory p) → IsWhole o.memory → after ≡ rows ++ map (kept_row n) pairs → SavedUpTo operators n rows → SavedUpTo operators (n + 1) after
 saved_more operators n o pairs rows after numbered rises stored whole grown so_far = record {
   rising = subst AreRowsRising (sym grown) (rises_append IsRowBefore rows (map (kept_row n) pairs) so_far.rising
@@ -78,13 +78,13 @@ saved_more operators n o pairs rows after numbered rises stored whole grown so_f
       (cases_lt k n);
 }
 
-pub rows_of : (operators : List Operator) (rows : List KeptRow) → SavedUpTo operators (length operators) rows → (r : KeptRow) → Contains rows r ↔ StoresAt operators r
+pub rows_of : (operators : List OperatorState) (rows : List KeptRow) → SavedUpTo operators (length operators) rows → (r : KeptRow) → Contains rows r ↔ StoresAt operators r
 rows_of operators rows saved r = (
   λ there. ((saved.exact r).0 there).1,
   λ stored. (saved.exact r).1 (omega (arith, slice_get_within (reverse operators) r.window stored.0 stored.1, length-reverse operators), stored),
 )
 
-pub at_place : (os : List Operator) (n : ℕ) → n < length os → (o : Operator) × (slice_get os n ≡ Some o)
+pub at_place : (os : List OperatorState) (n : ℕ) → n < length os → (o : OperatorState) × (slice_get os n ≡ Some o)
 at_place [] n below = absurd (omega (arith, below))
 at_place (o ∷ os) zero below = (o, refl)
 at_place (o ∷ os) (suc n) below = at_place os n (omega (arith, below))
@@ -101,29 +101,29 @@ of_window window row time K least held = (
 -- what is kept for an operator is what has to be kept of each trace for which it stands
 memory_kept : (trace : List Step) (f : Formula) (m : Memory) (p : KeptPair) → IsWhole m → IsFor f m → MemoryStands trace f m
     → StoresFor m p ↔ ((length p.row ≡ length (columns_of m)) × KeptFor trace f (valuation_of (columns_of m) p.row) p.time)
-memory_kept trace (Prev place interval g) (kept.Prev slot operand) p whole for stands =
+memory_kept trace (Prev place interval g) (memories.Prev slot operand) p whole for stands =
     let last = stored_last slot p whole.0 whole.1 in (
       λ stored. let both = last.0 stored in (both.0, (stands.kept (valuation_of slot.columns p.row) (row_binds slot.columns p.row whole.0.distinct both.0) p.time).0 both.1),
       λ both. last.1 (both.0, (stands.kept (valuation_of slot.columns p.row) (row_binds slot.columns p.row whole.0.distinct both.0) p.time).1 both.1),
     )
-memory_kept trace (Once place interval g) (kept.Once window right) p whole for stands =
+memory_kept trace (Once place interval g) (memories.Once window right) p whole for stands =
     of_window window p.row p.time _ whole (λ long. stands.kept (valuation_of window.columns p.row) (row_binds window.columns p.row whole.distinct long) p.time)
-memory_kept trace (Historically place interval g) (kept.Once window right) p whole for stands =
+memory_kept trace (Historically place interval g) (memories.Once window right) p whole for stands =
     of_window window p.row p.time _ whole (λ long. stands.kept (valuation_of window.columns p.row) (row_binds window.columns p.row whole.distinct long) p.time)
-memory_kept trace (Since place interval g h) (kept.Since window left left_tables right) p whole for stands =
+memory_kept trace (Since place interval g h) (memories.Since window left left_tables right) p whole for stands =
     of_window window p.row p.time _ whole (λ long. stands.kept (valuation_of window.columns p.row) (row_binds window.columns p.row whole.distinct long) p.time)
 memory_kept trace f m p whole for stands = absurd for
 
 -- the columns are the free variables of the operand
 pub columns_free : (f : Formula) (m : Memory) → IsFor f m → AreFreeVariables (kept_operand f) (columns_of m)
-columns_free (Prev place interval g) (kept.Prev slot operand) for = for.1
-columns_free (Once place interval g) (kept.Once window right) for = for.1
-columns_free (Historically place interval g) (kept.Once window right) for = for.1
-columns_free (Since place interval g h) (kept.Since window left left_tables right) for = for.1
+columns_free (Prev place interval g) (memories.Prev slot operand) for = for.1
+columns_free (Once place interval g) (memories.Once window right) for = for.1
+columns_free (Historically place interval g) (memories.Once window right) for = for.1
+columns_free (Since place interval g h) (memories.Since window left left_tables right) for = for.1
 columns_free f m for = absurd for
 
 -- each operator has its window or slot, at the same place from the end
-pub lengths : (fs : List Formula) (operators : List Operator) → AreFor fs operators → length fs ≡ length operators
+pub lengths : (fs : List Formula) (operators : List OperatorState) → AreFor fs operators → length fs ≡ length operators
 lengths [] [] are = refl
 lengths [] (o ∷ operators) are = absurd are
 lengths (f ∷ fs) [] are = absurd are
@@ -133,26 +133,26 @@ lengths (f ∷ fs) (o ∷ operators) are = ap suc (lengths fs operators are.2)
 pub counted : (past : Past) → IsPast past → length past.operators ≡ length (all_operators (formulas past.guards))
 counted past is = sym (lengths (reverse (all_operators (formulas past.guards))) past.operators is.kept) ∙ length-reverse (all_operators (formulas past.guards))
 
-for_at : (fs : List Formula) (operators : List Operator) (k : ℕ) (d : Formula) (e : Operator) → AreFor fs operators → k < length fs → IsFor (get_or fs k d) (get_or operators k e).memory
+for_at : (fs : List Formula) (operators : List OperatorState) (k : ℕ) (d : Formula) (e : OperatorState) → AreFor fs operators → k < length fs → IsFor (get_or fs k d) (get_or operators k e).memory
 for_at [] operators k d e are below = absurd (omega (arith, below))
 for_at (f ∷ fs) [] k d e are below = absurd are
 for_at (f ∷ fs) (o ∷ operators) zero d e are below = are.0
 for_at (f ∷ fs) (o ∷ operators) (suc k) d e are below = for_at fs operators k d e are.2 (omega (arith, below))
 
-stand_at : (trace : List Step) (fs : List Formula) (operators : List Operator) (k : ℕ) (d : Formula) (e : Operator) → AllStand trace fs operators → k < length fs
+stand_at : (trace : List Step) (fs : List Formula) (operators : List OperatorState) (k : ℕ) (d : Formula) (e : OperatorState) → AllStand trace fs operators → k < length fs
     → MemoryStands trace (get_or fs k d) (get_or operators k e).memory
 stand_at trace [] operators k d e stand below = absurd (omega (arith, below))
 stand_at trace (f ∷ fs) [] k d e stand below = absurd stand
 stand_at trace (f ∷ fs) (o ∷ operators) zero d e stand below = stand.0
 stand_at trace (f ∷ fs) (o ∷ operators) (suc k) d e stand below = stand_at trace fs operators k d e stand.1 (omega (arith, below))
 
-module _ (trace : List Step) (fs : List Formula) (operators : List Operator) (rows : List KeptRow) (are : AreFor (reverse fs) operators) (stand : AllStand trace (reverse fs) operators)
+module _ (trace : List Step) (fs : List Formula) (operators : List OperatorState) (rows : List KeptRow) (are : AreFor (reverse fs) operators) (stand : AllStand trace (reverse fs) operators)
     (saved : SavedUpTo operators (length operators) rows) where
   same_count : length fs ≡ length operators
   same_count = sym (length-reverse fs) ∙ lengths (reverse fs) operators are
 
   -- the operator and the window of one number
-  both_at : (n : ℕ) (f : Formula) (o : Operator) → slice_get fs n ≡ Some f → slice_get (reverse operators) n ≡ Some o → IsFor f o.memory × MemoryStands trace f o.memory
+  both_at : (n : ℕ) (f : Formula) (o : OperatorState) → slice_get fs n ≡ Some f → slice_get (reverse operators) n ≡ Some o → IsFor f o.memory × MemoryStands trace f o.memory
   both_at n f o is_f is_o =
       let below : n < length fs = slice_get_within fs n f is_f in
       let within : length operators - 1 - n < length (reverse fs) = omega (arith, below, same_count, length-reverse fs) in
@@ -160,8 +160,8 @@ module _ (trace : List Step) (fs : List Formula) (operators : List Operator) (ro
       let at_f : get_or (reverse fs) (length operators - 1 - n) f ≡ f =
       get_or-reverse fs (length operators - 1 - n) f (omega (arith, below, same_count))
       ∙ ap (λ k. get_or fs k f) (omega (arith, below, same_count)) ∙ get_or_from_slice_get fs n f f is_f in (
-        subst (λ (p : Formula × Operator). IsFor p.0 p.1.memory) (λ i. (at_f i, at_o i)) (for_at (reverse fs) operators (length operators - 1 - n) f o are within),
-        subst (λ (p : Formula × Operator). MemoryStands trace p.0 p.1.memory) (λ i. (at_f i, at_o i)) (stand_at trace (reverse fs) operators (length operators - 1 - n) f o stand within),
+        subst (λ (p : Formula × OperatorState). IsFor p.0 p.1.memory) (λ i. (at_f i, at_o i)) (for_at (reverse fs) operators (length operators - 1 - n) f o are within),
+        subst (λ (p : Formula × OperatorState). MemoryStands trace p.0 p.1.memory) (λ i. (at_f i, at_o i)) (stand_at trace (reverse fs) operators (length operators - 1 - n) f o stand within),
       )
 
   pub kept_of_trace : AreKeptOf trace fs rows
@@ -191,5 +191,5 @@ module _ (trace : List Step) (fs : List Formula) (operators : List Operator) (ro
         (saved.exact r).1 (within, (o.0, o.1, (memory_kept trace k.operator o.0.memory (pair_of r) (saved.whole r.window o.0 within o.1) both.0 both.1).1 held)),
   )
     where
-      some_operator : (n : ℕ) → n < length operators → (o : Operator) × (slice_get (reverse operators) n ≡ Some o)
+      some_operator : (n : ℕ) → n < length operators → (o : OperatorState) × (slice_get (reverse operators) n ≡ Some o)
       some_operator n below = at_place (reverse operators) n (omega (arith, below, length-reverse operators))

@@ -6,7 +6,7 @@ use Rattle.enf_formula.specs.FreeVariables.{IsFree, AreFreeVariables}
 use Rattle.monitorable_guard.specs.Guards.{BoundFormula}
 use Rattle.monitorable_guard.specs.Safety.{Safe, BindsFresh, Nothing, With, denial}
 use Rattle.past_state.specs.Runs.{AreFor}
-use Rattle.past_state.specs.declared.operators.Operator.{Operator}
+use Rattle.past_state.specs.declared.operators.OperatorState.{OperatorState}
 
 -- no quantifier in the formula binds one of its free variables
 abbrev pub IsFresh : Formula → Type 0
@@ -29,7 +29,7 @@ pub record IsAlone (f : Formula) (columns : List VarId) (guard : BoundFormula) :
   pub free : AreFreeVariables f columns
 
 -- what is kept for these operators was put last, in order
-pub record PushesFor (fs : List Formula) (before after : List Operator) : Type 0 where
-  pub added : List Operator
+pub record PushesFor (fs : List Formula) (before after : List OperatorState) : Type 0 where
+  pub added : List OperatorState
   pub grown : after ≡ before ++ added
   pub are_for : AreFor fs added

@@ -11,10 +11,10 @@ use Rattle.past_state.specs.Past.{Past, PastTables, AreOf, IsPast, IsGuard, form
 use Rattle.past_state.specs.Saved.{StoresAt}
 use Rattle.past_state.specs.declared.guards.PlacedGuard.{PlacedGuard}
 use Rattle.past_state.specs.declared.kept.KeptRow.{KeptRow}
-use Rattle.past_state.specs.declared.operators.Operator.{Operator}
+use Rattle.past_state.specs.declared.operators.OperatorState.{OperatorState}
 
 -- a value of a row that is kept for one of the operators
-abbrev pub IsKeptValue : List Operator → Value → Type 0
+abbrev pub IsKeptValue : List OperatorState → Value → Type 0
 IsKeptValue operators value = (r : KeptRow) × StoresAt operators r × Contains r.row value
 
 -- a constant of one of the formulas

@@ -24,8 +24,8 @@ satisfied trace f v i = Sat trace i v f
 abbrev pub everywhere : Valuation → ℕ → Type 0
 everywhere v = Anywhere
 
--- what a window is told at the step that comes behind the trace: of the rows that are kept just those survive for which F
--- holds there, and just those are right for which G holds there
+-- what a window is told at the step that comes behind the trace: of the rows that are kept just those survive for
+-- which F holds there, and just those are right for which G holds there
 pub record AreTablesOf (trace : List Step) (window : Window) (F G : Valuation → ℕ → Type 0) (survivors : Survivors)
     (right : Relation) : Type 0 where
   pub right_columns : right.columns ≡ window.columns

@@ -20,19 +20,19 @@ abbrev pub AsksLeft : Formula → List VarId → Left → Type 0
 AsksLeft f columns side.All = (place : ℕ) × (f ≡ True place)
 AsksLeft f columns (side.Denied guard) =
     (place : ℕ) × (g : Formula) × (f ≡ Not place g) × Asks g [] guard × AreFreeVariables g columns
-AsksLeft f columns (side.Asked guard) = Asks f columns guard
+AsksLeft f columns (side.ByRow guard) = Asks f columns guard
 
 -- it can be asked of rows of these columns
 abbrev pub CanAskLeft : List VarId → List Relation → Left → Type 0
 CanAskLeft columns tables side.All = Unit {0}
 CanAskLeft columns tables (side.Denied guard) = CanAskAll guard columns tables
-CanAskLeft columns tables (side.Asked guard) = CanAskUnder guard columns tables
+CanAskLeft columns tables (side.ByRow guard) = CanAskUnder guard columns tables
 
 -- it holds at a step with these events, by the tables
 abbrev pub LeftHolds : List Event → List Relation → Left → Valuation → Type 0
 LeftHolds events tables side.All v = Unit {0}
 LeftHolds events tables (side.Denied guard) v = HoldsNow events tables v (tree_of guard.formula) → ⊥
-LeftHolds events tables (side.Asked guard) v = HoldsNow events tables v (tree_of guard.formula)
+LeftHolds events tables (side.ByRow guard) v = HoldsNow events tables v (tree_of guard.formula)
 
 -- of the rows that the window keeps just those survive for which it holds
 pub record AreSurvivors (events : List Event) (tables : List Relation) (asked : Left) (window : Window)

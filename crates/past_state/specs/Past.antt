@@ -19,12 +19,12 @@ use Rattle.past_state.specs.Operators.{all_operators, all_outermost}
 use Rattle.past_state.specs.Runs.{AreFor, AllStand, Runs, AllCommitted}
 use Rattle.past_state.specs.declared.guards.PlacedGuard.{PlacedGuard}
 use Rattle.past_state.specs.declared.memories.StepTables.{StepTables}
-use Rattle.past_state.specs.declared.operators.Operator.{Operator}
+use Rattle.past_state.specs.declared.operators.OperatorState.{OperatorState}
 
 -- the guards, and the operators on the past in them, from the last in pre-order to the first
 pub record Past : Type 0 where
   pub guards : List PlacedGuard
-  pub operators : List Operator
+  pub operators : List OperatorState
 
 -- what a step brings to each operator, and the tables of the outermost operators of the guards, in order
 pub record PastTables : Type 0 where

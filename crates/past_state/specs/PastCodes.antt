@@ -5,14 +5,14 @@ use Rattle.valuations.specs.Tables.{Relation, relation_code}
 use Rattle.past_state.specs.Past.{Past, PastTables}
 use Rattle.past_state.specs.contracts.guards.PlacedGuard as placed
 use Rattle.past_state.specs.contracts.memories.StepTables as brought
-use Rattle.past_state.specs.contracts.operators.Operator as operator
+use Rattle.past_state.specs.contracts.operators.OperatorState as operator
 use Rattle.past_state.specs.declared.guards.PlacedGuard.{PlacedGuard}
 use Rattle.past_state.specs.declared.memories.StepTables.{StepTables}
-use Rattle.past_state.specs.declared.operators.Operator.{Operator}
+use Rattle.past_state.specs.declared.operators.OperatorState.{OperatorState}
 
 abbrev pub past_code : Coded Past
 past_code =
-    code_by (List PlacedGuard × List Operator) (coded× (coded_list placed.the_row.coded) (coded_list
+    code_by (List PlacedGuard × List OperatorState) (coded× (coded_list placed.the_row.coded) (coded_list
     operator.the_row.coded)) (λ p. (p.guards, p.operators)) (λ p. record { guards = p.0; operators = p.1 }) (λ _. refl)
 
 abbrev pub tables_code : Coded PastTables

@@ -5,7 +5,7 @@ use Rattle.enf_value.specs.declared.values.Value.TheVariants.{Num}
 use Rattle.enf_formula.specs.Formulas.{Formula, Prev, Once}
 use Rattle.windows.specs.Cases.{row, within}
 use Rattle.past_state.specs.Cases.{p_of_x}
-use Rattle.past_state.specs.Restoring.{AreWithinBounds}
+use Rattle.past_state.specs.Bounds.{AreWithinBounds}
 use Rattle.past_state.specs.declared.kept.KeptRow.{KeptRow}
 
 -- once p(x) in an interval, and prev[0,9] p(x)

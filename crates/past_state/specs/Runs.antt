@@ -8,17 +8,17 @@ use Rattle.past_state.specs.Memories.{IsFor, AreStepTables, FitMemory, given_by}
 use Rattle.past_state.specs.Memories.{IsUpToTimeOf, MemoryStands, IsCommittedTo, IsSameMemory}
 use Rattle.past_state.specs.Operators.{inner}
 use Rattle.past_state.specs.declared.memories.StepTables.{StepTables}
-use Rattle.past_state.specs.declared.operators.Operator.{Operator}
+use Rattle.past_state.specs.declared.operators.OperatorState.{OperatorState}
 
 -- what is kept for each of the operators, and how many tables it takes
-abbrev pub AreFor : List Formula → List Operator → Type 0
+abbrev pub AreFor : List Formula → List OperatorState → Type 0
 AreFor [] [] = Unit {0}
 AreFor [] (o ∷ operators) = ⊥
 AreFor (f ∷ fs) [] = ⊥
 AreFor (f ∷ fs) (o ∷ operators) = IsFor f o.memory × (o.taken ≡ length (inner f)) × AreFor fs operators
 
 -- each of them stands for the trace
-abbrev pub AllStand : List Step → List Formula → List Operator → Type 0
+abbrev pub AllStand : List Step → List Formula → List OperatorState → Type 0
 AllStand trace [] operators = Unit {0}
 AllStand trace (f ∷ fs) [] = ⊥
 AllStand trace (f ∷ fs) (o ∷ operators) = MemoryStands trace f o.memory × AllStand trace fs operators
@@ -36,7 +36,7 @@ AreInsideOut before (f ∷ fs) = ((more : List Formula) × (before ≡ inner f +
     × AreInsideOut (f ∷ drop (length (inner f)) before) fs
 
 -- each operator takes the tables of its operands' operators off the stack, and puts the one that it gives on it
-abbrev pub Runs : List Event → ℕ → List Relation → List Operator → List StepTables → List Relation → Type 0
+abbrev pub Runs : List Event → ℕ → List Relation → List OperatorState → List StepTables → List Relation → Type 0
 Runs events time stack [] [] final = stack ≡ final
 Runs events time stack [] (t ∷ steps) final = ⊥
 Runs events time stack (o ∷ operators) [] final = ⊥
@@ -44,20 +44,20 @@ Runs events time stack (o ∷ operators) (t ∷ steps) final = AreStepTables eve
     × Runs events time (given_by o.memory time t ∷ drop o.taken stack) operators steps final
 
 -- operators of some formulas, each behind those of its operands
-pub record AreOrdered (operators : List Operator) : Type 0 where
+pub record AreOrdered (operators : List OperatorState) : Type 0 where
   pub formulas : List Formula
   pub are_for : AreFor formulas operators
   pub inside_out : AreInsideOut [] formulas
 
 -- nothing that is kept is later
-abbrev pub AreUpToTimeOf : ℕ → List Operator → Type 0
+abbrev pub AreUpToTimeOf : ℕ → List OperatorState → Type 0
 AreUpToTimeOf time operators = All (λ o. IsUpToTimeOf time o.memory) operators
 
-abbrev pub OneCommitted : ℕ → Operator → StepTables → Operator → Type 0
+abbrev pub OneCommitted : ℕ → OperatorState → StepTables → OperatorState → Type 0
 OneCommitted time o t after = (after.taken ≡ o.taken) × IsCommittedTo o.memory time t after.memory
 
 -- the operators after the step is committed to each for which there are tables, in order
-abbrev pub AllCommitted : ℕ → List Operator → List StepTables → List Operator → Type 0
+abbrev pub AllCommitted : ℕ → List OperatorState → List StepTables → List OperatorState → Type 0
 AllCommitted time [] steps after = after ≡ []
 AllCommitted time (o ∷ operators) [] after = after ≡ o ∷ operators
 AllCommitted time (o ∷ operators) (t ∷ steps) [] = ⊥
@@ -65,14 +65,14 @@ AllCommitted time (o ∷ operators) (t ∷ steps) (p ∷ after) = OneCommitted t
     × AllCommitted time operators steps after
 
 -- the tables fit what is kept, one for one
-abbrev pub AllFit : List Operator → List StepTables → Type 0
+abbrev pub AllFit : List OperatorState → List StepTables → Type 0
 AllFit [] [] = Unit {0}
 AllFit [] (t ∷ steps) = ⊥
 AllFit (o ∷ operators) [] = ⊥
 AllFit (o ∷ operators) (t ∷ steps) = FitMemory o.memory t × AllFit operators steps
 
 -- each operator is one of the same kind as before, with the same guards
-abbrev pub AreSameKinds : List Operator → List Operator → Type 0
+abbrev pub AreSameKinds : List OperatorState → List OperatorState → Type 0
 AreSameKinds [] after = after ≡ []
 AreSameKinds (o ∷ operators) [] = ⊥
 AreSameKinds (o ∷ operators) (p ∷ after) = (p.taken ≡ o.taken) × IsSameMemory o.memory p.memory

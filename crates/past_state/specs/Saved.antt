@@ -18,8 +18,8 @@ use Rattle.past_state.specs.Operators.{all_operators}
 use Rattle.past_state.specs.Past.{Past, PastStands, formulas}
 use Rattle.past_state.specs.declared.kept.KeptRow.{KeptRow}
 use Rattle.past_state.specs.declared.memories.Memory.{Memory}
-use Rattle.past_state.specs.declared.memories.Memory.TheVariants as kept
-use Rattle.past_state.specs.declared.operators.Operator.{Operator}
+use Rattle.past_state.specs.declared.memories.Memory.TheVariants as memories
+use Rattle.past_state.specs.declared.operators.OperatorState.{OperatorState}
 
 abbrev pub kept_row : ℕ → KeptPair → KeptRow
 kept_row window p = record { window = window; row = p.row; time = p.time }
@@ -36,14 +36,14 @@ AreRowsRising rows = Rises IsRowBefore rows
 
 -- the window or slot has the row with this time
 abbrev pub StoresFor : Memory → KeptPair → Type 0
-StoresFor (kept.Prev slot operand) p = Contains (pairs_of_last slot.last) p
-StoresFor (kept.Once window right) p = Stores window p.row p.time
-StoresFor (kept.Since window left left_tables right) p = Stores window p.row p.time
+StoresFor (memories.Prev slot operand) p = Contains (pairs_of_last slot.last) p
+StoresFor (memories.Once window right) p = Stores window p.row p.time
+StoresFor (memories.Since window left left_tables right) p = Stores window p.row p.time
 
 -- the window or slot of this number has it: they are numbered from the first operator in pre-order on
-abbrev pub StoresAt : List Operator → KeptRow → Type 0
+abbrev pub StoresAt : List OperatorState → KeptRow → Type 0
 StoresAt operators r =
-    (o : Operator) × (slice_get (reverse operators) r.window ≡ Some o) × StoresFor o.memory (pair_of r)
+    (o : OperatorState) × (slice_get (reverse operators) r.window ≡ Some o) × StoresFor o.memory (pair_of r)
 
 -- the rows are those that the past state has
 abbrev pub AreRowsOf : Past → List KeptRow → Type 0
@@ -51,10 +51,10 @@ AreRowsOf past rows = (r : KeptRow) → Contains rows r ↔ StoresAt past.operat
 
 -- what is known of each window and slot, so that a row stands for one valuation
 abbrev pub IsWhole : Memory → Type 0
-IsWhole (kept.Prev slot operand) =
+IsWhole (memories.Prev slot operand) =
     IsSlot slot × All (λ p. length p.row ≡ length slot.columns) (pairs_of_last slot.last)
-IsWhole (kept.Once window right) = KeepsLeast window
-IsWhole (kept.Since window left left_tables right) = KeepsLeast window
+IsWhole (memories.Once window right) = KeepsLeast window
+IsWhole (memories.Since window left left_tables right) = KeepsLeast window
 
 -- the operand whose free variables are the columns
 abbrev pub kept_operand : Formula → Formula

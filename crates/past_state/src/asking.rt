@@ -2,10 +2,10 @@
 ghost use Rattle.std.specs.Prelude.{◌≡◌, ◌↔◌, ◌≤◌, ◌<◌, IsTrue, IfOk, drop, get_or, length, reverse};
 ghost use Rattle.enf_value.specs.Valuations.{Valuation as Bound};
 ghost use Rattle.valuations.specs.Tables.{AgreesWhereBound, Has, IsTable};
-ghost use Rattle.past_state.specs.Asked.{CanAskEach, tables_at};
+ghost use Rattle.past_state.specs.LazyTables.{CanAskEach, tables_at};
 
 use crate::memories::{Memory, StepTables};
-use crate::operators::Operator;
+use crate::operators::OperatorState;
 use enf_value::memory::NoMemory;
 use monitorable_guard::Past;
 use std::alloc::Global;
@@ -14,17 +14,17 @@ use valuations::{Lookup, Table};
 
 /// Operators that are asked at a step, each by its number; the first one's stands last.
 #[derive(Drop)]
-pub struct Asked<'a> {
-    operators: &'a [Operator],
+pub struct LazyTables<'a> {
+    operators: &'a [OperatorState],
     steps: &'a [StepTables],
     places: &'a [usize],
     time: u64,
 }
 
-impl<'a> Model for Asked<'a> {
+impl<'a> Model for LazyTables<'a> {
     ghost use Rattle.std.specs.Prelude.{List};
     ghost use Rattle.valuations.specs.Tables.{Relation};
-    ghost use Rattle.past_state.specs.Asked.{CanAskEach, tables_at};
+    ghost use Rattle.past_state.specs.LazyTables.{CanAskEach, tables_at};
 
     ghost Value = { List Relation };
 
@@ -33,18 +33,18 @@ impl<'a> Model for Asked<'a> {
     ghost invariant = { λ asked. CanAskEach asked.operators.now asked.steps.now asked.time asked.places.now };
 }
 
-impl<'a> Asked<'a> {
+impl<'a> LazyTables<'a> {
     /// The operators with these numbers, at a step at this time that brings these tables.
     pub fn of(
-        operators: &'a [Operator],
+        operators: &'a [OperatorState],
         steps: &'a [StepTables],
         places: &'a [usize],
         time: u64,
-    ) -> Asked<'a>
+    ) -> LazyTables<'a>
         requires { CanAskEach operators.now steps.now time places.now }
         ensures { result ≡ tables_at operators.now steps.now time places.now }
     {
-        Asked {
+        LazyTables {
             operators,
             steps,
             places,
@@ -53,11 +53,11 @@ impl<'a> Asked<'a> {
     }
 
     /// Those behind the first ones.
-    pub fn behind(&self, count: usize) -> Asked<'a>
+    pub fn behind(&self, count: usize) -> LazyTables<'a>
         requires { count ≤ length self.now }
         ensures { result ≡ drop count self.now }
     {
-        Asked {
+        LazyTables {
             operators: self.operators,
             steps: self.steps,
             places: &self.places[..self.places.len() - count],
@@ -66,7 +66,7 @@ impl<'a> Asked<'a> {
     }
 }
 
-impl Past for Asked<'_> {
+impl Past for LazyTables<'_> {
     ghost tables = { λ asked. asked };
 
     fn count(&self) -> usize {
@@ -100,7 +100,7 @@ fn place_of(places: &[usize], operator: usize) -> usize
 }
 
 impl Memory {
-    ghost use Rattle.past_state.specs.Asked.{CanAnswer};
+    ghost use Rattle.past_state.specs.LazyTables.{CanAnswer};
     ghost use Rattle.past_state.specs.Memories.{given_by};
 
     /// Whether the valuation is among the rows of the operator at the step.

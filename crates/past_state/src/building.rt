@@ -13,7 +13,7 @@ ghost use Rattle.past_state.specs.Operators.{operators};
 
 use crate::left::Left;
 use crate::memories::Memory;
-use crate::operators::Operator;
+use crate::operators::OperatorState;
 use crate::shared_guard::SharedGuard;
 use enf_formula::Formula;
 use enf_value::intervals::Interval;
@@ -29,7 +29,7 @@ use windows::{PrevSlot, SinceWindow};
 pub fn push_operators(
     alloc: Global,
     formula: &Formula,
-    out: &mut Vec<Operator>,
+    out: &mut Vec<OperatorState>,
 ) -> Result<usize, NoMemory>
     requires { All CanKeep (operators (tree_of formula.now)) }
     ensures count { IfOk result (λ count. count ≡ length (outermost (tree_of formula.now))) }
@@ -80,7 +80,7 @@ fn push_both(
     alloc: Global,
     f: &Formula,
     g: &Formula,
-    out: &mut Vec<Operator>,
+    out: &mut Vec<OperatorState>,
 ) -> Result<usize, NoMemory>
     requires left { All CanKeep (operators (tree_of f.now)) }
     requires right { All CanKeep (operators (tree_of g.now)) }
@@ -94,11 +94,12 @@ fn push_both(
     Ok(left + right)
 }
 
-fn push_one(taken: usize, memory: Memory, out: &mut Vec<Operator>) -> Result<usize, NoMemory>
+fn push_one(taken: usize, memory: Memory, out: &mut Vec<OperatorState>) -> Result<usize, NoMemory>
     ensures one { IfOk result (λ count. count ≡ 1) }
-    ensures pushed { IfOk result (λ _. out.new.items ≡ out.old.items ++ record { taken = taken; memory = memory } ∷ []) }
+    ensures pushed { IfOk result (λ _. out.new.items
+        ≡ out.old.items ++ record { taken = taken; memory = memory } ∷ []) }
 {
-    out.push(Operator { taken, memory })?;
+    out.push(OperatorState { taken, memory })?;
     Ok(1)
 }
 
@@ -178,9 +179,9 @@ fn left_of(alloc: Global, left: &Formula, columns: &Vars) -> Result<Left, NoMemo
         Formula::True(_) => Ok(Left::All),
         Formula::Not(_, denied) => match guard_alone(alloc, denied, columns)? {
             Some(guard) => Ok(Left::Denied(SharedGuard::new(alloc, guard)?)),
-            None => Ok(Left::Asked(shared_guard_of(alloc, left, columns)?)),
+            None => Ok(Left::ByRow(shared_guard_of(alloc, left, columns)?)),
         },
-        _ => Ok(Left::Asked(shared_guard_of(alloc, left, columns)?)),
+        _ => Ok(Left::ByRow(shared_guard_of(alloc, left, columns)?)),
     }
 }
 

@@ -3,7 +3,7 @@ ghost use Rattle.std.specs.Prelude.{◌≡◌, IfOk};
 
 use crate::left::Left;
 use crate::memories::Memory;
-use crate::operators::{Operator, Operators};
+use crate::operators::{OperatorState, OperatorStates};
 use enf_value::items::Duplicate;
 use enf_value::memory::NoMemory;
 use std::alloc::{AllocError, Global};
@@ -13,7 +13,7 @@ impl Duplicate for Left {
         match self {
             Left::All => Ok(Left::All),
             Left::Denied(guard) => Ok(Left::Denied(guard.duplicate(alloc)?)),
-            Left::Asked(guard) => Ok(Left::Asked(guard.duplicate(alloc)?)),
+            Left::ByRow(guard) => Ok(Left::ByRow(guard.duplicate(alloc)?)),
         }
     }
 }
@@ -52,26 +52,26 @@ impl Duplicate for Memory {
     }
 }
 
-impl Clone for Operators {
+impl Clone for OperatorStates {
     ghost use Rattle.std.specs.Prelude.{◌≡◌};
 
     ghost is_clone = { λ operators copy. copy.items.items ≡ operators.items.items };
 
-    fn clone(&self) -> Result<Operators, AllocError> {
+    fn clone(&self) -> Result<OperatorStates, AllocError> {
         let alloc = *self.items.allocator();
         match copy_of(alloc, self.items.as_slice()) {
-            Ok(items) => Ok(Operators { items }),
+            Ok(items) => Ok(OperatorStates { items }),
             Err(NoMemory) => Err(AllocError),
         }
     }
 }
 
-fn copy_of(alloc: Global, operators: &[Operator]) -> Result<Vec<Operator>, NoMemory>
+fn copy_of(alloc: Global, operators: &[OperatorState]) -> Result<Vec<OperatorState>, NoMemory>
     ensures { IfOk result (λ copy. copy.items ≡ operators.now) }
 {
     let mut copy = Vec::with_capacity(alloc, operators.len())?;
     for operator in operators {
-        copy.push(Operator {
+        copy.push(OperatorState {
             taken: operator.taken,
             memory: operator.memory.duplicate(alloc)?,
         })?;

@@ -6,7 +6,7 @@ ghost use Rattle.past_state.specs.Keeping.{PushesFor};
 ghost use Rattle.past_state.specs.Operators.{all_operators, all_outermost};
 
 use crate::building::{guard_of, push_operators};
-use crate::operators::Operator;
+use crate::operators::OperatorState;
 use enf_value::memory::NoMemory;
 use monitorable_guard::Guard;
 use std::alloc::Global;
@@ -23,7 +23,7 @@ pub struct PlacedGuard {
 pub fn push_all(
     alloc: Global,
     guards: &[Guard],
-    out: &mut Vec<Operator>,
+    out: &mut Vec<OperatorState>,
 ) -> Result<Vec<usize>, NoMemory>
     requires { All IsFreshGuard guards.now }
     ensures counts { IfOk result (λ counts. counts.items ≡ reverse (map count_in guards.now)) }

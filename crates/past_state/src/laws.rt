@@ -1,12 +1,14 @@
 //! How windows and slots stand for a trace, step by step: laws over the definitions, each the contract of a function.
+ghost use Rattle.past_state.specs.Counts.{NoMoreThanNodes};
 ghost use Rattle.past_state.specs.Known.{TablesAreKnown};
-ghost use Rattle.past_state.specs.Laws.{SinceAnswers, SinceGoesOn, OnceAnswers, OnceGoesOn, HistoricallyIsDenied, PrevAnswers, PrevGoesOn};
+ghost use Rattle.past_state.specs.Laws.{SinceAnswers, SinceGoesOn, OnceAnswers, OnceGoesOn, HistoricallyIsDenied};
+ghost use Rattle.past_state.specs.Laws.{PrevAnswers, PrevGoesOn};
 ghost use Rattle.past_state.specs.Past.{RunStands, CommitStands};
 ghost use Rattle.past_state.specs.Restoring.{KeptAreWithinBounds};
 
 use enf_formula::laws::{dependence, is_classical};
 use monitorable_guard::laws::present_is_satisfied;
-use trace_meaning::laws::trace_grows;
+use trace_meaning::laws::{last_time_of_trace, trace_grows};
 use windows::laws::{rows_are_chosen, windows_stand};
 
 /// A window of `since`.
@@ -60,9 +62,15 @@ pub fn tables_are_known()
     ensures { TablesAreKnown }
 {}
 
+/// Formulas have no more operators on the past than nodes: where guards have at most 2^32 nodes, their windows can be
+/// numbered, as `PastState::kept` asks.
+pub fn operators_are_nodes()
+    ensures { NoMoreThanNodes }
+{}
+
 /// What has to be kept of a trace is within the bounds of what a past state can be made again of.
 pub fn kept_can_be_restored()
     ensures within { KeptAreWithinBounds }
 {
-    trace_grows();
+    last_time_of_trace();
 }

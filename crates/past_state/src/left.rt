@@ -17,7 +17,7 @@ pub enum Left {
     /// It is the negation of this guard, which can be asked for all its rows, over the window's columns.
     Denied(SharedGuard),
     /// It is asked under each row that is kept.
-    Asked(SharedGuard),
+    ByRow(SharedGuard),
 }
 
 impl Left {
@@ -41,7 +41,7 @@ impl Left {
                 let failing = all_rows(alloc, guard, events, past)?;
                 Ok(Survivors::AllBut(failing))
             }
-            Left::Asked(guard) => {
+            Left::ByRow(guard) => {
                 let kept = window.rows(alloc)?;
                 let rows = surviving_rows(alloc, &kept, guard, events, past)?;
                 Ok(Survivors::Only(rows))

@@ -1,7 +1,7 @@
 //! What is kept for an operator on the past.
 ghost use Rattle.std.specs.Prelude.{IfOk, OnOk};
 
-use crate::asking::Asked;
+use crate::asking::LazyTables;
 use crate::left::Left;
 use crate::shared_guard::SharedGuard;
 use crate::surviving::all_rows;
@@ -40,14 +40,15 @@ pub struct StepTables {
 }
 
 impl Memory {
-    ghost use Rattle.past_state.specs.Memories.{CanStep, AreStepTables, FitMemory, IsUpToTimeOf, IsCommittedTo, IsSameMemory};
+    ghost use Rattle.past_state.specs.Memories.{CanStep, AreStepTables, FitMemory, IsUpToTimeOf, IsCommittedTo};
+    ghost use Rattle.past_state.specs.Memories.{IsSameMemory};
 
     /// What a step with these events brings, from the outermost operators of the operands.
     pub fn step_tables(
         &self,
         alloc: Global,
         events: &StepEvents<'_>,
-        past: &Asked<'_>,
+        past: &LazyTables<'_>,
     ) -> Result<StepTables, NoMemory>
         requires { CanStep past.now self.now }
         ensures { IfOk result (AreStepTables events.now past.now self.now) }

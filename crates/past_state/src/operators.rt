@@ -1,9 +1,9 @@
 //! The operators on the past of guards, from the inside out.
 ghost use Rattle.std.specs.Prelude.{◌≡◌, [], IfOk, OnOk};
-ghost use Rattle.past_state.specs.Asked.{CanAskEach, tables_at};
+ghost use Rattle.past_state.specs.LazyTables.{CanAskEach, tables_at};
 ghost use Rattle.past_state.specs.Runs.{AreOrdered, AreUpToTimeOf, Runs, AllFit, AllCommitted, AreSameKinds};
 
-use crate::asking::Asked;
+use crate::asking::LazyTables;
 use crate::memories::{Memory, StepTables};
 use enf_value::memory::NoMemory;
 use monitorable_guard::StepEvents;
@@ -12,15 +12,15 @@ use std::rc::Rc;
 
 /// An operator on the past, with how many tables it takes: those of the outermost operators of its operands.
 #[derive(Debug, Drop)]
-pub struct Operator {
+pub struct OperatorState {
     pub taken: usize,
     pub memory: Memory,
 }
 
 /// The operators of guards, from the inside out.
 #[derive(Debug, Drop)]
-pub struct Operators {
-    pub items: Vec<Operator>,
+pub struct OperatorStates {
+    pub items: Vec<OperatorState>,
 }
 
 /// What a step brings to each operator, and the numbers of the outermost operators, the first one's last.
@@ -33,7 +33,7 @@ pub struct Ran {
 /// Evaluates the operators at a step, each behind those of its operands.
 pub fn run(
     alloc: Global,
-    operators: &[Operator],
+    operators: &[OperatorState],
     time: u64,
     events: &StepEvents<'_>,
 ) -> Result<Ran, NoMemory>
@@ -46,7 +46,7 @@ pub fn run(
     let mut steps = Vec::new(alloc);
     let mut places = Vec::new(alloc);
     for operator in operators {
-        let past = Asked::of(operators, steps.as_slice(), places.as_slice(), time);
+        let past = LazyTables::of(operators, steps.as_slice(), places.as_slice(), time);
         let step = operator.memory.step_tables(alloc, events, &past)?;
         places.truncate(places.len() - operator.taken);
         places.push(steps.len())?;
@@ -57,7 +57,7 @@ pub fn run(
 
 /// Makes the step the last one of each operator, in a copy where others share them.
 pub fn commit_shared(
-    operators: &mut Rc<Operators>,
+    operators: &mut Rc<OperatorStates>,
     time: u64,
     steps: Vec<StepTables>,
 ) -> Result<(), NoMemory>
@@ -73,7 +73,7 @@ pub fn commit_shared(
 
 // The same of operators that nothing shares.
 fn commit_each(
-    operators: &mut Vec<Operator>,
+    operators: &mut Vec<OperatorState>,
     time: u64,
     steps: Vec<StepTables>,
 ) -> Result<(), NoMemory>

@@ -2,12 +2,12 @@
 ghost use Rattle.std.specs.Prelude.{◌≡◌, ◌≤◌, ℕ, [], None, IfOk, OnOk, All};
 ghost use Rattle.valuations.specs.Tables.{IsTable};
 
-use crate::asking::Asked;
+use crate::asking::LazyTables;
 use crate::guards::PlacedGuard;
 use crate::kept::KeptRows;
 use crate::laws::{steps_stand, tables_are_known};
 use crate::memories::StepTables;
-use crate::operators::{Operators, commit_shared, run};
+use crate::operators::{OperatorStates, commit_shared, run};
 use enf_value::event_sets::EventSet;
 use enf_value::memory::NoMemory;
 use monitorable_guard::laws::present_is_satisfied;
@@ -21,7 +21,7 @@ use valuations::{Table, Valuation};
 #[derive(Drop)]
 pub struct PastState {
     pub(crate) guards: Rc<Vec<PlacedGuard>>,
-    pub(crate) operators: Rc<Operators>,
+    pub(crate) operators: Rc<OperatorStates>,
 }
 
 impl Model for PastState {
@@ -44,7 +44,7 @@ impl Model for PastState {
 #[derive(Drop)]
 pub struct Tables {
     guards: Rc<Vec<PlacedGuard>>,
-    operators: Rc<Operators>,
+    operators: Rc<OperatorStates>,
     time: u64,
     steps: Vec<StepTables>,
     // the numbers of the guards' outermost operators, the first one's last
@@ -52,7 +52,7 @@ pub struct Tables {
 }
 
 impl Model for Tables {
-    ghost use Rattle.past_state.specs.Asked.{CanAskEach, tables_at};
+    ghost use Rattle.past_state.specs.LazyTables.{CanAskEach, tables_at};
     ghost use Rattle.past_state.specs.Past.{PastTables, ArePastTables};
     ghost use Rattle.past_state.specs.PastCodes.{tables_code};
 
@@ -77,7 +77,7 @@ impl PastState {
     ghost use Rattle.past_state.specs.Past.{AreOf, PastStands, TablesWillStand, CommittedWillStand, PastCommitted};
     ghost use Rattle.past_state.specs.Guarded.{AreCopies, IsFreshGuard};
     ghost use Rattle.past_state.specs.Known.{AreKnown};
-    ghost use Rattle.past_state.specs.Restoring.{AreAtLast};
+    ghost use Rattle.past_state.specs.LastTimes.{AreAtLast};
     ghost use Rattle.past_state.specs.Runs.{AreUpToTimeOf, AllFit};
     ghost use Rattle.past_state.specs.Saved.{AreRowsOf};
 
@@ -129,10 +129,12 @@ impl PastState {
         })
     }
 
-    /// Makes the step of these tables the last one.
+    /// Makes the step of these tables the last one. After want of memory its guards are as they were, and nothing is
+    /// said of what it remembers: it is fit to be dropped.
     pub fn commit(&mut self, time: u64, events: &EventSet, tables: Tables) -> Result<(), NoMemory>
         requires later { AreUpToTimeOf time self.old.operators }
         requires are { AreOf self.old time events.now tables }
+        ensures guards { self.new.guards ≡ self.old.guards }
         ensures ok { OnOk result (PastCommitted self.old time tables.steps self.new) }
         ensures up_to { OnOk result ((later : ℕ) → time ≤ later
             → AreUpToTimeOf later self.new.operators) }
@@ -153,7 +155,8 @@ impl PastState {
 impl Tables {
     ghost use Rattle.std.specs.Prelude.{◌<◌, length, drop};
     ghost use Rattle.past_state.specs.Known.{IsKnownOfGuard};
-    ghost use Rattle.past_state.specs.Past.{BindsBound, HasOpenColumns, AreEvaluated, AreSatisfied, IsTestOf, IsEvaluated, IsSatisfied};
+    ghost use Rattle.past_state.specs.Past.{BindsBound, HasOpenColumns, AreEvaluated, AreSatisfied, IsTestOf};
+    ghost use Rattle.past_state.specs.Past.{IsEvaluated, IsSatisfied};
 
     /// The guard's rows at the step, with the valuation's values of the bound variables. The columns are those free
     /// variables that are not bound, in rising variable number.
@@ -238,11 +241,11 @@ impl Tables {
     }
 
     // The operators behind the first ones.
-    fn behind(&self, start: usize) -> Asked<'_>
+    fn behind(&self, start: usize) -> LazyTables<'_>
         requires { start ≤ length self.now.stack }
         ensures { result ≡ drop start self.now.stack }
     {
-        Asked::of(
+        LazyTables::of(
             self.operators.items.as_slice(),
             self.steps.as_slice(),
             self.places.as_slice(),

@@ -5,12 +5,14 @@ ghost use Rattle.past_state.specs.Guarded.{tree_in};
 ghost use Rattle.past_state.specs.Memories.{columns_of};
 ghost use Rattle.past_state.specs.Operators.{all_operators};
 ghost use Rattle.windows.specs.KeptPairs.{AreKeepable, AreOfLast};
-ghost use Rattle.past_state.specs.Restoring.{AreByWindow, AreKeepableFor, AreRestored, CanRestore, IsRestored, IsRestoredSlot, IsRestoredWindow, start};
+ghost use Rattle.past_state.specs.LastTimes.{start};
+ghost use Rattle.past_state.specs.Restored.{AreByWindow, AreKeepableFor, AreRestored, CanRestore, IsRestored};
+ghost use Rattle.past_state.specs.Restored.{IsRestoredSlot, IsRestoredWindow};
 
 use crate::guards::{place_all, push_all};
 use crate::kept::KeptRows;
 use crate::memories::Memory;
-use crate::operators::{Operator, Operators};
+use crate::operators::{OperatorState, OperatorStates};
 use crate::past::PastState;
 use enf_formula::laws::dependence;
 use enf_value::items::Duplicate;
@@ -22,7 +24,9 @@ use windows::{KeptPair, PrevSlot, SinceWindow};
 
 impl PastState {
     ghost use Rattle.past_state.specs.Guarded.{AreCopies, IsFreshGuard};
-    ghost use Rattle.past_state.specs.Restoring.{AreAtLast, AreWithinBounds, IsUpToLast, WillStandFor};
+    ghost use Rattle.past_state.specs.Bounds.{AreWithinBounds};
+    ghost use Rattle.past_state.specs.LastTimes.{AreAtLast, IsUpToLast};
+    ghost use Rattle.past_state.specs.Restoring.{WillStandFor};
     ghost use Rattle.past_state.specs.Saved.{AreRowsOf};
 
     /// The past state that keeps these rows, with this last time; none before the first step. No quantifier in a guard
@@ -48,7 +52,7 @@ impl PastState {
         let items = restore_each(alloc, operators, last, rows)?;
         let placed = place_all(alloc, guards, counts)?;
         let guards = Rc::new(alloc, placed)?;
-        let operators = Rc::new(alloc, Operators { items })?;
+        let operators = Rc::new(alloc, OperatorStates { items })?;
         Ok(PastState { guards, operators })
     }
 }
@@ -56,10 +60,10 @@ impl PastState {
 // The operators with the rows kept, and this last time.
 fn restore_each(
     alloc: Global,
-    operators: Vec<Operator>,
+    operators: Vec<OperatorState>,
     last: Option<u64>,
     rows: KeptRows,
-) -> Result<Vec<Operator>, NoMemory>
+) -> Result<Vec<OperatorState>, NoMemory>
     requires { CanRestore operators.items last rows }
     ensures { IfOk result (λ restored. AreRestored last rows 0 operators.items restored.items) }
 {
@@ -67,7 +71,7 @@ fn restore_each(
     let mut restored = Vec::with_capacity(alloc, operators.len())?;
     for (operator, pairs) in operators.into_iter().zip(lists.into_iter().rev()) {
         let memory = operator.memory.restored(alloc, last, pairs)?;
-        restored.push(Operator {
+        restored.push(OperatorState {
             taken: operator.taken,
             memory,
         })?;

@@ -6,7 +6,8 @@ ghost use Rattle.enf_formula.specs.Satisfaction.{Anywhere};
 ghost use Rattle.past_state.specs.Cases.{IsKeptIn, IsNotKeptIn, at_last};
 ghost use Rattle.past_state.specs.Cases.{IsKeptBy, IsNotKeptBy, p_of_x, q_since_p};
 ghost use Rattle.past_state.specs.Cases.{IsKeptInWindow, IsNotKeptInWindow, nothing_then_p, p_then_nothing};
-ghost use Rattle.past_state.specs.RestoringCases.{CanBeKept, DoNotFit, Fit, FitBoth, at, in_second, of_two, once_in, prev};
+ghost use Rattle.past_state.specs.RestoringCases.{CanBeKept, DoNotFit, Fit, FitBoth, at, in_second, of_two, once_in};
+ghost use Rattle.past_state.specs.RestoringCases.{prev};
 ghost use Rattle.windows.specs.Cases.{from_on, within};
 
 /// At time 3, of rows that are right at the times 0 and 2.

@@ -1,8 +1,8 @@
 use Rattle.std.proofs.Common.{◌∙◌, ◌++◌, ◌-◌, ◌≤◌, ◌∷◌, [], length, map, take, ap, sym, subst, arith}
 use Rattle.std.proofs.lemmas.List.{length-map, length-reverse}
-use Rattle.past_state.specs.Asked.{table_at, tables_at}
+use Rattle.past_state.specs.LazyTables.{table_at, tables_at}
 use Rattle.past_state.specs.Memories.{AreStepTables, CanStep}
-use Rattle.past_state.proofs.AskedLemmas.{asked_tables, ran_more}
+use Rattle.past_state.proofs.LazyTableLemmas.{asked_tables, ran_more}
 use Rattle.past_state.proofs.RunLemmas.{ready}
 use Rattle.past_state.proofs.operators.run.Goals as goal
 

@@ -1,4 +1,4 @@
-use Rattle.past_state.proofs.AskedLemmas.{RanTo}
+use Rattle.past_state.proofs.LazyTableLemmas.{RanTo}
 use Rattle.past_state.proofs.operators.run.Given as goal
 
 abbrev pub invariant-loop-operator : goal.invariant-loop-operator

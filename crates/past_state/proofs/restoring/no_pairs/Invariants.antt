@@ -1,5 +1,5 @@
 use Rattle.std.proofs.Common.{[]}
-use Rattle.past_state.specs.Restoring.{AreByWindow}
+use Rattle.past_state.specs.Restored.{AreByWindow}
 use Rattle.past_state.proofs.restoring.no_pairs.Given as goal
 
 abbrev pub invariant-loop : goal.invariant-loop

@@ -1,7 +1,7 @@
 use Rattle.std.proofs.Common.{◌∙◌, ◌<◌, ⊎_elim, ap, All, refl, subst, sym, arith}
 use Rattle.std.specs.Iterator.Adapters.{rev_source, zip_first, zip_second}
 use Rattle.std.specs.Vec.Iter.{into_iter_items}
-use Rattle.past_state.specs.Restoring.{AreByWindow}
+use Rattle.past_state.specs.Restored.{AreByWindow}
 use Rattle.past_state.proofs.RestoringLemmas.{AreLeft, all_left, distinct_next, keepable_next, none_left, one_less, rows_within}
 use Rattle.past_state.proofs.restoring.restore_each.Goals as goal
 

@@ -5,7 +5,7 @@ use Rattle.past_state.proofs.ColumnLemmas.{answers_all, failing_in, surviving_in
 use Rattle.past_state.proofs.left.Left.survivors.Goals as goal
 
 pub surviving_rows-requires-clause-free : goal.surviving_rows-requires-clause-free
-surviving_rows-requires-clause-free g c = λ x free. subst (λ l. Contains l x) (sym c.in_ok-kept-in-Asked.ensures.columns) ((subst (CanAskLeft c.args.window.now.columns (g.P.Past.tables c.args.past.now)) c.in-Asked.is c.requires).free x free)
+surviving_rows-requires-clause-free g c = λ x free. subst (λ l. Contains l x) (sym c.in_ok-kept-in-ByRow.ensures.columns) ((subst (CanAskLeft c.args.window.now.columns (g.P.Past.tables c.args.past.now)) c.in-ByRow.is c.requires).free x free)
 
 pub returns-in_ok-failing-in-Denied : goal.returns-in_ok-failing-in-Denied
 returns-in_ok-failing-in-Denied g c =
@@ -15,8 +15,8 @@ returns-in_ok-failing-in-Denied g c =
     (answers_all c.args.events.now (g.P.Past.tables c.args.past.now) c.in-Denied.guard c.args.window.now.columns c.in_ok-failing-in-Denied.failing can.free
     c.in_ok-failing-in-Denied.ensures.table c.in_ok-failing-in-Denied.ensures.free c.in_ok-failing-in-Denied.ensures.rows c.in_ok-failing-in-Denied.ensures.known))
 
-pub returns-in_ok-rows-in-Asked : goal.returns-in_ok-rows-in-Asked
-returns-in_ok-rows-in-Asked g c =
-    subst (λ side. AreSurvivors c.args.events.now (g.P.Past.tables c.args.past.now) side c.args.window.now (told.Only c.in_ok-rows-in-Asked.rows)) (sym c.in-Asked.is)
-    (surviving_in c.args.events.now (g.P.Past.tables c.args.past.now) c.in-Asked.guard c.args.window.now c.in_ok-kept-in-Asked.kept c.in_ok-rows-in-Asked.rows
-    c.in_ok-kept-in-Asked.ensures.columns c.in_ok-kept-in-Asked.ensures.rows c.in_ok-rows-in-Asked.ensures.columns c.in_ok-rows-in-Asked.ensures.rows)
+pub returns-in_ok-rows-in-ByRow : goal.returns-in_ok-rows-in-ByRow
+returns-in_ok-rows-in-ByRow g c =
+    subst (λ side. AreSurvivors c.args.events.now (g.P.Past.tables c.args.past.now) side c.args.window.now (told.Only c.in_ok-rows-in-ByRow.rows)) (sym c.in-ByRow.is)
+    (surviving_in c.args.events.now (g.P.Past.tables c.args.past.now) c.in-ByRow.guard c.args.window.now c.in_ok-kept-in-ByRow.kept c.in_ok-rows-in-ByRow.rows
+    c.in_ok-kept-in-ByRow.ensures.columns c.in_ok-kept-in-ByRow.ensures.rows c.in_ok-rows-in-ByRow.ensures.columns c.in_ok-rows-in-ByRow.ensures.rows)

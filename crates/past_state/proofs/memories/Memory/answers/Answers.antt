@@ -1,7 +1,7 @@
 use Rattle.std.proofs.Common.{◌↔◌, IsTrue, sym, subst}
 use Rattle.valuations.specs.Tables.{Has}
 use Rattle.past_state.specs.Memories.{FitMemory, given_by}
-use Rattle.past_state.proofs.AskedLemmas.{window_has}
+use Rattle.past_state.proofs.LazyTableLemmas.{window_has}
 use Rattle.past_state.proofs.memories.Memory.answers.Goals as goal
 
 pub returns-in-Once : goal.returns-in-Once

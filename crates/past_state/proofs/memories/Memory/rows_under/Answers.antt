@@ -2,9 +2,9 @@ use Rattle.std.proofs.Common.{◌↔◌, sym, subst}
 use Rattle.std.proofs.lemmas.Result.{IfOk-weaker}
 use Rattle.valuations.specs.Tables.{AgreesWhereBound, Has}
 use Rattle.windows.specs.GivenLaws.{given_last_answers}
-use Rattle.past_state.specs.Asked.{LastFits}
+use Rattle.past_state.specs.LazyTables.{LastFits}
 use Rattle.past_state.specs.Memories.{FitMemory, given_by}
-use Rattle.past_state.proofs.AskedLemmas.{window_rows}
+use Rattle.past_state.proofs.LazyTableLemmas.{window_rows}
 use Rattle.past_state.proofs.memories.Memory.rows_under.Goals as goal
 
 pub returns-in-Prev-clause-rows : goal.returns-in-Prev-clause-rows

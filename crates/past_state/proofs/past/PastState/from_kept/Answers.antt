@@ -3,7 +3,7 @@ use Rattle.past_state.specs.GuardLaws.{copies_formulas}
 use Rattle.past_state.specs.Guarded.{tree_in}
 use Rattle.past_state.specs.Operators.{all_operators}
 use Rattle.past_state.specs.Past.{IsPast, formulas}
-use Rattle.past_state.specs.Restoring.{IsAtLast}
+use Rattle.past_state.specs.LastTimes.{IsAtLast}
 use Rattle.past_state.specs.Runs.{AllStand, AreUpToTimeOf}
 use Rattle.past_state.specs.Saved.{StoresAt}
 use Rattle.past_state.specs.declared.kept.KeptRow.{KeptRow}

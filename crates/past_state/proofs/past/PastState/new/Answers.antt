@@ -3,7 +3,8 @@ use Rattle.std.proofs.lemmas.Result.{IfOk-weaker}
 use Rattle.past_state.specs.Guarded.{tree_in}
 use Rattle.past_state.specs.Operators.{all_operators}
 use Rattle.past_state.specs.Past.{PastStands}
-use Rattle.past_state.specs.Restoring.{IsUpToLast, WillStandFor}
+use Rattle.past_state.specs.LastTimes.{IsUpToLast}
+use Rattle.past_state.specs.Restoring.{WillStandFor}
 use Rattle.past_state.specs.Runs.{AreUpToTimeOf}
 use Rattle.past_state.specs.Saved.{AreRowsOf}
 use Rattle.past_state.proofs.BoundsLemmas.{kept_of_nothing}

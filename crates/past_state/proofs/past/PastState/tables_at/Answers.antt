@@ -1,5 +1,5 @@
 use Rattle.std.proofs.Common.{◌∙◌, [], sym, subst, ap}
-use Rattle.past_state.specs.Asked.{CanAskEach, tables_at}
+use Rattle.past_state.specs.LazyTables.{CanAskEach, tables_at}
 use Rattle.past_state.specs.Past.{IsPast, AreOf}
 use Rattle.past_state.specs.Runs.{AreOrdered, Runs}
 use Rattle.past_state.proofs.PastLemmas.{ordered, tables_are}

@@ -1,6 +1,6 @@
 use Rattle.std.proofs.Common.{◌∙◌, ◌≤◌, drop, length, ap, sym, subst}
-use Rattle.past_state.proofs.AskedLemmas.{asked_behind}
-use Rattle.past_state.proofs.asking.Asked.behind.Goals as goal
+use Rattle.past_state.proofs.LazyTableLemmas.{asked_behind}
+use Rattle.past_state.proofs.asking.LazyTables.behind.Goals as goal
 
 pub returns : goal.returns
 returns c =

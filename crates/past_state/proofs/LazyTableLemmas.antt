@@ -13,14 +13,14 @@ use Rattle.valuations.specs.Tables.{Relation, Has, AgreesWhereBound}
 use Rattle.windows.specs.Given.{given}
 use Rattle.windows.specs.Windows.{Window, AnswersBy, SurvivesFor}
 use Rattle.windows.specs.declared.surviving.Surviving.{Surviving}
-use Rattle.past_state.specs.Asked.{CanAnswer, CanAnswerAt, CanAskEach, LastFits, table_at, table_of_step, tables_at}
+use Rattle.past_state.specs.LazyTables.{CanAnswer, CanAnswerAt, CanAskEach, LastFits, table_at, table_of_step, tables_at}
 use Rattle.past_state.specs.Memories.{IsFor, AreStepTables, IsUpToTimeOf, given_by}
 use Rattle.past_state.specs.Runs.{AreOrdered, AreUpToTimeOf, Runs}
 use Rattle.past_state.specs.Survivors.{SurvivorsFit, IsViewOf, survives_by}
 use Rattle.past_state.specs.declared.memories.Memory.{Memory}
-use Rattle.past_state.specs.declared.memories.Memory.TheVariants as kept
+use Rattle.past_state.specs.declared.memories.Memory.TheVariants as memories
 use Rattle.past_state.specs.declared.memories.StepTables.{StepTables}
-use Rattle.past_state.specs.declared.operators.Operator.{Operator}
+use Rattle.past_state.specs.declared.operators.OperatorState.{OperatorState}
 use Rattle.past_state.proofs.MemoryLemmas.{step_fits}
 use Rattle.past_state.proofs.RowLemmas.{iff_then}
 use Rattle.past_state.proofs.RunLemmas.{at, ready, run_at}
@@ -55,10 +55,10 @@ window_rows window time t view w B A fit same is told =
     iff_then (by_view (λ S. B ↔ (AnswersBy window time S t.right w × A)) t.surviving view is told) (λ both. (gives.1 both.0, both.1), λ both. (gives.0 both.0, both.1))
 
 pub last_fits : (f : Formula) (m : Memory) → IsFor f m → LastFits m
-last_fits (Prev place interval g) (kept.Prev slot operand) for = for.3
-last_fits (Once place interval g) (kept.Once window right) for = tt
-last_fits (Historically place interval g) (kept.Once window right) for = tt
-last_fits (Since place interval g h) (kept.Since window left left_tables right) for = tt
+last_fits (Prev place interval g) (memories.Prev slot operand) for = for.3
+last_fits (Once place interval g) (memories.Once window right) for = tt
+last_fits (Historically place interval g) (memories.Once window right) for = tt
+last_fits (Since place interval g h) (memories.Since window left left_tables right) for = tt
 last_fits f m for = absurd for
 
 -- ---- lists
@@ -74,14 +74,14 @@ slice_last (y ∷ xs) x = slice_last xs x
 
 -- ---- operators that are asked
 
-module _ (operators : List Operator) (time : ℕ) where
-  can_both : (o : Option Operator) (t : Option StepTables) → CanAnswerAt time o t → (p : Operator) × (s : StepTables) × (o ≡ Some p) × (t ≡ Some s)
+module _ (operators : List OperatorState) (time : ℕ) where
+  can_both : (o : Option OperatorState) (t : Option StepTables) → CanAnswerAt time o t → (p : OperatorState) × (s : StepTables) × (o ≡ Some p) × (t ≡ Some s)
   can_both None t can = absurd can
   can_both (Some o) None can = absurd can
   can_both (Some o) (Some t) can = (o, t, refl, refl)
 
   -- the table of one of them
-  there : (steps : List StepTables) (place : ℕ) (o : Operator) (t : StepTables) → CanAnswerAt time (slice_get operators place) (slice_get steps place) → o ≡ get_or operators place o → t ≡ get_or steps place t
+  there : (steps : List StepTables) (place : ℕ) (o : OperatorState) (t : StepTables) → CanAnswerAt time (slice_get operators place) (slice_get steps place) → o ≡ get_or operators place o → t ≡ get_or steps place t
       → table_at operators steps time place ≡ given_by o.memory time t
   there steps place o t can is brought =
       let both = can_both (slice_get operators place) (slice_get steps place) can in
@@ -89,7 +89,7 @@ module _ (operators : List Operator) (time : ℕ) where
       let here_too : slice_get steps place ≡ Some t = both.3 ∙ ap Some (sym (brought ∙ get_or_from_slice_get steps place both.1 t both.3)) in
       ap (λ p. table_of_step time p (slice_get steps place)) here ∙ ap (λ s. table_of_step time (Some o) s) here_too
 
-  pub first_is : (steps : List StepTables) (places : List ℕ) (number place : ℕ) (o : Operator) (t : StepTables) → CanAskEach operators steps time places → number < length (tables_at operators steps time places)
+  pub first_is : (steps : List StepTables) (places : List ℕ) (number place : ℕ) (o : OperatorState) (t : StepTables) → CanAskEach operators steps time places → number < length (tables_at operators steps time places)
       → place ≡ get_or (reverse places) number place → o ≡ get_or operators place o → t ≡ get_or steps place t → get_or (tables_at operators steps time places) number (given_by o.memory time t) ≡ given_by o.memory time t
   first_is steps places number place o t can below at_place is brought =
       let f = table_at operators steps time in
@@ -125,24 +125,24 @@ module _ (operators : List Operator) (time : ℕ) where
       ap (λ s. table_of_step time (slice_get operators p) s ∷ map (table_at operators (steps ++ t ∷ []) time) places) (same_before steps t p (All-head (λ q. CanAnswerAt time (slice_get operators q) (slice_get steps q)) p places can))
       ∙ ap (λ l. table_at operators steps time p ∷ l) (map_same steps t places (All-tail (λ q. CanAnswerAt time (slice_get operators q) (slice_get steps q)) p places can))
 
-pub asked_tables : (operators : List Operator) (time : ℕ) {steps more : List StepTables} {places others : List ℕ} → steps ≡ more → places ≡ others → tables_at operators steps time places ≡ tables_at operators more time others
+pub asked_tables : (operators : List OperatorState) (time : ℕ) {steps more : List StepTables} {places others : List ℕ} → steps ≡ more → places ≡ others → tables_at operators steps time places ≡ tables_at operators more time others
 asked_tables operators time {steps} {more} {places} {others} same_steps same_places = ap (λ l. tables_at operators l time places) same_steps ∙ ap (tables_at operators more time) same_places
 
-run_long : (events : List Event) (time : ℕ) (stack : List Relation) (operators : List Operator) (steps : List StepTables) (final : List Relation) → Runs events time stack operators steps final → length steps ≡ length operators
+run_long : (events : List Event) (time : ℕ) (stack : List Relation) (operators : List OperatorState) (steps : List StepTables) (final : List Relation) → Runs events time stack operators steps final → length steps ≡ length operators
 run_long events time stack [] [] final runs = refl
 run_long events time stack [] (t ∷ steps) final runs = absurd runs
 run_long events time stack (o ∷ operators) [] final runs = absurd runs
 run_long events time stack (o ∷ operators) (t ∷ steps) final runs = ap suc (run_long events time (given_by o.memory time t ∷ drop o.taken stack) operators steps final runs.1)
 
 -- so far the operators have run, and those whose numbers these are can be asked
-pub record RanTo (events : List Event) (time : ℕ) (operators : List Operator) (i : ℕ) (steps : List StepTables) (places : List ℕ) : Type 0 where
+pub record RanTo (events : List Event) (time : ℕ) (operators : List OperatorState) (i : ℕ) (steps : List StepTables) (places : List ℕ) : Type 0 where
   pub runs : Runs events time [] (take i operators) steps (tables_at operators steps time places)
   pub can : CanAskEach operators steps time places
 
-pub ran_none : (events : List Event) (time : ℕ) (operators : List Operator) → RanTo events time operators 0 [] []
+pub ran_none : (events : List Event) (time : ℕ) (operators : List OperatorState) → RanTo events time operators 0 [] []
 ran_none events time operators = record { runs = refl; can = All-nil _ }
 
-pub ran_more : (events : List Event) (time : ℕ) (operators : List Operator) (i : ℕ) (o : Operator) (t : StepTables) (steps more : List StepTables) (places after : List ℕ) → AreOrdered operators → AreUpToTimeOf time operators → i < length operators
+pub ran_more : (events : List Event) (time : ℕ) (operators : List OperatorState) (i : ℕ) (o : OperatorState) (t : StepTables) (steps more : List StepTables) (places after : List ℕ) → AreOrdered operators → AreUpToTimeOf time operators → i < length operators
     → o ≡ get_or operators i o → RanTo events time operators i steps places → AreStepTables events (tables_at operators steps time places) o.memory t
     → after ≡ take (length places - o.taken) places ++ length steps ∷ [] → more ≡ steps ++ t ∷ [] → RanTo events time operators (i + 1) more after
 ran_more events time operators i o t steps more places after ordered up_to below is ran are put grown =

@@ -1,9 +1,9 @@
 use Rattle.std.proofs.Common.{◌≡◌, ◌↔◌, ◌<◌, IsTrue, drop, get_or, length, sym, subst}
 use Rattle.monitorable_guard.specs.Present.{FirstHas}
-use Rattle.past_state.specs.Asked.{tables_at}
+use Rattle.past_state.specs.LazyTables.{tables_at}
 use Rattle.past_state.specs.Memories.{given_by}
-use Rattle.past_state.proofs.AskedLemmas.{first_has, first_is}
-use Rattle.past_state.proofs.asking.AskedPast.has.Goals as goal
+use Rattle.past_state.proofs.LazyTableLemmas.{first_has, first_is}
+use Rattle.past_state.proofs.asking.LazyTablesPast.has.Goals as goal
 
 pub returns : goal.returns
 returns g c =

@@ -4,15 +4,15 @@ use Rattle.valuations.specs.Tables.{Relation}
 use Rattle.windows.specs.Slots.{LastHasColumns}
 use Rattle.past_state.specs.Memories.{FitMemory, IsUpToTimeOf, given_by}
 use Rattle.past_state.specs.declared.memories.Memory.{Memory}
-use Rattle.past_state.specs.declared.memories.Memory.TheVariants as kept
+use Rattle.past_state.specs.declared.memories.Memory.TheVariants as memories
 use Rattle.past_state.specs.declared.memories.StepTables.{StepTables}
-use Rattle.past_state.specs.declared.operators.Operator.{Operator}
+use Rattle.past_state.specs.declared.operators.OperatorState.{OperatorState}
 
 -- the rows of the last step have the columns of what is kept
 abbrev pub LastFits : Memory → Type 0
-LastFits (kept.Prev slot operand) = LastHasColumns slot.columns slot.last
-LastFits (kept.Once window right) = Unit {0}
-LastFits (kept.Since window left left_tables right) = Unit {0}
+LastFits (memories.Prev slot operand) = LastHasColumns slot.columns slot.last
+LastFits (memories.Once window right) = Unit {0}
+LastFits (memories.Since window left left_tables right) = Unit {0}
 
 -- an operator can be asked at a step at this time that brings these tables
 pub record CanAnswer (m : Memory) (time : ℕ) (t : StepTables) : Type 0 where
@@ -21,25 +21,25 @@ pub record CanAnswer (m : Memory) (time : ℕ) (t : StepTables) : Type 0 where
   pub last : LastFits m
 
 -- the same of an operator and of tables that are there
-abbrev pub CanAnswerAt : ℕ → Option Operator → Option StepTables → Type 0
+abbrev pub CanAnswerAt : ℕ → Option OperatorState → Option StepTables → Type 0
 CanAnswerAt time None t = ⊥
 CanAnswerAt time (Some o) None = ⊥
 CanAnswerAt time (Some o) (Some t) = CanAnswer o.memory time t
 
 -- so it is of each of these numbers
-abbrev pub CanAskEach : List Operator → List StepTables → ℕ → List ℕ → Type 0
+abbrev pub CanAskEach : List OperatorState → List StepTables → ℕ → List ℕ → Type 0
 CanAskEach operators steps time places =
     All (λ place. CanAnswerAt time (slice_get operators place) (slice_get steps place)) places
 
 -- the table that an operator gives at the step, and none where it is not there
-abbrev pub table_of_step : ℕ → Option Operator → Option StepTables → Relation
+abbrev pub table_of_step : ℕ → Option OperatorState → Option StepTables → Relation
 table_of_step time None t = record { columns = []; rows = [] }
 table_of_step time (Some o) None = record { columns = []; rows = [] }
 table_of_step time (Some o) (Some t) = given_by o.memory time t
 
-abbrev pub table_at : List Operator → List StepTables → ℕ → ℕ → Relation
+abbrev pub table_at : List OperatorState → List StepTables → ℕ → ℕ → Relation
 table_at operators steps time place = table_of_step time (slice_get operators place) (slice_get steps place)
 
 -- the tables of those that are asked, the last of these numbers first
-abbrev pub tables_at : List Operator → List StepTables → ℕ → List ℕ → List Relation
+abbrev pub tables_at : List OperatorState → List StepTables → ℕ → List ℕ → List Relation
 tables_at operators steps time places = reverse (map (table_at operators steps time) places)

@@ -1,10 +1,10 @@
 use Rattle.std.proofs.Common.{◌≡◌, ◌<◌, IfOk, drop, get_or, length, sym, subst}
 use Rattle.monitorable_guard.specs.Asking.{FirstGivesUnder}
-use Rattle.past_state.specs.Asked.{tables_at}
+use Rattle.past_state.specs.LazyTables.{tables_at}
 use Rattle.past_state.specs.Memories.{given_by}
-use Rattle.past_state.proofs.AskedLemmas.{first_gives, first_is}
+use Rattle.past_state.proofs.LazyTableLemmas.{first_gives, first_is}
 use Rattle.past_state.proofs.RowLemmas.{ok_both}
-use Rattle.past_state.proofs.asking.AskedPast.rows_under.Goals as goal
+use Rattle.past_state.proofs.asking.LazyTablesPast.rows_under.Goals as goal
 
 pub returns-clause-rows : goal.returns-clause-rows
 returns-clause-rows g c =
