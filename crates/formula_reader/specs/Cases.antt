@@ -113,6 +113,18 @@ within = record { low = 2; high = Some 5 }
 abbrev pub from_on : Interval
 from_on = record { low = 2; high = None }
 
+-- exists x. f
+abbrev pub some_x : tree.Formula → tree.Formula
+some_x f = tree.Exists 0 (var 0 ∷ []) f
+
+-- once[2,high] go()
+abbrev pub once_up_to : ℕ → tree.Formula
+once_up_to high = tree.Once 0 (record { low = 2; high = Some high }) said_go
+
+-- a number that no entry has
+abbrev pub name_none : NameId
+name_none = record { 0 = 4 }
+
 -- the text of a formula whose variables are x and y
 abbrev pub IsText : tree.Formula → List ℕ → Type 0
 IsText f text = formula_text entries (codes "x" ∷ codes "y" ∷ []) f ≡ text

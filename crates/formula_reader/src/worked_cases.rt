@@ -1,14 +1,18 @@
 //! Worked cases of the second pass and of the canonical text, each a clause of a function with an empty body.
 ghost use Rattle.std.specs.Prelude.{◌≡◌, ◌++◌, ◌∷◌, [], None, Some, codes, pos};
+ghost use Rattle.enf_formula.specs.Binding.{bound_variables, numbered_from};
 ghost use Rattle.enf_formula.specs.Formulas as tree;
+ghost use Rattle.enf_formula.specs.Scopes.{IsScoped};
 ghost use Rattle.enf_value.specs.declared.terms.Term.TheVariants.{Const};
 ghost use Rattle.enf_value.specs.declared.values.Value.TheVariants.{Num, Text as TextConstant};
 ghost use Rattle.policy_syntax.specs.Trees.{And, AtMost, Equal, Exists, Forall, Implies, Less, Not, Or};
 ghost use Rattle.formula_reader.specs.Cases.{HasLevels, IsRead, IsRefused, IsText, Stands, bind_x, bind_y};
 ghost use Rattle.formula_reader.specs.Cases.{go, letter, lost, name_num, name_two, num, one, rule, said_go, said_num};
-ghost use Rattle.formula_reader.specs.Cases.{entries, from_on, two, txt, var, variable, within, x, y};
+ghost use Rattle.formula_reader.specs.Cases.{entries, from_on, some_x, once_up_to, two, txt, var, variable, within, x};
+ghost use Rattle.formula_reader.specs.Cases.{name_none, y};
 ghost use Rattle.formula_reader.specs.Points.{bound_names};
 ghost use Rattle.formula_reader.specs.Sorts.{policy_refusal};
+ghost use Rattle.formula_reader.specs.WellFormed.{IsPolicyFormula};
 ghost use Rattle.formula_reader.specs.declared.policies.PolicyRefusal.TheVariants as refused;
 
 /// Event names, and variables in their scopes.
@@ -115,4 +119,28 @@ pub fn levels()
     // rule r: forall x. (num(x) and (once[2,5] go()));
     ensures nested { HasLevels (tree.Forall 0 (var 0 ∷ []) (tree.And 0 said_num (tree.Once 0 within said_go)))
         (0 ∷ 0 ∷ 0 ∷ 0 ∷ 1 ∷ 1 ∷ 1 ∷ 2 ∷ 2 ∷ 3 ∷ 3 ∷ 2 ∷ 3 ∷ 4 ∷ 5 ∷ 5 ∷ 5 ∷ 5 ∷ 5 ∷ 5 ∷ 5 ∷ 6 ∷ 4 ∷ 2 ∷ 0 ∷ []) }
+{}
+
+/// What a policy that was read is.
+pub fn well_formed()
+    // exists x. num(x)
+    ensures scoped { IsScoped (some_x said_num) [] }
+    // num(x)
+    ensures free { IsScoped said_num [] → ⊥ }
+    // exists x. exists x. go(), with one number for both
+    ensures bound_again { IsScoped (some_x (some_x said_go)) [] → ⊥ }
+    ensures bound_twice { IsScoped (tree.Exists 0 (var 0 ∷ var 0 ∷ []) said_go) [] → ⊥ }
+    // the number above comes first
+    ensures falling { IsScoped (tree.Exists 0 (var 1 ∷ var 0 ∷ []) said_go) [] → ⊥ }
+    // (exists x. go()) or (exists y. go()), numbered on
+    ensures numbered { bound_variables (tree.Or 0 (some_x said_go) (tree.Exists 0 (var 1 ∷ []) said_go))
+        ≡ numbered_from 0 2 }
+    ensures arity { IsPolicyFormula entries 0 said_num }
+    ensures too_few { IsPolicyFormula entries 0 (tree.Atom 0 name_two (variable 0 ∷ [])) → ⊥ }
+    ensures unknown { IsPolicyFormula entries 0 (tree.Atom 0 name_none []) → ⊥ }
+    ensures last_end { IsPolicyFormula entries 0 (once_up_to 1000000000) }
+    ensures end_too_great { IsPolicyFormula entries 0 (once_up_to 1000000001) → ⊥ }
+    ensures backwards { IsPolicyFormula entries 0 (once_up_to 1) → ⊥ }
+    ensures sixteen_in_scope { IsPolicyFormula entries 15 (some_x said_go) }
+    ensures seventeen_in_scope { IsPolicyFormula entries 16 (some_x said_go) → ⊥ }
 {}
