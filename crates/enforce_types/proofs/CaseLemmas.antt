@@ -5,7 +5,7 @@ use Rattle.enf_value.specs.declared.terms.Term.TheVariants.{Var}
 use Rattle.enf_value.specs.declared.terms.VarId.{VarId}
 use Rattle.enf_formula.specs.Cases.{x}
 use Rattle.enf_formula.specs.Formulas.{Not}
-use Rattle.valuations.specs.Columns.{here, later, first_or_later, none_in_nil}
+use Rattle.enf_value.specs.ListLaws.{here, later, first_or_later, none_in_nil}
 use Rattle.monitorable_guard.specs.Safety.{IsTest}
 use Rattle.enforce_types.specs.Answers.{Guards}
 use Rattle.enforce_types.specs.Cases.{y, p_at, q_at, p_x_at, p_x_y_at, once_p, once_q}

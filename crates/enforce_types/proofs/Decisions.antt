@@ -5,7 +5,8 @@ use Rattle.enf_value.specs.declared.terms.Term.TheVariants.{Var, Const}
 use Rattle.enf_value.specs.declared.terms.VarId.{VarId}
 use Rattle.enf_formula.specs.Formulas.{Formula, True, False, Atom, Equal, Less, AtMost, Not, And, Or, Implies, Exists, Forall, Prev, Next, Once, Historically, Since, Eventually, Always, Until}
 use Rattle.enf_formula.specs.FreeVariables.{IsFree}
-use Rattle.valuations.specs.Columns.{here, later, first_or_later, none_in_nil, among_or_not}
+use Rattle.valuations.specs.Columns.{among_or_not}
+use Rattle.enf_value.specs.ListLaws.{here, later, first_or_later, none_in_nil}
 use Rattle.monitorable_guard.specs.Safety.{SafeBelow, FreeWithin, FreeUnder, FreeAlike, With, Nothing, Assigns, IsTest}
 
 -- it holds or it does not

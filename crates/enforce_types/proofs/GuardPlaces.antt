@@ -1,14 +1,16 @@
 -- Each guard and test of a policy stands at its number.
-use Rattle.std.proofs.Common.{◌≡◌, ℕ, List, [], ◌∷◌, ◌++◌, length, map, Some, Contains, refl, sym, ap, subst, ◌∙◌}
-use Rattle.std.specs.List.{flat_map, slice_get}
+use Rattle.std.proofs.Common.{◌≡◌, ℕ, List, [], ◌∷◌, ◌++◌, length, map, Some, Contains, ⊎_elim, refl, sym, ap, subst, ◌∙◌}
+use Rattle.std.specs.List.{AllByRecursion, flat_map, slice_get}
 use Rattle.std.specs.Option.{option_map}
 use Rattle.std.proofs.lemmas.List.{map-append}
+use Rattle.std.proofs.lemmas.List.Elements.{Contains-append_left, Contains-append_right}
 use Rattle.std.proofs.lemmas.Option.{slice_get-map, slice_get_read}
+use Rattle.enf_value.specs.ListLaws.{AllByRecursion-from_contains, first_or_later, here, later, none_in_nil}
 use Rattle.enf_value.specs.declared.terms.VarId.{VarId}
 use Rattle.enf_formula.specs.Formulas.{Formula}
 use Rattle.plan_terms.specs.Plans.{Plan, Cause, Suppress, Both, Either, TestOr, Guarded, Eventually, Always, Until, Next}
 use Rattle.signature.specs.declared.entries.NameEntry.{NameEntry}
-use Rattle.enforce_types.specs.GuardLists.{guards_in, numbered_guards}
+use Rattle.plan_terms.specs.Guards.{GuardsAreListed, guards_in}
 use Rattle.enforce_types.specs.Numbering.{guard_numbers}
 use Rattle.enforce_types.specs.PolicyPlans.{ArePlanned}
 use Rattle.enforce_types.proofs.PolicyLemmas.{guard_places}
@@ -18,6 +20,20 @@ Guard = Formula × List VarId
 
 abbrev Numbered : Type 0
 Numbered = ℕ × Guard
+
+-- the guards and tests of a plan, each with the number that it keeps
+abbrev pub numbered_guards : Plan → List VarId → List (ℕ × (Formula × List VarId))
+numbered_guards (Cause node place name terms) scope = []
+numbered_guards (Suppress node place name terms) scope = []
+numbered_guards (Both node left right) scope = numbered_guards left scope ++ numbered_guards right scope
+numbered_guards (Either node left right) scope = numbered_guards left scope ++ numbered_guards right scope
+numbered_guards (TestOr node guard test body) scope = (guard, (test, scope)) ∷ numbered_guards body scope
+numbered_guards (Guarded node vars guard test body) scope =
+    (guard, (test, scope)) ∷ numbered_guards body (scope ++ vars)
+numbered_guards (Eventually node place low high body) scope = numbered_guards body scope
+numbered_guards (Always node place low high body) scope = numbered_guards body scope
+numbered_guards (Until node place low high left right) scope = numbered_guards left scope ++ numbered_guards right scope
+numbered_guards (Next node place high body) scope = numbered_guards body scope
 
 -- a part of what is listed: the numbers, or the guards
 module _ {X : Type 0} (part : Numbered → X) where
@@ -60,7 +76,7 @@ listed (Always node place low high body) scope = listed body scope
 listed (Until node place low high l r) scope = two_list _ _ _ _ _ _ (listed l scope) (listed r scope)
 listed (Next node place high body) scope = listed body scope
 
-pub at_number : (entries : List NameEntry) (policy : List Formula) (plans : List Plan) (guards : List Guard) (number : ℕ) (guard : Guard) → ArePlanned entries policy plans guards
+at_number : (entries : List NameEntry) (policy : List Formula) (plans : List Plan) (guards : List Guard) (number : ℕ) (guard : Guard) → ArePlanned entries policy plans guards
     → Contains (flat_map (λ plan. numbered_guards plan []) plans) (number, guard) → slice_get guards number ≡ Some guard
 at_number entries policy plans guards number guard are there =
     let all : List Numbered = flat_map (λ (p : Plan). numbered_guards p []) plans in
@@ -70,3 +86,28 @@ at_number entries policy plans guards number guard are there =
     (part_at number_of all (flat_map guard_numbers plans) there.0 (number, guard) (all_parts number_of guard_numbers (λ p. (listed p []).0) plans) at) in
     let listed : map guard_of all ≡ guards = all_parts guard_of (λ p. guards_in p []) (λ p. (listed p []).1) plans ∙ sym are.guarded in
     subst (λ (k : ℕ). slice_get guards k ≡ Some guard) (sym place) (part_at guard_of all guards there.0 (number, guard) listed at)
+
+in_one : {A : Type 0} (f : Plan → List A) (plans : List Plan) (p : Plan) (x : A) → Contains plans p → Contains (f p) x → Contains (flat_map f plans) x
+in_one f [] p x there has = absurd (none_in_nil p there)
+in_one f (q ∷ plans) p x there has =
+    ⊎_elim (λ (same : q ≡ p). Contains-append_left (f q) (flat_map f plans) x (subst (λ (r : Plan). Contains (f r) x) (sym same) has))
+    (λ behind. Contains-append_right (f q) (flat_map f plans) x (in_one f plans p x behind has)) (first_or_later p q plans there)
+
+listed_of : (guards : List Guard) (p : Plan) (scope : List VarId) → ((number : ℕ) (guard : Guard) → Contains (numbered_guards p scope) (number, guard) → slice_get guards number ≡ Some guard) → GuardsAreListed guards p scope
+listed_of guards (Cause node place name terms) scope at = tt
+listed_of guards (Suppress node place name terms) scope at = tt
+listed_of guards (Both node l r) scope at = (tt, listed_of guards l scope (λ n g there. at n g (Contains-append_left (numbered_guards l scope) (numbered_guards r scope) (n, g) there)), listed_of guards r scope (λ n g there. at n g (Contains-append_right (numbered_guards l scope) (numbered_guards r scope) (n, g) there)))
+listed_of guards (Either node l r) scope at = (tt, listed_of guards l scope (λ n g there. at n g (Contains-append_left (numbered_guards l scope) (numbered_guards r scope) (n, g) there)), listed_of guards r scope (λ n g there. at n g (Contains-append_right (numbered_guards l scope) (numbered_guards r scope) (n, g) there)))
+listed_of guards (TestOr node guard test body) scope at =
+    (at guard (test, scope) (here (guard, (test, scope)) (numbered_guards body scope)), listed_of guards body scope (λ n g there. at n g (later (n, g) (guard, (test, scope)) (numbered_guards body scope) there)))
+listed_of guards (Guarded node vars guard test body) scope at =
+    (at guard (test, scope) (here (guard, (test, scope)) (numbered_guards body (scope ++ vars))), listed_of guards body (scope ++ vars) (λ n g there. at n g (later (n, g) (guard, (test, scope)) (numbered_guards body (scope ++ vars)) there)))
+listed_of guards (Eventually node place low high body) scope at = (tt, listed_of guards body scope at)
+listed_of guards (Always node place low high body) scope at = (tt, listed_of guards body scope at)
+listed_of guards (Until node place low high l r) scope at = (tt, listed_of guards l scope (λ n g there. at n g (Contains-append_left (numbered_guards l scope) (numbered_guards r scope) (n, g) there)), listed_of guards r scope (λ n g there. at n g (Contains-append_right (numbered_guards l scope) (numbered_guards r scope) (n, g) there)))
+listed_of guards (Next node place high body) scope at = (tt, listed_of guards body scope at)
+
+pub all_listed : (entries : List NameEntry) (policy : List Formula) (plans : List Plan) (guards : List Guard) → ArePlanned entries policy plans guards → AllByRecursion (λ plan. GuardsAreListed guards plan []) plans
+all_listed entries policy plans guards are =
+    AllByRecursion-from_contains (λ plan. GuardsAreListed guards plan []) plans
+    (λ p there. listed_of guards p [] (λ n g has. at_number entries policy plans guards n g are (in_one (λ plan. numbered_guards plan []) plans p (n, g) there has)))

@@ -6,8 +6,8 @@ use Rattle.enf_formula.specs.FreeVariables.{IsFree}
 use Rattle.monitorable_guard.specs.Safety.{Safe, IsTest}
 use Rattle.plan_terms.specs.Plans.{Plan, plan_of}
 use Rattle.plan_terms.specs.declared.plans.Plan.{Plan as Stored}
-use Rattle.enforce_types.specs.Answers.{Answer, FromNow, Guards, Implication, IsRefused, OneOfTwo, OverOne, OverTwo, WithEnd}
-use Rattle.enforce_types.specs.Given.{answer_of, positive, side, Is, tested}
+use Rattle.enforce_types.specs.Answers.{Answer, FromNow, Guards, Implication, IsRefused, OneOfTwo, OverOne, OverTwo, WithEnd, answer_of, Is}
+use Rattle.enforce_types.specs.Joined.{positive, side, tested}
 use Rattle.enforce_types.specs.declared.refusals.Refusal.{Refusal}
 
 pub given_plan : (a : Result Stored Refusal) (p : Stored) → a ≡ Ok p → ◌≡◌ {A = Answer} (Ok (plan_of p)) (answer_of a)

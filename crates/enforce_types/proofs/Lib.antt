@@ -14,3 +14,6 @@ pub mod Making
 pub mod PlanLimits
 pub mod GuardPlaces
 pub mod TypingLemmas
+pub mod FormulaNames
+pub mod MadeWell
+pub mod FormedPlans

@@ -6,7 +6,8 @@ use Rattle.enf_value.specs.declared.terms.VarId.{VarId}
 use Rattle.plan_terms.specs.Nodes.{nodes, number_of}
 use Rattle.plan_terms.specs.PlanFormula.{formula_for}
 use Rattle.plan_terms.specs.Plans.{Plan, Cause, Suppress, Both, Either, TestOr, Guarded, Eventually, Always, Until, Next}
-use Rattle.enforce_types.specs.Guards.{GuardsAreSafe}
+use Rattle.plan_terms.specs.Guards.{GuardsAreSafe, IsSafeNode}
+use Rattle.plan_terms.specs.Scopes.{AtEach}
 use Rattle.enforce_types.specs.Numbering.{node_count, guard_count, guard_numbers, numbered, all_numbered}
 
 pub has_node : (p : Plan) → 1 ≤ node_count p
@@ -126,14 +127,30 @@ same_formula (Always node place low high body) n g = cc (same_formula body (n + 
 same_formula (Until node place low high l r) n g = cc (same_formula l (n + 1) g, same_formula r (n + 1 + node_count l) (g + guard_count l))
 same_formula (Next node place high body) n g = cc (same_formula body (n + 1) g)
 
+-- what does not depend on numbers stays at each node
+pub each_stays : (P : Plan → List VarId → Type 0) → ((p : Plan) (n g : ℕ) (scope : List VarId) → P p scope → P (numbered n g p) scope) → (p : Plan) (n g : ℕ) (scope : List VarId) → AtEach P p scope → AtEach P (numbered n g p) scope
+each_stays P stay (Cause node place name terms) n g scope h = stay (Cause node place name terms) n g scope h
+each_stays P stay (Suppress node place name terms) n g scope h = stay (Suppress node place name terms) n g scope h
+each_stays P stay (Both node l r) n g scope h = (stay (Both node l r) n g scope h.0, each_stays P stay l (n + 1) g scope h.1, each_stays P stay r (n + 1 + node_count l) (g + guard_count l) scope h.2)
+each_stays P stay (Either node l r) n g scope h = (stay (Either node l r) n g scope h.0, each_stays P stay l (n + 1) g scope h.1, each_stays P stay r (n + 1 + node_count l) (g + guard_count l) scope h.2)
+each_stays P stay (TestOr node guard test body) n g scope h = (stay (TestOr node guard test body) n g scope h.0, each_stays P stay body (n + 1) (g + 1) scope h.1)
+each_stays P stay (Guarded node vars guard test body) n g scope h = (stay (Guarded node vars guard test body) n g scope h.0, each_stays P stay body (n + 1) (g + 1) (scope ++ vars) h.1)
+each_stays P stay (Eventually node place low high body) n g scope h = (stay (Eventually node place low high body) n g scope h.0, each_stays P stay body (n + 1) g scope h.1)
+each_stays P stay (Always node place low high body) n g scope h = (stay (Always node place low high body) n g scope h.0, each_stays P stay body (n + 1) g scope h.1)
+each_stays P stay (Until node place low high l r) n g scope h = (stay (Until node place low high l r) n g scope h.0, each_stays P stay l (n + 1) g scope h.1, each_stays P stay r (n + 1 + node_count l) (g + guard_count l) scope h.2)
+each_stays P stay (Next node place high body) n g scope h = (stay (Next node place high body) n g scope h.0, each_stays P stay body (n + 1) g scope h.1)
+
+safe_node : (p : Plan) (n g : ℕ) (scope : List VarId) → IsSafeNode p scope → IsSafeNode (numbered n g p) scope
+safe_node (Cause node place name terms) n g scope s = s
+safe_node (Suppress node place name terms) n g scope s = s
+safe_node (Both node l r) n g scope s = s
+safe_node (Either node l r) n g scope s = s
+safe_node (TestOr node guard test body) n g scope s = s
+safe_node (Guarded node vars guard test body) n g scope s = s
+safe_node (Eventually node place low high body) n g scope s = s
+safe_node (Always node place low high body) n g scope s = s
+safe_node (Until node place low high l r) n g scope s = s
+safe_node (Next node place high body) n g scope s = s
+
 pub safe_stays : (p : Plan) (n g : ℕ) (scope : List VarId) → GuardsAreSafe p scope → GuardsAreSafe (numbered n g p) scope
-safe_stays (Cause node place name terms) n g scope s = tt
-safe_stays (Suppress node place name terms) n g scope s = tt
-safe_stays (Both node l r) n g scope s = (safe_stays l (n + 1) g scope s.0, safe_stays r (n + 1 + node_count l) (g + guard_count l) scope s.1)
-safe_stays (Either node l r) n g scope s = (safe_stays l (n + 1) g scope s.0, safe_stays r (n + 1 + node_count l) (g + guard_count l) scope s.1)
-safe_stays (TestOr node guard test body) n g scope s = (s.0, s.1, safe_stays body (n + 1) (g + 1) scope s.2)
-safe_stays (Guarded node vars guard test body) n g scope s = (s.0, s.1, s.2, safe_stays body (n + 1) (g + 1) (scope ++ vars) s.3)
-safe_stays (Eventually node place low high body) n g scope s = safe_stays body (n + 1) g scope s
-safe_stays (Always node place low high body) n g scope s = safe_stays body (n + 1) g scope s
-safe_stays (Until node place low high l r) n g scope s = (safe_stays l (n + 1) g scope s.0, safe_stays r (n + 1 + node_count l) (g + guard_count l) scope s.1)
-safe_stays (Next node place high body) n g scope s = safe_stays body (n + 1) g scope s
+safe_stays p n g scope safe = each_stays IsSafeNode safe_node p n g scope safe

@@ -1,213 +1,167 @@
--- The plans of a policy that keeps to the limits keep to them too, and their names are those of the signature.
-use Rattle.std.proofs.Common.{◌≡◌, ℕ, ◌+◌, ◌<◌, ◌≤◌, Bool, List, [], ◌∷◌, ◌++◌, length, Option, None, Some, Ok, Contains, inl, inr, refl, sym, subst, arith}
-use Rattle.std.specs.List.{AllByRecursion, AllZip, flat_map}
-use Rattle.std.specs.Option.{option_or}
-use Rattle.std.proofs.lemmas.List.Elements.{All-contains, All-from_recursion}
+-- The plans of a policy that was read keep to the limits, and their names are those of the signature.
+use Rattle.std.proofs.Common.{◌≡◌, ◌⊎◌, ℕ, ◌+◌, ◌<◌, ◌≤◌, IsTrue, List, [], ◌∷◌, ◌++◌, length, Option, None, Some, Ok, Contains, inl, inr, refl, sym, subst, arith}
+use Rattle.std.specs.List.{AllByRecursion, AllZip, flat_map, slice_get}
+use Rattle.std.specs.List.Sorted.{IsStrictlySortedBy}
+use Rattle.enf_value.specs.ListLaws.{AllByRecursion-append, AllByRecursion-contains, AllByRecursion-weaker}
 use Rattle.enf_value.specs.declared.events.NameId.{NameId}
-use Rattle.enf_value.specs.declared.limits.TheConstants.{MOST_NAMES}
+use Rattle.enf_value.specs.declared.limits.TheConstants.{MOST_NAMES, MOST_NODES}
 use Rattle.enf_value.specs.declared.terms.VarId.{VarId}
+use Rattle.enf_formula.specs.Formulas.{Formula}
 use Rattle.enf_formula.specs.Shape.{size_of}
-use Rattle.enf_formula.specs.Formulas.{Formula, Atom, Not, And, Or, Implies, Exists, Forall, Next, Eventually, Always, Until}
-use Rattle.formula_reader.specs.Within.{AreWithinLimits, Fits, IsWithinLimits}
+use Rattle.formula_reader.specs.Resolution.{Rule}
+use Rattle.formula_reader.specs.WellFormed.{IsWellFormedPolicy, IsWellFormedRule}
+use Rattle.plan_terms.specs.Changes.{IsCaused, IsSuppressed, cause_of, caused_below, suppress_of, suppressed_below}
+use Rattle.plan_terms.specs.Limits.{EndsInTime, IsSmall}
+use Rattle.plan_terms.specs.Names.{AreBelow}
 use Rattle.plan_terms.specs.Nodes.{nodes}
 use Rattle.plan_terms.specs.Plans as plan
 use Rattle.plan_terms.specs.Plans.{Plan}
-use Rattle.policy_syntax.specs.Limits.{EndsFit}
-use Rattle.policy_syntax.specs.declared.limits.TheConstants.{MOST_INTERVAL_END}
-use Rattle.rank_check.specs.Limits.{AreTriggersBelow, EndsInTime, IsSmall}
-use Rattle.rank_check.specs.Limits.{ArePlansWithinLimits}
-use Rattle.rank_check.specs.Paths.{guard_triggers, of_each, triggers}
-use Rattle.rank_check.specs.Roles.{AreNamesBelow, cause_of, caused_below, suppress_of, suppressed_below}
+use Rattle.plan_terms.specs.ScopeLaws.{AtEach-nodes, AtEach-weaker}
+use Rattle.plan_terms.specs.Triggers.{guard_triggers}
+use Rattle.rank_check.specs.Limits.{ArePlansWithinLimits, AreTriggersBelow}
+use Rattle.rank_check.specs.Roles.{AreNamesBelow}
 use Rattle.signature.specs.declared.entries.NameEntry.{NameEntry}
-use Rattle.enforce_types.specs.Elab.{Elab, Aim, Up, Down, UpForAll}
-use Rattle.enforce_types.specs.Given.{is_causable, is_suppressible}
+use Rattle.enforce_types.specs.Elab.{Up}
+use Rattle.enforce_types.specs.Marks.{is_causable, is_suppressible}
 use Rattle.enforce_types.specs.Numbering.{node_count, guard_count, numbered, all_numbered}
-use Rattle.enforce_types.specs.PolicyPlans.{ArePlanned, HasPlan}
-use Rattle.enforce_types.proofs.Making.{by_leaf, by_one, by_two, by_one_of_two, by_exclusion, by_implication, with_end, from_now, not_refused}
-use Rattle.enforce_types.proofs.NumberingLemmas.{same_count}
+use Rattle.enforce_types.specs.PolicyPlans.{ArePlanned, HasPlan, formulas_of}
+use Rattle.enforce_types.proofs.FormulaNames.{marked_within, triggers_below}
+use Rattle.enforce_types.proofs.MadeWell.{AreFine, IsFine, IsGiven, MayBeDone, fine_stays, made_fine}
+use Rattle.enforce_types.proofs.NumberingLemmas.{each_stays, same_count}
 use Rattle.enforce_types.proofs.PlanSizes.{plan_fits}
 
-both_all : {X : Type 0} (P : X → Type 0) (xs ys : List X) → AllByRecursion P xs → AllByRecursion P ys → AllByRecursion P (xs ++ ys)
-both_all P [] ys a b = b
-both_all P (x ∷ xs) ys a b = (a.0, both_all P xs ys a.1 b)
+-- the names that nodes have, where those of each have a property
+named : (Q : NameId → Type 0) (own : Plan → List NameId) (xs : List Plan) → AllByRecursion (λ node. AllByRecursion Q (own node)) xs → AllByRecursion Q (flat_map own xs)
+named Q own [] h = tt
+named Q own (x ∷ xs) h = AllByRecursion-append Q (own x) (flat_map own xs) h.0 (named Q own xs h.1)
 
-each_of : {X : Type 0} (P : X → Type 0) (xs : List X) (x : X) → AllByRecursion P xs → Contains xs x → P x
-each_of P xs x all there = All-contains P xs x (All-from_recursion P xs all) there
-
--- an interval with an end ends in time
-end_fits : (low n : ℕ) (high : Option ℕ) → high ≡ Some n → EndsFit low high → n ≤ MOST_INTERVAL_END
-end_fits low n high is fits = (subst (EndsFit low) is fits).1
-
-module _ (names : ℕ) where
-  -- the names of its nodes and guards are among the first so many, and its deadlines within the limit
-  abbrev Keeps : Plan → Type 0
-  Keeps (plan.Cause node place name terms) = name.0 < names
-  Keeps (plan.Suppress node place name terms) = name.0 < names
-  Keeps (plan.Both node l r) = Keeps l × Keeps r
-  Keeps (plan.Either node l r) = Keeps l × Keeps r
-  Keeps (plan.TestOr node guard test body) = Keeps body
-  Keeps (plan.Guarded node vars guard test body) = Fits names test × Keeps body
-  Keeps (plan.Eventually node place low high body) = (high ≤ MOST_INTERVAL_END) × Keeps body
-  Keeps (plan.Always node place low high body) = Keeps body
-  Keeps (plan.Until node place low high l r) = (high ≤ MOST_INTERVAL_END) × Keeps l × Keeps r
-  Keeps (plan.Next node place high body) = (high ≤ MOST_INTERVAL_END) × Keeps body
-
-  keeps : (c s : NameId → Bool) (aim : Aim) (f : Formula) (scope : List VarId) (p : Plan) → Elab c s aim f scope (Ok p) → Fits names f → Keeps p
-  keeps c s Up (Atom place name terms) scope p e fits = by_leaf Keeps p (c name) place _ e fits
-  keeps c s Up (Not place g) scope p e fits = keeps c s Down g scope p e fits
-  keeps c s Up (And place g h) scope p e fits = by_two Keeps p _ _ _ e (λ l r a b. (keeps c s Up g scope l a fits.0, keeps c s Up h scope r b fits.1))
-  keeps c s Up (Or place g h) scope p e fits =
-      by_one_of_two Keeps p scope g h _ _ e (λ q b t. keeps c s Up h scope q b fits.1) (λ o q a b. (keeps c s Up g scope o a fits.0, keeps c s Up h scope q b fits.1)) (λ q a t. keeps c s Up g scope q a fits.0)
-  keeps c s Up (Implies place g h) scope p e fits =
-      by_implication Keeps p place place scope [] g h (Elab c s Down g) (Elab c s Up h) e (λ q b guards. (fits.0, keeps c s Up h (scope ++ []) q b fits.1))
-      (λ o q a b none. (keeps c s Down g scope o a fits.0, keeps c s Up h (scope ++ []) q b fits.1)) (λ q a guards t. ((fits.0, fits.1), keeps c s Down g (scope ++ []) q a fits.0)) (λ q a t none. keeps c s Down g (scope ++ []) q a fits.0)
-  keeps c s Up (Forall place xs g) scope p e fits = keeps c s (UpForAll place xs) g scope p e fits
-  keeps c s Up (Eventually place interval g) scope p e fits =
-      let found = with_end place interval.high _ p e in
-      by_one Keeps p _ _ found.2 (λ q a. (end_fits interval.low found.0 interval.high found.1 fits.0, keeps c s Up g scope q a fits.1))
-  keeps c s Up (Always place interval g) scope p e fits = by_one Keeps p _ _ (with_end place interval.high _ p e).2 (λ q a. keeps c s Up g scope q a fits.1)
-  keeps c s Up (Until place interval g h) scope p e fits =
-      let found = with_end place interval.high _ p e in
-      by_two Keeps p _ _ _ found.2 (λ l r a b. (end_fits interval.low found.0 interval.high found.1 fits.0, keeps c s Up g scope l a fits.1, keeps c s Up h scope r b fits.2))
-  keeps c s Up (Next place interval g) scope p e fits =
-      let found = from_now place interval.low interval.high _ p e in
-      by_one Keeps p _ _ found.3 (λ q a. (end_fits interval.low found.0 interval.high found.2 fits.0, keeps c s Up g scope q a fits.1))
-  keeps c s Down (Atom place name terms) scope p e fits = by_leaf Keeps p (s name) place _ e fits
-  keeps c s Down (Not place g) scope p e fits = keeps c s Up g scope p e fits
-  keeps c s Down (And place g h) scope p e fits =
-      by_one_of_two Keeps p scope _ _ _ _ e (λ q b t. keeps c s Down h scope q b fits.1) (λ o q a b. (keeps c s Down g scope o a fits.0, keeps c s Down h scope q b fits.1)) (λ q a t. keeps c s Down g scope q a fits.0)
-  keeps c s Down (Or place g h) scope p e fits = by_two Keeps p _ _ _ e (λ l r a b. (keeps c s Down g scope l a fits.0, keeps c s Down h scope r b fits.1))
-  keeps c s Down (Implies place g h) scope p e fits = by_two Keeps p _ _ _ e (λ l r a b. (keeps c s Up g scope l a fits.0, keeps c s Down h scope r b fits.1))
-  keeps c s Down (Exists place xs g) scope p e fits = by_exclusion Keeps p place scope xs g (Elab c s Down g) e (λ q a guards. (fits, keeps c s Down g (scope ++ xs) q a fits))
-  keeps c s Down (Eventually place interval g) scope p e fits = by_one Keeps p _ _ (with_end place interval.high _ p e).2 (λ q a. keeps c s Down g scope q a fits.1)
-  keeps c s Down (Always place interval g) scope p e fits =
-      let found = with_end place interval.high _ p e in
-      by_one Keeps p _ _ found.2 (λ q a. (end_fits interval.low found.0 interval.high found.1 fits.0, keeps c s Down g scope q a fits.1))
-  keeps c s (UpForAll first xs) (Forall place ys g) scope p e fits = keeps c s (UpForAll first (xs ++ ys)) g scope p e fits
-  keeps c s (UpForAll first xs) (Implies place g h) scope p e fits =
-      by_implication Keeps p first place scope xs g h (Elab c s Down g) (Elab c s Up h) e (λ q b guards. (fits.0, keeps c s Up h (scope ++ xs) q b fits.1))
-      (λ o q a b none. (keeps c s Down g scope o a fits.0, keeps c s Up h (scope ++ xs) q b fits.1)) (λ q a guards t. ((fits.0, fits.1), keeps c s Down g (scope ++ xs) q a fits.0)) (λ q a t none. keeps c s Down g (scope ++ xs) q a fits.0)
-  keeps c s (UpForAll first xs) (Not place g) scope p e fits = by_exclusion Keeps p first scope xs g (Elab c s Down g) e (λ q a guards. (fits, keeps c s Down g (scope ++ xs) q a fits))
-  keeps c s (UpForAll first xs) f scope p e fits = absurd (not_refused p _ e)
-  keeps c s aim f scope p e fits = absurd (not_refused p _ e)
-
-  -- numbers have no part in it
-  keeps_numbered : (n g : ℕ) (p : Plan) → Keeps p → Keeps (numbered n g p)
-  keeps_numbered n g (plan.Cause node place name terms) k = k
-  keeps_numbered n g (plan.Suppress node place name terms) k = k
-  keeps_numbered n g (plan.Both node l r) k = (keeps_numbered (n + 1) g l k.0, keeps_numbered (n + 1 + node_count l) (g + guard_count l) r k.1)
-  keeps_numbered n g (plan.Either node l r) k = (keeps_numbered (n + 1) g l k.0, keeps_numbered (n + 1 + node_count l) (g + guard_count l) r k.1)
-  keeps_numbered n g (plan.TestOr node guard test body) k = keeps_numbered (n + 1) (g + 1) body k
-  keeps_numbered n g (plan.Guarded node vars guard test body) k = (k.0, keeps_numbered (n + 1) (g + 1) body k.1)
-  keeps_numbered n g (plan.Eventually node place low high body) k = (k.0, keeps_numbered (n + 1) g body k.1)
-  keeps_numbered n g (plan.Always node place low high body) k = keeps_numbered (n + 1) g body k
-  keeps_numbered n g (plan.Until node place low high l r) k = (k.0, keeps_numbered (n + 1) g l k.1, keeps_numbered (n + 1 + node_count l) (g + guard_count l) r k.2)
-  keeps_numbered n g (plan.Next node place high body) k = (k.0, keeps_numbered (n + 1) g body k.1)
-
-  abbrev Below : NameId → Type 0
-  Below name = name.0 < names
-
-  -- the triggers of a formula are its names
-  triggers_below : (f : Formula) (found : List NameId) → Fits names f → triggers f ≡ Some found → AllByRecursion Below found
-  triggers_below (Atom place name terms) found fits is = let h : name ∷ [] ≡ found = cc in subst (AllByRecursion Below) h (fits, tt)
-  triggers_below (And place g h) found fits is = by (triggers g) (triggers h) is (λ xs e. triggers_below g xs fits.0 e) (λ xs e. triggers_below h xs fits.1 e)
-    where
-      by : (a b : Option (List NameId)) → option_or a b ≡ Some found → ((xs : List NameId) → a ≡ Some xs → AllByRecursion Below xs) → ((xs : List NameId) → b ≡ Some xs → AllByRecursion Below xs) → AllByRecursion Below found
-      by (Some xs) b e left right = left found e
-      by None b e left right = right found e
-  triggers_below (Or place g h) found fits is = by (triggers g) (triggers h) is (λ xs e. triggers_below g xs fits.0 e) (λ xs e. triggers_below h xs fits.1 e)
-    where
-      by : (a b : Option (List NameId)) → of_each a b ≡ Some found → ((xs : List NameId) → a ≡ Some xs → AllByRecursion Below xs) → ((xs : List NameId) → b ≡ Some xs → AllByRecursion Below xs) → AllByRecursion Below found
-      by None b e left right = absurd cc
-      by (Some xs) None e left right = absurd cc
-      by (Some xs) (Some ys) e left right = let h : xs ++ ys ≡ found = cc in subst (AllByRecursion Below) h (both_all Below xs ys (left xs refl) (right ys refl))
-  triggers_below (Exists place xs g) found fits is = triggers_below g found fits is
-  triggers_below f found fits is = absurd cc
-
-  -- what is asked of each node
-  abbrev Node : Plan → Type 0
-  Node node = EndsInTime node × AllByRecursion Below (cause_of node) × AllByRecursion Below (suppress_of node)
-      × ((found : List NameId) → guard_triggers node ≡ Some found → AllByRecursion Below found)
-
-  no_guard : (found : List NameId) → ◌≡◌ {A = Option (List NameId)} None (Some found) → AllByRecursion Below found
-  no_guard found is = absurd cc
-
-  node_of : (p : Plan) → Keeps p → Node p
-  node_of (plan.Cause node place name terms) k = (omega arith, (k, tt), tt, λ found is. no_guard found is)
-  node_of (plan.Suppress node place name terms) k = (omega arith, tt, (k, tt), λ found is. no_guard found is)
-  node_of (plan.Both node l r) k = (omega arith, tt, tt, λ found is. no_guard found is)
-  node_of (plan.Either node l r) k = (omega arith, tt, tt, λ found is. no_guard found is)
-  node_of (plan.TestOr node guard test body) k = (omega arith, tt, tt, λ found is. no_guard found is)
-  node_of (plan.Guarded node vars guard test body) k = (omega arith, tt, tt, λ found is. triggers_below test found k.0 is)
-  node_of (plan.Eventually node place low high body) k = (k.0, tt, tt, λ found is. no_guard found is)
-  node_of (plan.Always node place low high body) k = (omega arith, tt, tt, λ found is. no_guard found is)
-  node_of (plan.Until node place low high l r) k = (k.0, tt, tt, λ found is. no_guard found is)
-  node_of (plan.Next node place high body) k = (k.0, tt, tt, λ found is. no_guard found is)
-
-  nodes_of : (p : Plan) → Keeps p → AllByRecursion Node (nodes p)
-  nodes_of (plan.Cause node place name terms) k = (node_of (plan.Cause node place name terms) k, tt)
-  nodes_of (plan.Suppress node place name terms) k = (node_of (plan.Suppress node place name terms) k, tt)
-  nodes_of (plan.Both node l r) k = (node_of (plan.Both node l r) k, both_all Node (nodes l) (nodes r) (nodes_of l k.0) (nodes_of r k.1))
-  nodes_of (plan.Either node l r) k = (node_of (plan.Either node l r) k, both_all Node (nodes l) (nodes r) (nodes_of l k.0) (nodes_of r k.1))
-  nodes_of (plan.TestOr node guard test body) k = (node_of (plan.TestOr node guard test body) k, nodes_of body k)
-  nodes_of (plan.Guarded node vars guard test body) k = (node_of (plan.Guarded node vars guard test body) k, nodes_of body k.1)
-  nodes_of (plan.Eventually node place low high body) k = (node_of (plan.Eventually node place low high body) k, nodes_of body k.1)
-  nodes_of (plan.Always node place low high body) k = (node_of (plan.Always node place low high body) k, nodes_of body k)
-  nodes_of (plan.Until node place low high l r) k = (node_of (plan.Until node place low high l r) k, both_all Node (nodes l) (nodes r) (nodes_of l k.1) (nodes_of r k.2))
-  nodes_of (plan.Next node place high body) k = (node_of (plan.Next node place high body) k, nodes_of body k.1)
-
-  all_nodes : (plans : List Plan) → AllByRecursion Keeps plans → AllByRecursion Node (flat_map nodes plans)
-  all_nodes [] k = tt
-  all_nodes (p ∷ plans) k = both_all Node (nodes p) (flat_map nodes plans) (nodes_of p k.0) (all_nodes plans k.1)
-
-  all_ends : (xs : List Plan) → AllByRecursion Node xs → AllByRecursion EndsInTime xs
-  all_ends [] h = tt
-  all_ends (x ∷ xs) h = (h.0.0, all_ends xs h.1)
-
-  -- the names that nodes have, where those of each are below
-  named : (own : Plan → List NameId) (xs : List Plan) → AllByRecursion (λ node. AllByRecursion Below (own node)) xs → AllByRecursion Below (flat_map own xs)
-  named own [] h = tt
-  named own (x ∷ xs) h = both_all Below (own x) (flat_map own xs) h.0 (named own xs h.1)
-
-  named_all : (own : Plan → List NameId) → ((node : Plan) → Node node → AllByRecursion Below (own node)) → (plans : List Plan) → AllByRecursion Keeps plans
-      → AllByRecursion Below (flat_map (λ (p : Plan). flat_map own (nodes p)) plans)
-  named_all own each [] k = tt
-  named_all own each (p ∷ plans) k = both_all Below (flat_map own (nodes p)) _ (named own (nodes p) (own_of (nodes p) (nodes_of p k.0))) (named_all own each plans k.1)
-    where
-      own_of : (xs : List Plan) → AllByRecursion Node xs → AllByRecursion (λ node. AllByRecursion Below (own node)) xs
-      own_of [] h = tt
-      own_of (x ∷ xs) h = (each x h.0, own_of xs h.1)
-
-  names_below : (plans : List Plan) → AllByRecursion Keeps plans → AreNamesBelow names plans
-  names_below plans k name (inl there) = each_of Below (flat_map caused_below plans) name (named_all cause_of (λ node h. h.1) plans k) there
-  names_below plans k name (inr there) = each_of Below (flat_map suppressed_below plans) name (named_all suppress_of (λ node h. h.2) plans k) there
-
-  guards_below : (plans : List Plan) → AllByRecursion Keeps plans → AreTriggersBelow names plans
-  guards_below plans k node found name there is has =
-      each_of Below found name ((each_of Node (flat_map nodes plans) node (all_nodes plans k) there).3 found is) has
+pub of_all_nodes : (R : Plan → Type 0) (plans : List Plan) → AllByRecursion (λ p. AllByRecursion R (nodes p)) plans → AllByRecursion R (flat_map nodes plans)
+of_all_nodes R [] h = tt
+of_all_nodes R (p ∷ plans) h = AllByRecursion-append R (nodes p) (flat_map nodes plans) h.0 (of_all_nodes R plans h.1)
 
 module _ (entries : List NameEntry) where
-  all_keep : (g : ℕ) (policy : List Formula) (made : List Plan) → AllZip (HasPlan entries) policy made → AllByRecursion (IsWithinLimits entries) policy
-      → AllByRecursion (Keeps (length entries)) (all_numbered g made) × AllByRecursion IsSmall (all_numbered g made)
-  all_keep g [] [] h within = (tt, tt)
-  all_keep g [] (p ∷ made) h within = absurd h
-  all_keep g (f ∷ policy) [] h within = absurd h
-  all_keep g (f ∷ policy) (p ∷ made) h within =
-      let more = all_keep (g + guard_count p) policy made h.1 within.1 in
-      let kept : Keeps (length entries) p = keeps (length entries) (is_causable entries) (is_suppressible entries) Up f [] p h.0 within.0.fits in
-      let fits : node_count p ≤ size_of f = plan_fits (is_causable entries) (is_suppressible entries) Up f [] p h.0 in
-      let small : IsSmall (numbered 0 g p) = omega (arith, same_count 0 g p, within.0.small, fits) in
-      ((keeps_numbered (length entries) 0 g p kept, more.0), (small, more.1))
+  abbrev CanCause : NameId → Type 0
+  CanCause name = IsTrue (is_causable entries name)
 
-  pub plans_within : (policy : List Formula) (plans : List Plan) (guards : List (Formula × List VarId)) → length entries ≤ MOST_NAMES → AreWithinLimits entries policy
-      → ArePlanned entries policy plans guards → ArePlansWithinLimits (length entries) plans
-  plans_within policy plans guards few within are =
-      let all = all_keep 0 policy are.made are.answered within.each in
-      let kept : AllByRecursion (Keeps (length entries)) plans = subst (AllByRecursion (Keeps (length entries))) (sym are.numbered) all.0 in
+  abbrev CanSuppress : NameId → Type 0
+  CanSuppress name = IsTrue (is_suppressible entries name)
+
+  -- what is asked of each node of a plan, and of the node alone
+  abbrev IsFineHere : Plan → List VarId → Type 0
+  IsFineHere p scope = IsFine entries (is_causable entries) (is_suppressible entries) MOST_NODES p scope
+
+  abbrev pub IsFinePlan : Plan → Type 0
+  IsFinePlan p = AreFine entries (is_causable entries) (is_suppressible entries) MOST_NODES p []
+
+  abbrev IsDone : Plan → Type 0
+  IsDone p = MayBeDone entries (is_causable entries) (is_suppressible entries) MOST_NODES p
+
+  given : (rule : Rule) → IsWellFormedRule entries rule → IsGiven entries (is_causable entries) (is_suppressible entries) MOST_NODES rule.formula []
+  unfolding IsStrictlySortedBy
+  given rule formed = (formed.scoped, (0, formed.formula), formed.small, tt)
+
+  all_fine : (g : ℕ) (rules : List Rule) (made : List Plan) → AllZip (HasPlan entries) (formulas_of rules) made → AllByRecursion (IsWellFormedRule entries) rules
+      → AllByRecursion IsFinePlan (all_numbered g made) × AllByRecursion IsSmall (all_numbered g made)
+  all_fine g [] [] h formed = (tt, tt)
+  all_fine g [] (p ∷ made) h formed = absurd h
+  all_fine g (rule ∷ rules) [] h formed = absurd h
+  all_fine g (rule ∷ rules) (p ∷ made) h formed =
+      let more = all_fine (g + guard_count p) rules made h.1 formed.1 in
+      let fine : IsFinePlan p = made_fine entries (is_causable entries) (is_suppressible entries) MOST_NODES Up rule.formula [] p h.0 (given rule formed.0) in
+      let fits : node_count p ≤ size_of rule.formula = plan_fits (is_causable entries) (is_suppressible entries) Up rule.formula [] p h.0 in
+      let small : IsSmall (numbered 0 g p) = omega (arith, same_count 0 g p, formed.0.small, fits) in
+      ((each_stays IsFineHere (fine_stays entries (is_causable entries) (is_suppressible entries) MOST_NODES) p 0 g [] fine, more.0), (small, more.1))
+
+  pub planned_fine : (rules : List Rule) (plans : List Plan) (guards : List (Formula × List VarId)) → IsWellFormedPolicy entries rules → ArePlanned entries (formulas_of rules) plans guards
+      → AllByRecursion IsFinePlan plans × AllByRecursion IsSmall plans
+  planned_fine rules plans guards formed are =
+      let all = all_fine 0 rules are.made are.answered formed.each in
+      (subst (AllByRecursion IsFinePlan) (sym are.numbered) all.0, subst (AllByRecursion IsSmall) (sym are.numbered) all.1)
+
+  -- what follows for each node of a plan
+  module _ (R : Plan → Type 0) (follows : (p : Plan) (scope : List VarId) → IsFineHere p scope → R p) where
+    fine_nodes : (p : Plan) → IsFinePlan p → AllByRecursion R (nodes p)
+    fine_nodes p fine = AtEach-nodes R p [] (AtEach-weaker IsFineHere (λ n s. R n) follows p [] fine)
+
+    pub fine_all_nodes : (plans : List Plan) → AllByRecursion IsFinePlan plans → AllByRecursion (λ p. AllByRecursion R (nodes p)) plans
+    fine_all_nodes plans fine = AllByRecursion-weaker IsFinePlan (λ p. AllByRecursion R (nodes p)) plans fine_nodes fine
+
+  causes_done : (p : Plan) → IsDone p → AllByRecursion CanCause (cause_of p)
+  causes_done (plan.Cause node place name terms) done = (done, tt)
+  causes_done (plan.Suppress node place name terms) done = tt
+  causes_done (plan.Both node l r) done = tt
+  causes_done (plan.Either node l r) done = tt
+  causes_done (plan.TestOr node guard test body) done = tt
+  causes_done (plan.Guarded node vars guard test body) done = tt
+  causes_done (plan.Eventually node place low high body) done = tt
+  causes_done (plan.Always node place low high body) done = tt
+  causes_done (plan.Until node place low high l r) done = tt
+  causes_done (plan.Next node place high body) done = tt
+
+  suppresses_done : (p : Plan) → IsDone p → AllByRecursion CanSuppress (suppress_of p)
+  suppresses_done (plan.Cause node place name terms) done = tt
+  suppresses_done (plan.Suppress node place name terms) done = (done, tt)
+  suppresses_done (plan.Both node l r) done = tt
+  suppresses_done (plan.Either node l r) done = tt
+  suppresses_done (plan.TestOr node guard test body) done = tt
+  suppresses_done (plan.Guarded node vars guard test body) done = tt
+  suppresses_done (plan.Eventually node place low high body) done = tt
+  suppresses_done (plan.Always node place low high body) done = tt
+  suppresses_done (plan.Until node place low high l r) done = tt
+  suppresses_done (plan.Next node place high body) done = tt
+
+  -- the names that some node changes, where those of each can be changed so
+  all_named : (Q : NameId → Type 0) (own : Plan → List NameId) (plans : List Plan) → AllByRecursion (λ p. AllByRecursion (λ node. AllByRecursion Q (own node)) (nodes p)) plans
+      → AllByRecursion Q (flat_map (λ (p : Plan). flat_map own (nodes p)) plans)
+  all_named Q own [] h = tt
+  all_named Q own (p ∷ plans) h = AllByRecursion-append Q (flat_map own (nodes p)) (flat_map (λ (q : Plan). flat_map own (nodes q)) plans) (named Q own (nodes p) h.0) (all_named Q own plans h.1)
+
+  pub caused_can : (plans : List Plan) → AllByRecursion IsFinePlan plans → (name : NameId) → IsCaused plans name → CanCause name
+  caused_can plans fine name there =
+      AllByRecursion-contains CanCause (flat_map caused_below plans) name
+      (all_named CanCause cause_of plans (fine_all_nodes (λ node. AllByRecursion CanCause (cause_of node)) (λ p scope h. causes_done p h.5) plans fine)) there
+
+  pub suppressed_can : (plans : List Plan) → AllByRecursion IsFinePlan plans → (name : NameId) → IsSuppressed plans name → CanSuppress name
+  suppressed_can plans fine name there =
+      AllByRecursion-contains CanSuppress (flat_map suppressed_below plans) name
+      (all_named CanSuppress suppress_of plans (fine_all_nodes (λ node. AllByRecursion CanSuppress (suppress_of node)) (λ p scope h. suppresses_done p h.5) plans fine)) there
+
+  names_below : (plans : List Plan) → AllByRecursion IsFinePlan plans → AreNamesBelow (length entries) plans
+  names_below plans fine name (inl there) = marked_within (λ entry. entry.causable) entries name.0 (caused_can plans fine name there)
+  names_below plans fine name (inr there) = marked_within (λ entry. entry.suppressible) entries name.0 (suppressed_can plans fine name there)
+
+  -- the triggers of a node's guard are names of the signature
+  abbrev HasTriggersBelow : Plan → Type 0
+  HasTriggersBelow node = (found : List NameId) → guard_triggers node ≡ Some found → AreBelow (length entries) found
+
+  no_triggers : (found : List NameId) → ◌≡◌ {A = Option (List NameId)} None (Some found) → AreBelow (length entries) found
+  no_triggers found is = absurd (cc)
+
+  has_triggers : (p : Plan) (scope : List VarId) → IsFineHere p scope → HasTriggersBelow p
+  has_triggers (plan.Cause node place name terms) scope h found is = no_triggers found is
+  has_triggers (plan.Suppress node place name terms) scope h found is = no_triggers found is
+  has_triggers (plan.Both node l r) scope h found is = no_triggers found is
+  has_triggers (plan.Either node l r) scope h found is = no_triggers found is
+  has_triggers (plan.TestOr node guard test body) scope h found is = no_triggers found is
+  has_triggers (plan.Guarded node vars guard test body) scope h found is = triggers_below (length entries) test found h.2 is
+  has_triggers (plan.Eventually node place low high body) scope h found is = no_triggers found is
+  has_triggers (plan.Always node place low high body) scope h found is = no_triggers found is
+  has_triggers (plan.Until node place low high l r) scope h found is = no_triggers found is
+  has_triggers (plan.Next node place high body) scope h found is = no_triggers found is
+
+  guards_below : (plans : List Plan) → AllByRecursion IsFinePlan plans → AreTriggersBelow (length entries) plans
+  guards_below plans fine node found name there is has =
+      AllByRecursion-contains (λ (n : NameId). n.0 < length entries) found name
+      (AllByRecursion-contains HasTriggersBelow (flat_map nodes plans) node (of_all_nodes HasTriggersBelow plans (fine_all_nodes HasTriggersBelow has_triggers plans fine)) there found is) has
+
+  pub plans_within : (rules : List Rule) (plans : List Plan) (guards : List (Formula × List VarId)) → length entries ≤ MOST_NAMES → IsWellFormedPolicy entries rules
+      → ArePlanned entries (formulas_of rules) plans guards → ArePlansWithinLimits (length entries) plans
+  plans_within rules plans guards few formed are =
+      let fine = planned_fine rules plans guards formed are in
       record {
         few_names = few;
-        small = subst (AllByRecursion IsSmall) (sym are.numbered) all.1;
-        ends = all_ends (length entries) (flat_map nodes plans) (all_nodes (length entries) plans kept);
-        changed = names_below (length entries) plans kept;
-        triggers = guards_below (length entries) plans kept;
+        small = fine.1;
+        ends = of_all_nodes EndsInTime plans (fine_all_nodes EndsInTime (λ p scope h. h.4) plans fine.0);
+        changed = names_below plans fine.0;
+        triggers = guards_below plans fine.0;
       }

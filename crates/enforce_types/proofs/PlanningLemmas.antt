@@ -1,6 +1,6 @@
 -- Plans one after another.
 use Rattle.std.proofs.Common.{◌≡◌, ℕ, ◌+◌, ◌*◌, ◌<◌, ◌≤◌, List, [], ◌∷◌, ◌++◌, length, take, drop, get_or, Result, Ok, Err, inl, inr, refl, sym, ap, subst, ◌∙◌, arith, append_assoc}
-use Rattle.std.specs.List.{All, AllZip, flat_map}
+use Rattle.std.specs.List.{All, AllZip}
 use Rattle.std.proofs.lemmas.List.{get_or-map, length-append, length-map, map-append, take_all, take_more, take-append-drop, append-nil}
 use Rattle.std.proofs.lemmas.List.Elements.{All-get_or}
 use Rattle.enf_value.specs.declared.terms.VarId.{VarId}
@@ -11,13 +11,13 @@ use Rattle.formula_reader.specs.declared.policies.Rule.{Rule}
 use Rattle.plan_terms.specs.declared.plans.Plan.{Plan as Stored}
 use Rattle.plan_terms.specs.Plans.{plan_of}
 use Rattle.plan_terms.specs.Plans.{Plan, Cause, Suppress, Both, Either, TestOr, Guarded, Eventually, Always, Until, Next}
-use Rattle.policy_syntax.specs.declared.limits.TheConstants.{MOST_NODES}
+use Rattle.enf_value.specs.declared.limits.TheConstants.{MOST_NODES}
 use Rattle.signature.specs.declared.entries.NameEntry.{NameEntry}
 use Rattle.monitorable_guard.specs.Guards.{BoundFormula}
 use Rattle.enforce_types.specs.Elab.{Elab, Up}
-use Rattle.enforce_types.specs.Given.{answer_of, is_causable, is_suppressible}
-use Rattle.enforce_types.specs.GuardLists.{guard_of, guards_of, guards_in}
-use Rattle.enforce_types.specs.Guards.{GuardsAreSafe}
+use Rattle.enforce_types.specs.Answers.{answer_of}
+use Rattle.enforce_types.specs.Marks.{is_causable, is_suppressible}
+use Rattle.plan_terms.specs.Guards.{GuardsAreSafe, all_guards, guard_of, guards_in, guards_of}
 use Rattle.enforce_types.proofs.PlanSizes.{plan_fits, guards_are_nodes}
 use Rattle.enforce_types.proofs.SafeGuards.{safe_guards}
 use Rattle.enforce_types.specs.Numbering.{node_count, guard_count, numbered, all_numbered}
@@ -58,9 +58,6 @@ guards_counted (Eventually node place low high body) scope = guards_counted body
 guards_counted (Always node place low high body) scope = guards_counted body scope
 guards_counted (Until node place low high l r) scope = two_counted _ _ _ _ (guards_counted l scope) (guards_counted r scope)
 guards_counted (Next node place high body) scope = guards_counted body scope
-
-abbrev pub all_guards : List Plan → Guards'
-all_guards plans = flat_map (λ p. guards_in p []) plans
 
 -- one plan more
 numbered_push : (g h : ℕ) (plans : List Plan) (p : Plan) → h ≡ g + length (all_guards plans) → all_numbered g (plans ++ p ∷ []) ≡ all_numbered g plans ++ numbered 0 h p ∷ []

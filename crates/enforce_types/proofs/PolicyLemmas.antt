@@ -7,23 +7,24 @@ use Rattle.enf_value.specs.Valuations.{Valuation}
 use Rattle.enf_formula.specs.Formulas.{Formula}
 use Rattle.enf_formula.specs.Laws.{IsStable, IsSameAs}
 use Rattle.enf_formula.specs.Satisfaction.{Sat}
+use Rattle.enf_value.specs.ListLaws.{AllByRecursion-append}
+use Rattle.plan_terms.specs.Guards.{CanBeEvaluated, GuardsAreSafe, IsSafeNode, OfGuard, all_guards, guards_in}
 use Rattle.plan_terms.specs.Nodes.{IsNumbered}
+use Rattle.plan_terms.specs.ScopeLaws.{AtEach-guards, AtEach-weaker}
 use Rattle.plan_terms.specs.Plans.{Plan, Cause, Suppress, Both, Either, TestOr, Guarded, Eventually, Always, Until, Next}
 use Rattle.signature.specs.declared.entries.NameEntry.{NameEntry}
 use Rattle.enforce_types.specs.Answers.{Answer}
 use Rattle.enforce_types.specs.Elab.{Up}
-use Rattle.enforce_types.specs.Given.{is_causable, is_suppressible}
-use Rattle.enforce_types.specs.GuardLists.{guards_in}
-use Rattle.enforce_types.specs.Guards.{GuardsAreSafe}
+use Rattle.enforce_types.specs.Marks.{is_causable, is_suppressible}
 use Rattle.enforce_types.specs.Numbering.{guard_count, guard_numbers, all_numbered}
-use Rattle.enforce_types.specs.PolicyLaws.{MeansSame, CanBeEvaluated}
+use Rattle.enforce_types.specs.PolicyLaws.{MeansSame}
 use Rattle.enforce_types.specs.PolicyPlans.{RuleAnswer, HasPlan, ArePlanned, IsFirstRefusal}
 use Rattle.enforce_types.specs.declared.refusals.Refusal.{Refusal}
 use Rattle.enforce_types.proofs.KeptMeaning.{kept}
 use Rattle.enforce_types.proofs.Making.{made_is, not_refused}
 use Rattle.enforce_types.proofs.NumberingLemmas.{nodes_numbered, guards_numbered, same_formula}
 use Rattle.enforce_types.proofs.OneAnswer.{one}
-use Rattle.enforce_types.proofs.PlanningLemmas.{all_guards, all_same_guards, rule_safe}
+use Rattle.enforce_types.proofs.PlanningLemmas.{all_same_guards, rule_safe}
 
 module _ (stable : (trace : List Step) (i : ℕ) (v : Valuation) (f : Formula) → IsStable (Sat trace i v f)) (entries : List NameEntry) where
   all_mean : (g : ℕ) (policy : List Formula) (made : List Plan) → AllZip (HasPlan entries) policy made → AllZip MeansSame policy (all_numbered g made)
@@ -43,27 +44,26 @@ all_in_order g (p ∷ made) = (λ number node is. nodes_numbered p g number node
 pub in_order : (entries : List NameEntry) (policy : List Formula) (plans : List Plan) (guards : List (Formula × List VarId)) → ArePlanned entries policy plans guards → AllByRecursion IsNumbered plans
 in_order entries policy plans guards are = subst (λ (ps : List Plan). AllByRecursion IsNumbered ps) (sym are.numbered) (all_in_order 0 are.made)
 
-both_lists : (xs ys : List (Formula × List VarId)) → AllByRecursion CanBeEvaluated xs → AllByRecursion CanBeEvaluated ys → AllByRecursion CanBeEvaluated (xs ++ ys)
-both_lists [] ys a b = b
-both_lists (x ∷ xs) ys a b = (a.0, both_lists xs ys a.1 b)
+one_safe : (p : Plan) (scope : List VarId) → IsSafeNode p scope → OfGuard CanBeEvaluated p scope
+one_safe (Cause node place name terms) scope s = tt
+one_safe (Suppress node place name terms) scope s = tt
+one_safe (Both node l r) scope s = tt
+one_safe (Either node l r) scope s = tt
+one_safe (TestOr node guard test body) scope s = s.0.0
+one_safe (Guarded node vars guard test body) scope s = s.0
+one_safe (Eventually node place low high body) scope s = tt
+one_safe (Always node place low high body) scope s = tt
+one_safe (Until node place low high l r) scope s = tt
+one_safe (Next node place high body) scope s = tt
 
-plan_guards : (p : Plan) (scope : List VarId) → GuardsAreSafe p scope → AllByRecursion CanBeEvaluated (guards_in p scope)
-plan_guards (Cause node place name terms) scope s = tt
-plan_guards (Suppress node place name terms) scope s = tt
-plan_guards (Both node l r) scope s = both_lists _ _ (plan_guards l scope s.0) (plan_guards r scope s.1)
-plan_guards (Either node l r) scope s = both_lists _ _ (plan_guards l scope s.0) (plan_guards r scope s.1)
-plan_guards (TestOr node guard test body) scope s = (s.0.0, plan_guards body scope s.2)
-plan_guards (Guarded node vars guard test body) scope s = (s.0, plan_guards body (scope ++ vars) s.3)
-plan_guards (Eventually node place low high body) scope s = plan_guards body scope s
-plan_guards (Always node place low high body) scope s = plan_guards body scope s
-plan_guards (Until node place low high l r) scope s = both_lists _ _ (plan_guards l scope s.0) (plan_guards r scope s.1)
-plan_guards (Next node place high body) scope s = plan_guards body scope s
+plan_guards : (p : Plan) → GuardsAreSafe p [] → AllByRecursion CanBeEvaluated (guards_in p [])
+plan_guards p safe = AtEach-guards CanBeEvaluated p [] (AtEach-weaker IsSafeNode (OfGuard CanBeEvaluated) one_safe p [] safe)
 
 all_safe : (entries : List NameEntry) (policy : List Formula) (made : List Plan) → AllZip (HasPlan entries) policy made → AllByRecursion CanBeEvaluated (all_guards made)
 all_safe entries [] [] h = tt
 all_safe entries [] (p ∷ made) h = absurd h
 all_safe entries (f ∷ policy) [] h = absurd h
-all_safe entries (f ∷ policy) (p ∷ made) h = both_lists (guards_in p []) (all_guards made) (plan_guards p [] (rule_safe entries f p h.0)) (all_safe entries policy made h.1)
+all_safe entries (f ∷ policy) (p ∷ made) h = AllByRecursion-append CanBeEvaluated (guards_in p []) (all_guards made) (plan_guards p (rule_safe entries f p h.0)) (all_safe entries policy made h.1)
 
 known_guards : (entries : List NameEntry) (policy : List Formula) (plans : List Plan) (guards : List (Formula × List VarId)) → (are : ArePlanned entries policy plans guards) → guards ≡ all_guards are.made
 known_guards entries policy plans guards are = are.guarded ∙ ap all_guards are.numbered ∙ all_same_guards 0 are.made
@@ -127,7 +127,7 @@ pub answered : (entries : List NameEntry) (policy : List Formula) → ((plans : 
 answered entries policy = by (made_or_refused entries policy)
   where
     by : ((made : List Plan) × AllZip (HasPlan entries) policy made) ⊎ ((r : Refusal) × IsFirstRefusal entries policy r) → ((plans : List Plan) × (guards : List (Formula × List VarId)) × ArePlanned entries policy plans guards) ⊎ ((r : Refusal) × IsFirstRefusal entries policy r)
-    by (inl made) = inl (all_numbered 0 made.0, flat_map (λ plan. guards_in plan []) (all_numbered 0 made.0), record { made = made.0; answered = made.1; numbered = refl; guarded = refl })
+    by (inl made) = inl (all_numbered 0 made.0, all_guards (all_numbered 0 made.0), record { made = made.0; answered = made.1; numbered = refl; guarded = refl })
     by (inr later) = inr later
 
 pub guard_places : (entries : List NameEntry) (policy : List Formula) (plans : List Plan) (guards : List (Formula × List VarId)) → ArePlanned entries policy plans guards → (k number : ℕ) → slice_get (flat_map guard_numbers plans) k ≡ Some number → number ≡ k

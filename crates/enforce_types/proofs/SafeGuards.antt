@@ -8,13 +8,14 @@ use Rattle.enf_value.specs.declared.terms.VarId.{VarId}
 use Rattle.enf_formula.specs.Formulas.{Formula, True, False, Atom, Equal, Less, AtMost, Not, And, Or, Implies, Exists, Forall, Prev, Next, Once, Historically, Since, Eventually, Always, Until}
 use Rattle.enf_formula.specs.Past.{is_past}
 use Rattle.enf_formula.specs.Shape.{place_of}
-use Rattle.valuations.specs.Columns.{among_or_not, Contains-append}
+use Rattle.valuations.specs.Columns.{among_or_not}
+use Rattle.enf_value.specs.ListLaws.{Contains-append}
 use Rattle.monitorable_guard.specs.SafetyLaws.{safe_past}
 use Rattle.monitorable_guard.specs.Safety.{Safe, SafeBelow, IsTest, With, Assigns}
 use Rattle.plan_terms.specs.Plans.{Plan, Guarded}
 use Rattle.enforce_types.specs.Answers.{Answer, LeafWhere, OverOne, OverTwo, OneOfTwo, Guards, Implication, Exclusion}
 use Rattle.enforce_types.specs.Elab.{Elab, Aim, Up, Down, UpForAll}
-use Rattle.enforce_types.specs.Guards.{GuardsAreSafe}
+use Rattle.plan_terms.specs.Guards.{GuardsAreSafe}
 use Rattle.enforce_types.proofs.Decisions.{AllDecided, with_decided}
 use Rattle.enforce_types.proofs.Making.{by_exclusion, by_implication, by_leaf, by_one, by_one_of_two, by_two, not_refused, with_end, from_now}
 
@@ -82,10 +83,10 @@ past_test f scope t = safe_past None f (Contains scope) t.0
 
 safe_one_of_two : (scope : List VarId) (l r : Formula) (left right : Answer → Type 0) (p : Plan) → OneOfTwo scope l r left right (Ok p) → ((q : Plan) → left (Ok q) → GuardsAreSafe q scope) → ((q : Plan) → right (Ok q) → GuardsAreSafe q scope) → GuardsAreSafe p scope
 safe_one_of_two scope l r left right p e ls rs =
-    by_one_of_two (λ (made : Plan). GuardsAreSafe made scope) p scope l r left right e (λ q k test. (test, past_test l scope test, rs q k)) (λ o q h k. (ls o h, rs q k)) (λ q h test. (test, past_test r scope test, ls q h))
+    by_one_of_two (λ (made : Plan). GuardsAreSafe made scope) p scope l r left right e (λ q k test. ((test, past_test l scope test), rs q k)) (λ o q h k. (tt, ls o h, rs q k)) (λ q h test. ((test, past_test r scope test), ls q h))
 
 safe_guarded : (scope xs : List VarId) (g : Formula) (q : Plan) → Guards scope xs g → GuardsAreSafe q (scope ++ xs) → GuardsAreSafe (Guarded 0 xs 0 g q) scope
-safe_guarded scope xs g q guards safe = (guards.safe, guards.tells, safe_past None g (Contains scope) guards.safe, safe)
+safe_guarded scope xs g q guards safe = ((guards.safe, guards.tells, safe_past None g (Contains scope) guards.safe), safe)
 
 safe_exclusion : (place : ℕ) (scope xs : List VarId) (g : Formula) (down : List VarId → Answer → Type 0) (p : Plan) → Exclusion place scope xs g down (Ok p) → ((W : List VarId) (q : Plan) → down W (Ok q) → GuardsAreSafe q W) → GuardsAreSafe p scope
 safe_exclusion place scope xs g down p e downs =
@@ -105,9 +106,9 @@ safe_implication : (place arrow : ℕ) (scope xs : List VarId) (g h : Formula) (
 safe_implication place arrow scope xs g h down up p e downs ups same alike =
     by_implication (λ (made : Plan). GuardsAreSafe made scope) p place arrow scope xs g h down up e
     (λ q k guards. safe_guarded scope xs g q guards (ups (scope ++ xs) q k))
-    (λ o q i k none. (downs scope o i, same q none (ups (scope ++ xs) q k)))
+    (λ o q i k none. (tt, downs scope o i, same q none (ups (scope ++ xs) q k)))
     (λ q j guards test. safe_guarded scope xs (And arrow g (Not (place_of h) h)) q (guard_and_test arrow (place_of h) scope xs g h guards test) (downs (scope ++ xs) q j))
-    (λ q j test none. (alike test none, past_test h (scope ++ xs) test, same q none (downs (scope ++ xs) q j)))
+    (λ q j test none. ((alike test none, past_test h (scope ++ xs) test), same q none (downs (scope ++ xs) q j)))
 
 no_more : (scope xs : List VarId) → xs ≡ [] → scope ++ xs ≡ scope
 no_more scope xs none = ap (λ ys. scope ++ ys) none ∙ append-nil scope
@@ -119,22 +120,22 @@ implication_safe place arrow scope xs g h down up p made downs ups =
 pub safe_guards : (c s : NameId → Bool) (aim : Aim) (f : Formula) (scope : List VarId) (p : Plan) → Elab c s aim f scope (Ok p) → GuardsAreSafe p scope
 safe_guards c s Up (Atom place name terms) scope p e = safe_leaf (c name) place _ p scope e tt
 safe_guards c s Up (Not place g) scope p e = safe_guards c s Down g scope p e
-safe_guards c s Up (And place g h) scope p e = safe_over_two _ _ _ p scope e (λ l r a b. (safe_guards c s Up g scope l a, safe_guards c s Up h scope r b))
+safe_guards c s Up (And place g h) scope p e = safe_over_two _ _ _ p scope e (λ l r a b. (tt, safe_guards c s Up g scope l a, safe_guards c s Up h scope r b))
 safe_guards c s Up (Or place g h) scope p e = safe_one_of_two scope g h _ _ p e (safe_guards c s Up g scope) (safe_guards c s Up h scope)
 safe_guards c s Up (Implies place g h) scope p e = implication_safe place place scope [] g h (Elab c s Down g) (Elab c s Up h) p e (safe_guards c s Down g) (safe_guards c s Up h)
 safe_guards c s Up (Forall place xs g) scope p e = safe_guards c s (UpForAll place xs) g scope p e
-safe_guards c s Up (Eventually place interval g) scope p e = safe_over _ _ p scope (with_end place interval.high _ p e).2 (λ q a. safe_guards c s Up g scope q a)
-safe_guards c s Up (Always place interval g) scope p e = safe_over _ _ p scope (with_end place interval.high _ p e).2 (λ q a. safe_guards c s Up g scope q a)
-safe_guards c s Up (Until place interval g h) scope p e = safe_over_two _ _ _ p scope (with_end place interval.high _ p e).2 (λ l r a b. (safe_guards c s Up g scope l a, safe_guards c s Up h scope r b))
-safe_guards c s Up (Next place interval g) scope p e = safe_over _ _ p scope (from_now place interval.low interval.high _ p e).3 (λ q a. safe_guards c s Up g scope q a)
+safe_guards c s Up (Eventually place interval g) scope p e = safe_over _ _ p scope (with_end place interval.high _ p e).2 (λ q a. (tt, safe_guards c s Up g scope q a))
+safe_guards c s Up (Always place interval g) scope p e = safe_over _ _ p scope (with_end place interval.high _ p e).2 (λ q a. (tt, safe_guards c s Up g scope q a))
+safe_guards c s Up (Until place interval g h) scope p e = safe_over_two _ _ _ p scope (with_end place interval.high _ p e).2 (λ l r a b. (tt, safe_guards c s Up g scope l a, safe_guards c s Up h scope r b))
+safe_guards c s Up (Next place interval g) scope p e = safe_over _ _ p scope (from_now place interval.low interval.high _ p e).3 (λ q a. (tt, safe_guards c s Up g scope q a))
 safe_guards c s Down (Atom place name terms) scope p e = safe_leaf (s name) place _ p scope e tt
 safe_guards c s Down (Not place g) scope p e = safe_guards c s Up g scope p e
 safe_guards c s Down (And place g h) scope p e = safe_one_of_two scope _ _ _ _ p e (safe_guards c s Down g scope) (safe_guards c s Down h scope)
-safe_guards c s Down (Or place g h) scope p e = safe_over_two _ _ _ p scope e (λ l r a b. (safe_guards c s Down g scope l a, safe_guards c s Down h scope r b))
-safe_guards c s Down (Implies place g h) scope p e = safe_over_two _ _ _ p scope e (λ l r a b. (safe_guards c s Up g scope l a, safe_guards c s Down h scope r b))
+safe_guards c s Down (Or place g h) scope p e = safe_over_two _ _ _ p scope e (λ l r a b. (tt, safe_guards c s Down g scope l a, safe_guards c s Down h scope r b))
+safe_guards c s Down (Implies place g h) scope p e = safe_over_two _ _ _ p scope e (λ l r a b. (tt, safe_guards c s Up g scope l a, safe_guards c s Down h scope r b))
 safe_guards c s Down (Exists place xs g) scope p e = safe_exclusion place scope xs g (Elab c s Down g) p e (safe_guards c s Down g)
-safe_guards c s Down (Eventually place interval g) scope p e = safe_over _ _ p scope (with_end place interval.high _ p e).2 (λ q a. safe_guards c s Down g scope q a)
-safe_guards c s Down (Always place interval g) scope p e = safe_over _ _ p scope (with_end place interval.high _ p e).2 (λ q a. safe_guards c s Down g scope q a)
+safe_guards c s Down (Eventually place interval g) scope p e = safe_over _ _ p scope (with_end place interval.high _ p e).2 (λ q a. (tt, safe_guards c s Down g scope q a))
+safe_guards c s Down (Always place interval g) scope p e = safe_over _ _ p scope (with_end place interval.high _ p e).2 (λ q a. (tt, safe_guards c s Down g scope q a))
 safe_guards c s (UpForAll first xs) (Forall place ys g) scope p e = safe_guards c s (UpForAll first (xs ++ ys)) g scope p e
 safe_guards c s (UpForAll first xs) (Implies place g h) scope p e = implication_safe first place scope xs g h (Elab c s Down g) (Elab c s Up h) p e (safe_guards c s Down g) (safe_guards c s Up h)
 safe_guards c s (UpForAll first xs) (Not place g) scope p e = safe_exclusion first scope xs g (Elab c s Down g) p e (safe_guards c s Down g)

@@ -1,9 +1,13 @@
 -- From the answers of the calls to that for the policy.
-use Rattle.std.proofs.Common.{◌≡◌, ◌≤◌, ℕ, List, map, length, Result, Ok, Err, IsErrAnd, IfErr, IfOk, subst, sym}
-use Rattle.std.specs.List.{AllByRecursion}
-use Rattle.enf_value.specs.declared.limits.TheConstants.{MOST_NAMES}
-use Rattle.formula_reader.specs.Resolution.{formulas}
-use Rattle.formula_reader.specs.Within.{AreWithinLimits}
+use Rattle.std.proofs.Common.{◌≡◌, ◌≤◌, ℕ, List, [], ◌∷◌, map, length, Result, Ok, Err, IsErrAnd, IfErr, IfOk, refl, ap, subst, sym, arith}
+use Rattle.std.specs.List.{All, AllByRecursion}
+use Rattle.std.proofs.lemmas.List.{length-map}
+use Rattle.std.proofs.lemmas.List.Elements.{All-cons, All-nil}
+use Rattle.enf_value.specs.declared.limits.TheConstants.{MOST_NAMES, MOST_NODES, MOST_RULES}
+use Rattle.enf_formula.specs.Formulas.{Formula, tree_of}
+use Rattle.enf_formula.specs.Shape.{size_of}
+use Rattle.formula_reader.specs.Resolution.{formulas, rule_of}
+use Rattle.formula_reader.specs.WellFormed.{IsWellFormedPolicy, IsWellFormedRule}
 use Rattle.formula_reader.specs.declared.policies.Rule.{Rule}
 use Rattle.plan_terms.specs.Nodes.{IsNumbered}
 use Rattle.plan_terms.specs.Plans.{plan_of}
@@ -14,13 +18,39 @@ use Rattle.rank_check.specs.declared.answers.RankRefusal.{RankRefusal}
 use Rattle.rank_check.specs.declared.answers.RankRefusal.TheVariants as plans
 use Rattle.signature.specs.declared.entries.NameEntry.{NameEntry}
 use Rattle.enforce_types.specs.Accepted.{RefusesPolicy, of_plans}
-use Rattle.enforce_types.specs.GuardLists.{guards_of}
-use Rattle.enforce_types.specs.PolicyPlans.{ArePlanned}
+use Rattle.monitorable_guard.specs.Guards.{BoundFormula}
+use Rattle.plan_terms.specs.Changes.{NothingClashes}
+use Rattle.plan_terms.specs.Guards.{IsFresh, guard_of, guards_of}
+use Rattle.plan_terms.specs.WellFormed.{AreWellFormed}
+use Rattle.enforce_types.specs.PolicyLaws.{KeepsToSignature}
+use Rattle.enforce_types.specs.PolicyPlans.{ArePlanned, formulas_of}
 use Rattle.enforce_types.specs.declared.planning.RulePlans.{RulePlans}
 use Rattle.enforce_types.specs.declared.refusals.Refusal.{Refusal}
 use Rattle.enforce_types.specs.declared.refusals.TypeRefusal.{TypeRefusal}
+use Rattle.enforce_types.proofs.FormedPlans.{plans_formed, plans_kept}
 use Rattle.enforce_types.proofs.PlanLimits.{plans_within}
 use Rattle.enforce_types.proofs.PolicyLemmas.{in_order}
+
+-- the formulas of stored rules are those of the pure ones
+same_formulas : (rules : List Rule) → formulas rules ≡ formulas_of (map rule_of rules)
+same_formulas [] = refl
+same_formulas (rule ∷ rules) = ap (λ (fs : List Formula). tree_of rule.formula ∷ fs) (same_formulas rules)
+
+-- there are few rules, and each is small
+pub few_rules : (entries : List NameEntry) (rules seen : List Rule) → seen ≡ rules → IsWellFormedPolicy entries (map rule_of rules) → length seen ≤ MOST_RULES
+few_rules entries rules seen see formed = omega (arith, formed.few, length-map rules rule_of, ap length see)
+
+each_small : (entries : List NameEntry) (rules : List Rule) → AllByRecursion (IsWellFormedRule entries) (map rule_of rules) → All (λ f. size_of f ≤ MOST_NODES) (formulas rules)
+each_small entries [] formed = All-nil (λ f. size_of f ≤ MOST_NODES)
+each_small entries (rule ∷ rules) formed = All-cons (λ f. size_of f ≤ MOST_NODES) (tree_of rule.formula) (formulas rules) formed.0.small (each_small entries rules formed.1)
+
+pub small_rules : (entries : List NameEntry) (rules seen : List Rule) → seen ≡ rules → IsWellFormedPolicy entries (map rule_of rules) → All (λ f. size_of f ≤ MOST_NODES) (formulas seen)
+small_rules entries rules seen see formed = subst (λ (rs : List Rule). All (λ f. size_of f ≤ MOST_NODES) (formulas rs)) (sym see) (each_small entries rules formed.each)
+
+-- each guard of the list is fresh
+pub all_fresh : (guards : List BoundFormula) → AllByRecursion IsFresh (guards_of guards) → All (λ guard. IsFresh (guard_of guard)) guards
+all_fresh [] fresh = All-nil (λ guard. IsFresh (guard_of guard))
+all_fresh (guard ∷ guards) fresh = All-cons (λ guard. IsFresh (guard_of guard)) guard guards fresh.0 (all_fresh guards fresh.1)
 
 module _ (entries : List NameEntry) where
   -- what was made of the rules is their plans
@@ -32,9 +62,21 @@ module _ (entries : List NameEntry) where
 
   -- the plans as they are passed on
   module _ (rules seen : List Rule) (r : Result RulePlans Refusal) (made : RulePlans) (see : seen ≡ rules) (is : r ≡ Ok made) (h : IfOk r (Planned seen)) (lent : List StoredPlan) (lends : lent ≡ made.plans.items) where
-    pub fits : (names : ℕ) → names ≡ length entries → length entries ≤ MOST_NAMES → AreWithinLimits entries (formulas rules) → ArePlansWithinLimits names (map plan_of lent)
-    fits names count few within =
-        let whole = plans_within entries (formulas rules) (map plan_of made.plans.items) (guards_of made.guards.items) few within (planned_of rules seen r made see is h) in
+    -- of the pure rules
+    planned_pure : ArePlanned entries (formulas_of (map rule_of rules)) (map plan_of made.plans.items) (guards_of made.guards.items)
+    planned_pure = subst (λ (fs : List Formula). ArePlanned entries fs (map plan_of made.plans.items) (guards_of made.guards.items)) (same_formulas rules) (planned_of rules seen r made see is h)
+
+    pub formed : IsWellFormedPolicy entries (map rule_of rules) → NothingClashes (map plan_of lent) → AreWellFormed (map plan_of made.plans.items) (guards_of made.guards.items)
+    formed policy roles =
+        plans_formed entries (map rule_of rules) (map plan_of made.plans.items) (guards_of made.guards.items) policy planned_pure
+        (subst (λ (ps : List StoredPlan). NothingClashes (map plan_of ps)) lends roles)
+
+    pub kept : IsWellFormedPolicy entries (map rule_of rules) → KeepsToSignature entries (map plan_of made.plans.items) (guards_of made.guards.items)
+    kept policy = plans_kept entries (map rule_of rules) (map plan_of made.plans.items) (guards_of made.guards.items) policy planned_pure
+
+    pub fits : (names : ℕ) → names ≡ length entries → length entries ≤ MOST_NAMES → IsWellFormedPolicy entries (map rule_of rules) → ArePlansWithinLimits names (map plan_of lent)
+    fits names count few policy =
+        let whole = plans_within entries (map rule_of rules) (map plan_of made.plans.items) (guards_of made.guards.items) few policy planned_pure in
         subst (λ (n : ℕ). ArePlansWithinLimits n (map plan_of lent)) (sym count)
         (subst (λ (ps : List StoredPlan). ArePlansWithinLimits (length entries) (map plan_of ps)) (sym lends) whole)
 

@@ -6,13 +6,23 @@ use Rattle.enf_formula.specs.Formulas.{Formula, And, Not}
 use Rattle.enf_formula.specs.FreeVariables.{IsFree}
 use Rattle.enf_formula.specs.Shape.{place_of}
 use Rattle.monitorable_guard.specs.Safety.{Safe, IsTest}
-use Rattle.plan_terms.specs.Plans.{Plan, Either, TestOr, Guarded}
+use Rattle.plan_terms.specs.Plans.{Plan, Either, TestOr, Guarded, plan_of}
+use Rattle.plan_terms.specs.declared.plans.Plan as stored
 use Rattle.enforce_types.specs.declared.refusals.Refusal.{Refusal}
 use Rattle.enforce_types.specs.declared.refusals.Refusal.TheVariants.{Unguarded, NotEnforceable}
 
 -- a plan, whose nodes and guards have the number 0 each, or the first refusal
 abbrev pub Answer : Type 0
 Answer = Result Plan Refusal
+
+-- an answer of the program
+abbrev pub answer_of : Result stored.Plan Refusal → Answer
+answer_of (Ok plan) = Ok (plan_of plan)
+answer_of (Err refusal) = Err refusal
+
+-- the answer, and no other
+abbrev pub Is : Answer → Answer → Type 0
+Is answer other = other ≡ answer
 
 -- refused at the place
 abbrev pub IsRefused : ℕ → Answer → Type 0

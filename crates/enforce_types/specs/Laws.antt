@@ -9,7 +9,7 @@ use Rattle.enf_formula.specs.Shape.{place_of}
 use Rattle.plan_terms.specs.PlanFormula.{formula_for}
 use Rattle.plan_terms.specs.Plans.{Plan}
 use Rattle.enforce_types.specs.Answers.{Answer}
-use Rattle.enforce_types.specs.Guards.{GuardsAreSafe}
+use Rattle.plan_terms.specs.Guards.{GuardsAreSafe}
 use Rattle.enf_formula.specs.Past.{is_past}
 use Rattle.monitorable_guard.specs.Safety.{Safe}
 use Rattle.enforce_types.specs.Elab.{Elab, Aim, Up, Down}

@@ -1,11 +1,11 @@
 pub mod Answers
 pub mod Elab
+pub mod Given
+pub mod Joined
+pub mod Marks
 pub mod Laws
 pub mod Cases
-pub mod Guards
 pub mod Numbering
-pub mod GuardLists
-pub mod Given
 pub mod PolicyPlans
 pub mod PolicyLaws
 pub mod Accepted

@@ -10,7 +10,7 @@ use Rattle.plan_terms.specs.PlanFormula.{formula_for}
 use Rattle.plan_terms.specs.Plans.{Plan, Cause, Suppress, Both, Either, TestOr, Guarded, Eventually, Always}
 use Rattle.plan_terms.specs.Plans.{Until, Next}
 use Rattle.enforce_types.specs.Elab.{Elab, Up}
-use Rattle.enforce_types.specs.Guards.{GuardsAreSafe}
+use Rattle.plan_terms.specs.Guards.{GuardsAreSafe}
 
 -- the numbers of the guards and tests of a plan in pre-order
 abbrev pub guard_numbers : Plan → List ℕ

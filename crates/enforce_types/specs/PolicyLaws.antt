@@ -1,29 +1,30 @@
 -- What the plans of a policy are worth, and that each policy has exactly one answer.
-use Rattle.std.specs.Prelude.{◌≡◌, ◌⊎◌, ℕ, ◌≤◌, List, [], Some, Contains, length, slice_get}
+use Rattle.std.specs.Prelude.{◌≡◌, ◌⊎◌, ℕ, ◌≤◌, List, [], Some, IsTrue, length, slice_get}
 use Rattle.std.specs.List.{AllByRecursion, AllZip, flat_map}
+use Rattle.enf_value.specs.declared.events.NameId.{NameId}
 use Rattle.enf_value.specs.declared.limits.TheConstants.{MOST_NAMES}
 use Rattle.enf_value.specs.declared.terms.VarId.{VarId}
 use Rattle.enf_formula.specs.Formulas.{Formula}
 use Rattle.enf_formula.specs.Laws.{IsSameAs}
-use Rattle.formula_reader.specs.Within.{AreWithinLimits}
-use Rattle.monitorable_guard.specs.Safety.{Safe}
+use Rattle.formula_reader.specs.Resolution.{Rule}
+use Rattle.formula_reader.specs.WellFormed.{IsWellFormedPolicy}
+use Rattle.plan_terms.specs.Changes.{IsCaused, IsSuppressed, NothingClashes}
+use Rattle.plan_terms.specs.Guards.{CanBeEvaluated, GuardsAreListed}
+use Rattle.plan_terms.specs.Names.{LooksBelow}
 use Rattle.plan_terms.specs.Nodes.{IsNumbered}
 use Rattle.plan_terms.specs.PlanFormula.{formula_for}
 use Rattle.plan_terms.specs.Plans.{Plan}
+use Rattle.plan_terms.specs.WellFormed.{AreWellFormed}
 use Rattle.rank_check.specs.Limits.{ArePlansWithinLimits}
 use Rattle.signature.specs.declared.entries.NameEntry.{NameEntry}
-use Rattle.enforce_types.specs.GuardLists.{numbered_guards}
+use Rattle.enforce_types.specs.Marks.{is_causable, is_suppressible}
 use Rattle.enforce_types.specs.Numbering.{guard_numbers}
-use Rattle.enforce_types.specs.PolicyPlans.{ArePlanned, IsFirstRefusal}
+use Rattle.enforce_types.specs.PolicyPlans.{ArePlanned, IsFirstRefusal, formulas_of}
 use Rattle.enforce_types.specs.declared.refusals.Refusal.{Refusal}
 
 -- the plan's formula holds at every position of every trace under every valuation exactly where the formula does
 abbrev pub MeansSame : Formula → Plan → Type 0
 MeansSame f plan = IsSameAs (formula_for plan) f
-
--- the guard can be evaluated with its variables bound
-abbrev pub CanBeEvaluated : Formula × List VarId → Type 0
-CanBeEvaluated guard = Safe guard.0 (Contains guard.1)
 
 abbrev pub PolicyKeepsMeaning : Type 0
 PolicyKeepsMeaning = (entries : List NameEntry) (policy : List Formula) (plans : List Plan)
@@ -40,12 +41,11 @@ PolicyGuardsAreSafe = (entries : List NameEntry) (policy : List Formula) (plans 
     (guards : List (Formula × List VarId)) → ArePlanned entries policy plans guards
     → AllByRecursion CanBeEvaluated guards
 
--- a guard or test that stands in the plans with a number is the one at this place among the guards
+-- the guards and tests of the plans stand at their numbers
 abbrev pub GuardsAreAtNumbers : Type 0
 GuardsAreAtNumbers = (entries : List NameEntry) (policy : List Formula) (plans : List Plan)
-    (guards : List (Formula × List VarId)) (number : ℕ) (guard : Formula × List VarId)
-    → ArePlanned entries policy plans guards
-    → Contains (flat_map (λ plan. numbered_guards plan []) plans) (number, guard) → slice_get guards number ≡ Some guard
+    (guards : List (Formula × List VarId)) → ArePlanned entries policy plans guards
+    → AllByRecursion (λ plan. GuardsAreListed guards plan []) plans
 
 -- a policy has plans or a first refusal
 abbrev pub IsAnswered : Type 0
@@ -70,8 +70,27 @@ abbrev pub OneRefusal : Type 0
 OneRefusal = (entries : List NameEntry) (policy : List Formula) (refusal other : Refusal)
     → IsFirstRefusal entries policy refusal → IsFirstRefusal entries policy other → refusal ≡ other
 
--- the plans of a policy that keeps to the limits do so too, and their names are those of the signature
+-- the plans of a policy that was read keep to the limits, and their names are those of the signature
 abbrev pub PlansAreWithinLimits : Type 0
-PlansAreWithinLimits = (entries : List NameEntry) (policy : List Formula) (plans : List Plan)
-    (guards : List (Formula × List VarId)) → length entries ≤ MOST_NAMES → AreWithinLimits entries policy
-    → ArePlanned entries policy plans guards → ArePlansWithinLimits (length entries) plans
+PlansAreWithinLimits = (entries : List NameEntry) (rules : List Rule) (plans : List Plan)
+    (guards : List (Formula × List VarId)) → length entries ≤ MOST_NAMES → IsWellFormedPolicy entries rules
+    → ArePlanned entries (formulas_of rules) plans guards → ArePlansWithinLimits (length entries) plans
+
+-- they are well-formed with their guards, where no name is both caused and suppressed
+abbrev pub PlansAreWellFormed : Type 0
+PlansAreWellFormed = (entries : List NameEntry) (rules : List Rule) (plans : List Plan)
+    (guards : List (Formula × List VarId)) → IsWellFormedPolicy entries rules
+    → ArePlanned entries (formulas_of rules) plans guards → NothingClashes plans → AreWellFormed plans guards
+
+-- what is caused can be caused under the signature, what is suppressed can be suppressed, and the names that guards
+-- look for are its names
+pub record KeepsToSignature (entries : List NameEntry) (plans : List Plan)
+    (guards : List (Formula × List VarId)) : Type 0 where
+  pub caused : (name : NameId) → IsCaused plans name → IsTrue (is_causable entries name)
+  pub suppressed : (name : NameId) → IsSuppressed plans name → IsTrue (is_suppressible entries name)
+  pub looked_for : AllByRecursion (LooksBelow (length entries)) guards
+
+abbrev pub PlansKeepToSignature : Type 0
+PlansKeepToSignature = (entries : List NameEntry) (rules : List Rule) (plans : List Plan)
+    (guards : List (Formula × List VarId)) → IsWellFormedPolicy entries rules
+    → ArePlanned entries (formulas_of rules) plans guards → KeepsToSignature entries plans guards

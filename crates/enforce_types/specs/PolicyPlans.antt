@@ -1,16 +1,21 @@
 -- The plans of a policy, or the first refusal.
-use Rattle.std.specs.Prelude.{◌≡◌, ◌⊎◌, List, [], ◌∷◌, Ok, Err}
-use Rattle.std.specs.List.{AllZip, flat_map}
+use Rattle.std.specs.Prelude.{◌≡◌, ◌⊎◌, List, [], ◌∷◌, map, Ok, Err}
+use Rattle.std.specs.List.{AllZip}
 use Rattle.enf_value.specs.declared.terms.VarId.{VarId}
 use Rattle.enf_formula.specs.Formulas.{Formula}
+use Rattle.formula_reader.specs.Resolution.{Rule}
+use Rattle.plan_terms.specs.Guards.{all_guards}
 use Rattle.plan_terms.specs.Plans.{Plan}
 use Rattle.signature.specs.declared.entries.NameEntry.{NameEntry}
 use Rattle.enforce_types.specs.Answers.{Answer}
 use Rattle.enforce_types.specs.Elab.{Elab, Up}
-use Rattle.enforce_types.specs.Given.{is_causable, is_suppressible}
-use Rattle.enforce_types.specs.GuardLists.{guards_in}
+use Rattle.enforce_types.specs.Marks.{is_causable, is_suppressible}
 use Rattle.enforce_types.specs.Numbering.{all_numbered}
 use Rattle.enforce_types.specs.declared.refusals.Refusal.{Refusal}
+
+-- the formulas of rules
+abbrev pub formulas_of : List Rule → List Formula
+formulas_of rules = map (λ (rule : Rule). rule.formula) rules
 
 -- under a signature, what is answered for a rule's formula: no variable is in scope there
 abbrev pub RuleAnswer : List NameEntry → Formula → Answer → Type 0
@@ -26,7 +31,7 @@ pub record ArePlanned (entries : List NameEntry) (policy : List Formula) (plans 
   pub made : List Plan
   pub answered : AllZip (HasPlan entries) policy made
   pub numbered : plans ≡ all_numbered 0 made
-  pub guarded : guards ≡ flat_map (λ plan. guards_in plan []) plans
+  pub guarded : guards ≡ all_guards plans
 
 -- the first formula without a plan is refused so
 abbrev pub IsFirstRefusal : List NameEntry → List Formula → Refusal → Type 0

@@ -6,7 +6,7 @@ use Rattle.monitorable_guard.specs.Guards.{BoundFormula}
 use Rattle.plan_terms.specs.Plans.{Plan, plan_of}
 use Rattle.plan_terms.specs.declared.plans.Plan.{Plan as StoredPlan}
 use Rattle.rank_check.specs.Ranked.{Ranked}
-use Rattle.enforce_types.specs.GuardLists.{guards_of}
+use Rattle.plan_terms.specs.Guards.{guards_of}
 
 -- plans in rule order, their guards and tests at their numbers
 pub record Typed : Type 0 where

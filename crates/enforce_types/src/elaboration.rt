@@ -2,9 +2,9 @@
 ghost use Rattle.std.specs.Prelude.{◌≡◌, ◌++◌, IfOk, IsTrue};
 ghost use Rattle.enf_formula.specs.Formulas.{tree_of};
 ghost use Rattle.enforce_types.specs.Elab.{Elab, Up, Down, UpForAll};
-ghost use Rattle.enforce_types.specs.Answers.{Exclusion, Implication, LeafWhere};
-ghost use Rattle.enforce_types.specs.Given.{answer_of, tested};
-ghost use Rattle.enforce_types.specs.Given.{is_causable as can_cause, is_suppressible as can_suppress};
+ghost use Rattle.enforce_types.specs.Answers.{Exclusion, Implication, LeafWhere, answer_of};
+ghost use Rattle.enforce_types.specs.Joined.{tested};
+ghost use Rattle.enforce_types.specs.Marks.{is_causable as can_cause, is_suppressible as can_suppress};
 ghost use Rattle.plan_terms.specs.Plans as tree;
 ghost use Rattle.plan_terms.specs.Plans.{plan_of};
 

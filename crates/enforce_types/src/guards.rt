@@ -1,8 +1,7 @@
 //! The guards and tests of plans, as they are evaluated.
 ghost use Rattle.std.specs.Prelude.{◌≡◌, ◌++◌, ◌∷◌, [], OnOk, Contains};
 ghost use Rattle.enf_formula.specs.Formulas.{tree_of};
-ghost use Rattle.enforce_types.specs.GuardLists.{guards_in, guards_of};
-ghost use Rattle.enforce_types.specs.Guards.{GuardsAreSafe};
+ghost use Rattle.plan_terms.specs.Guards.{guards_in, guards_of, GuardsAreSafe};
 ghost use Rattle.monitorable_guard.specs.Safety.{Safe};
 ghost use Rattle.plan_terms.specs.Plans.{plan_of};
 

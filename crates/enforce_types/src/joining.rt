@@ -2,7 +2,8 @@
 ghost use Rattle.std.specs.Prelude.{◌≡◌, ◌↔◌, ◌++◌, IfOk, IsTrue};
 ghost use Rattle.enf_formula.specs.Formulas.{tree_of};
 ghost use Rattle.enforce_types.specs.Answers.{FromNow, Guards, IsRefused, OneOfTwo, OverOne, OverTwo, WithEnd};
-ghost use Rattle.enforce_types.specs.Given.{answer_of, Is, positive, side};
+ghost use Rattle.enforce_types.specs.Answers.{answer_of, Is};
+ghost use Rattle.enforce_types.specs.Joined.{positive, side};
 ghost use Rattle.plan_terms.specs.Plans as tree;
 ghost use Rattle.plan_terms.specs.Plans.{plan_of};
 

@@ -5,8 +5,8 @@ ghost use Rattle.enforce_types.specs.Numbering.{NodesAreNumbered, GuardsAreNumbe
 ghost use Rattle.enforce_types.specs.Numbering.{NumbersMeanNothing, NumberingKeepsSafe, PlansAreSmall};
 ghost use Rattle.enforce_types.specs.PolicyLaws.{PolicyKeepsMeaning, PolicyIsNumbered, PolicyGuardsAreSafe};
 ghost use Rattle.enforce_types.specs.PolicyLaws.{IsAnswered, NotBoth, OnePlans, OneRefusal};
-ghost use Rattle.enforce_types.specs.PolicyLaws.{GuardsAreAtNumbers, PlansAreWithinLimits};
-ghost use Rattle.enforce_types.specs.GuardLists.{GuardsHaveNumbers};
+ghost use Rattle.enforce_types.specs.PolicyLaws.{GuardsAreAtNumbers, PlansAreWellFormed, PlansAreWithinLimits};
+ghost use Rattle.enforce_types.specs.PolicyLaws.{PlansKeepToSignature};
 ghost use Rattle.enforce_types.specs.Accepted.{AcceptedIsNotRefused, AcceptedOrRefused, RefusedOnce};
 
 use enf_formula::laws::is_classical;
@@ -57,14 +57,19 @@ pub fn policy_plans_keep_meaning()
 
 /// In the plans of a policy the guard or test with a number stands at this place among the guards.
 pub fn guards_stand_at_their_numbers()
-    ensures listed { GuardsHaveNumbers }
-    ensures places { GuardsAreAtNumbers }
+    ensures { GuardsAreAtNumbers }
 {}
 
-/// The plans of a policy that keeps to the limits keep to them too, and change and look for no name but the
-/// signature's.
+/// The plans of a policy that was read keep to the limits, and change and look for no name but the signature's.
 pub fn plans_are_within_limits()
     ensures { PlansAreWithinLimits }
+{}
+
+/// The plans of a policy that was read are well-formed with their guards, where no name is both caused and suppressed,
+/// and change events as the signature permits.
+pub fn plans_are_well_formed()
+    ensures formed { PlansAreWellFormed }
+    ensures kept { PlansKeepToSignature }
 {}
 
 /// Each policy has plans or a first refusal, exactly one.

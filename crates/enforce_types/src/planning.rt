@@ -1,13 +1,12 @@
 //! Plans for the rules of a policy.
 ghost use Rattle.std.specs.Prelude.{◌≡◌, ◌+◌, ◌<◌, ◌≤◌, ◌^◌, ◌++◌, ◌∷◌, [], All, IfErr, IfOk, OnOk, length, map};
 ghost use Rattle.enf_formula.specs.Shape.{size_of};
-ghost use Rattle.enforce_types.specs.GuardLists.{guards_in, guards_of};
-ghost use Rattle.enforce_types.specs.Guards.{GuardsAreSafe};
+ghost use Rattle.plan_terms.specs.Guards.{guards_in, guards_of, GuardsAreSafe};
 ghost use Rattle.enforce_types.specs.Numbering.{node_count, guard_count, numbered};
 ghost use Rattle.enforce_types.specs.PolicyPlans.{ArePlanned, IsFirstRefusal};
 ghost use Rattle.formula_reader.specs.Resolution.{formulas};
 ghost use Rattle.plan_terms.specs.Plans.{plan_of};
-ghost use Rattle.policy_syntax.specs.declared.limits.TheConstants.{MOST_NODES, MOST_RULES};
+ghost use Rattle.enf_value.specs.declared.limits.TheConstants.{MOST_NODES, MOST_RULES};
 
 use crate::elaboration::up;
 use crate::guards::collect;

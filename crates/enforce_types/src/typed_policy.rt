@@ -1,9 +1,12 @@
 //! Policies whose rules have plans that can work together.
-ghost use Rattle.std.specs.Prelude.{◌≡◌, IfErr, IfOk};
+ghost use Rattle.std.specs.Prelude.{◌≡◌, ◌≤◌, All, IfErr, IfOk};
 ghost use Rattle.enforce_types.specs.Accepted.{IsTyped, RefusesPolicy};
+ghost use Rattle.enforce_types.specs.PolicyLaws.{KeepsToSignature};
 ghost use Rattle.enforce_types.specs.Typed.{typed_of};
-ghost use Rattle.formula_reader.specs.Resolution.{formulas};
-ghost use Rattle.formula_reader.specs.Within.{AreWithinLimits};
+ghost use Rattle.formula_reader.specs.Resolution.{formulas, rules_of};
+ghost use Rattle.formula_reader.specs.WellFormed.{IsWellFormedPolicy};
+ghost use Rattle.plan_terms.specs.Guards.{IsFresh, guard_of};
+ghost use Rattle.plan_terms.specs.WellFormed.{AreWellFormed};
 ghost use Rattle.rank_check.specs.Ranked.{role_in};
 
 use crate::planning::{RulePlans, plan_rules};
@@ -12,7 +15,7 @@ use enf_value::events::NameId;
 use formula_reader::Policy;
 use monitorable_guard::Guard;
 use plan_terms::Plan;
-use rank_check::{Ranks, Role, check};
+use rank_check::{MOST_HORIZON, Ranks, Role, check};
 use signature::Signature;
 use std::alloc::Global;
 use std::marker::Model;
@@ -25,8 +28,12 @@ pub struct TypedPolicy {
 }
 
 impl Model for TypedPolicy {
+    ghost use Rattle.std.specs.Prelude.{map};
     ghost use Rattle.enforce_types.specs.Typed.{StoredTyped};
     ghost use Rattle.monitorable_guard.specs.Guards.{bound_formula_code};
+    ghost use Rattle.plan_terms.specs.Guards.{guards_of};
+    ghost use Rattle.plan_terms.specs.Plans.{plan_of};
+    ghost use Rattle.plan_terms.specs.WellFormed.{AreWellFormed};
     ghost use Rattle.plan_terms.specs.contracts.plans.Plan as plan;
     ghost use Rattle.std.specs.Coded.{codes};
 
@@ -35,6 +42,8 @@ impl Model for TypedPolicy {
     ghost coded = { Prim.hlevel (codes, plan.the_row.coded, bound_formula_code) };
 
     ghost view = { λ t. record { plans = t.made.plans.items; guards = t.made.guards.items; ranked = t.ranks } };
+
+    ghost invariant = { λ t. AreWellFormed (map plan_of t.made.plans.items) (guards_of t.made.guards.items) };
 }
 
 impl TypedPolicy {
@@ -45,8 +54,11 @@ impl TypedPolicy {
         policy: &Policy,
     ) -> Result<TypedPolicy, TypeRefusal>
         // So is each policy that was read under the signature.
-        requires { AreWithinLimits signature.now (formulas policy.now.rules) }
+        requires { IsWellFormedPolicy signature.now (rules_of policy.now) }
         ensures typed { IfOk result (λ made. IsTyped signature.now (formulas policy.now.rules) (typed_of made)) }
+        // The names that it causes can be caused, and those that it suppresses can be suppressed.
+        ensures kept { IfOk result
+            (λ made. KeepsToSignature signature.now (typed_of made).plans (typed_of made).guards) }
         ensures refused { IfErr result (RefusesPolicy signature.now (formulas policy.now.rules)) }
     {
         let made = plan_rules(alloc, signature, policy.rules.as_slice())??;
@@ -54,22 +66,24 @@ impl TypedPolicy {
         Ok(TypedPolicy { made, ranks })
     }
 
-    /// The plans, in rule order.
+    /// The plans, in rule order: what they and the guards are, whatever the signature.
     pub fn plans(&self) -> &[Plan]
-        ensures { result.now ≡ self.now.plans }
+        ensures plans { result.now ≡ self.now.plans }
+        ensures formed { AreWellFormed (typed_of self.now).plans (typed_of self.now).guards }
     {
         &self.made.plans
     }
 
-    /// The guards and tests, at their numbers.
+    /// The guards and tests, at their numbers: no quantifier in one binds a variable in scope.
     pub fn guards(&self) -> &[Guard]
-        ensures { result.now ≡ self.now.guards }
+        ensures guards { result.now ≡ self.now.guards }
+        ensures fresh { All (λ guard. IsFresh (guard_of guard)) self.now.guards }
     {
         &self.made.guards
     }
 
-    /// Whether the plans are transparent: of the two sides of an Either at most one has a future node, and neither the body
-    /// of an Eventually nor the right side of an Until has one.
+    /// Whether the plans are transparent: of the two sides of an Either at most one has a future node, and neither the
+    /// body of an Eventually nor the right side of an Until has one.
     pub fn is_transparent(&self) -> bool
         ensures { result ≡ self.now.ranked.transparent }
     {
@@ -79,7 +93,8 @@ impl TypedPolicy {
     /// The horizon in units of time: one more than the greatest class of a node with a deadline, times the greatest
     /// end of such a node's interval.
     pub fn horizon(&self) -> u64
-        ensures { result ≡ self.now.ranked.horizon }
+        ensures value { result ≡ self.now.ranked.horizon }
+        ensures bounded { result ≤ MOST_HORIZON }
     {
         self.ranks.horizon()
     }

@@ -8,7 +8,7 @@ ghost use Rattle.plan_terms.specs.Plans as plan;
 ghost use Rattle.enforce_types.specs.Cases.{MadeTrue, MadeFalse, TrueBy, FalseBy, not_enforceable, unguarded, y};
 ghost use Rattle.enforce_types.specs.Cases.{p_at, q_at, p_x_at, q_x_at, p_x_y_at, once_p, once_q, soon};
 ghost use Rattle.enforce_types.specs.Cases.{suppress_p, suppress_p_x, cause_q, cause_q_x};
-ghost use Rattle.enforce_types.specs.GuardLists.{guards_in, numbered_guards};
+ghost use Rattle.plan_terms.specs.Guards.{GuardsAreListed, guards_in};
 ghost use Rattle.enforce_types.specs.Numbering.{numbered, all_numbered};
 ghost use Rattle.enf_formula.specs.Cases.{name_q};
 
@@ -108,6 +108,6 @@ pub fn numbers()
         ∷ plan.TestOr 0 1 once_q (plan.Cause 1 5 name_q []) ∷ [] }
     ensures scopes { guards_in (plan.Guarded 0 (x ∷ []) 0 (p_x_at 2) (plan.TestOr 0 0 once_p (cause_q 3))) []
         ≡ (p_x_at 2, []) ∷ (once_p, x ∷ []) ∷ [] }
-    ensures kept { numbered_guards (plan.Guarded 0 (x ∷ []) 7 (p_x_at 2) (plan.TestOr 1 8 once_p (cause_q 3))) []
-        ≡ (7, (p_x_at 2, [])) ∷ (8, (once_p, x ∷ [])) ∷ [] }
+    ensures listed { GuardsAreListed ((p_x_at 2, []) ∷ (once_p, x ∷ []) ∷ [])
+        (numbered 0 0 (plan.Guarded 0 (x ∷ []) 0 (p_x_at 2) (plan.TestOr 0 0 once_p (cause_q 3)))) [] }
 {}

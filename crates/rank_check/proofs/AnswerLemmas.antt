@@ -7,8 +7,8 @@ use Rattle.plan_terms.specs.Nodes.{nodes}
 use Rattle.plan_terms.specs.Plans.{Plan, Cause, Eventually, Until, Next}
 use Rattle.rank_check.specs.Chains.{IsOnCycle}
 use Rattle.rank_check.specs.Paths.{needs_trigger, Edge}
-use Rattle.rank_check.specs.Refusals.{AllIsTriggered, AreAccepted, IsAcyclic, IsFirstName, IsFirstPlace, IsPlaceOf, IsUntriggeredAt, NothingClashes, RefusesPlans}
-use Rattle.rank_check.specs.Roles.{Clashes}
+use Rattle.rank_check.specs.Refusals.{AllIsTriggered, AreAccepted, IsAcyclic, IsFirstName, IsFirstPlace, IsPlaceOf, IsUntriggeredAt, RefusesPlans}
+use Rattle.plan_terms.specs.Changes.{NothingClashes, Clashes}
 use Rattle.rank_check.specs.declared.answers.RankRefusal.{RankRefusal}
 use Rattle.rank_check.specs.declared.answers.RankRefusal.TheVariants.{RoleClash, Untriggered, Cyclic, NoMemory}
 

@@ -5,10 +5,11 @@ use Rattle.std.specs.Option.{option_or, option_map}
 use Rattle.std.proofs.lemmas.Bool.{cases_lt}
 use Rattle.std.proofs.lemmas.List.{map-append}
 use Rattle.std.proofs.lemmas.Option.{slice_get-map, slice_get_read, slice_get_within}
-use Rattle.valuations.specs.Columns.{there_from_get}
+use Rattle.enf_value.specs.ListLaws.{there_from_get}
 use Rattle.plan_terms.specs.Nodes.{nodes, number_of, IsNumbered}
 use Rattle.plan_terms.specs.Plans.{Plan, Cause, Suppress, Both, Either, TestOr, Guarded, Eventually, Always, Until, Next}
-use Rattle.rank_check.specs.Paths.{needs_trigger, triggers, IsUntriggered}
+use Rattle.rank_check.specs.Paths.{needs_trigger, IsUntriggered}
+use Rattle.plan_terms.specs.Triggers.{triggers}
 use Rattle.rank_check.specs.Refusals.{IsPlaceOf, AllIsTriggered, IsFirstPlace}
 use Rattle.rank_check.specs.Walks.{bare_behind, visits, place_needing, bare_place, first_place}
 use Rattle.rank_check.proofs.VisitLemmas.{untriggered_if_bare, bare_if_untriggered}

@@ -3,7 +3,7 @@ use Rattle.std.proofs.Common.{◌≡◌, ℕ, zero, suc, ◌+◌, ◌≤◌, tru
 use Rattle.enf_formula.specs.Cases.{name_p, name_q}
 use Rattle.enf_value.specs.declared.events.NameId.{NameId}
 use Rattle.plan_terms.specs.Plans.{Plan, Cause, Eventually}
-use Rattle.valuations.specs.Columns.{here, first_or_later, none_in_nil}
+use Rattle.enf_value.specs.ListLaws.{here, first_or_later, none_in_nil}
 use Rattle.rank_check.specs.Cases.{name_r, soon_after, in_a_row, two_in_turn}
 use Rattle.rank_check.specs.Chains.{Leads, EndsIn, IsOnCycle}
 use Rattle.rank_check.specs.Paths.{Edge}

@@ -3,14 +3,15 @@ use Rattle.std.proofs.Common.{◌≡◌, ◌⊎◌, ◌↔◌, ℕ, ◌+◌, ◌
 use Rattle.std.specs.Option.{option_or}
 use Rattle.std.proofs.lemmas.List.{take_more}
 use Rattle.std.proofs.lemmas.List.Elements.{Contains-append_left, Contains-append_right, Contains-append_cases, Contains-push, Contains-push_cases}
-use Rattle.valuations.specs.Columns.{here, later, none_in_nil}
+use Rattle.enf_value.specs.ListLaws.{here, later, none_in_nil}
 use Rattle.enf_value.specs.declared.events.NameId.{NameId}
 use Rattle.plan_terms.specs.Nodes.{nodes}
 use Rattle.plan_terms.specs.Plans.{Plan, Cause, Suppress, Both, Either, TestOr, Guarded, Eventually, Always, Until, Next}
-use Rattle.rank_check.specs.Paths.{below, begun_by, guard_triggers, path_triggers, triggers, IsCause, IsStart, Edge}
+use Rattle.rank_check.specs.Paths.{below, begun_by, path_triggers, IsCause, IsStart, Edge}
+use Rattle.plan_terms.specs.Triggers.{guard_triggers, triggers}
 use Rattle.rank_check.specs.Limits.{ArePlansWithinLimits}
 use Rattle.rank_check.specs.Matrix.{Table, Joins, Adds}
-use Rattle.rank_check.specs.Roles.{IsCaused, caused_below, cause_of}
+use Rattle.plan_terms.specs.Changes.{IsCaused, caused_below, cause_of}
 use Rattle.rank_check.specs.Walks.{bare_behind, met_behind, Causes}
 use Rattle.rank_check.proofs.MatrixLemmas.{both, same}
 use Rattle.rank_check.proofs.PlanLemmas.{by_below, in_one, in_two, root, deeper, in_flat, nodes_in, end_in, guard_in}

@@ -1,5 +1,4 @@
 pub mod ChainLemmas
-pub mod TriggerLemmas
 pub mod MatrixLemmas
 pub mod PlanLemmas
 pub mod StartLemmas

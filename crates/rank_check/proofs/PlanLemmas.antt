@@ -4,12 +4,13 @@ use Rattle.std.proofs.lemmas.List.Elements.{Contains-append_left, Contains-appen
 use Rattle.std.specs.List.{slice_get, flat_map}
 use Rattle.std.specs.Option.{option_map, option_or}
 use Rattle.std.proofs.lemmas.Option.{slice_get-map, slice_get_read}
-use Rattle.valuations.specs.Columns.{here, later, first_or_later, none_in_nil}
+use Rattle.enf_value.specs.ListLaws.{here, later, first_or_later, none_in_nil}
 use Rattle.enf_value.specs.declared.events.NameId.{NameId}
 use Rattle.plan_terms.specs.Nodes.{nodes}
 use Rattle.plan_terms.specs.Plans.{plan_of, Plan, Cause, Suppress, Both, Either, TestOr, Guarded, Eventually, Always, Until, Next}
 use Rattle.plan_terms.specs.declared.plans.Plan.{Plan as Stored}
-use Rattle.rank_check.specs.Paths.{below, guard_triggers, path_triggers, IsPath}
+use Rattle.rank_check.specs.Paths.{below, path_triggers, IsPath}
+use Rattle.plan_terms.specs.Triggers.{guard_triggers}
 
 pub in_one : (P : Plan → Type 0) (body : Plan) → P body → (next : Plan) → Contains (body ∷ []) next → P next
 in_one P body is next there = ⊎_elim (λ same. subst P same is) (λ none. absurd (none_in_nil next none)) (first_or_later next body [] there)

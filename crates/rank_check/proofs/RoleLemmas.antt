@@ -11,8 +11,9 @@ use Rattle.plan_terms.specs.Plans.{Plan}
 use Rattle.rank_check.specs.declared.answers.Role.{Role}
 use Rattle.rank_check.specs.declared.answers.Role.TheVariants.{Free, Caused, Suppressed}
 use Rattle.rank_check.specs.Ranked.{role_in}
-use Rattle.rank_check.specs.Refusals.{IsFirstName, NothingClashes}
-use Rattle.rank_check.specs.Roles.{role_for, AreNamesBelow, Clashes, HasRole, IsCaused, IsMarked, IsSuppressed}
+use Rattle.rank_check.specs.Refusals.{IsFirstName}
+use Rattle.plan_terms.specs.Changes.{NothingClashes, Clashes, IsCaused, IsSuppressed}
+use Rattle.rank_check.specs.Roles.{role_for, AreNamesBelow, HasRole, IsMarked}
 
 -- the marks are those of the names of a list
 abbrev pub Tells : List Bool → (NameId → Type 0) → Type 0

@@ -1,6 +1,6 @@
 -- Paths from the starts of a plan, node by node.
 use Rattle.std.proofs.Common.{◌≡◌, ◌⊎◌, List, [], ◌∷◌, Contains, refl, sym, subst, inl, inr, ⊎_elim}
-use Rattle.valuations.specs.Columns.{here, first_or_later, none_in_nil}
+use Rattle.enf_value.specs.ListLaws.{here, first_or_later, none_in_nil}
 use Rattle.plan_terms.specs.Nodes.{nodes}
 use Rattle.plan_terms.specs.Plans.{Plan, Always, Until}
 use Rattle.rank_check.specs.Paths.{below, begun_by, IsPath}

@@ -8,7 +8,7 @@ use Rattle.plan_terms.specs.Nodes.{nodes}
 use Rattle.plan_terms.specs.Plans.{Plan, Until, plan_of}
 use Rattle.plan_terms.specs.declared.plans.Plan.{Plan as Stored}
 use Rattle.rank_check.specs.Horizon.{greatest, least_with, rank_in, has_deadline, window_end, class_in}
-use Rattle.rank_check.specs.Roles.{cause_of}
+use Rattle.plan_terms.specs.Changes.{cause_of}
 use Rattle.rank_check.specs.Survey.{IsSurvey}
 use Rattle.rank_check.specs.declared.horizon.Survey.{Survey}
 

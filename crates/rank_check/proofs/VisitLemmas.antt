@@ -2,10 +2,11 @@
 use Rattle.std.proofs.Common.{◌≡◌, ◌⊎◌, Bool, true, IsTrue, List, [], ◌∷◌, ◌++◌, Option, None, Some, Contains, refl, sym, ap, subst, inl, inr, ⊎_elim}
 use Rattle.std.specs.Option.{option_or}
 use Rattle.std.proofs.lemmas.List.Elements.{Contains-append_left, Contains-append_right, Contains-append_cases}
-use Rattle.valuations.specs.Columns.{here, later, first_or_later, none_in_nil}
+use Rattle.enf_value.specs.ListLaws.{here, later, first_or_later, none_in_nil}
 use Rattle.enf_value.specs.declared.events.NameId.{NameId}
 use Rattle.plan_terms.specs.Plans.{Plan, Cause, Suppress, Both, Either, TestOr, Guarded, Eventually, Always, Until, Next}
-use Rattle.rank_check.specs.Paths.{below, begun_by, guard_triggers, path_triggers, triggers, needs_trigger, IsPath, IsUntriggered}
+use Rattle.rank_check.specs.Paths.{below, begun_by, path_triggers, needs_trigger, IsPath, IsUntriggered}
+use Rattle.plan_terms.specs.Triggers.{guard_triggers, triggers}
 use Rattle.rank_check.specs.Walks.{bare_behind, visits}
 use Rattle.rank_check.proofs.PlanLemmas.{by_below, in_one, in_two}
 use Rattle.rank_check.proofs.StartLemmas.{From, Begun, Behind, is_below, at_end, one_more, one_less, begun_here, begun_below, begun_cases}

@@ -6,7 +6,7 @@ use Rattle.enf_value.specs.declared.events.NameId.{NameId}
 use Rattle.plan_terms.specs.Nodes.{nodes}
 use Rattle.plan_terms.specs.Plans.{Plan, Eventually}
 use Rattle.plan_terms.specs.Plans.{Until, Next}
-use Rattle.rank_check.specs.Roles.{caused_below}
+use Rattle.plan_terms.specs.Changes.{caused_below}
 
 -- the greatest number of a list, 0 where there is none
 abbrev pub greatest : List ℕ → ℕ
@@ -47,8 +47,8 @@ rank_in ranks name = slice_index_or ranks name.0 0
 abbrev pub least_rank : (above : ℕ) → List ℕ → Plan → ℕ
 least_rank above ranks node = least_with above (map (rank_in ranks) (caused_below node))
 
--- the class of a node, where `above` is one above all ranks and `step` one above all sizes of plans, and so of nodes: by
--- the least rank below it, and then by its size
+-- the class of a node, where `above` is one above all ranks and `step` one above all sizes of plans, and so of nodes:
+-- by the least rank below it, and then by its size
 abbrev pub class_in : (above step : ℕ) → List ℕ → Plan → ℕ
 class_in above step ranks node = (above - least_rank above ranks node) * step + size node
 

@@ -1,15 +1,10 @@
 -- What ranks are: the recursion over edges that they meet, and that there are none on a cycle. Plans have one answer.
-use Rattle.std.specs.Prelude.{◌≡◌, ◌⊎◌, ℕ, suc, ◌<◌, Bool, IsTrue, List, Some, Contains}
-use Rattle.enf_value.specs.Data.{step_at}
-use Rattle.enf_value.specs.Valuations.{Valuation}
-use Rattle.enf_value.specs.declared.events.Event.{Event}
+use Rattle.std.specs.Prelude.{◌≡◌, ◌⊎◌, ℕ, suc, ◌<◌, Bool, IsTrue, List}
 use Rattle.enf_value.specs.declared.events.NameId.{NameId}
-use Rattle.enf_value.specs.declared.steps.Step.{Step}
-use Rattle.enf_formula.specs.Formulas.{Formula}
-use Rattle.enf_formula.specs.Satisfaction.{Sat, Classically}
+use Rattle.enf_formula.specs.Satisfaction.{Classically}
 use Rattle.plan_terms.specs.Plans.{Plan}
 use Rattle.rank_check.specs.Chains.{IsOnCycle, IsRank}
-use Rattle.rank_check.specs.Paths.{Edge, triggers}
+use Rattle.rank_check.specs.Paths.{Edge}
 use Rattle.rank_check.specs.Refusals.{AreAccepted, RefusesPlans}
 use Rattle.rank_check.specs.declared.answers.RankRefusal.{RankRefusal}
 use Rattle.rank_check.specs.declared.answers.RankRefusal.TheVariants.{NoMemory}
@@ -59,9 +54,3 @@ AcceptedPlansStay = (plans : List Plan) (refusal : RankRefusal)
 abbrev pub OneReason : Type 0
 OneReason = (plans : List Plan) (refusal other : RankRefusal) → RefusesPlans plans refusal
     → RefusesPlans plans other → (refusal ≡ NoMemory) ⊎ ((other ≡ NoMemory) ⊎ (refusal ≡ other))
-
--- where a formula with triggers holds, the step has an event of one of them
-abbrev pub TriggersAreMet : Type 0
-TriggersAreMet = (trace : List Step) (i : ℕ) (v : Valuation) (f : Formula) (names : List NameId)
-    → triggers f ≡ Some names → Sat trace i v f
-    → Classically ((event : Event) × Contains (step_at trace i).events event × Contains names event.name)

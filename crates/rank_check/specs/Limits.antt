@@ -3,11 +3,10 @@ use Rattle.std.specs.Prelude.{◌≡◌, ℕ, ◌<◌, ◌≤◌, List, Some, Co
 use Rattle.std.specs.List.{AllByRecursion, flat_map}
 use Rattle.enf_value.specs.declared.events.NameId.{NameId}
 use Rattle.enf_value.specs.declared.limits.TheConstants.{MOST_NAMES}
+use Rattle.plan_terms.specs.Limits.{EndsInTime, IsSmall}
 use Rattle.plan_terms.specs.Nodes.{nodes}
 use Rattle.plan_terms.specs.Plans.{Plan}
-use Rattle.policy_syntax.specs.declared.limits.TheConstants.{MOST_INTERVAL_END, MOST_NODES}
-use Rattle.rank_check.specs.Horizon.{size, window_end}
-use Rattle.rank_check.specs.Paths.{guard_triggers}
+use Rattle.plan_terms.specs.Triggers.{guard_triggers}
 use Rattle.rank_check.specs.Roles.{AreNamesBelow}
 
 -- the names that trigger guards are among the first so many
@@ -15,14 +14,8 @@ abbrev pub AreTriggersBelow : ℕ → List Plan → Type 0
 AreTriggersBelow most plans = (node : Plan) (names : List NameId) (name : NameId)
     → Contains (flat_map nodes plans) node → guard_triggers node ≡ Some names → Contains names name → name.0 < most
 
--- no plan has too many nodes, and no interval ends too late
-abbrev pub IsSmall : Plan → Type 0
-IsSmall plan = size plan ≤ MOST_NODES
-
-abbrev pub EndsInTime : Plan → Type 0
-EndsInTime node = window_end node ≤ MOST_INTERVAL_END
-
--- plans over the first so many names, within the limits of policies
+-- plans over the first so many names, within the limits of policies: no plan has too many nodes, and each interval ends
+-- in time
 pub record ArePlansWithinLimits (names : ℕ) (plans : List Plan) : Type 0 where
   pub few_names : names ≤ MOST_NAMES
   pub small : AllByRecursion IsSmall plans

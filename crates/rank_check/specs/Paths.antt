@@ -1,27 +1,11 @@
 -- Paths down a plan, and from which events what is met on them follows.
-use Rattle.std.specs.Prelude.{◌≡◌, ◌⊎◌, Bool, true, false, IsTrue, List, [], ◌∷◌, ◌++◌, Option, None, Some, Contains}
+use Rattle.std.specs.Prelude.{◌≡◌, ◌⊎◌, Bool, true, false, IsTrue, List, [], ◌∷◌, Option, None, Some, Contains}
 use Rattle.std.specs.Option.{option_or}
 use Rattle.enf_value.specs.declared.events.NameId.{NameId}
-use Rattle.enf_formula.specs.Formulas as tree
-use Rattle.enf_formula.specs.Formulas.{Formula}
 use Rattle.plan_terms.specs.Nodes.{nodes}
 use Rattle.plan_terms.specs.Plans.{Plan, Cause, Suppress, Both, Either, TestOr, Guarded, Eventually, Always}
 use Rattle.plan_terms.specs.Plans.{Until, Next}
-
--- where each has some, those of both
-abbrev pub of_each : Option (List NameId) → Option (List NameId) → Option (List NameId)
-of_each None ys = None
-of_each (Some xs) None = None
-of_each (Some xs) (Some ys) = Some (xs ++ ys)
-
--- the names of which one has an event at each position at which the formula holds, or none: of `and` those of the
--- first side that has some, of `or` those of both sides
-abbrev pub triggers : Formula → Option (List NameId)
-triggers (tree.Atom place name terms) = Some (name ∷ [])
-triggers (tree.And place g h) = option_or (triggers g) (triggers h)
-triggers (tree.Or place g h) = of_each (triggers g) (triggers h)
-triggers (tree.Exists place xs g) = triggers g
-triggers f = None
+use Rattle.plan_terms.specs.Triggers.{guard_triggers}
 
 -- the nodes directly below
 abbrev pub below : Plan → List Plan
@@ -50,11 +34,6 @@ begun_by plan = []
 -- where paths start: at the root, and where something begins anew
 abbrev pub IsStart : Plan → Plan → Type 0
 IsStart plan start = (plan ≡ start) ⊎ ((node : Plan) × Contains (nodes plan) node × Contains (begun_by node) start)
-
--- the triggers of a node's own guard
-abbrev pub guard_triggers : Plan → Option (List NameId)
-guard_triggers (Guarded node xs guard test body) = triggers test
-guard_triggers plan = None
 
 -- the triggers of the first guard on a path that has some
 abbrev pub path_triggers : List Plan → Option (List NameId)

@@ -6,7 +6,7 @@ use Rattle.plan_terms.specs.Plans.{Plan, Cause, Eventually}
 use Rattle.plan_terms.specs.Plans.{Until, Next}
 use Rattle.rank_check.specs.Chains.{IsOnCycle}
 use Rattle.rank_check.specs.Paths.{Edge, IsUntriggered}
-use Rattle.rank_check.specs.Roles.{Clashes}
+use Rattle.plan_terms.specs.Changes.{Clashes, NothingClashes}
 use Rattle.rank_check.specs.declared.answers.RankRefusal.{RankRefusal}
 use Rattle.rank_check.specs.declared.answers.RankRefusal.TheVariants.{RoleClash, Untriggered, Cyclic, NoMemory}
 
@@ -41,10 +41,7 @@ abbrev pub IsFirstPlace : List Plan → ℕ → Type 0
 IsFirstPlace plans at = (rule : ℕ) × (number : ℕ) × (node : Plan) × IsFirstUntriggered plans rule number node
     × IsPlaceOf at node
 
--- no name clashes, nothing is untriggered, no name is on a cycle
-abbrev pub NothingClashes : List Plan → Type 0
-NothingClashes plans = (name : NameId) → Clashes plans name → ⊥
-
+-- nothing is untriggered, and no name is on a cycle
 abbrev pub AllIsTriggered : List Plan → Type 0
 AllIsTriggered plans = (rule number : ℕ) (node : Plan) → IsUntriggeredAt plans rule number node → ⊥
 

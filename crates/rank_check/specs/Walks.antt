@@ -6,7 +6,7 @@ use Rattle.std.specs.Option.{option_or}
 use Rattle.enf_value.specs.declared.events.NameId.{NameId}
 use Rattle.plan_terms.specs.Plans.{Plan, Cause, Suppress, Both, Either, TestOr, Guarded, Eventually, Always}
 use Rattle.plan_terms.specs.Plans.{Until, Next}
-use Rattle.rank_check.specs.Paths.{triggers}
+use Rattle.plan_terms.specs.Triggers.{triggers}
 
 -- whether the last start is still without triggers behind a guard with these
 abbrev pub bare_behind : Bool → Option (List NameId) → Bool

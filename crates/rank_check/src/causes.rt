@@ -5,15 +5,16 @@ ghost use Rattle.enf_value.specs.declared.events.NameId.{NameId as Name};
 ghost use Rattle.plan_terms.specs.Plans.{plan_of};
 ghost use Rattle.rank_check.specs.Limits.{ArePlansWithinLimits};
 ghost use Rattle.rank_check.specs.Matrix.{Adds, Joins};
-ghost use Rattle.rank_check.specs.Paths.{triggers as names_of, Edge};
+ghost use Rattle.rank_check.specs.Paths.{Edge};
+ghost use Rattle.plan_terms.specs.Triggers.{triggers as names_of};
 ghost use Rattle.rank_check.specs.Walks.{Causes, met_behind, bare_behind};
 
 use crate::edges::Edges;
-use crate::triggers::triggers;
 use enf_formula::Formula;
 use enf_value::events::NameId;
 use enf_value::memory::NoMemory;
 use plan_terms::Plan;
+use plan_terms::triggers::triggers;
 use std::alloc::Global;
 
 // The edges of plans over so many names: from each trigger of a path to what is caused on the path below.

@@ -4,13 +4,16 @@ ghost use Rattle.std.specs.List.{AllByRecursion, flat_map};
 ghost use Rattle.plan_terms.specs.Nodes.{nodes};
 ghost use Rattle.plan_terms.specs.Plans.{plan_of};
 ghost use Rattle.rank_check.specs.Horizon.{greatest, horizon_of, rank_in, size as size_of};
-ghost use Rattle.rank_check.specs.Limits.{EndsInTime, IsSmall};
+ghost use Rattle.plan_terms.specs.Limits.{EndsInTime, IsSmall};
 ghost use Rattle.rank_check.specs.Survey.{IsSurvey};
 
-use enf_value::MOST_NAMES;
 use enf_value::events::NameId;
+use enf_value::{MOST_NAMES, MOST_NODES};
 use plan_terms::Plan;
-use policy_syntax::MOST_NODES;
+
+/// The greatest horizon, in units of time: a class is at most 257 * 401 + 400, by the limits on names and nodes, and
+/// the end of an interval at most 1,000,000,000.
+pub const MOST_HORIZON: u64 = 103_458_000_000_000;
 
 // One above all ranks, and one above all sizes of plans: what classes are measured by.
 #[derive(Clone, Copy)]
@@ -35,7 +38,8 @@ pub fn horizon(plans: &[Plan], ranks: &[u32]) -> u64
     requires ranks { greatest ranks.now ≤ MOST_NAMES }
     requires small { AllByRecursion IsSmall (map plan_of plans.now) }
     requires ends { AllByRecursion EndsInTime (flat_map nodes (map plan_of plans.now)) }
-    ensures { result ≡ horizon_of ranks.now (map plan_of plans.now) }
+    ensures value { result ≡ horizon_of ranks.now (map plan_of plans.now) }
+    ensures bounded { result ≤ MOST_HORIZON }
 {
     let scale = Scale {
         above: u64::from(greatest_rank(ranks)) + 1,

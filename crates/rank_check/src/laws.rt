@@ -1,6 +1,6 @@
 //! What ranks are: laws over the definitions, each the contract of a function with an empty body.
 ghost use Rattle.rank_check.specs.Laws.{HasOneRank, ZeroHasNoEdge, RankIsOneMore, EdgesRise, CyclesHaveNoRank};
-ghost use Rattle.rank_check.specs.Laws.{AllHaveRanks, AcceptedPlansStay, ArePlansAnswered, OneReason, TriggersAreMet};
+ghost use Rattle.rank_check.specs.Laws.{AllHaveRanks, AcceptedPlansStay, ArePlansAnswered, OneReason};
 
 /// The rank of a name is 0 where no edge ends in it, and else one more than the greatest rank of a name from which an
 /// edge comes; a name on a cycle has none.
@@ -22,9 +22,4 @@ pub fn plans_have_one_answer()
     ensures answered { ArePlansAnswered }
     ensures accepted { AcceptedPlansStay }
     ensures one { OneReason }
-{}
-
-/// Where a guard with triggers holds, the step has an event of one of them.
-pub fn triggers_are_met()
-    ensures { TriggersAreMet }
 {}

@@ -1,5 +1,5 @@
 //! Whether the plans of a policy can work together: which names they change, from which events each cause follows, and
-//! the horizon. It stands on `plan_terms`; the limits are those of `policy_syntax`.
+//! the horizon. It stands on `plan_terms`.
 #![tactic(auto)]
 
 pub mod answers;
@@ -12,10 +12,10 @@ pub mod laws;
 pub mod ranked;
 mod roles;
 mod transparent;
-mod triggers;
 mod untriggered;
 pub mod worked_cases;
 
 pub use answers::{RankRefusal, Role};
 pub use checking::check;
+pub use horizon::MOST_HORIZON;
 pub use ranked::Ranks;

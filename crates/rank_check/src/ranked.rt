@@ -4,12 +4,12 @@ ghost use Rattle.std.specs.List.{AllByRecursion, flat_map};
 ghost use Rattle.plan_terms.specs.Nodes.{nodes};
 ghost use Rattle.plan_terms.specs.Plans.{plan_of};
 ghost use Rattle.rank_check.specs.Horizon.{greatest, horizon_of, rank_in};
-ghost use Rattle.rank_check.specs.Limits.{EndsInTime, IsSmall};
+ghost use Rattle.plan_terms.specs.Limits.{EndsInTime, IsSmall};
 ghost use Rattle.rank_check.specs.Ranked.{role_in};
 ghost use Rattle.rank_check.specs.Transparent.{is_transparent as are_transparent};
 
 use crate::answers::Role;
-use crate::horizon::{horizon, rank_of};
+use crate::horizon::{MOST_HORIZON, horizon, rank_of};
 use crate::transparent::is_transparent;
 use enf_value::MOST_NAMES;
 use enf_value::events::NameId;
@@ -26,7 +26,9 @@ pub struct Ranks {
 }
 
 impl Model for Ranks {
+    ghost use Rattle.std.specs.Prelude.{◌≤◌};
     ghost use Rattle.rank_check.specs.Ranked.{Ranked};
+    ghost use Rattle.rank_check.specs.declared.horizon.TheConstants.{MOST_HORIZON};
 
     ghost Value = { Ranked };
 
@@ -36,6 +38,8 @@ impl Model for Ranks {
       horizon = r.horizon;
       transparent = r.is_transparent;
     } };
+
+    ghost invariant = { λ r. r.horizon ≤ MOST_HORIZON };
 }
 
 impl Ranks {
@@ -77,13 +81,14 @@ impl Ranks {
     /// The horizon in units of time: one more than the greatest class of a node with a deadline, times the greatest
     /// end of such a node's interval.
     pub fn horizon(&self) -> u64
-        ensures { result ≡ self.now.horizon }
+        ensures value { result ≡ self.now.horizon }
+        ensures bounded { result ≤ MOST_HORIZON }
     {
         self.horizon
     }
 
-    /// Whether the plans are transparent: of the two sides of an Either at most one has a future node, and neither the body
-    /// of an Eventually nor the right side of an Until has one.
+    /// Whether the plans are transparent: of the two sides of an Either at most one has a future node, and neither the
+    /// body of an Eventually nor the right side of an Until has one.
     pub fn is_transparent(&self) -> bool
         ensures { result ≡ self.now.transparent }
     {

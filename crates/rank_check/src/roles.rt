@@ -3,9 +3,10 @@ ghost use Rattle.std.specs.Prelude.{◌≡◌, ◌↔◌, ◌<◌, ◌++◌, Con
 ghost use Rattle.std.specs.List.{flat_map};
 ghost use Rattle.plan_terms.specs.Plans.{plan_of};
 ghost use Rattle.rank_check.specs.Ranked.{role_in};
-ghost use Rattle.rank_check.specs.Refusals.{IsFirstName, NothingClashes};
-ghost use Rattle.rank_check.specs.Roles.{caused_below, suppressed_below, role_for, IsMarked};
-ghost use Rattle.rank_check.specs.Roles.{AreNamesBelow, Clashes, HasRole};
+ghost use Rattle.rank_check.specs.Refusals.{IsFirstName};
+ghost use Rattle.plan_terms.specs.Changes.{NothingClashes, caused_below, suppressed_below, Clashes};
+ghost use Rattle.rank_check.specs.Roles.{role_for, IsMarked};
+ghost use Rattle.rank_check.specs.Roles.{AreNamesBelow, HasRole};
 ghost use Rattle.enf_value.specs.declared.events.NameId.{NameId as Name};
 
 use crate::answers::Role;

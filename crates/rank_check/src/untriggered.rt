@@ -4,14 +4,14 @@ ghost use Rattle.std.specs.List.{AllByRecursion};
 ghost use Rattle.enf_formula.specs.Formulas.{tree_of};
 ghost use Rattle.plan_terms.specs.Nodes.{IsNumbered};
 ghost use Rattle.plan_terms.specs.Plans.{plan_of};
-ghost use Rattle.rank_check.specs.Paths.{triggers};
+ghost use Rattle.plan_terms.specs.Triggers.{triggers};
 ghost use Rattle.rank_check.specs.Refusals.{AllIsTriggered, IsFirstPlace};
 ghost use Rattle.rank_check.specs.Walks.{bare_behind, bare_place, first_place, visits};
 
-use crate::triggers::has_triggers;
 use enf_formula::Formula;
 use enf_value::places::Place;
 use plan_terms::Plan;
+use plan_terms::triggers::has_triggers;
 
 // The place of the first node, by plans and then in pre-order, that is met before any trigger.
 pub fn first_untriggered(plans: &[Plan]) -> Option<Place>

@@ -8,21 +8,11 @@ ghost use Rattle.rank_check.specs.Cases.{two_in_turn, three_in_turn, then_always
 ghost use Rattle.rank_check.specs.Cases.{in_a_row, q_until_p, both_ways, name_r, guarded_twice, then_always_guarded};
 ghost use Rattle.rank_check.specs.Chains.{IsOnCycle, IsRank};
 ghost use Rattle.rank_check.specs.Horizon.{class_of, horizon_of};
-ghost use Rattle.rank_check.specs.Paths.{triggers, Edge, IsUntriggered};
+ghost use Rattle.rank_check.specs.Paths.{Edge, IsUntriggered};
+ghost use Rattle.plan_terms.specs.Triggers.{triggers};
 ghost use Rattle.rank_check.specs.Refusals.{AllIsTriggered, IsFirstPlace};
-ghost use Rattle.rank_check.specs.Roles.{Clashes, IsCaused, IsSuppressed};
+ghost use Rattle.plan_terms.specs.Changes.{Clashes, IsCaused, IsSuppressed};
 ghost use Rattle.rank_check.specs.Transparent.{is_transparent};
-
-/// The names that trigger a guard.
-pub fn guard_triggers()
-    ensures atom { triggers formula_p ≡ Some (name_p ∷ []) }
-    ensures first_side { triggers (tree.And 0 formula_p formula_q) ≡ Some (name_p ∷ []) }
-    ensures second_side { triggers (tree.And 0 (tree.True 0) formula_q) ≡ Some (name_q ∷ []) }
-    ensures either_side { triggers (tree.Or 0 formula_p formula_q) ≡ Some (name_p ∷ name_q ∷ []) }
-    ensures one_side_alone { triggers (tree.Or 0 formula_p (tree.True 0)) ≡ None }
-    ensures some { triggers (tree.Exists 0 (x ∷ []) formula_p) ≡ Some (name_p ∷ []) }
-    ensures denied { triggers (tree.Not 0 formula_p) ≡ None }
-{}
 
 /// Names that clash, nodes without a trigger, and edges.
 pub fn paths()

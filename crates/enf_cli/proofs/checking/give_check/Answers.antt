@@ -58,7 +58,7 @@ returns-in_err-give_horizon g c =
     let d = seen c.give_mark.new.sink in
     let e = seen c.give_horizon.new.sink in
     let marked = subst (λ (transparent : Bool). Whole (mark_line transparent) b d) c.is_transparent.ensures c.in_ok-give_mark.ensures in
-    let given = subst (λ (n : ℕ). Broken (horizon_line n) cut d e) c.horizon.ensures c.in_err-give_horizon.ensures in
+    let given = subst (λ (n : ℕ). Broken (horizon_line n) cut d e) c.horizon.ensures.value c.in_err-give_horizon.ensures in
     rw (p.1, p.2) (cut_first (rules ++ mark ++ horizon) roles a e cut (then_cut (rules ++ mark) horizon a d (then_whole rules mark a b c.in_ok-give_rules.ensures d marked) e cut given))
 
 pub returns : goal.returns
@@ -74,6 +74,6 @@ returns g c =
     let d = seen c.give_mark.new.sink in
     let e = seen c.give_horizon.new.sink in
     let marked = subst (λ (transparent : Bool). Whole (mark_line transparent) b d) c.is_transparent.ensures c.in_ok-give_mark.ensures in
-    let given = subst (λ (n : ℕ). Whole (horizon_line n) d e) c.horizon.ensures c.in_ok-give_horizon.ensures in
+    let given = subst (λ (n : ℕ). Whole (horizon_line n) d e) c.horizon.ensures.value c.in_ok-give_horizon.ensures in
     let first = then_whole (rules ++ mark) horizon a d (then_whole rules mark a b c.in_ok-give_rules.ensures d marked) e given in
     then_any (rules ++ mark ++ horizon) roles a e (seen c.give_roles.new.sink) first c.give_roles.result c.give_roles.ensures

@@ -5,9 +5,10 @@ use Rattle.enf_formula.specs.declared.formulas.Formula.{Formula as Stored}
 use Rattle.plan_terms.specs.Plans as plan
 use Rattle.plan_terms.specs.Plans.{Plan, plan_of}
 use Rattle.monitorable_guard.specs.Safety.{IsTest}
-use Rattle.enforce_types.specs.Answers.{Exclusion, Implication, OneOfTwo, OverOne, OverTwo}
+use Rattle.enforce_types.specs.Answers.{Exclusion, Implication, OneOfTwo, OverOne, OverTwo, answer_of, Is}
 use Rattle.enforce_types.specs.Elab.{Elab, Up, Down, UpForAll}
-use Rattle.enforce_types.specs.Given.{answer_of, side, Is, is_causable, is_suppressible}
+use Rattle.enforce_types.specs.Joined.{side}
+use Rattle.enforce_types.specs.Marks.{is_causable, is_suppressible}
 use Rattle.enforce_types.proofs.JoinLemmas.{on_ok, one_from, two_from, of_two_from, end_from, from_now_from, found_false, tested_keeps}
 use Rattle.enforce_types.proofs.elaboration.+elaboration.Goals as goal
 

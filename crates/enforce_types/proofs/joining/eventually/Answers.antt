@@ -1,8 +1,7 @@
 use Rattle.std.proofs.Common.{ℕ, Ok, ap, sym, refl, ◌∙◌}
 use Rattle.plan_terms.specs.Plans.{Plan, plan_of, Eventually}
 use Rattle.plan_terms.specs.declared.plans.Plan.{Plan as Stored}
-use Rattle.enforce_types.specs.Answers.{OverOne}
-use Rattle.enforce_types.specs.Given.{answer_of, Is}
+use Rattle.enforce_types.specs.Answers.{OverOne, answer_of, Is}
 use Rattle.enforce_types.proofs.JoinLemmas.{given_plan, given_refusal, has_end}
 use Rattle.enforce_types.proofs.joining.eventually.Goals as goal
 

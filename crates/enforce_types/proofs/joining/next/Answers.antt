@@ -1,8 +1,7 @@
 use Rattle.std.proofs.Common.{ℕ, Ok, ap, sym, refl, ◌∙◌}
 use Rattle.plan_terms.specs.Plans.{Plan, plan_of, Next}
 use Rattle.plan_terms.specs.declared.plans.Plan.{Plan as Stored}
-use Rattle.enforce_types.specs.Answers.{Answer, OverOne}
-use Rattle.enforce_types.specs.Given.{answer_of, Is}
+use Rattle.enforce_types.specs.Answers.{Answer, OverOne, answer_of, Is}
 use Rattle.enforce_types.proofs.JoinLemmas.{given_plan, given_refusal, has_end, at_once}
 use Rattle.enforce_types.proofs.joining.next.Goals as goal
 

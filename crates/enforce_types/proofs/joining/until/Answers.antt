@@ -1,8 +1,7 @@
 use Rattle.std.proofs.Common.{Ok, ap, sym, refl, ◌∙◌}
 use Rattle.plan_terms.specs.Plans.{plan_of, Until}
 use Rattle.plan_terms.specs.declared.plans.Plan.{Plan as Stored}
-use Rattle.enforce_types.specs.Answers.{Answer, OverTwo}
-use Rattle.enforce_types.specs.Given.{answer_of, Is}
+use Rattle.enforce_types.specs.Answers.{Answer, OverTwo, answer_of, Is}
 use Rattle.enforce_types.proofs.JoinLemmas.{given_plan, given_refusal, has_end}
 use Rattle.enforce_types.proofs.joining.until.Goals as goal
 

@@ -3,8 +3,8 @@ use Rattle.std.proofs.lemmas.List.{length-map}
 use Rattle.enf_formula.specs.Formulas.{tree_of}
 use Rattle.enf_formula.specs.Shape.{size_of}
 use Rattle.plan_terms.specs.Plans.{plan_of}
-use Rattle.policy_syntax.specs.declared.limits.TheConstants.{MOST_NODES}
-use Rattle.enforce_types.specs.GuardLists.{guard_of, guards_of}
+use Rattle.enf_value.specs.declared.limits.TheConstants.{MOST_NODES}
+use Rattle.plan_terms.specs.Guards.{guard_of, guards_of}
 use Rattle.enforce_types.specs.Numbering.{node_count, guard_count}
 use Rattle.enforce_types.specs.PolicyPlans.{HasPlan}
 use Rattle.enforce_types.proofs.PlanningLemmas.{has_plan, has_refusal, rule_safe, nodes_few, guards_few, few_more, size_at, planned_more, refused_at}

@@ -1,9 +1,9 @@
 use Rattle.std.proofs.Common.{◌*◌, ◌≤◌, length, map, take}
-use Rattle.enforce_types.specs.GuardLists.{guards_of}
+use Rattle.plan_terms.specs.Guards.{guards_of}
 use Rattle.enforce_types.specs.PolicyPlans.{ArePlanned}
 use Rattle.formula_reader.specs.Resolution.{formulas}
 use Rattle.plan_terms.specs.Plans.{plan_of}
-use Rattle.policy_syntax.specs.declared.limits.TheConstants.{MOST_NODES}
+use Rattle.enf_value.specs.declared.limits.TheConstants.{MOST_NODES}
 use Rattle.enforce_types.proofs.planning.plan_rules.Given as goal
 
 abbrev pub invariant-loop-rule : goal.invariant-loop-rule

@@ -1,7 +1,7 @@
 use Rattle.std.proofs.Common.{[], refl}
 use Rattle.plan_terms.specs.Plans.{Eventually, Always}
 use Rattle.enf_formula.specs.Cases.{x}
-use Rattle.valuations.specs.Columns.{here, none_in_nil}
+use Rattle.enf_value.specs.ListLaws.{here, none_in_nil}
 use Rattle.enf_value.specs.declared.terms.Term.{Term}
 use Rattle.enf_value.specs.declared.terms.Term.TheVariants.{Var}
 use Rattle.enforce_types.specs.Answers.{OverOne, Implication, Exclusion}

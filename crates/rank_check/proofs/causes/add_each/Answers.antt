@@ -2,7 +2,7 @@ use Rattle.std.proofs.Common.{[], subst, List}
 use Rattle.std.proofs.lemmas.List.{take_all}
 use Rattle.enf_value.specs.declared.events.NameId.{NameId}
 use Rattle.rank_check.specs.Matrix.{Adds}
-use Rattle.valuations.specs.Columns.{none_in_nil}
+use Rattle.enf_value.specs.ListLaws.{none_in_nil}
 use Rattle.rank_check.proofs.MatrixLemmas.{nothing, one_more, Each}
 use Rattle.rank_check.proofs.causes.add_each.Goals as goal
 

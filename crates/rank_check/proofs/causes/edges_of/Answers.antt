@@ -5,7 +5,7 @@ use Rattle.enf_value.specs.declared.events.NameId.{NameId}
 use Rattle.plan_terms.specs.Plans.{Plan, plan_of}
 use Rattle.rank_check.specs.Matrix.{Adds}
 use Rattle.rank_check.specs.Walks.{Causes}
-use Rattle.valuations.specs.Columns.{none_in_nil}
+use Rattle.enf_value.specs.ListLaws.{none_in_nil}
 use Rattle.rank_check.proofs.CauseLemmas.{CausedIn, one_more_plan, just_edges}
 use Rattle.rank_check.proofs.MatrixLemmas.{nothing}
 use Rattle.rank_check.proofs.PlanLemmas.{tree_at}

@@ -2,7 +2,7 @@ use Rattle.std.proofs.Common.{◌≡◌, max, arith, map, rules, take}
 use Rattle.std.proofs.lemmas.Grind.{common_steps}
 use Rattle.plan_terms.specs.Plans.{plan_of}
 use Rattle.rank_check.specs.Horizon.{size}
-use Rattle.rank_check.specs.Limits.{IsSmall}
+use Rattle.plan_terms.specs.Limits.{IsSmall}
 use Rattle.rank_check.proofs.SurveyLemmas.{item_push, measure_push, of_item}
 use Rattle.rank_check.proofs.horizon.greatest_size.Goals as goal
 

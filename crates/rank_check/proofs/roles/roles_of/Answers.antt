@@ -2,7 +2,7 @@ use Rattle.std.proofs.Common.{◌≡◌, ◌∷◌, [], ◌↔◌, List, IsTrue,
 use Rattle.std.specs.List.{flat_map}
 use Rattle.enf_value.specs.declared.events.NameId.{NameId}
 use Rattle.plan_terms.specs.Plans.{Plan, plan_of}
-use Rattle.rank_check.specs.Roles.{caused_below, suppressed_below, IsCaused, IsSuppressed}
+use Rattle.plan_terms.specs.Changes.{caused_below, suppressed_below, IsCaused, IsSuppressed}
 use Rattle.rank_check.proofs.RoleLemmas.{read, has_role, first_clash, clear_more, roles_more, roles_of_all, nothing_clashes, Tells}
 use Rattle.rank_check.proofs.roles.roles_of.Goals as goal
 

@@ -2,7 +2,8 @@ use Rattle.std.proofs.Common.{◌≡◌, ◌<◌, length, map}
 use Rattle.enf_value.specs.declared.events.NameId.{NameId}
 use Rattle.plan_terms.specs.Plans.{plan_of}
 use Rattle.rank_check.specs.Ranked.{role_in}
-use Rattle.rank_check.specs.Roles.{Clashes, HasRole}
+use Rattle.rank_check.specs.Roles.{HasRole}
+use Rattle.plan_terms.specs.Changes.{Clashes}
 use Rattle.rank_check.proofs.roles.roles_of.Given as goal
 
 abbrev pub invariant-loop-number : goal.invariant-loop-number

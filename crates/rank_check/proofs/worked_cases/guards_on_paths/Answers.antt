@@ -5,7 +5,7 @@ use Rattle.enf_value.specs.declared.events.NameId.{NameId}
 use Rattle.plan_terms.specs.Cases.{each_soon, soon_q_x}
 use Rattle.plan_terms.specs.Nodes.{nodes, number_of, IsNumbered}
 use Rattle.plan_terms.specs.Plans.{Plan}
-use Rattle.valuations.specs.Columns.{here, later, first_or_later, none_in_nil}
+use Rattle.enf_value.specs.ListLaws.{here, later, first_or_later, none_in_nil}
 use Rattle.rank_check.specs.Cases.{name_r, guarded_twice, then_always_guarded, then_always_q}
 use Rattle.rank_check.specs.Paths.{Edge}
 use Rattle.rank_check.specs.Walks.{Causes, first_place, visits}

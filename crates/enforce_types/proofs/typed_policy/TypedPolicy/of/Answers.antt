@@ -1,4 +1,4 @@
-use Rattle.enforce_types.proofs.TypingLemmas.{fits, numbered, refused}
+use Rattle.enforce_types.proofs.TypingLemmas.{fits, formed, kept, numbered, refused, small_rules}
 use Rattle.enforce_types.proofs.typed_policy.TypedPolicy.of.Goals as goal
 
 pub check-requires-clause-fit : goal.check-requires-clause-fit
@@ -13,3 +13,14 @@ pub returns-in_err-ranks-clause-refused : goal.returns-in_err-ranks-clause-refus
 returns-in_err-ranks-clause-refused c =
     refused c.args.signature.now _ _ _ c.in_ok-made.made c.as_slice.ensures c.in_ok-made.was c.in_ok-plan_rules.ensures.planned _ c.deref.ensures.value
     c.in_err-ranks.field-0.0 c.from_residual-in_err-ranks.result c.in_err-ranks.ensures.refused c.from_residual-in_err-ranks.ensures.1
+
+pub plan_rules-requires-clause-few_nodes : goal.plan_rules-requires-clause-few_nodes
+plan_rules-requires-clause-few_nodes c = small_rules c.args.signature.now _ _ c.as_slice.ensures c.requires
+
+pub invariant_of-result : goal.invariant_of-result
+invariant_of-result c =
+    formed c.args.signature.now _ _ _ c.in_ok-made.made c.as_slice.ensures c.in_ok-made.was c.in_ok-plan_rules.ensures.planned _ c.deref.ensures.value c.requires c.in_ok-ranks.ensures.accepted.roles
+
+pub returns-clause-kept : goal.returns-clause-kept
+returns-clause-kept c =
+    kept c.args.signature.now _ _ _ c.in_ok-made.made c.as_slice.ensures c.in_ok-made.was c.in_ok-plan_rules.ensures.planned _ c.deref.ensures.value c.requires
