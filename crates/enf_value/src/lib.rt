@@ -26,8 +26,10 @@ pub use event_sets::EventSet;
 pub use events::{Event, NameId};
 pub use intervals::Interval;
 pub use items::{Duplicate, Items};
-pub use limits::{MOST_COLUMNS, MOST_FILE_BYTES, MOST_NAME_BYTES, MOST_NAMES, MOST_TEXT_BYTES};
-pub use limits::{MOST_INTERVAL_END, MOST_NODES, MOST_RULES};
+pub use limits::{
+    MOST_COLUMNS, MOST_FILE_BYTES, MOST_INTERVAL_END, MOST_NAME_BYTES, MOST_NAMES, MOST_NODES,
+    MOST_RULES, MOST_TEXT_BYTES,
+};
 pub use memory::NoMemory;
 pub use names::{ByteKind, is_reserved, name_text};
 pub use places::Place;
