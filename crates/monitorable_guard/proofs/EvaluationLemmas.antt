@@ -17,7 +17,7 @@ use Rattle.enf_formula.specs.FreeVariables.{IsFree}
 use Rattle.enf_formula.specs.Satisfaction.{IsAmong, AreSame, Classically}
 use Rattle.valuations.specs.Columns.{first_or_later, none_in_nil, among_or_not}
 use Rattle.valuations.specs.RowLaws.{value_at-bound, value_at-other, value_at-with_outside, cell_some, fits, contains_valuation, agrees_itself}
-use Rattle.valuations.specs.ScopeLaws.{some_or_none, same_or_other, filled_keeps, filled_outside, filled_inside}
+use Rattle.valuations.specs.ScopeLaws.{some_or_none, same_or_other, filled_keeps, filled_outside, filled_unbound}
 use Rattle.valuations.specs.Scopes.{filled}
 use Rattle.valuations.specs.Tables.{Relation, IsTable, Has, Agrees, IsBoundSame, cell, valuation_of}
 use Rattle.valuations.specs.Tables as tabled
@@ -68,7 +68,7 @@ module _ (v u : Valuation) (columns : List VarId) (row : List Value) (ext : Exte
   pub filled_same : (x : VarId) → IsBoundBy v x ⊎ Contains columns x → value_at (filled v columns row) x ≡ value_at u x
   filled_same x either = ⊎_elim
       (λ bound. let known = value_from v x bound in filled_keeps v columns row x known.0 known.1 ∙ sym (ext x known.0 known.1))
-      (λ none. filled_inside v columns row x none (⊎_elim (λ bound. absurd (not_bound v x none bound)) (λ there. there) either) long ∙ sym (agrees x (⊎_elim (λ bound. absurd (not_bound v x none bound)) (λ there. there) either)))
+      (λ none. filled_unbound v columns row x none ∙ sym (agrees x (⊎_elim (λ bound. absurd (not_bound v x none bound)) (λ there. there) either)))
       (bound_or_not v x)
 
   pub filled_below : Extends (filled v columns row) u
@@ -83,7 +83,7 @@ filled_binds v columns row x long either = ⊎_elim
     (λ none.
     let there : Contains columns x = ⊎_elim (λ bound. absurd (not_bound v x none bound)) (λ there. there) either in
     let some = cell_some columns row x long there in
-    bound_from (filled v columns row) x some.0 (filled_inside v columns row x none there long ∙ some.1))
+    bound_from (filled v columns row) x some.0 (filled_unbound v columns row x none ∙ some.1))
     (bound_or_not v x)
 
 pub filled_binds_only : (v : Valuation) (columns : List VarId) (row : List Value) (x : VarId) → IsBoundBy (filled v columns row) x → IsBoundBy v x ⊎ Contains columns x
@@ -94,7 +94,7 @@ filled_binds_only v columns row x bound = ⊎_elim
 
 -- where v has no value for the columns, it has the row's after it was filled
 pub filled_agrees : (v : Valuation) (columns : List VarId) (row : List Value) → ((x : VarId) → Contains columns x → value_at v x ≡ None) → length row ≡ length columns → Agrees (filled v columns row) columns row
-filled_agrees v columns row none long x there = filled_inside v columns row x (none x there) there long
+filled_agrees v columns row none long x there = filled_unbound v columns row x (none x there)
 
 -- ---- values of quantified variables
 
@@ -406,7 +406,7 @@ module _ (events : List Event) where
           has_agrees t (valuation_of given.columns row) (filled v given.columns row)
               (λ x column. ⊎_elim
               (λ bound. let known = value_from v x bound in same_as (value_at v x) known.0 (value_at (valuation_of given.columns row) x) known.1 (told.1 x column) ∙ sym (filled_keeps v given.columns row x known.0 known.1))
-              (λ none. let there : Contains given.columns x = subst (λ l. Contains l x) (sym gives.0) column in own x there ∙ sym (filled_inside v given.columns row x none there long))
+              (λ none. let there : Contains given.columns x = subst (λ l. Contains l x) (sym gives.0) column in own x there ∙ sym (filled_unbound v given.columns row x none))
               (bound_or_not v x))
               told.0,
           λ x free. filled_binds v given.columns row x long (inr (subst (λ l. Contains l x) (sym gives.0) ((fit.0 x).1 free))),

@@ -1,5 +1,5 @@
 -- What a guard's evaluation gives, from that of its formula under the bound variables.
-use Rattle.std.proofs.Common.{◌⊎◌, inl, inr, ⊎_elim, List, None, Result, Ok, Err, IfOk, Contains, refl, sym, ◌∙◌}
+use Rattle.std.proofs.Common.{◌↔◌, Bool, IsTrue, ◌⊎◌, inl, inr, ⊎_elim, List, None, Result, Ok, Err, IfOk, Contains, refl, sym, ◌∙◌}
 use Rattle.std.proofs.lemmas.Option.{none-some}
 use Rattle.enf_value.specs.Valuations.{Valuation}
 use Rattle.enf_value.specs.declared.events.Event.{Event}
@@ -12,8 +12,8 @@ use Rattle.valuations.specs.Scopes.{IsPartOf}
 use Rattle.valuations.specs.Tables.{Relation}
 use Rattle.monitorable_guard.specs.Answers.{AreOpenUnder, CanAsk, HasAnswers, IsBoundBy, IsInScope}
 use Rattle.monitorable_guard.specs.Evaluation.{AreOpen, CanEvaluate, FitOperators, HoldsFor}
-use Rattle.monitorable_guard.specs.Present.{outermost}
-use Rattle.monitorable_guard.specs.Safety.{Safe}
+use Rattle.monitorable_guard.specs.Present.{HoldsNow, outermost}
+use Rattle.monitorable_guard.specs.Safety.{FreeWithin, Safe}
 use Rattle.monitorable_guard.proofs.AgreementLemmas.{now_agrees}
 use Rattle.monitorable_guard.proofs.AskLemmas.{fresh_within}
 use Rattle.monitorable_guard.proofs.EvaluationLemmas.{value_from, bound_from, bound_as, same_on}
@@ -33,6 +33,9 @@ module _ (f : Formula) (bound : List VarId) (v scope : Valuation) (part : IsPart
     fresh = fresh_within f (λ x. Contains bound x ⊎ IsFree x f) (IsInScope scope f) (λ x in_scope. ⊎_elim (λ has. inl ((scope_bound x).1 has)) (λ free. inr free) in_scope) can.fresh;
     tabled = can.tabled;
   }
+
+  pub closed : FreeWithin f (Contains bound) → FreeWithin f (IsBoundBy scope)
+  closed within x free = (scope_bound x).0 (within x free)
 
   are_open : (columns : List VarId) → AreOpenUnder scope f columns → AreOpen f bound columns
   are_open columns opens = record {
@@ -75,3 +78,10 @@ module _ (f : Formula) (bound : List VarId) (v scope : Valuation) (part : IsPart
     pub ok_rows : {E : Type 0} (r : Result Relation E) → IfOk r (λ t. AreOpenUnder scope f t.columns) → IfOk r (HasAnswers events tables scope f) → IfOk r (HoldsFor events tables f bound v)
     ok_rows (Ok t) opens answers = holds_for t opens answers
     ok_rows (Err e) opens answers = tt
+
+    pub ok_holds : {E : Type 0} (r : Result Bool E) → FreeWithin f (Contains bound) → IfOk r (λ b. IsTrue b ↔ HoldsNow events tables scope f) → IfOk r (λ b. IsTrue b ↔ HoldsNow events tables v f)
+    ok_holds (Ok b) within is = (
+      λ t. now_agrees events tables f scope v fit (λ x free. part.inside x (within x free)) (is.0 t),
+      λ holds. is.1 (now_agrees events tables f v scope fit (λ x free. sym (part.inside x (within x free))) holds),
+    )
+    ok_holds (Err e) within is = tt

@@ -1,5 +1,5 @@
 -- Least matches, one term after another.
-use Rattle.std.proofs.Common.{◌≡◌, get_or, drop, ⊎_elim, List, [], ◌∷◌, ◌++◌, suc, ◌<◌, length, Result, Ok, Err, IfOk, Option, None, Some, IfSome, IfNone, Contains, refl, sym, ap, subst, ◌∙◌, arith}
+use Rattle.std.proofs.Common.{◌≡◌, get_or, drop, ⊎_elim, List, [], ◌∷◌, suc, ◌<◌, length, Result, Ok, Err, IfOk, Option, None, Some, IfSome, IfNone, refl, sym, ap, subst, ◌∙◌, arith}
 use Rattle.std.specs.FinMap as finite
 use Rattle.std.proofs.lemmas.Option.{same_Some, none-some}
 use Rattle.enf_value.specs.Valuations.{Valuation, value_at, value_of, values_of, onto_values}
@@ -7,7 +7,6 @@ use Rattle.enf_value.specs.declared.terms.Term.{Term}
 use Rattle.enf_value.specs.declared.terms.Term.TheVariants.{Var, Const}
 use Rattle.enf_value.specs.declared.terms.VarId.{VarId}
 use Rattle.enf_value.specs.declared.values.Value.{Value}
-use Rattle.valuations.specs.Columns.{none_in_nil, first_or_later}
 use Rattle.valuations.specs.ScopeLaws.{same_or_other}
 use Rattle.valuations.specs.RowLaws.{value_at-bound, value_at-other}
 use Rattle.monitorable_guard.specs.Matching.{Extends, IsLeastFor, IsLeastMatch, HasNoMatchFor, HasNoMatch}
@@ -102,25 +101,3 @@ as_many u (term ∷ terms) (value ∷ values) e = ap suc (as_many u terms values
 
 pub other_number : (terms : List Term) (values : List Value) (v : Valuation) → (length terms ≡ length values → ⊥) → HasNoMatch terms values v
 other_number terms values v apart u ext h = apart (sym (as_many u terms values h))
-
--- ---- the values of terms, one after another
-
-onto_none : (first : Option Value) → onto_values first None ≡ None
-onto_none None = refl
-onto_none (Some a) = refl
-
-pub values_none : (v : Valuation) (terms : List Term) (t : Term) → Contains terms t → value_of v t ≡ None → values_of v terms ≡ None
-values_none v [] t there none = absurd (none_in_nil t there)
-values_none v (first ∷ terms) t there none = ⊎_elim
-    (λ same. λ i. onto_values ((ap (value_of v) same ∙ none) i) (values_of v terms))
-    (λ behind. ap (onto_values (value_of v first)) (values_none v terms t behind none) ∙ onto_none (value_of v first))
-    (first_or_later t first terms there)
-
-pub values_push : (v : Valuation) (terms : List Term) (t : Term) (values : List Value) (a : Value) → values_of v terms ≡ Some values → value_of v t ≡ Some a → values_of v (terms ++ t ∷ []) ≡ Some (values ++ a ∷ [])
-values_push v [] t values a e f = (λ i. onto_values (f i) (Some [])) ∙ ap (λ l. Some (l ++ a ∷ [])) (same_Some [] values e)
-values_push v (first ∷ terms) t values a e f = by (value_of v first) (values_of v terms) (values_of v (terms ++ t ∷ [])) e (λ rest is. values_push v terms t rest a is f)
-  where
-    by : (o : Option Value) (rest more : Option (List Value)) → onto_values o rest ≡ Some values → ((behind : List Value) → rest ≡ Some behind → more ≡ Some (behind ++ a ∷ [])) → onto_values o more ≡ Some (values ++ a ∷ [])
-    by None rest more is next = absurd (none-some values is)
-    by (Some b) None more is next = absurd (none-some values is)
-    by (Some b) (Some behind) more is next = ap (onto_values (Some b)) (next behind refl) ∙ ap (λ l. Some (l ++ a ∷ [])) (same_Some (b ∷ behind) values is)

@@ -5,23 +5,24 @@ ghost use Rattle.enf_formula.specs.Formulas.{tree_of};
 ghost use Rattle.enf_value.specs.Valuations.{Valuation as Bound};
 ghost use Rattle.enf_value.specs.declared.terms.VarId.{VarId as Variable};
 ghost use Rattle.enf_value.specs.declared.values.Value.{Value as AnyValue};
-ghost use Rattle.valuations.specs.Scopes.{filled};
+ghost use Rattle.valuations.specs.Scopes.{bound_in, filled};
 ghost use Rattle.valuations.specs.Tables.{IsTable};
-ghost use Rattle.monitorable_guard.specs.Answers.{AddsRows, Answers, AreInScope, AreOpenUnder, CanAsk, HasAnswers, IsAnswer, IsBoundBy};
+ghost use Rattle.monitorable_guard.specs.Answers.{AddsRows, Answers, AreInScope, AreOpenUnder, CanAsk, HasAnswers};
+ghost use Rattle.monitorable_guard.specs.Answers.{IsAnswer, IsBoundBy};
 ghost use Rattle.monitorable_guard.specs.Present.{HoldsNow, behind};
 ghost use Rattle.monitorable_guard.specs.Safety.{FreeWithin};
 
-use crate::atoms::{gather_equal, gather_events, is_at_most, is_equal, is_event, is_less};
+use crate::atoms::{gather_equal, gather_events, is_at_most, is_equal, is_less};
 use crate::events::StepEvents;
 use crate::operators::{is_closed, open_variables, operators};
 use crate::past::Past;
-use crate::pushing::{push_if, push_rows, scope_with};
+use crate::pushing::{push_if, push_rows};
 use enf_formula::Formula;
 use enf_value::memory::NoMemory;
 use enf_value::rows::Row;
 use enf_value::terms::VarId;
 use std::alloc::Global;
-use valuations::{Scope, Table};
+use valuations::{Frame, Table};
 
 // What a formula is asked of: the events of a step, and the past.
 #[derive(Drop)]
@@ -30,38 +31,21 @@ pub struct Present<'e, 's, 'p, P> {
     pub past: &'p P,
 }
 
-// The rows of a whole formula.
-pub fn rows_of<'a, P: Past>(
-    alloc: Global,
-    present: &Present<'_, '_, '_, P>,
-    formula: &Formula,
-    scope: Scope<'a>,
-) -> Result<Table, NoMemory>
-    requires few { length (P.tables present.now.past.now) < 2 ^ 64 }
-    requires ask { CanAsk scope (P.tables present.now.past.now) (tree_of formula.now) }
-    ensures table { IfOk result IsTable }
-    ensures columns { IfOk result (λ t. AreOpenUnder scope.entry (tree_of formula.now) t.columns) }
-    ensures rows { IfOk result (HasAnswers present.now.events.now (P.tables present.now.past.now)
-        scope.entry (tree_of formula.now)) }
-{
-    rows(alloc, present, formula, 0, &scope)
-}
-
 // The table of the valuations that go on from the scope and under which the formula holds.
 #[cycle(evaluation)]
-fn rows<'a, P: Past>(
+pub fn rows<'a, P: Past>(
     alloc: Global,
     present: &Present<'_, '_, '_, P>,
     formula: &Formula,
     first: usize,
-    scope: &'a Scope<'a>,
+    scope: &'a Frame<'a>,
 ) -> Result<Table, NoMemory>
     requires few { length (P.tables present.now.past.now) < 2 ^ 64 }
-    requires ask { CanAsk scope.now (drop first (P.tables present.now.past.now)) (tree_of formula.now) }
+    requires ask { CanAsk (bound_in scope.now) (drop first (P.tables present.now.past.now)) (tree_of formula.now) }
     ensures table { IfOk result IsTable }
-    ensures columns { IfOk result (λ t. AreOpenUnder scope.now (tree_of formula.now) t.columns) }
+    ensures columns { IfOk result (λ t. AreOpenUnder (bound_in scope.now) (tree_of formula.now) t.columns) }
     ensures rows { IfOk result (HasAnswers present.now.events.now
-        (drop first (P.tables present.now.past.now)) scope.now (tree_of formula.now)) }
+        (drop first (P.tables present.now.past.now)) (bound_in scope.now) (tree_of formula.now)) }
 {
     let columns = open_variables(alloc, formula, scope)?;
     let mut found = Vec::new(alloc);
@@ -84,15 +68,15 @@ fn gather<'a, P: Past>(
     present: &Present<'_, '_, '_, P>,
     formula: &Formula,
     first: usize,
-    scope: &'a Scope<'a>,
+    scope: &'a Frame<'a>,
     columns: &[VarId],
     out: &mut Vec<Row>,
 ) -> Result<(), NoMemory>
     requires few { length (P.tables present.now.past.now) < 2 ^ 64 }
-    requires ask { CanAsk scope.now (drop first (P.tables present.now.past.now)) (tree_of formula.now) }
-    requires within { AreInScope columns.now scope.now (tree_of formula.now) }
+    requires ask { CanAsk (bound_in scope.now) (drop first (P.tables present.now.past.now)) (tree_of formula.now) }
+    requires within { AreInScope columns.now (bound_in scope.now) (tree_of formula.now) }
     ensures { OnOk result (AddsRows columns.now out.old.items out.new.items
-        (IsAnswer present.now.events.now (drop first (P.tables present.now.past.now)) scope.now
+        (IsAnswer present.now.events.now (drop first (P.tables present.now.past.now)) (bound_in scope.now)
         (tree_of formula.now) columns.now)) }
 {
     if is_closed(alloc, formula, scope)? {
@@ -110,16 +94,16 @@ fn gather_open<'a, P: Past>(
     present: &Present<'_, '_, '_, P>,
     formula: &Formula,
     first: usize,
-    scope: &'a Scope<'a>,
+    scope: &'a Frame<'a>,
     columns: &[VarId],
     out: &mut Vec<Row>,
 ) -> Result<(), NoMemory>
     requires few { length (P.tables present.now.past.now) < 2 ^ 64 }
-    requires ask { CanAsk scope.now (drop first (P.tables present.now.past.now)) (tree_of formula.now) }
-    requires within { AreInScope columns.now scope.now (tree_of formula.now) }
-    requires open { FreeWithin (tree_of formula.now) (IsBoundBy scope.now) → ⊥ }
+    requires ask { CanAsk (bound_in scope.now) (drop first (P.tables present.now.past.now)) (tree_of formula.now) }
+    requires within { AreInScope columns.now (bound_in scope.now) (tree_of formula.now) }
+    requires open { FreeWithin (tree_of formula.now) (IsBoundBy (bound_in scope.now)) → ⊥ }
     ensures { OnOk result (AddsRows columns.now out.old.items out.new.items
-        (IsAnswer present.now.events.now (drop first (P.tables present.now.past.now)) scope.now
+        (IsAnswer present.now.events.now (drop first (P.tables present.now.past.now)) (bound_in scope.now)
         (tree_of formula.now) columns.now)) }
 {
     match formula {
@@ -148,16 +132,16 @@ fn gather_both<'a, P: Past>(
     g: &Formula,
     h: &Formula,
     first: usize,
-    scope: &'a Scope<'a>,
+    scope: &'a Frame<'a>,
     columns: &[VarId],
     out: &mut Vec<Row>,
 ) -> Result<(), NoMemory>
     requires few { length (P.tables present.now.past.now) < 2 ^ 64 }
-    requires ask { (place : ℕ) × CanAsk scope.now (drop first (P.tables present.now.past.now))
+    requires ask { (place : ℕ) × CanAsk (bound_in scope.now) (drop first (P.tables present.now.past.now))
         (tree.And place (tree_of g.now) (tree_of h.now)) }
-    requires within { AreInScope columns.now scope.now (tree.And 0 (tree_of g.now) (tree_of h.now)) }
+    requires within { AreInScope columns.now (bound_in scope.now) (tree.And 0 (tree_of g.now) (tree_of h.now)) }
     ensures { (place : ℕ) → OnOk result (AddsRows columns.now out.old.items out.new.items
-        (IsAnswer present.now.events.now (drop first (P.tables present.now.past.now)) scope.now
+        (IsAnswer present.now.events.now (drop first (P.tables present.now.past.now)) (bound_in scope.now)
         (tree.And place (tree_of g.now) (tree_of h.now)) columns.now)) }
 {
     let left = rows(alloc, present, g, first, scope)?;
@@ -173,24 +157,24 @@ fn gather_under<'a, P: Past>(
     formula: &Formula,
     first: usize,
     table: &'a Table,
-    scope: &'a Scope<'a>,
+    scope: &'a Frame<'a>,
     columns: &[VarId],
     out: &mut Vec<Row>,
 ) -> Result<(), NoMemory>
     requires few { length (P.tables present.now.past.now) < 2 ^ 64 }
     requires table { IsTable table.now }
     requires ask { (row : List AnyValue) → Contains table.now.rows row
-        → CanAsk (filled scope.now table.now.columns row)
+        → CanAsk (filled (bound_in scope.now) table.now.columns row)
         (drop first (P.tables present.now.past.now)) (tree_of formula.now) }
     requires within { (row : List AnyValue) → Contains table.now.rows row
-        → AreInScope columns.now (filled scope.now table.now.columns row) (tree_of formula.now) }
+        → AreInScope columns.now (filled (bound_in scope.now) table.now.columns row) (tree_of formula.now) }
     ensures { OnOk result (AddsRows columns.now out.old.items out.new.items
         (λ w. (row : List AnyValue) × Contains table.now.rows row
         × IsAnswer present.now.events.now (drop first (P.tables present.now.past.now))
-        (filled scope.now table.now.columns row) (tree_of formula.now) columns.now w)) }
+        (filled (bound_in scope.now) table.now.columns row) (tree_of formula.now) columns.now w)) }
 {
     for row in table.rows() {
-        let inner = scope_with(alloc, scope, table.columns().as_slice(), row.as_slice())?;
+        let inner = Frame::Row(&*scope, table.columns().as_slice(), row.as_slice());
         gather(alloc, present, formula, first, &inner, columns, out)?;
     }
     Ok(())
@@ -203,16 +187,16 @@ fn gather_either<'a, P: Past>(
     g: &Formula,
     h: &Formula,
     first: usize,
-    scope: &'a Scope<'a>,
+    scope: &'a Frame<'a>,
     columns: &[VarId],
     out: &mut Vec<Row>,
 ) -> Result<(), NoMemory>
     requires few { length (P.tables present.now.past.now) < 2 ^ 64 }
-    requires ask { (place : ℕ) × CanAsk scope.now (drop first (P.tables present.now.past.now))
+    requires ask { (place : ℕ) × CanAsk (bound_in scope.now) (drop first (P.tables present.now.past.now))
         (tree.Or place (tree_of g.now) (tree_of h.now)) }
-    requires within { AreInScope columns.now scope.now (tree.Or 0 (tree_of g.now) (tree_of h.now)) }
+    requires within { AreInScope columns.now (bound_in scope.now) (tree.Or 0 (tree_of g.now) (tree_of h.now)) }
     ensures { (place : ℕ) → OnOk result (AddsRows columns.now out.old.items out.new.items
-        (IsAnswer present.now.events.now (drop first (P.tables present.now.past.now)) scope.now
+        (IsAnswer present.now.events.now (drop first (P.tables present.now.past.now)) (bound_in scope.now)
         (tree.Or place (tree_of g.now) (tree_of h.now)) columns.now)) }
 {
     gather(alloc, present, g, first, scope, columns, out)?;
@@ -226,12 +210,12 @@ fn has_answer<'a, P: Past>(
     present: &Present<'_, '_, '_, P>,
     formula: &Formula,
     first: usize,
-    scope: &'a Scope<'a>,
+    scope: &'a Frame<'a>,
 ) -> Result<bool, NoMemory>
     requires few { length (P.tables present.now.past.now) < 2 ^ 64 }
-    requires ask { CanAsk scope.now (drop first (P.tables present.now.past.now)) (tree_of formula.now) }
+    requires ask { CanAsk (bound_in scope.now) (drop first (P.tables present.now.past.now)) (tree_of formula.now) }
     ensures { IfOk result (λ there. IsTrue there ↔ ((u : Bound) × Answers present.now.events.now
-        (drop first (P.tables present.now.past.now)) scope.now (tree_of formula.now) u)) }
+        (drop first (P.tables present.now.past.now)) (bound_in scope.now) (tree_of formula.now) u)) }
 {
     let mut found = Vec::new(alloc);
     gather(alloc, present, formula, first, scope, &[], &mut found)?;
@@ -240,30 +224,24 @@ fn has_answer<'a, P: Past>(
 
 // Whether the formula holds under the scope, which has a value for each free variable.
 #[cycle(evaluation)]
-fn holds<'a, P: Past>(
+pub fn holds<'a, P: Past>(
     alloc: Global,
     present: &Present<'_, '_, '_, P>,
     formula: &Formula,
     first: usize,
-    scope: &'a Scope<'a>,
+    scope: &'a Frame<'a>,
 ) -> Result<bool, NoMemory>
     requires few { length (P.tables present.now.past.now) < 2 ^ 64 }
-    requires ask { CanAsk scope.now (drop first (P.tables present.now.past.now)) (tree_of formula.now) }
-    requires closed { FreeWithin (tree_of formula.now) (IsBoundBy scope.now) }
+    requires ask { CanAsk (bound_in scope.now) (drop first (P.tables present.now.past.now)) (tree_of formula.now) }
+    requires closed { FreeWithin (tree_of formula.now) (IsBoundBy (bound_in scope.now)) }
     ensures { IfOk result (λ holds. IsTrue holds ↔ HoldsNow present.now.events.now
-        (drop first (P.tables present.now.past.now)) scope.now (tree_of formula.now)) }
+        (drop first (P.tables present.now.past.now)) (bound_in scope.now) (tree_of formula.now)) }
 {
     match formula {
         Formula::True(_) => Ok(true),
-        Formula::Atom(_, name, terms) => {
-            is_event(
-                alloc,
-                present.events.set(),
-                *name,
-                terms.as_slice(),
-                &*scope,
-            )
-        }
+        Formula::Atom(_, name, terms) => Ok(
+            present.events.has_event(*name, terms.as_slice(), &*scope),
+        ),
         Formula::Equal(_, s, t) => Ok(is_equal(s, t, &*scope)),
         Formula::Less(_, s, t) => Ok(is_less(s, t, &*scope)),
         Formula::AtMost(_, s, t) => Ok(is_at_most(s, t, &*scope)),
@@ -292,18 +270,18 @@ fn hold_both<'a, P: Past>(
     g: &Formula,
     h: &Formula,
     first: usize,
-    scope: &'a Scope<'a>,
+    scope: &'a Frame<'a>,
 ) -> Result<bool, NoMemory>
     requires few { length (P.tables present.now.past.now) < 2 ^ 64 }
-    requires left { CanAsk scope.now (drop first (P.tables present.now.past.now)) (tree_of g.now) }
-    requires right { CanAsk scope.now
+    requires left { CanAsk (bound_in scope.now) (drop first (P.tables present.now.past.now)) (tree_of g.now) }
+    requires right { CanAsk (bound_in scope.now)
         (behind (tree_of g.now) (drop first (P.tables present.now.past.now))) (tree_of h.now) }
-    requires closed { FreeWithin (tree_of g.now) (IsBoundBy scope.now) }
-    requires closed_right { FreeWithin (tree_of h.now) (IsBoundBy scope.now) }
+    requires closed { FreeWithin (tree_of g.now) (IsBoundBy (bound_in scope.now)) }
+    requires closed_right { FreeWithin (tree_of h.now) (IsBoundBy (bound_in scope.now)) }
     ensures { IfOk result (λ hold. IsTrue hold
-        ↔ (HoldsNow present.now.events.now (drop first (P.tables present.now.past.now)) scope.now
+        ↔ (HoldsNow present.now.events.now (drop first (P.tables present.now.past.now)) (bound_in scope.now)
         (tree_of g.now) × HoldsNow present.now.events.now
-        (behind (tree_of g.now) (drop first (P.tables present.now.past.now))) scope.now
+        (behind (tree_of g.now) (drop first (P.tables present.now.past.now))) (bound_in scope.now)
         (tree_of h.now))) }
 {
     if holds(alloc, present, g, first, scope)? {
@@ -320,18 +298,18 @@ fn holds_either<'a, P: Past>(
     g: &Formula,
     h: &Formula,
     first: usize,
-    scope: &'a Scope<'a>,
+    scope: &'a Frame<'a>,
 ) -> Result<bool, NoMemory>
     requires few { length (P.tables present.now.past.now) < 2 ^ 64 }
-    requires left { CanAsk scope.now (drop first (P.tables present.now.past.now)) (tree_of g.now) }
-    requires right { CanAsk scope.now
+    requires left { CanAsk (bound_in scope.now) (drop first (P.tables present.now.past.now)) (tree_of g.now) }
+    requires right { CanAsk (bound_in scope.now)
         (behind (tree_of g.now) (drop first (P.tables present.now.past.now))) (tree_of h.now) }
-    requires closed { FreeWithin (tree_of g.now) (IsBoundBy scope.now) }
-    requires closed_right { FreeWithin (tree_of h.now) (IsBoundBy scope.now) }
+    requires closed { FreeWithin (tree_of g.now) (IsBoundBy (bound_in scope.now)) }
+    requires closed_right { FreeWithin (tree_of h.now) (IsBoundBy (bound_in scope.now)) }
     ensures { IfOk result (λ holds. IsTrue holds
-        ↔ (HoldsNow present.now.events.now (drop first (P.tables present.now.past.now)) scope.now
+        ↔ (HoldsNow present.now.events.now (drop first (P.tables present.now.past.now)) (bound_in scope.now)
         (tree_of g.now) ⊎ HoldsNow present.now.events.now
-        (behind (tree_of g.now) (drop first (P.tables present.now.past.now))) scope.now
+        (behind (tree_of g.now) (drop first (P.tables present.now.past.now))) (bound_in scope.now)
         (tree_of h.now))) }
 {
     if holds(alloc, present, g, first, scope)? {
@@ -348,18 +326,18 @@ fn holds_where<'a, P: Past>(
     g: &Formula,
     h: &Formula,
     first: usize,
-    scope: &'a Scope<'a>,
+    scope: &'a Frame<'a>,
 ) -> Result<bool, NoMemory>
     requires few { length (P.tables present.now.past.now) < 2 ^ 64 }
-    requires left { CanAsk scope.now (drop first (P.tables present.now.past.now)) (tree_of g.now) }
-    requires right { CanAsk scope.now
+    requires left { CanAsk (bound_in scope.now) (drop first (P.tables present.now.past.now)) (tree_of g.now) }
+    requires right { CanAsk (bound_in scope.now)
         (behind (tree_of g.now) (drop first (P.tables present.now.past.now))) (tree_of h.now) }
-    requires closed { FreeWithin (tree_of g.now) (IsBoundBy scope.now) }
-    requires closed_right { FreeWithin (tree_of h.now) (IsBoundBy scope.now) }
+    requires closed { FreeWithin (tree_of g.now) (IsBoundBy (bound_in scope.now)) }
+    requires closed_right { FreeWithin (tree_of h.now) (IsBoundBy (bound_in scope.now)) }
     ensures { IfOk result (λ holds. IsTrue holds
-        ↔ (HoldsNow present.now.events.now (drop first (P.tables present.now.past.now)) scope.now
+        ↔ (HoldsNow present.now.events.now (drop first (P.tables present.now.past.now)) (bound_in scope.now)
         (tree_of g.now) → HoldsNow present.now.events.now
-        (behind (tree_of g.now) (drop first (P.tables present.now.past.now))) scope.now
+        (behind (tree_of g.now) (drop first (P.tables present.now.past.now))) (bound_in scope.now)
         (tree_of h.now))) }
 {
     if holds(alloc, present, g, first, scope)? {
@@ -376,16 +354,16 @@ fn holds_for_all<'a, P: Past>(
     present: &Present<'_, '_, '_, P>,
     body: &Formula,
     first: usize,
-    scope: &'a Scope<'a>,
+    scope: &'a Frame<'a>,
 ) -> Result<bool, NoMemory>
     requires few { length (P.tables present.now.past.now) < 2 ^ 64 }
-    requires ask { (place : ℕ) × (xs : List Variable) × CanAsk scope.now
+    requires ask { (place : ℕ) × (xs : List Variable) × CanAsk (bound_in scope.now)
         (drop first (P.tables present.now.past.now)) (tree.Forall place xs (tree_of body.now)) }
-    ensures { IfOk result (λ holds. (place : ℕ) (xs : List Variable) → CanAsk scope.now
+    ensures { IfOk result (λ holds. (place : ℕ) (xs : List Variable) → CanAsk (bound_in scope.now)
         (drop first (P.tables present.now.past.now)) (tree.Forall place xs (tree_of body.now))
-        → FreeWithin (tree.Forall place xs (tree_of body.now)) (IsBoundBy scope.now)
+        → FreeWithin (tree.Forall place xs (tree_of body.now)) (IsBoundBy (bound_in scope.now))
         → IsTrue holds ↔ HoldsNow present.now.events.now
-        (drop first (P.tables present.now.past.now)) scope.now
+        (drop first (P.tables present.now.past.now)) (bound_in scope.now)
         (tree.Forall place xs (tree_of body.now))) }
 {
     match body {
@@ -405,17 +383,17 @@ fn holds_for_each<'a, P: Past>(
     g: &Formula,
     h: &Formula,
     first: usize,
-    scope: &'a Scope<'a>,
+    scope: &'a Frame<'a>,
 ) -> Result<bool, NoMemory>
     requires few { length (P.tables present.now.past.now) < 2 ^ 64 }
-    requires ask { (places : ℕ × ℕ) × (xs : List Variable) × CanAsk scope.now
+    requires ask { (places : ℕ × ℕ) × (xs : List Variable) × CanAsk (bound_in scope.now)
         (drop first (P.tables present.now.past.now))
         (tree.Forall places.0 xs (tree.Implies places.1 (tree_of g.now) (tree_of h.now))) }
-    ensures { IfOk result (λ holds. (p q : ℕ) (xs : List Variable) → CanAsk scope.now
+    ensures { IfOk result (λ holds. (p q : ℕ) (xs : List Variable) → CanAsk (bound_in scope.now)
         (drop first (P.tables present.now.past.now))
         (tree.Forall p xs (tree.Implies q (tree_of g.now) (tree_of h.now)))
         → IsTrue holds ↔ HoldsNow present.now.events.now
-        (drop first (P.tables present.now.past.now)) scope.now
+        (drop first (P.tables present.now.past.now)) (bound_in scope.now)
         (tree.Forall p xs (tree.Implies q (tree_of g.now) (tree_of h.now)))) }
 {
     let range = rows(alloc, present, g, first, scope)?;
@@ -431,21 +409,21 @@ fn holds_under<'a, P: Past>(
     formula: &Formula,
     first: usize,
     table: &'a Table,
-    scope: &'a Scope<'a>,
+    scope: &'a Frame<'a>,
 ) -> Result<bool, NoMemory>
     requires few { length (P.tables present.now.past.now) < 2 ^ 64 }
     requires ask { (row : List AnyValue) → Contains table.now.rows row
-        → CanAsk (filled scope.now table.now.columns row)
+        → CanAsk (filled (bound_in scope.now) table.now.columns row)
         (drop first (P.tables present.now.past.now)) (tree_of formula.now) }
     requires closed { (row : List AnyValue) → Contains table.now.rows row
-        → FreeWithin (tree_of formula.now) (IsBoundBy (filled scope.now table.now.columns row)) }
+        → FreeWithin (tree_of formula.now) (IsBoundBy (filled (bound_in scope.now) table.now.columns row)) }
     ensures { IfOk result (λ holds. IsTrue holds
         ↔ ((row : List AnyValue) → Contains table.now.rows row → HoldsNow present.now.events.now
-        (drop first (P.tables present.now.past.now)) (filled scope.now table.now.columns row)
+        (drop first (P.tables present.now.past.now)) (filled (bound_in scope.now) table.now.columns row)
         (tree_of formula.now))) }
 {
     for row in table.rows() {
-        let inner = scope_with(alloc, scope, table.columns().as_slice(), row.as_slice())?;
+        let inner = Frame::Row(&*scope, table.columns().as_slice(), row.as_slice());
         if !holds(alloc, present, formula, first, &inner)? {
             return Ok(false);
         }

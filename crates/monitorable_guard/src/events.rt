@@ -1,15 +1,23 @@
 //! The events of a step, by their names.
-ghost use Rattle.std.specs.Prelude.{◌≡◌, ◌↔◌, IfOk, Contains};
+ghost use Rattle.std.specs.Prelude.{◌≡◌, ◌↔◌, IfOk, IsTrue, Contains, Some, map};
 ghost use Rattle.std.specs.List.Sorted.{IsSortedByKey};
-ghost use Rattle.std.specs.Ordering.{nat_cmp};
+ghost use Rattle.std.specs.Ordering.{nat_cmp, ordering_then};
+ghost use Rattle.enf_formula.specs.Satisfaction.{IsAmong};
+ghost use Rattle.enf_value.specs.Order.{row_cmp};
+ghost use Rattle.enf_value.specs.Valuations.{value_of, values_of};
 ghost use Rattle.enf_value.specs.declared.events.Event.{Event as AnyEvent};
 ghost use Rattle.monitorable_guard.specs.Events.{IsByName, name_of, shown};
+ghost use Rattle.valuations.specs.Cells.{key_cmp};
 
 use enf_value::event_sets::EventSet;
 use enf_value::events::{Event, NameId};
 use enf_value::memory::NoMemory;
+use enf_value::terms::Term;
 use std::alloc::Global;
+use std::cmp::Ordering;
 use std::marker::Model;
+use valuations::Lookup;
+use valuations::arguments::compare_to_terms;
 
 /// The events of a step, which finds those of a name without a look at the others.
 #[derive(Drop)]
@@ -53,9 +61,19 @@ impl<'a> StepEvents<'a> {
     {
         of_name(self.by_name.as_slice(), name)
     }
+
+    /// Whether the terms are the arguments of an event of the name; it takes no memory.
+    pub fn has_event<V: Lookup>(&self, name: NameId, terms: &[Term], v: &V) -> bool
+        ensures { IsTrue result
+            ↔ IsAmong self.now name (values_of (V.valuation v.now) terms.now) }
+    {
+        self.by_name
+            .binary_search_by(|event| compare_to_event(event, name, terms, v))
+            .is_ok()
+    }
 }
 
-// The events in the order of their names.
+// The events in the order of their names and arguments.
 fn in_order<'a>(alloc: Global, events: &'a [Event]) -> Result<Vec<&'a Event>, NoMemory>
     ensures { IfOk result (λ order. IsByName events.now order.items) }
 {
@@ -63,8 +81,29 @@ fn in_order<'a>(alloc: Global, events: &'a [Event]) -> Result<Vec<&'a Event>, No
     for event in events {
         order.push(event)?;
     }
-    order.sort_unstable_by(|a, b| a.name.0.cmp(&b.name.0));
+    order.sort_unstable_by(|a, b| compare_events(a, b));
     Ok(order)
+}
+
+fn compare_events(a: &Event, b: &Event) -> Ordering
+    ensures { result ≡ ordering_then (nat_cmp a.now.name.0 b.now.name.0)
+        (row_cmp a.now.args b.now.args) }
+{
+    match a.name.0.cmp(&b.name.0) {
+        Ordering::Equal => a.args.compare(&b.args),
+        apart => apart,
+    }
+}
+
+// The order of an event and one of the name whose arguments are the values of the terms.
+fn compare_to_event<V: Lookup>(event: &Event, name: NameId, terms: &[Term], v: &V) -> Ordering
+    ensures { result ≡ ordering_then (nat_cmp event.now.name.0 name.0)
+        (key_cmp (map Some event.now.args) (map (value_of (V.valuation v.now)) terms.now)) }
+{
+    match event.name.0.cmp(&name.0) {
+        Ordering::Equal => compare_to_terms(event.args.as_slice(), terms, v),
+        apart => apart,
+    }
 }
 
 // Those of the events in order that have the name.

@@ -1,14 +1,16 @@
 //! Guards: formulas that can be evaluated over finite tables, with the variables that are bound.
 ghost use Rattle.std.specs.Prelude.{◌≡◌, ◌↔◌, ◌⊎◌, IfOk, IfErr, OnOk, IsTrue, Contains};
+ghost use Rattle.valuations.specs.Scopes.{bound_in};
 ghost use Rattle.valuations.specs.Tables.{IsTable};
 ghost use Rattle.monitorable_guard.specs.Evaluation.{AreOpen, CanEvaluate, HasKnownValues, HoldsFor};
 ghost use Rattle.enf_formula.specs.Formulas.{tree_of};
 ghost use Rattle.enf_formula.specs.FreeVariables.{IsFree};
-ghost use Rattle.monitorable_guard.specs.Safety.{BindsFresh, Safe, IsTest};
+ghost use Rattle.monitorable_guard.specs.Safety.{BindsFresh, FreeWithin, Safe, IsTest};
+ghost use Rattle.monitorable_guard.specs.Present.{HoldsNow};
 ghost use Rattle.monitorable_guard.specs.Refusals.{RefusesGuard};
 
 use crate::conditions::{fits, is_fresh};
-use crate::evaluation::{Present, rows_of};
+use crate::evaluation::{Present, holds, rows};
 use crate::events::StepEvents;
 use crate::operators::are_bound;
 use crate::past::{Past, PastTables};
@@ -22,7 +24,7 @@ use enf_value::places::Place;
 use enf_value::terms::Vars;
 use std::alloc::Global;
 use std::marker::Model;
-use valuations::{Scope, Table, Valuation};
+use valuations::{Frame, Table, Valuation};
 
 /// Why a formula is no guard.
 #[derive(Clone, Copy, Debug, PartialEq, Eq)]
@@ -164,11 +166,54 @@ impl Guard {
         ensures known { IfOk result (HasKnownValues events.now (P.tables past.now)
             (tree_of self.now.formula) self.now.bound v.now) }
     {
+        self.evaluate_under(alloc, events, past, &Frame::Whole(v))
+    }
+
+    /// The same under a frame.
+    pub fn evaluate_under<P: Past>(
+        &self,
+        alloc: Global,
+        events: &StepEvents<'_>,
+        past: &P,
+        v: &Frame<'_>,
+    ) -> Result<Table, NoMemory>
+        requires { CanEvaluate (tree_of self.now.formula) self.now.bound (P.tables past.now)
+            (bound_in v.now) }
+        ensures table { IfOk result IsTable }
+        ensures columns { IfOk result (λ t. AreOpen (tree_of self.now.formula) self.now.bound
+            t.columns) }
+        ensures rows { IfOk result (HoldsFor events.now (P.tables past.now)
+            (tree_of self.now.formula) self.now.bound (bound_in v.now)) }
+        ensures known { IfOk result (HasKnownValues events.now (P.tables past.now)
+            (tree_of self.now.formula) self.now.bound (bound_in v.now)) }
+    {
         // so many that a usize counts them
         let _tables = past.count();
-        let scope = Scope::of(alloc, v, self.bound().as_slice())?;
+        let scope = Frame::Part(v, self.bound().as_slice());
         let present = Present { events, past };
-        rows_of(alloc, &present, self.formula(), scope)
+        rows(alloc, &present, self.formula(), 0, &scope)
+    }
+
+    /// Whether the formula holds at a step, where all its free variables are bound. No table is made of it, and memory
+    /// is taken for the rows below a quantifier alone.
+    pub fn holds<P: Past>(
+        &self,
+        alloc: Global,
+        events: &StepEvents<'_>,
+        past: &P,
+        v: &Frame<'_>,
+    ) -> Result<bool, NoMemory>
+        requires can { CanEvaluate (tree_of self.now.formula) self.now.bound (P.tables past.now)
+            (bound_in v.now) }
+        requires test { FreeWithin (tree_of self.now.formula) (Contains self.now.bound) }
+        ensures { IfOk result (λ holds. IsTrue holds ↔ HoldsNow events.now (P.tables past.now)
+            (bound_in v.now) (tree_of self.now.formula)) }
+    {
+        // so many that a usize counts them
+        let _tables = past.count();
+        let scope = Frame::Part(v, self.bound().as_slice());
+        let present = Present { events, past };
+        holds(alloc, &present, self.formula(), 0, &scope)
     }
 }
 

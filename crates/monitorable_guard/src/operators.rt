@@ -6,12 +6,13 @@ ghost use Rattle.enf_value.specs.declared.terms.VarId.{VarId as Variable};
 ghost use Rattle.monitorable_guard.specs.Answers.{AreOpenUnder, IsBoundBy};
 ghost use Rattle.monitorable_guard.specs.Present.{outermost};
 ghost use Rattle.monitorable_guard.specs.Safety.{FreeWithin};
+ghost use Rattle.valuations.specs.Scopes.{bound_in};
 
 use enf_formula::Formula;
 use enf_value::memory::NoMemory;
 use enf_value::terms::{VarId, Vars};
 use std::alloc::Global;
-use valuations::{Lookup, Scope};
+use valuations::{Frame, Lookup};
 
 // How many outermost operators on the past there are.
 pub fn operators(formula: &Formula) -> usize
@@ -41,17 +42,17 @@ pub fn operators(formula: &Formula) -> usize
 }
 
 // The free variables that have no value, in rising order.
-pub fn open_variables(alloc: Global, formula: &Formula, scope: &Scope<'_>) -> Result<Vars, NoMemory>
-    ensures { IfOk result (AreOpenUnder scope.now (tree_of formula.now)) }
+pub fn open_variables(alloc: Global, formula: &Formula, scope: &Frame<'_>) -> Result<Vars, NoMemory>
+    ensures { IfOk result (AreOpenUnder (bound_in scope.now) (tree_of formula.now)) }
 {
     let free = formula.free_vars(alloc)?;
     let found = unbound(alloc, free.as_slice(), scope)?;
     Ok(Vars::from_vec(found))
 }
 
-fn unbound(alloc: Global, variables: &[VarId], scope: &Scope<'_>) -> Result<Vec<VarId>, NoMemory>
+fn unbound(alloc: Global, variables: &[VarId], scope: &Frame<'_>) -> Result<Vec<VarId>, NoMemory>
     ensures { IfOk result (λ xs. xs.items
-        ≡ filter (λ x. is_none (value_at scope.now x)) variables.now) }
+        ≡ filter (λ x. is_none (value_at (bound_in scope.now) x)) variables.now) }
 {
     let mut found = Vec::new(alloc);
     for variable in variables {
@@ -63,9 +64,9 @@ fn unbound(alloc: Global, variables: &[VarId], scope: &Scope<'_>) -> Result<Vec<
 }
 
 // Whether each free variable has a value.
-pub fn is_closed(alloc: Global, formula: &Formula, scope: &Scope<'_>) -> Result<bool, NoMemory>
+pub fn is_closed(alloc: Global, formula: &Formula, scope: &Frame<'_>) -> Result<bool, NoMemory>
     ensures { IfOk result (λ closed. IsTrue closed
-        ↔ FreeWithin (tree_of formula.now) (IsBoundBy scope.now)) }
+        ↔ FreeWithin (tree_of formula.now) (IsBoundBy (bound_in scope.now))) }
 {
     let free = formula.free_vars(alloc)?;
     Ok(are_bound(free.as_slice(), scope))

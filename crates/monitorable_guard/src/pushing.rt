@@ -2,7 +2,7 @@
 ghost use Rattle.std.specs.Prelude.{◌≡◌, ◌⊎◌, Some, OnOk, IfOk, IsTrue, Contains, map};
 ghost use Rattle.enf_value.specs.Valuations.{value_at};
 ghost use Rattle.enf_value.specs.declared.terms.VarId.{VarId as Variable};
-ghost use Rattle.valuations.specs.Scopes.{filled};
+ghost use Rattle.valuations.specs.Scopes.{bound_in};
 ghost use Rattle.valuations.specs.Tables.{IsTable, AgreeOn};
 ghost use Rattle.monitorable_guard.specs.Answers.{AddsRows, IsBoundBy, IsFromRow};
 
@@ -10,33 +10,32 @@ use enf_value::items::Duplicate;
 use enf_value::memory::NoMemory;
 use enf_value::rows::Row;
 use enf_value::terms::VarId;
-use enf_value::values::Value;
 use std::alloc::Global;
-use valuations::{Scope, Table};
+use valuations::{Frame, Lookup, Table};
 
 // Adds the scope's row: its values of the columns.
-pub fn push_row(
+pub fn push_row<V: Lookup>(
     alloc: Global,
-    scope: &Scope<'_>,
+    scope: &V,
     columns: &[VarId],
     out: &mut Vec<Row>,
 ) -> Result<(), NoMemory>
-    requires { (x : Variable) → Contains columns.now x → IsBoundBy scope.now x }
+    requires { (x : Variable) → Contains columns.now x → IsBoundBy (V.valuation scope.now) x }
     ensures { OnOk result (AddsRows columns.now out.old.items out.new.items
-        (λ w. AgreeOn columns.now w scope.now)) }
+        (λ w. AgreeOn columns.now w (V.valuation scope.now))) }
 {
     let row = row_of(alloc, scope, columns)?;
     out.push(row)?;
     Ok(())
 }
 
-fn row_of(alloc: Global, scope: &Scope<'_>, columns: &[VarId]) -> Result<Row, NoMemory>
-    requires { (x : Variable) → Contains columns.now x → IsBoundBy scope.now x }
-    ensures { IfOk result (λ row. map Some row ≡ map (value_at scope.now) columns.now) }
+fn row_of<V: Lookup>(alloc: Global, scope: &V, columns: &[VarId]) -> Result<Row, NoMemory>
+    requires { (x : Variable) → Contains columns.now x → IsBoundBy (V.valuation scope.now) x }
+    ensures { IfOk result (λ row. map Some row ≡ map (value_at (V.valuation scope.now)) columns.now) }
 {
     let mut values = Vec::with_capacity(alloc, columns.len())?;
     for column in columns {
-        if let Some(value) = scope.get(*column) {
+        if let Some(value) = scope.value(*column) {
             values.push(value.duplicate(alloc)?)?;
         }
     }
@@ -47,13 +46,13 @@ fn row_of(alloc: Global, scope: &Scope<'_>, columns: &[VarId]) -> Result<Row, No
 pub fn push_if(
     alloc: Global,
     test: bool,
-    scope: &Scope<'_>,
+    scope: &Frame<'_>,
     columns: &[VarId],
     out: &mut Vec<Row>,
 ) -> Result<(), NoMemory>
-    requires { (x : Variable) → Contains columns.now x → IsBoundBy scope.now x }
+    requires { (x : Variable) → Contains columns.now x → IsBoundBy (bound_in scope.now) x }
     ensures { OnOk result (AddsRows columns.now out.old.items out.new.items
-        (λ w. IsTrue test × AgreeOn columns.now w scope.now)) }
+        (λ w. IsTrue test × AgreeOn columns.now w (bound_in scope.now))) }
 {
     if test {
         push_row(alloc, scope, columns, out)
@@ -66,33 +65,19 @@ pub fn push_if(
 pub fn push_rows<'a>(
     alloc: Global,
     table: &'a Table,
-    scope: &Scope<'a>,
+    scope: &'a Frame<'a>,
     columns: &[VarId],
     out: &mut Vec<Row>,
 ) -> Result<(), NoMemory>
     requires table { IsTable table.now }
     requires within { (x : Variable) → Contains columns.now x
-        → IsBoundBy scope.now x ⊎ Contains table.now.columns x }
+        → IsBoundBy (bound_in scope.now) x ⊎ Contains table.now.columns x }
     ensures { OnOk result (AddsRows columns.now out.old.items out.new.items
-        (IsFromRow table.now scope.now columns.now)) }
+        (IsFromRow table.now (bound_in scope.now) columns.now)) }
 {
     for row in table.rows() {
-        let inner = scope_with(alloc, scope, table.columns().as_slice(), row.as_slice())?;
+        let inner = Frame::Row(&*scope, table.columns().as_slice(), row.as_slice());
         push_row(alloc, &inner, columns, out)?;
     }
     Ok(())
-}
-
-// The scope, with the row's values of those columns that it does not bind.
-pub fn scope_with<'a>(
-    alloc: Global,
-    scope: &Scope<'a>,
-    columns: &[VarId],
-    row: &'a [Value],
-) -> Result<Scope<'a>, NoMemory>
-    ensures { IfOk result (λ inner. inner ≡ filled scope.now columns.now row.now) }
-{
-    let mut inner = scope.duplicate(alloc)?;
-    inner.fill(columns, row)?;
-    Ok(inner)
 }

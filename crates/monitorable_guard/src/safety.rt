@@ -3,7 +3,8 @@ ghost use Rattle.std.specs.Prelude.{◌≡◌, ◌↔◌, ◌⊎◌, IfOk, IsTru
 ghost use Rattle.enf_formula.specs.Formulas.{tree_of};
 ghost use Rattle.enf_formula.specs.FreeVariables.{IsFree};
 ghost use Rattle.enf_value.specs.declared.terms.VarId.{VarId as Variable};
-ghost use Rattle.monitorable_guard.specs.Safety.{Safe, SafeBelow, IsTest, With, Nothing, FreeWithin, FreeAlike, FreeUnder, Assigns, IsBoundIn, denial};
+ghost use Rattle.monitorable_guard.specs.Safety.{Safe, SafeBelow, With, Nothing, FreeWithin, FreeAlike, FreeUnder};
+ghost use Rattle.monitorable_guard.specs.Safety.{Assigns, IsBoundIn, denial};
 
 use crate::scopes::{are_free_in, is_free_alike, is_free_under, is_free_within, joined, with_free};
 use enf_formula::Formula;

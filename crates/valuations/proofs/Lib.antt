@@ -6,3 +6,4 @@ pub mod TableLemmas
 pub mod ComparisonLemmas
 pub mod LookupLemmas
 pub mod PartLemmas
+pub mod ArgumentLemmas

@@ -2,28 +2,21 @@
 use Rattle.std.proofs.Common.{◌≡◌, ℕ, zero, suc, ◌+◌, ◌<◌, List, [], ◌∷◌, length, map, drop, min, get_or, Option, Some, Contains, IsTrue, ◌↔◌, ◌⊎◌, ⊎_elim, inl, inr, is_ok, Result, Ok, Err, refl, sym, ap, subst, ◌∙◌, arith}
 use Rattle.std.specs.Cmp.{tied_itself}
 use Rattle.std.specs.List.Sorted.{IsSearchInRange, IsBinarySearchResult}
-use Rattle.std.specs.Ordering.{is_lt, nat_cmp, ordering_then}
+use Rattle.std.specs.Ordering.{is_lt, nat_cmp}
 use Rattle.std.specs.declared.cmp.Ordering.TheVariants.{Less, Equal, Greater}
 use Rattle.std.proofs.lemmas.Bool.{false≢true, cases_lt, cases_order, lt-ltb, le-ltb, eq-eqb, ne_eqb}
 use Rattle.std.proofs.lemmas.List.Elements.{Contains-get_or}
 use Rattle.std.proofs.lemmas.List.Sorted.{searchable_from_sorted}
 use Rattle.enf_value.specs.Membership.{HasNoRepeats}
-use Rattle.enf_value.specs.Order.{value_cmp, row_cmp}
 use Rattle.enf_value.specs.Valuations.{Valuation, value_at}
 use Rattle.enf_value.specs.declared.terms.VarId.{VarId}
 use Rattle.enf_value.specs.declared.values.Value.{Value}
 use Rattle.valuations.specs.Cells.{key_cmp}
 use Rattle.valuations.specs.Tables.{Relation, IsTable, Has, cell}
 use Rattle.valuations.proofs.RowOrder.{key_cmp_total, key_cmp_exact, row_cmp_total, sorted_from_strict, no_tie}
+use Rattle.valuations.specs.KeyLaws.{same_order}
 use Rattle.valuations.proofs.CellLemmas.{same_at, same_lists_at, cell_here, cell_later}
 use Rattle.valuations.proofs.TableLemmas.{fits}
-
--- rows compare as their values do, each there
-same_order : (a b : List Value) → key_cmp (map Some a) (map Some b) ≡ row_cmp a b
-same_order [] [] = refl
-same_order [] (y ∷ b) = refl
-same_order (x ∷ a) [] = refl
-same_order (x ∷ a) (y ∷ b) = ap (ordering_then (value_cmp x y)) (same_order a b)
 
 -- the values of a row's columns are the row
 cells_are : (columns : List VarId) (row : List Value) → HasNoRepeats columns → length row ≡ length columns → map (cell columns row) columns ≡ map Some row

@@ -8,4 +8,5 @@ pub mod Terms
 pub mod Just
 pub mod Scopes
 pub mod ScopeLaws
+pub mod KeyLaws
 pub mod SearchLaws

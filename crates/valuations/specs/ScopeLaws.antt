@@ -1,19 +1,22 @@
 -- Laws of valuations that are filled from rows, and of being in a table.
-use Rattle.std.specs.Prelude.{◌≡◌, Bool, true, false, ◌⊎◌, List, [], ◌∷◌, length, Option, None, Some}
+use Rattle.std.specs.Prelude.{◌≡◌, Bool, true, false, ◌⊎◌, List, [], ◌∷◌, Option, None, Some}
 use Rattle.std.specs.Prelude.{Contains}
 use Rattle.std.specs.Bool.{Decides}
+use Rattle.std.specs.FinMap as finite
 use Rattle.std.proofs.Common.{inl, inr, ⊎_elim, refl, sym, ap, subst, ◌∙◌, arith}
 use Rattle.std.proofs.lemmas.Bool.{false≢true}
 use Rattle.std.proofs.lemmas.Bool.Decides.{Decides-int_eq}
 use Rattle.std.proofs.lemmas.Option.{same_Some, none-some}
 use Rattle.std.proofs.lemmas.Slice.Eq.{bytes_eq-Decides}
-use Rattle.enf_value.specs.Valuations.{Valuation, value_at}
+use Rattle.enf_value.specs.Membership.{HasNoRepeats}
+use Rattle.enf_value.specs.Valuations.{Valuation, value_at, with_values, variable_cmp}
 use Rattle.enf_value.specs.declared.terms.VarId.{VarId}
 use Rattle.enf_value.specs.declared.values.Value.{Value}
 use Rattle.enf_value.specs.declared.values.Value.TheVariants.{Num, Text}
+use Rattle.valuations.specs.Bindings.{with_value}
 use Rattle.valuations.specs.Columns.{here, later, first_or_later, none_in_nil, among_or_not}
 use Rattle.valuations.specs.RowLaws.{value_at-bound, value_at-other, cell_here, cell_later}
-use Rattle.valuations.specs.Scopes.{with_new, filled}
+use Rattle.valuations.specs.Scopes.{with_new, filled, with_found, part_of, IsPartOf}
 use Rattle.valuations.specs.Tables.{Relation, Has, Agrees, cell}
 
 -- ---- what has a value or not, and what is equal or not
@@ -122,15 +125,61 @@ filled_outside v (x ∷ columns) (value ∷ row) y absent =
     filled_outside (with_new (value_at v x) v x value) columns row y (λ there. absent (later y x columns there))
     ∙ with_new-other v x y value (λ same. absent (0, omega arith, same))
 
-pub filled_inside : (v : Valuation) (columns : List VarId) (row : List Value) (y : VarId) → value_at v y ≡ None
-    → Contains columns y → length row ≡ length columns → value_at (filled v columns row) y ≡ cell columns row y
-filled_inside v [] row y absent there long = absurd (none_in_nil y there)
-filled_inside v (x ∷ columns) [] y absent there long = absurd (omega (arith, long))
-filled_inside v (x ∷ columns) (value ∷ row) y absent there long = ⊎_elim
+pub filled_unbound : (v : Valuation) (columns : List VarId) (row : List Value) (y : VarId) → value_at v y ≡ None
+    → value_at (filled v columns row) y ≡ cell columns row y
+filled_unbound v [] row y absent = absent
+filled_unbound v (x ∷ columns) [] y absent = absent
+filled_unbound v (x ∷ columns) (value ∷ row) y absent = ⊎_elim
     (λ same. filled_keeps (with_new (value_at v x) v x value) columns row y value
     (with_new-there v x y value same absent) ∙ sym (cell_here x y columns value row same))
-    (λ other. filled_inside (with_new (value_at v x) v x value) columns row y (with_new-other v x y value other
-    ∙ absent) (⊎_elim (λ same. absurd (other same))
-    (λ behind. behind) (first_or_later y x columns there)) (omega (arith, long))
-    ∙ sym (cell_later x y columns value row other))
+    (λ other. filled_unbound (with_new (value_at v x) v x value) columns row y (with_new-other v x y value other
+    ∙ absent) ∙ sym (cell_later x y columns value row other))
     (same_or_other x y)
+
+-- where no column is bound, its variables are bound to the values in turn
+pub filled_fresh : (v : Valuation) (columns : List VarId) (row : List Value) → HasNoRepeats columns
+    → ((x : VarId) → Contains columns x → value_at v x ≡ None) → filled v columns row ≡ with_values columns row v
+filled_fresh v [] row distinct absent = refl
+filled_fresh v (x ∷ columns) [] distinct absent = refl
+filled_fresh v (x ∷ columns) (value ∷ row) distinct absent = by (value_at v x) (absent x (here x columns))
+    (filled_fresh (with_value v x value) columns row distinct.1 (λ y there. value_at-other v x y value
+    (λ same. distinct.0 (subst (Contains columns) (sym same) there)) ∙ absent y (later y x columns there)))
+  where
+    by : (o : Option Value) → o ≡ None
+        → filled (with_value v x value) columns row ≡ with_values columns row (with_value v x value)
+        → filled (with_new o v x value) columns row ≡ with_values columns row (with_value v x value)
+    by None e rest = rest
+    by (Some k) e rest = absurd (none-some k (sym e))
+
+-- ---- what the part of a valuation has
+
+pub part_outside : (v : Valuation) (xs : List VarId) (y : VarId) → (Contains xs y → ⊥)
+    → value_at (part_of v xs) y ≡ None
+part_outside v [] y absent = finite.get-empty variable_cmp y
+part_outside v (x ∷ xs) y absent =
+    by (value_at v x) (part_outside v xs y (λ there. absent (later y x xs there)))
+  where
+    by : (o : Option Value) → value_at (part_of v xs) y ≡ None
+        → value_at (with_found (part_of v xs) x o) y ≡ None
+    by None rest = rest
+    by (Some value) rest =
+        value_at-other (part_of v xs) x y value (λ same. absent (0, omega arith, same)) ∙ rest
+
+pub part_inside : (v : Valuation) (xs : List VarId) (y : VarId) → Contains xs y
+    → value_at (part_of v xs) y ≡ value_at v y
+part_inside v [] y there = absurd (none_in_nil y there)
+part_inside v (x ∷ xs) y there = by (value_at v x) refl (part_inside v xs y) (same_or_other x y)
+  where
+    by : (o : Option Value) → value_at v x ≡ o → (Contains xs y → value_at (part_of v xs) y ≡ value_at v y)
+        → (x ≡ y) ⊎ (x ≡ y → ⊥) → value_at (with_found (part_of v xs) x o) y ≡ value_at v y
+    by (Some value) e rest (inl same) =
+        value_at-bound (part_of v xs) x y value same ∙ sym e ∙ ap (value_at v) same
+    by (Some value) e rest (inr other) = value_at-other (part_of v xs) x y value other
+        ∙ rest (⊎_elim (λ same. absurd (other same)) (λ behind. behind) (first_or_later y x xs there))
+    by None e rest (inl same) = ⊎_elim rest
+        (λ absent. part_outside v xs y absent ∙ sym e ∙ ap (value_at v) same) (among_or_not xs y)
+    by None e rest (inr other) =
+        rest (⊎_elim (λ same. absurd (other same)) (λ behind. behind) (first_or_later y x xs there))
+
+pub part_is : (v : Valuation) (xs : List VarId) → IsPartOf v xs (part_of v xs)
+part_is v xs = record { inside = part_inside v xs; outside = part_outside v xs }

@@ -1,11 +1,15 @@
 -- The items of a list in the order of their keys that have one key: they stand between two places, which two
 -- searches find.
+use Rattle.std.proofs.Common.{IsTrue, Result, Ok, Err, is_ok, inl, inr}
 use Rattle.std.proofs.Common.{◌≡◌, ℕ, ◌+◌, ◌-◌, ◌<◌, ◌≤◌, true, false, ⊎_elim, List, [], ◌∷◌, length, map, take, drop}
 use Rattle.std.proofs.Common.{get_or, Contains, ◌↔◌, refl, sym, ap, ◌∙◌, arith, length-take, length-drop, get_or-take}
 use Rattle.std.proofs.Common.{get_or-drop}
 use Rattle.std.specs.Cmp.{IsTotalOrder, tied_itself}
 use Rattle.std.specs.FinMap.{IsAntisymmetric}
-use Rattle.std.specs.List.Sorted.{IsSortedBy, IsNonDecreasingBy, IsPartitionedBy, IsPartitionPoint}
+use Rattle.std.specs.List.Sorted.{IsSortedBy, IsNonDecreasingBy, IsPartitionedBy, IsPartitionPoint, IsSearchInRange}
+use Rattle.std.specs.List.Sorted.{IsBinarySearchResult}
+use Rattle.std.proofs.lemmas.List.Elements.{Contains-get_or}
+use Rattle.valuations.specs.KeyLaws.{no_tie}
 use Rattle.std.specs.Ordering.{is_lt, is_le, ordering_index}
 use Rattle.std.specs.declared.cmp.Ordering.{Ordering}
 use Rattle.std.specs.declared.cmp.Ordering.TheVariants.{Less, Equal, Greater}
@@ -95,3 +99,20 @@ module _ {X K : Type 0} {R : K → K → Ordering} (o : IsTotalOrder R) (exact :
               (drop from xs) (j - from) x before ∙ at ∙ tied.0.2,
         ),
   )
+
+  -- where a search by the order ends tells whether there is an item with the key
+  pub found_tells : (r : Result ℕ ℕ) → IsSearchInRange r (length xs) → IsBinarySearchResult (λ y. R (k y) t) xs r
+      → IsTrue (is_ok r) ↔ ((x : X) × Contains xs x × (k x ≡ t))
+  found_tells (Ok i) within at = (λ _. some xs within at, λ _. refl)
+    where
+      some : (ys : List X) → i < length ys → ((d : X) → R (k (get_or ys i d)) t ≡ Equal)
+          → (x : X) × Contains ys x × (k x ≡ t)
+      some [] lt tied = absurd (omega (arith, lt))
+      some (y ∷ ys) lt tied = (get_or (y ∷ ys) i y, Contains-get_or (y ∷ ys) i y lt, exact _ _ (tied y))
+  found_tells (Err i) within at =
+      let parted = at rises in (
+        λ ok. absurd (false≢true ok),
+        λ there. absurd (no_tie _ (ap (λ y. R (k y) t) there.1.2 ∙ ap (λ a. R a t) there.2 ∙ tied_itself o t)
+            (⊎_elim (λ before. inl (parted.0 there.1.0 there.0 (omega arith) before))
+            (λ behind. inr (parted.1 there.1.0 there.0 behind there.1.1)) (cases_lt there.1.0 i))),
+      )

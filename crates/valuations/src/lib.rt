@@ -2,8 +2,10 @@
 //! operations of relations. It stands on `enf_value`.
 #![tactic(auto)]
 
+pub mod arguments;
 mod cells;
 pub mod comparing;
+pub mod frame;
 mod joining;
 pub mod laws;
 mod relations;
@@ -13,6 +15,7 @@ pub mod tables;
 pub mod valuation;
 
 pub use comparing::Compare;
+pub use frame::Frame;
 pub use scope::{Lookup, Scope};
 pub use tables::Table;
 pub use valuation::Valuation;

@@ -1,12 +1,12 @@
 //! Values of variables by reference, and what tells the values of variables.
-ghost use Rattle.std.specs.Prelude.{◌≡◌, IfOk, OnOk, OnErr};
+ghost use Rattle.std.specs.Prelude.{◌≡◌, OnOk, OnErr};
 ghost use Rattle.std.specs.Option.{option_copied};
-ghost use Rattle.enf_value.specs.Valuations.{Valuation as Bound, value_at, no_values};
+ghost use Rattle.enf_value.specs.Valuations.{Valuation as Bound, value_at};
 ghost use Rattle.valuations.specs.Bindings.{with_value};
-ghost use Rattle.valuations.specs.Scopes.{filled, IsPartOf};
+ghost use Rattle.valuations.specs.Scopes.{bound_in};
 
+use crate::frame::Frame;
 use crate::valuation::Valuation;
-use enf_value::items::Duplicate;
 use enf_value::memory::NoMemory;
 use enf_value::terms::VarId;
 use enf_value::values::Value;
@@ -30,45 +30,34 @@ impl Lookup for Valuation {
     }
 }
 
-/// A finite map from variables to values that stand elsewhere.
+/// A frame, and more variables bound to values that stand elsewhere.
 #[derive(Drop)]
 pub struct Scope<'a> {
+    below: &'a Frame<'a>,
     // a later binding of a variable hides an earlier one
     bindings: Vec<(VarId, &'a Value)>,
 }
 
 impl<'a> Model for Scope<'a> {
     ghost use Rattle.enf_value.specs.Valuations.{Valuation as Bound, valuation_code};
-    ghost use Rattle.valuations.specs.Scopes.{bound_by};
+    ghost use Rattle.valuations.specs.Scopes.{bound_by, bound_in};
 
     ghost Value = { Bound };
 
     ghost coded = { valuation_code };
 
-    ghost view = { λ scope. bound_by scope.bindings.items };
+    ghost view = { λ scope. bound_by (bound_in scope.below.now) scope.bindings.items };
 }
 
 impl<'a> Scope<'a> {
-    /// Binds nothing.
-    pub fn empty(alloc: Global) -> Scope<'a>
-        ensures { result ≡ no_values }
+    /// Binds what the frame binds; it takes no memory.
+    pub fn over(alloc: Global, below: &'a Frame<'a>) -> Scope<'a>
+        ensures { result ≡ bound_in below.now }
     {
         Scope {
+            below,
             bindings: Vec::new(alloc),
         }
-    }
-
-    /// The part of the valuation that binds these variables.
-    pub fn of(alloc: Global, v: &'a Valuation, variables: &[VarId]) -> Result<Scope<'a>, NoMemory>
-        ensures { IfOk result (IsPartOf v.now variables.now) }
-    {
-        let mut scope = Scope::empty(alloc);
-        for variable in variables {
-            if let Some(value) = v.get(*variable) {
-                scope.bind(*variable, value)?;
-            }
-        }
-        Ok(scope)
     }
 
     /// Binds a variable, or binds it anew.
@@ -92,26 +81,7 @@ impl<'a> Scope<'a> {
                 return Some(binding.1);
             }
         }
-        None
-    }
-
-    /// Binds each of the columns that is not bound to the row's value.
-    pub fn fill(&mut self, columns: &[VarId], row: &'a [Value]) -> Result<(), NoMemory>
-        ensures { OnOk result (self.new ≡ filled self.old columns.now row.now) }
-    {
-        for (column, value) in columns.iter().zip(row) {
-            if self.get(*column).is_none() {
-                self.bind(*column, value)?;
-            }
-        }
-        Ok(())
-    }
-}
-
-impl<'a> Duplicate for Scope<'a> {
-    fn duplicate(&self, alloc: Global) -> Result<Scope<'a>, NoMemory> {
-        let bindings = Vec::from_slice(alloc, self.bindings.as_slice())?;
-        Ok(Scope { bindings })
+        self.below.get(variable)
     }
 }
 

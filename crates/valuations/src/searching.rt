@@ -37,7 +37,7 @@ fn compare_to_bound<V: Lookup>(row: &[Value], columns: &[VarId], v: &V) -> Order
     row.len().cmp(&columns.len())
 }
 
-fn compare_to(value: &Value, bound: Option<&Value>) -> Ordering
+pub fn compare_to(value: &Value, bound: Option<&Value>) -> Ordering
     ensures { result ≡ option_cmp value_cmp (Some value.now) (option_copied bound.entry) }
 {
     match bound {

@@ -2,8 +2,7 @@ use Rattle.std.proofs.Common.{◌≡◌, ◌+◌, ◌<◌, inl, inr, ⊎_elim, L
 use Rattle.std.proofs.lemmas.Bool.{false≢true}
 use Rattle.std.proofs.lemmas.List.{take_all}
 use Rattle.enf_formula.specs.Formulas.{Atom, Equal, Exists, Historically, tree_of}
-use Rattle.enf_formula.specs.Satisfaction.{IsAmong}
-use Rattle.enf_value.specs.Valuations.{Valuation, values_of}
+use Rattle.enf_value.specs.Valuations.{Valuation}
 use Rattle.enf_value.specs.declared.values.Value.{Value}
 use Rattle.enf_value.specs.declared.terms.Term.TheVariants.{Var}
 use Rattle.monitorable_guard.specs.Answers.{AddsRows, AreInScope, IsAnswer, IsBoundBy, IsEquated, IsFromRow, IsMatchAmong, CanAsk}
@@ -11,7 +10,7 @@ use Rattle.monitorable_guard.specs.Events.{shown}
 use Rattle.monitorable_guard.specs.Present.{HoldsNow, FirstHas, outermost, behind}
 use Rattle.monitorable_guard.specs.Safety.{FreeWithin}
 use Rattle.valuations.specs.Columns.{none_in_nil}
-use Rattle.valuations.specs.Scopes.{filled}
+use Rattle.valuations.specs.Scopes.{bound_in, filled}
 use Rattle.monitorable_guard.proofs.AskLemmas.{ask_not, ask_and_left, ask_and_right, ask_or_left, ask_or_right, ask_implies_left, ask_implies_right, ask_exists, ask_none, ask_range, ask_nested, and_anywhere, or_anywhere, binds_itself}
 use Rattle.monitorable_guard.proofs.CycleLemmas.{rising_distinct, open_scope, added_fit, ok_answers, ok_open, some_answer, fit_places, closed_scope, adds_test, one_side, ok_decides, ok_either, ok_forall, ok_nested, ok_each, ok_map, ok_both, ok_second, ok_where, not_decides, none_equal, fits_from, fit_place, fit_first, each_more}
 use Rattle.monitorable_guard.proofs.EvaluationLemmas.{atom_to, atom_from, equal_to, equal_from, exists_to, exists_from, exists_decided, none_decided, past_to, past_from}
@@ -27,7 +26,7 @@ pub gather-holds-requires : goal.gather-holds-requires
 gather-holds-requires g t c = λ κs lives. (search rules, (search rules, (c.requires.few, (c.requires.ask, c.in_ok-is_closed.ensures.0 c.if-branch.true))))
 
 pub gather-push_if-requires : goal.gather-push_if-requires
-gather-push_if-requires g t c = closed_scope c.args.present.now.events.now (drop c.args.first (g.P.Past.tables c.args.present.now.past.now)) c.args.scope.now (tree_of c.args.formula.now) c.args.columns.now (c.in_ok-is_closed.ensures.0 c.if-branch.true) c.requires.within
+gather-push_if-requires g t c = closed_scope c.args.present.now.events.now (drop c.args.first (g.P.Past.tables c.args.present.now.past.now)) (bound_in c.args.scope.now) (tree_of c.args.formula.now) c.args.columns.now (c.in_ok-is_closed.ensures.0 c.if-branch.true) c.requires.within
 
 pub gather-gather_open-requires : goal.gather-gather_open-requires
 gather-gather_open-requires g t c = λ κs lives. (search rules, (search rules, (c.requires.few, (c.requires.ask, (c.requires.within, λ closed. absurd (false≢true (sym c.if-branch.false ∙ c.in_ok-is_closed.ensures.1 closed)))))))
@@ -35,13 +34,13 @@ gather-gather_open-requires g t c = λ κs lives. (search rules, (search rules, 
 pub gather-returns-in_ok-test : goal.gather-returns-in_ok-test
 gather-returns-in_ok-test g t c =
     on_ok c.push_if.result _ _
-    (adds_test c.args.present.now.events.now (drop c.args.first (g.P.Past.tables c.args.present.now.past.now)) c.args.scope.now (tree_of c.args.formula.now) c.args.columns.now _ _ c.in_ok-test.test c.requires.ask.tabled (c.in_ok-is_closed.ensures.0 c.if-branch.true) c.requires.within c.in_ok-test.ensures)
+    (adds_test c.args.present.now.events.now (drop c.args.first (g.P.Past.tables c.args.present.now.past.now)) (bound_in c.args.scope.now) (tree_of c.args.formula.now) c.args.columns.now _ _ c.in_ok-test.test c.requires.ask.tabled (c.in_ok-is_closed.ensures.0 c.if-branch.true) c.requires.within c.in_ok-test.ensures)
     c.push_if.ensures
 
 -- ---- gather_both
 
 pub gather_both-rows-requires : goal.gather_both-rows-requires
-gather_both-rows-requires g t c = λ κs lives. (search rules, (search rules, (c.requires.few, ask_and_left c.args.scope.now (drop c.args.first (g.P.Past.tables c.args.present.now.past.now)) c.requires.ask.0 (tree_of c.args.g.now) (tree_of c.args.h.now) c.requires.ask.1)))
+gather_both-rows-requires g t c = λ κs lives. (search rules, (search rules, (c.requires.few, ask_and_left (bound_in c.args.scope.now) (drop c.args.first (g.P.Past.tables c.args.present.now.past.now)) c.requires.ask.0 (tree_of c.args.g.now) (tree_of c.args.h.now) c.requires.ask.1)))
 
 pub gather_both-operators-requires : goal.gather_both-operators-requires
 gather_both-operators-requires g t c = (fit_places (tree_of c.args.g.now) (tree_of c.args.h.now) (g.P.Past.tables c.args.present.now.past.now) c.args.first c.requires.few c.ranges.first.fits c.requires.ask.1.tabled).0
@@ -63,8 +62,8 @@ gather_both-gather_under-requires g t c =
           (
             c.in_ok-left.ensures.table,
             (
-              both_ask E T c.args.first (c.args.first + c.operators.result) c.args.scope.now (tree_of c.args.g.now) (tree_of c.args.h.now) at c.requires.ask.0 c.requires.ask.1 c.in_ok-left.left c.in_ok-left.ensures.table c.in_ok-left.ensures.columns c.in_ok-left.ensures.rows,
-              both_scope E T c.args.first (c.args.first + c.operators.result) c.args.scope.now (tree_of c.args.g.now) (tree_of c.args.h.now) at c.requires.ask.0 c.requires.ask.1 c.in_ok-left.left c.in_ok-left.ensures.table c.in_ok-left.ensures.columns c.in_ok-left.ensures.rows c.args.columns.now c.requires.within,
+              both_ask E T c.args.first (c.args.first + c.operators.result) (bound_in c.args.scope.now) (tree_of c.args.g.now) (tree_of c.args.h.now) at c.requires.ask.0 c.requires.ask.1 c.in_ok-left.left c.in_ok-left.ensures.table c.in_ok-left.ensures.columns c.in_ok-left.ensures.rows,
+              both_scope E T c.args.first (c.args.first + c.operators.result) (bound_in c.args.scope.now) (tree_of c.args.g.now) (tree_of c.args.h.now) at c.requires.ask.0 c.requires.ask.1 c.in_ok-left.left c.in_ok-left.ensures.table c.in_ok-left.ensures.columns c.in_ok-left.ensures.rows c.args.columns.now c.requires.within,
             ),
           ),
         ),
@@ -78,7 +77,7 @@ gather_both-returns g t c =
     let at : c.args.first + c.operators.result ≡ c.args.first + length (outermost (tree_of c.args.g.now)) = ap (λ n. c.args.first + n) c.operators.ensures in
     λ place.
     on_ok c.gather_under.result _ _
-    (adds_both_parts E T c.args.first (c.args.first + c.operators.result) c.args.scope.now (tree_of c.args.g.now) (tree_of c.args.h.now) at place (and_anywhere c.args.scope.now (drop c.args.first T) c.requires.ask.0 place (tree_of c.args.g.now) (tree_of c.args.h.now) c.requires.ask.1) c.in_ok-left.left c.in_ok-left.ensures.table c.in_ok-left.ensures.columns c.in_ok-left.ensures.rows c.args.columns.now _ _)
+    (adds_both_parts E T c.args.first (c.args.first + c.operators.result) (bound_in c.args.scope.now) (tree_of c.args.g.now) (tree_of c.args.h.now) at place (and_anywhere (bound_in c.args.scope.now) (drop c.args.first T) c.requires.ask.0 place (tree_of c.args.g.now) (tree_of c.args.h.now) c.requires.ask.1) c.in_ok-left.left c.in_ok-left.ensures.table c.in_ok-left.ensures.columns c.in_ok-left.ensures.rows c.args.columns.now _ _)
     c.gather_under.ensures
 
 -- ---- gather_either
@@ -94,8 +93,8 @@ gather_either-gather-requires g t c =
         (
           c.requires.few,
           (
-            ask_or_left c.args.scope.now (drop c.args.first T) c.requires.ask.0 (tree_of c.args.g.now) (tree_of c.args.h.now) c.requires.ask.1,
-            (either_scope E T c.args.first (c.args.first + length (outermost (tree_of c.args.g.now))) c.args.scope.now (tree_of c.args.g.now) (tree_of c.args.h.now) refl c.requires.ask.0 c.requires.ask.1 c.args.columns.now c.requires.within).0,
+            ask_or_left (bound_in c.args.scope.now) (drop c.args.first T) c.requires.ask.0 (tree_of c.args.g.now) (tree_of c.args.h.now) c.requires.ask.1,
+            (either_scope E T c.args.first (c.args.first + length (outermost (tree_of c.args.g.now))) (bound_in c.args.scope.now) (tree_of c.args.g.now) (tree_of c.args.h.now) refl c.requires.ask.0 c.requires.ask.1 c.args.columns.now c.requires.within).0,
           ),
         ),
       ),
@@ -119,8 +118,8 @@ gather_either-gather-requires-2 g t c =
         (
           c.requires.few,
           (
-            either_ask E T c.args.first (c.args.first + c.operators.result) c.args.scope.now (tree_of c.args.g.now) (tree_of c.args.h.now) at c.requires.ask.0 c.requires.ask.1,
-            (either_scope E T c.args.first (c.args.first + c.operators.result) c.args.scope.now (tree_of c.args.g.now) (tree_of c.args.h.now) at c.requires.ask.0 c.requires.ask.1 c.args.columns.now c.requires.within).1,
+            either_ask E T c.args.first (c.args.first + c.operators.result) (bound_in c.args.scope.now) (tree_of c.args.g.now) (tree_of c.args.h.now) at c.requires.ask.0 c.requires.ask.1,
+            (either_scope E T c.args.first (c.args.first + c.operators.result) (bound_in c.args.scope.now) (tree_of c.args.g.now) (tree_of c.args.h.now) at c.requires.ask.0 c.requires.ask.1 c.args.columns.now c.requires.within).1,
           ),
         ),
       ),
@@ -133,14 +132,14 @@ gather_either-returns g t c =
     let at : c.args.first + c.operators.result ≡ c.args.first + length (outermost (tree_of c.args.g.now)) = ap (λ n. c.args.first + n) c.operators.ensures in
     λ place.
     on_ok c.gather-2.result _ _
-    (adds_either_part E T c.args.first (c.args.first + c.operators.result) c.args.scope.now (tree_of c.args.g.now) (tree_of c.args.h.now) at place (or_anywhere c.args.scope.now (drop c.args.first T) c.requires.ask.0 place (tree_of c.args.g.now) (tree_of c.args.h.now) c.requires.ask.1) c.args.columns.now _ _ _ c.in_ok-gather.ensures)
+    (adds_either_part E T c.args.first (c.args.first + c.operators.result) (bound_in c.args.scope.now) (tree_of c.args.g.now) (tree_of c.args.h.now) at place (or_anywhere (bound_in c.args.scope.now) (drop c.args.first T) c.requires.ask.0 place (tree_of c.args.g.now) (tree_of c.args.h.now) c.requires.ask.1) c.args.columns.now _ _ _ c.in_ok-gather.ensures)
     c.gather-2.ensures
 
 -- ---- rows
 
 pub rows-gather-requires : goal.rows-gather-requires
 rows-gather-requires g t c =
-    λ κs lives. (search rules, (search rules, (c.requires.few, (c.requires.ask, subst (λ l. AreInScope l c.args.scope.now (tree_of c.args.formula.now)) (sym c.as_slice.ensures) (open_scope c.args.present.now.events.now (drop c.args.first (g.P.Past.tables c.args.present.now.past.now)) c.args.scope.now (tree_of c.args.formula.now) c.in_ok-columns.columns c.in_ok-columns.ensures)))))
+    λ κs lives. (search rules, (search rules, (c.requires.few, (c.requires.ask, subst (λ l. AreInScope l (bound_in c.args.scope.now) (tree_of c.args.formula.now)) (sym c.as_slice.ensures) (open_scope c.args.present.now.events.now (drop c.args.first (g.P.Past.tables c.args.present.now.past.now)) (bound_in c.args.scope.now) (tree_of c.args.formula.now) c.in_ok-columns.columns c.in_ok-columns.ensures)))))
 
 pub rows-from_rows-requires-clause-distinct : goal.rows-from_rows-requires-clause-distinct
 rows-from_rows-requires-clause-distinct g t c =
@@ -148,15 +147,15 @@ rows-from_rows-requires-clause-distinct g t c =
 
 pub rows-from_rows-requires-clause-fits : goal.rows-from_rows-requires-clause-fits
 rows-from_rows-requires-clause-fits g t c =
-    added_fit c.args.present.now.events.now (drop c.args.first (g.P.Past.tables c.args.present.now.past.now)) c.args.scope.now (tree_of c.args.formula.now) c.in_ok-columns.columns c.gather.new.out.items (subst (λ before. AddsRows c.in_ok-columns.columns before c.gather.new.out.items (IsAnswer c.args.present.now.events.now (drop c.args.first (g.P.Past.tables c.args.present.now.past.now)) c.args.scope.now (tree_of c.args.formula.now) c.in_ok-columns.columns)) c.new-found.ensures.items (subst (λ l. AddsRows l c.new-found.result.items c.gather.new.out.items (IsAnswer c.args.present.now.events.now (drop c.args.first (g.P.Past.tables c.args.present.now.past.now)) c.args.scope.now (tree_of c.args.formula.now) l)) c.as_slice.ensures c.in_ok-gather.ensures))
+    added_fit c.args.present.now.events.now (drop c.args.first (g.P.Past.tables c.args.present.now.past.now)) (bound_in c.args.scope.now) (tree_of c.args.formula.now) c.in_ok-columns.columns c.gather.new.out.items (subst (λ before. AddsRows c.in_ok-columns.columns before c.gather.new.out.items (IsAnswer c.args.present.now.events.now (drop c.args.first (g.P.Past.tables c.args.present.now.past.now)) (bound_in c.args.scope.now) (tree_of c.args.formula.now) c.in_ok-columns.columns)) c.new-found.ensures.items (subst (λ l. AddsRows l c.new-found.result.items c.gather.new.out.items (IsAnswer c.args.present.now.events.now (drop c.args.first (g.P.Past.tables c.args.present.now.past.now)) (bound_in c.args.scope.now) (tree_of c.args.formula.now) l)) c.as_slice.ensures c.in_ok-gather.ensures))
 
 pub rows-returns-clause-columns : goal.rows-returns-clause-columns
 rows-returns-clause-columns g t c =
-    ok_open c.args.present.now.events.now (drop c.args.first (g.P.Past.tables c.args.present.now.past.now)) c.args.scope.now (tree_of c.args.formula.now) c.in_ok-columns.columns c.from_rows.result c.in_ok-columns.ensures c.from_rows.ensures.columns
+    ok_open c.args.present.now.events.now (drop c.args.first (g.P.Past.tables c.args.present.now.past.now)) (bound_in c.args.scope.now) (tree_of c.args.formula.now) c.in_ok-columns.columns c.from_rows.result c.in_ok-columns.ensures c.from_rows.ensures.columns
 
 pub rows-returns-clause-rows : goal.rows-returns-clause-rows
 rows-returns-clause-rows g t c =
-    ok_answers c.args.present.now.events.now (drop c.args.first (g.P.Past.tables c.args.present.now.past.now)) c.args.scope.now (tree_of c.args.formula.now) c.in_ok-columns.columns c.gather.new.out.items (subst (λ before. AddsRows c.in_ok-columns.columns before c.gather.new.out.items (IsAnswer c.args.present.now.events.now (drop c.args.first (g.P.Past.tables c.args.present.now.past.now)) c.args.scope.now (tree_of c.args.formula.now) c.in_ok-columns.columns)) c.new-found.ensures.items (subst (λ l. AddsRows l c.new-found.result.items c.gather.new.out.items (IsAnswer c.args.present.now.events.now (drop c.args.first (g.P.Past.tables c.args.present.now.past.now)) c.args.scope.now (tree_of c.args.formula.now) l)) c.as_slice.ensures c.in_ok-gather.ensures)) c.from_rows.result c.from_rows.ensures.columns c.from_rows.ensures.rows
+    ok_answers c.args.present.now.events.now (drop c.args.first (g.P.Past.tables c.args.present.now.past.now)) (bound_in c.args.scope.now) (tree_of c.args.formula.now) c.in_ok-columns.columns c.gather.new.out.items (subst (λ before. AddsRows c.in_ok-columns.columns before c.gather.new.out.items (IsAnswer c.args.present.now.events.now (drop c.args.first (g.P.Past.tables c.args.present.now.past.now)) (bound_in c.args.scope.now) (tree_of c.args.formula.now) c.in_ok-columns.columns)) c.new-found.ensures.items (subst (λ l. AddsRows l c.new-found.result.items c.gather.new.out.items (IsAnswer c.args.present.now.events.now (drop c.args.first (g.P.Past.tables c.args.present.now.past.now)) (bound_in c.args.scope.now) (tree_of c.args.formula.now) l)) c.as_slice.ensures c.in_ok-gather.ensures)) c.from_rows.result c.from_rows.ensures.columns c.from_rows.ensures.rows
 
 -- ---- has_answer
 
@@ -166,7 +165,7 @@ has_answer-gather-requires g t c =
 
 pub has_answer-returns : goal.has_answer-returns
 has_answer-returns g t c =
-    some_answer c.args.present.now.events.now (drop c.args.first (g.P.Past.tables c.args.present.now.past.now)) c.args.scope.now (tree_of c.args.formula.now) c.gather.new.out.items c.is_empty.result (subst (λ before. AddsRows [] before c.gather.new.out.items (IsAnswer c.args.present.now.events.now (drop c.args.first (g.P.Past.tables c.args.present.now.past.now)) c.args.scope.now (tree_of c.args.formula.now) [])) c.new-found.ensures.items c.in_ok-gather.ensures) (none_equal c.gather.new.out.items _ c.is_empty.result c.is_empty.ensures (omega (arith, c.gather.new.out.ok.0)))
+    some_answer c.args.present.now.events.now (drop c.args.first (g.P.Past.tables c.args.present.now.past.now)) (bound_in c.args.scope.now) (tree_of c.args.formula.now) c.gather.new.out.items c.is_empty.result (subst (λ before. AddsRows [] before c.gather.new.out.items (IsAnswer c.args.present.now.events.now (drop c.args.first (g.P.Past.tables c.args.present.now.past.now)) (bound_in c.args.scope.now) (tree_of c.args.formula.now) [])) c.new-found.ensures.items c.in_ok-gather.ensures) (none_equal c.gather.new.out.items _ c.is_empty.result c.is_empty.ensures (omega (arith, c.gather.new.out.ok.0)))
 
 -- ---- gather_open
 
@@ -179,15 +178,15 @@ pub gather_open-returns-in-Atom : goal.gather_open-returns-in-Atom
 gather_open-returns-in-Atom g t c =
     rw (c.in-Atom.is, ← c.as_slice.ensures)
     (on_ok c.gather_events.result _ _
-    (adds_as c.args.columns.now _ _ (IsMatchAmong (shown c.named-events.result.now) c.as_slice.result.now c.args.scope.now c.args.columns.now) (IsAnswer c.args.present.now.events.now (drop c.args.first (g.P.Past.tables c.args.present.now.past.now)) c.args.scope.now (Atom c.in-Atom.field-0 c.in-Atom.name c.as_slice.result.now) c.args.columns.now)
-    (atom_to c.args.present.now.events.now (drop c.args.first (g.P.Past.tables c.args.present.now.past.now)) c.args.scope.now c.in-Atom.field-0 c.in-Atom.name c.as_slice.result.now (shown c.named-events.result.now) c.named-events.ensures c.args.columns.now)
-    (λ w answer none. none (atom_from c.args.present.now.events.now (drop c.args.first (g.P.Past.tables c.args.present.now.past.now)) c.args.scope.now c.in-Atom.field-0 c.in-Atom.name c.as_slice.result.now (shown c.named-events.result.now) c.named-events.ensures c.args.columns.now w answer)))
+    (adds_as c.args.columns.now _ _ (IsMatchAmong (shown c.named-events.result.now) c.as_slice.result.now (bound_in c.args.scope.now) c.args.columns.now) (IsAnswer c.args.present.now.events.now (drop c.args.first (g.P.Past.tables c.args.present.now.past.now)) (bound_in c.args.scope.now) (Atom c.in-Atom.field-0 c.in-Atom.name c.as_slice.result.now) c.args.columns.now)
+    (atom_to c.args.present.now.events.now (drop c.args.first (g.P.Past.tables c.args.present.now.past.now)) (bound_in c.args.scope.now) c.in-Atom.field-0 c.in-Atom.name c.as_slice.result.now (shown c.named-events.result.now) c.named-events.ensures c.args.columns.now)
+    (λ w answer none. none (atom_from c.args.present.now.events.now (drop c.args.first (g.P.Past.tables c.args.present.now.past.now)) (bound_in c.args.scope.now) c.in-Atom.field-0 c.in-Atom.name c.as_slice.result.now (shown c.named-events.result.now) c.named-events.ensures c.args.columns.now w answer)))
     c.gather_events.ensures)
 
 pub gather_open-gather_equal-requires-clause-one : goal.gather_open-gather_equal-requires-clause-one
 gather_open-gather_equal-requires-clause-one g t c =
     let ask = rw (c.in-Equal.is) at c.requires.ask in
-    one_side c.args.scope.now c.in-Equal.field-0 c.in-Equal.s c.in-Equal.t ask.safe
+    one_side (bound_in c.args.scope.now) c.in-Equal.field-0 c.in-Equal.s c.in-Equal.t ask.safe
 
 pub gather_open-gather_equal-requires-clause-within : goal.gather_open-gather_equal-requires-clause-within
 gather_open-gather_equal-requires-clause-within g t c =
@@ -197,9 +196,9 @@ pub gather_open-returns-in-Equal : goal.gather_open-returns-in-Equal
 gather_open-returns-in-Equal g t c =
     rw (c.in-Equal.is)
     (on_ok c.gather_equal.result _ _
-    (adds_as c.args.columns.now _ _ (IsEquated c.in-Equal.s c.in-Equal.t c.args.scope.now c.args.columns.now) (IsAnswer c.args.present.now.events.now (drop c.args.first (g.P.Past.tables c.args.present.now.past.now)) c.args.scope.now (Equal c.in-Equal.field-0 c.in-Equal.s c.in-Equal.t) c.args.columns.now)
-    (equal_to c.args.present.now.events.now (drop c.args.first (g.P.Past.tables c.args.present.now.past.now)) c.args.scope.now c.in-Equal.field-0 c.in-Equal.s c.in-Equal.t c.args.columns.now)
-    (λ w answer none. none (equal_from c.args.present.now.events.now (drop c.args.first (g.P.Past.tables c.args.present.now.past.now)) c.args.scope.now c.in-Equal.field-0 c.in-Equal.s c.in-Equal.t c.args.columns.now w answer)))
+    (adds_as c.args.columns.now _ _ (IsEquated c.in-Equal.s c.in-Equal.t (bound_in c.args.scope.now) c.args.columns.now) (IsAnswer c.args.present.now.events.now (drop c.args.first (g.P.Past.tables c.args.present.now.past.now)) (bound_in c.args.scope.now) (Equal c.in-Equal.field-0 c.in-Equal.s c.in-Equal.t) c.args.columns.now)
+    (equal_to c.args.present.now.events.now (drop c.args.first (g.P.Past.tables c.args.present.now.past.now)) (bound_in c.args.scope.now) c.in-Equal.field-0 c.in-Equal.s c.in-Equal.t c.args.columns.now)
+    (λ w answer none. none (equal_from c.args.present.now.events.now (drop c.args.first (g.P.Past.tables c.args.present.now.past.now)) (bound_in c.args.scope.now) c.in-Equal.field-0 c.in-Equal.s c.in-Equal.t c.args.columns.now w answer)))
     c.gather_equal.ensures)
 
 pub gather_open-gather_both-requires : goal.gather_open-gather_both-requires
@@ -226,7 +225,7 @@ pub gather_open-gather-requires : goal.gather_open-gather-requires
 gather_open-gather-requires g t c =
     let ask = rw (c.in-Exists.is, ← c.deref-in-Exists.ensures) at c.requires.ask in
     let within = rw (c.in-Exists.is, ← c.deref-in-Exists.ensures) at c.requires.within in
-    λ κs lives. (search rules, (search rules, (c.requires.few, (ask_exists c.args.scope.now (drop c.args.first (g.P.Past.tables c.args.present.now.past.now)) c.in-Exists.field-0 c.in-Exists.field-1 (tree_of c.deref-in-Exists.result.now) ask, λ x there. ⊎_elim (λ bound. inl bound) (λ free. inr free.0) (within x there)))))
+    λ κs lives. (search rules, (search rules, (c.requires.few, (ask_exists (bound_in c.args.scope.now) (drop c.args.first (g.P.Past.tables c.args.present.now.past.now)) c.in-Exists.field-0 c.in-Exists.field-1 (tree_of c.deref-in-Exists.result.now) ask, λ x there. ⊎_elim (λ bound. inl bound) (λ free. inr free.0) (within x there)))))
 
 pub gather_open-returns-in-Exists : goal.gather_open-returns-in-Exists
 gather_open-returns-in-Exists g t c =
@@ -234,14 +233,14 @@ gather_open-returns-in-Exists g t c =
     let within = rw (c.in-Exists.is, ← c.deref-in-Exists.ensures) at c.requires.within in
     rw (c.in-Exists.is, ← c.deref-in-Exists.ensures)
     (on_ok c.gather.result _ _
-    (adds_as c.args.columns.now _ _ (IsAnswer c.args.present.now.events.now (drop c.args.first (g.P.Past.tables c.args.present.now.past.now)) c.args.scope.now (tree_of c.deref-in-Exists.result.now) c.args.columns.now) (IsAnswer c.args.present.now.events.now (drop c.args.first (g.P.Past.tables c.args.present.now.past.now)) c.args.scope.now (Exists c.in-Exists.field-0 c.in-Exists.field-1 (tree_of c.deref-in-Exists.result.now)) c.args.columns.now)
-    (exists_to c.args.present.now.events.now (drop c.args.first (g.P.Past.tables c.args.present.now.past.now)) c.args.scope.now c.in-Exists.field-0 c.in-Exists.field-1 (tree_of c.deref-in-Exists.result.now) ask.tabled c.args.columns.now)
-    (exists_from c.args.present.now.events.now (drop c.args.first (g.P.Past.tables c.args.present.now.past.now)) c.args.scope.now c.in-Exists.field-0 c.in-Exists.field-1 (tree_of c.deref-in-Exists.result.now) ask.tabled ask.fresh.0 c.args.columns.now within))
+    (adds_as c.args.columns.now _ _ (IsAnswer c.args.present.now.events.now (drop c.args.first (g.P.Past.tables c.args.present.now.past.now)) (bound_in c.args.scope.now) (tree_of c.deref-in-Exists.result.now) c.args.columns.now) (IsAnswer c.args.present.now.events.now (drop c.args.first (g.P.Past.tables c.args.present.now.past.now)) (bound_in c.args.scope.now) (Exists c.in-Exists.field-0 c.in-Exists.field-1 (tree_of c.deref-in-Exists.result.now)) c.args.columns.now)
+    (exists_to c.args.present.now.events.now (drop c.args.first (g.P.Past.tables c.args.present.now.past.now)) (bound_in c.args.scope.now) c.in-Exists.field-0 c.in-Exists.field-1 (tree_of c.deref-in-Exists.result.now) ask.tabled c.args.columns.now)
+    (exists_from c.args.present.now.events.now (drop c.args.first (g.P.Past.tables c.args.present.now.past.now)) (bound_in c.args.scope.now) c.in-Exists.field-0 c.in-Exists.field-1 (tree_of c.deref-in-Exists.result.now) ask.tabled ask.fresh.0 c.args.columns.now within))
     c.gather.ensures)
 
 pub gather_open-returns-in_default : goal.gather_open-returns-in_default
 gather_open-returns-in_default g t c =
-    adds_nothing c.args.columns.now c.args.out.now.items (IsAnswer c.args.present.now.events.now (drop c.args.first (g.P.Past.tables c.args.present.now.past.now)) c.args.scope.now (tree_of c.args.formula.now) c.args.columns.now) (λ w answer. absurd (c.requires.open (closed_kind c.args.formula.now c.in_default.not-Atom c.in_default.not-Equal c.in_default.not-And c.in_default.not-Or c.in_default.not-Exists c.in_default.not-Prev c.in_default.not-Once c.in_default.not-Since (IsBoundBy c.args.scope.now) c.requires.ask.safe)))
+    adds_nothing c.args.columns.now c.args.out.now.items (IsAnswer c.args.present.now.events.now (drop c.args.first (g.P.Past.tables c.args.present.now.past.now)) (bound_in c.args.scope.now) (tree_of c.args.formula.now) c.args.columns.now) (λ w answer. absurd (c.requires.open (closed_kind c.args.formula.now c.in_default.not-Atom c.in_default.not-Equal c.in_default.not-And c.in_default.not-Or c.in_default.not-Exists c.in_default.not-Prev c.in_default.not-Once c.in_default.not-Since (IsBoundBy (bound_in c.args.scope.now)) c.requires.ask.safe)))
 
 pub gather_open-rows_under-requires : goal.gather_open-rows_under-requires
 gather_open-rows_under-requires g t c =
@@ -249,15 +248,15 @@ gather_open-rows_under-requires g t c =
 
 pub gather_open-push_rows-requires-clause-within : goal.gather_open-push_rows-requires-clause-within
 gather_open-push_rows-requires-clause-within g t c =
-    λ x there. ⊎_elim (λ bound. inl bound) (λ free. inr (given_columns c.args.scope.now (tree_of c.args.formula.now) (drop c.args.first (g.P.Past.tables c.args.present.now.past.now)) (told_fit (drop c.args.first (g.P.Past.tables c.args.present.now.past.now)) c.args.formula.now c.in-Prev.is c.requires.ask.tabled) c.in_ok-rows-in-Prev.rows c.in_ok-rows-in-Prev.ensures.rows x free)) (c.requires.within x there)
+    λ x there. ⊎_elim (λ bound. inl bound) (λ free. inr (given_columns (bound_in c.args.scope.now) (tree_of c.args.formula.now) (drop c.args.first (g.P.Past.tables c.args.present.now.past.now)) (told_fit (drop c.args.first (g.P.Past.tables c.args.present.now.past.now)) c.args.formula.now c.in-Prev.is c.requires.ask.tabled) c.in_ok-rows-in-Prev.rows c.in_ok-rows-in-Prev.ensures.rows x free)) (c.requires.within x there)
 
 pub gather_open-returns-in_ok-rows-in-Prev : goal.gather_open-returns-in_ok-rows-in-Prev
 gather_open-returns-in_ok-rows-in-Prev g t c =
     let fit = told_fit (drop c.args.first (g.P.Past.tables c.args.present.now.past.now)) c.args.formula.now c.in-Prev.is c.requires.ask.tabled in
     on_ok c.push_rows.result _ _
-    (adds_as c.args.columns.now _ _ (IsFromRow c.in_ok-rows-in-Prev.rows c.args.scope.now c.args.columns.now) (IsAnswer c.args.present.now.events.now (drop c.args.first (g.P.Past.tables c.args.present.now.past.now)) c.args.scope.now (tree_of c.args.formula.now) c.args.columns.now)
-    (past_to c.args.present.now.events.now c.args.scope.now (tree_of c.args.formula.now) (drop c.args.first (g.P.Past.tables c.args.present.now.past.now)) fit c.in_ok-rows-in-Prev.rows c.in_ok-rows-in-Prev.ensures.table c.in_ok-rows-in-Prev.ensures.rows (λ u has. (told_holds (drop c.args.first (g.P.Past.tables c.args.present.now.past.now)) c.args.present.now.events.now u c.args.formula.now c.in-Prev.is).1 has) c.args.columns.now)
-    (λ w answer none. none (past_from c.args.present.now.events.now c.args.scope.now (tree_of c.args.formula.now) (drop c.args.first (g.P.Past.tables c.args.present.now.past.now)) fit c.in_ok-rows-in-Prev.rows c.in_ok-rows-in-Prev.ensures.table c.in_ok-rows-in-Prev.ensures.rows (λ u holds. (told_holds (drop c.args.first (g.P.Past.tables c.args.present.now.past.now)) c.args.present.now.events.now u c.args.formula.now c.in-Prev.is).0 holds) c.args.columns.now c.requires.within w answer)))
+    (adds_as c.args.columns.now _ _ (IsFromRow c.in_ok-rows-in-Prev.rows (bound_in c.args.scope.now) c.args.columns.now) (IsAnswer c.args.present.now.events.now (drop c.args.first (g.P.Past.tables c.args.present.now.past.now)) (bound_in c.args.scope.now) (tree_of c.args.formula.now) c.args.columns.now)
+    (past_to c.args.present.now.events.now (bound_in c.args.scope.now) (tree_of c.args.formula.now) (drop c.args.first (g.P.Past.tables c.args.present.now.past.now)) fit c.in_ok-rows-in-Prev.rows c.in_ok-rows-in-Prev.ensures.table c.in_ok-rows-in-Prev.ensures.rows (λ u has. (told_holds (drop c.args.first (g.P.Past.tables c.args.present.now.past.now)) c.args.present.now.events.now u c.args.formula.now c.in-Prev.is).1 has) c.args.columns.now)
+    (λ w answer none. none (past_from c.args.present.now.events.now (bound_in c.args.scope.now) (tree_of c.args.formula.now) (drop c.args.first (g.P.Past.tables c.args.present.now.past.now)) fit c.in_ok-rows-in-Prev.rows c.in_ok-rows-in-Prev.ensures.table c.in_ok-rows-in-Prev.ensures.rows (λ u holds. (told_holds (drop c.args.first (g.P.Past.tables c.args.present.now.past.now)) c.args.present.now.events.now u c.args.formula.now c.in-Prev.is).0 holds) c.args.columns.now c.requires.within w answer)))
     c.push_rows.ensures
 
 -- ---- holds
@@ -266,17 +265,17 @@ pub holds-holds-requires : goal.holds-holds-requires
 holds-holds-requires g t c =
     let ask = rw (c.in-Not.is, ← c.deref.ensures) at c.requires.ask in
     let closed = rw (c.in-Not.is, ← c.deref.ensures) at c.requires.closed in
-    λ κs lives. (search rules, (search rules, (c.requires.few, (ask_not c.args.scope.now (drop c.args.first (g.P.Past.tables c.args.present.now.past.now)) c.in-Not.field-0 (tree_of c.deref.result.now) ask, closed))))
+    λ κs lives. (search rules, (search rules, (c.requires.few, (ask_not (bound_in c.args.scope.now) (drop c.args.first (g.P.Past.tables c.args.present.now.past.now)) c.in-Not.field-0 (tree_of c.deref.result.now) ask, closed))))
 
 pub holds-returns-in_ok-holds-in-Not : goal.holds-returns-in_ok-holds-in-Not
 holds-returns-in_ok-holds-in-Not g t c =
-    rw (c.in-Not.is, ← c.deref.ensures) (not_decides c.in_ok-holds-in-Not.field-0 (HoldsNow c.args.present.now.events.now (drop c.args.first (g.P.Past.tables c.args.present.now.past.now)) c.args.scope.now (tree_of c.deref.result.now)) c.in_ok-holds-in-Not.ensures)
+    rw (c.in-Not.is, ← c.deref.ensures) (not_decides c.in_ok-holds-in-Not.field-0 (HoldsNow c.args.present.now.events.now (drop c.args.first (g.P.Past.tables c.args.present.now.past.now)) (bound_in c.args.scope.now) (tree_of c.deref.result.now)) c.in_ok-holds-in-Not.ensures)
 
 pub holds-hold_both-requires : goal.holds-hold_both-requires
 holds-hold_both-requires g t c =
     let ask = rw (c.in-And.is, ← c.deref-in-And.ensures, ← c.deref-in-And-2.ensures) at c.requires.ask in
     let closed = rw (c.in-And.is, ← c.deref-in-And.ensures, ← c.deref-in-And-2.ensures) at c.requires.closed in
-    λ κs lives. (search rules, (search rules, (c.requires.few, (ask_and_left c.args.scope.now (drop c.args.first (g.P.Past.tables c.args.present.now.past.now)) c.in-And.field-0 (tree_of c.deref-in-And.result.now) (tree_of c.deref-in-And-2.result.now) ask, (ask_and_right c.args.scope.now (drop c.args.first (g.P.Past.tables c.args.present.now.past.now)) c.in-And.field-0 (tree_of c.deref-in-And.result.now) (tree_of c.deref-in-And-2.result.now) c.args.scope.now (binds_itself c.args.scope.now (tree_of c.deref-in-And.result.now) (λ x free. closed x (inl free))) ask, (λ x free. closed x (inl free), λ x free. closed x (inr free)))))))
+    λ κs lives. (search rules, (search rules, (c.requires.few, (ask_and_left (bound_in c.args.scope.now) (drop c.args.first (g.P.Past.tables c.args.present.now.past.now)) c.in-And.field-0 (tree_of c.deref-in-And.result.now) (tree_of c.deref-in-And-2.result.now) ask, (ask_and_right (bound_in c.args.scope.now) (drop c.args.first (g.P.Past.tables c.args.present.now.past.now)) c.in-And.field-0 (tree_of c.deref-in-And.result.now) (tree_of c.deref-in-And-2.result.now) (bound_in c.args.scope.now) (binds_itself (bound_in c.args.scope.now) (tree_of c.deref-in-And.result.now) (λ x free. closed x (inl free))) ask, (λ x free. closed x (inl free), λ x free. closed x (inr free)))))))
 
 pub holds-returns-in-And : goal.holds-returns-in-And
 holds-returns-in-And g t c =
@@ -286,7 +285,7 @@ pub holds-holds_either-requires : goal.holds-holds_either-requires
 holds-holds_either-requires g t c =
     let ask = rw (c.in-Or.is, ← c.deref-in-Or.ensures, ← c.deref-in-Or-2.ensures) at c.requires.ask in
     let closed = rw (c.in-Or.is, ← c.deref-in-Or.ensures, ← c.deref-in-Or-2.ensures) at c.requires.closed in
-    λ κs lives. (search rules, (search rules, (c.requires.few, (ask_or_left c.args.scope.now (drop c.args.first (g.P.Past.tables c.args.present.now.past.now)) c.in-Or.field-0 (tree_of c.deref-in-Or.result.now) (tree_of c.deref-in-Or-2.result.now) ask, (ask_or_right c.args.scope.now (drop c.args.first (g.P.Past.tables c.args.present.now.past.now)) c.in-Or.field-0 (tree_of c.deref-in-Or.result.now) (tree_of c.deref-in-Or-2.result.now) ask, (λ x free. closed x (inl free), λ x free. closed x (inr free)))))))
+    λ κs lives. (search rules, (search rules, (c.requires.few, (ask_or_left (bound_in c.args.scope.now) (drop c.args.first (g.P.Past.tables c.args.present.now.past.now)) c.in-Or.field-0 (tree_of c.deref-in-Or.result.now) (tree_of c.deref-in-Or-2.result.now) ask, (ask_or_right (bound_in c.args.scope.now) (drop c.args.first (g.P.Past.tables c.args.present.now.past.now)) c.in-Or.field-0 (tree_of c.deref-in-Or.result.now) (tree_of c.deref-in-Or-2.result.now) ask, (λ x free. closed x (inl free), λ x free. closed x (inr free)))))))
 
 pub holds-returns-in-Or : goal.holds-returns-in-Or
 holds-returns-in-Or g t c =
@@ -296,7 +295,7 @@ pub holds-holds_where-requires : goal.holds-holds_where-requires
 holds-holds_where-requires g t c =
     let ask = rw (c.in-Implies.is, ← c.deref-in-Implies.ensures, ← c.deref-in-Implies-2.ensures) at c.requires.ask in
     let closed = rw (c.in-Implies.is, ← c.deref-in-Implies.ensures, ← c.deref-in-Implies-2.ensures) at c.requires.closed in
-    λ κs lives. (search rules, (search rules, (c.requires.few, (ask_implies_left c.args.scope.now (drop c.args.first (g.P.Past.tables c.args.present.now.past.now)) c.in-Implies.field-0 (tree_of c.deref-in-Implies.result.now) (tree_of c.deref-in-Implies-2.result.now) ask, (ask_implies_right c.args.scope.now (drop c.args.first (g.P.Past.tables c.args.present.now.past.now)) c.in-Implies.field-0 (tree_of c.deref-in-Implies.result.now) (tree_of c.deref-in-Implies-2.result.now) ask, (λ x free. closed x (inl free), λ x free. closed x (inr free)))))))
+    λ κs lives. (search rules, (search rules, (c.requires.few, (ask_implies_left (bound_in c.args.scope.now) (drop c.args.first (g.P.Past.tables c.args.present.now.past.now)) c.in-Implies.field-0 (tree_of c.deref-in-Implies.result.now) (tree_of c.deref-in-Implies-2.result.now) ask, (ask_implies_right (bound_in c.args.scope.now) (drop c.args.first (g.P.Past.tables c.args.present.now.past.now)) c.in-Implies.field-0 (tree_of c.deref-in-Implies.result.now) (tree_of c.deref-in-Implies-2.result.now) ask, (λ x free. closed x (inl free), λ x free. closed x (inr free)))))))
 
 pub holds-returns-in-Implies : goal.holds-returns-in-Implies
 holds-returns-in-Implies g t c =
@@ -305,14 +304,14 @@ holds-returns-in-Implies g t c =
 pub holds-has_answer-requires : goal.holds-has_answer-requires
 holds-has_answer-requires g t c =
     let ask = rw (c.in-Exists.is, ← c.deref-in-Exists.ensures) at c.requires.ask in
-    λ κs lives. (search rules, (search rules, (c.requires.few, ask_exists c.args.scope.now (drop c.args.first (g.P.Past.tables c.args.present.now.past.now)) c.in-Exists.field-0 c.in-Exists.field-1 (tree_of c.deref-in-Exists.result.now) ask)))
+    λ κs lives. (search rules, (search rules, (c.requires.few, ask_exists (bound_in c.args.scope.now) (drop c.args.first (g.P.Past.tables c.args.present.now.past.now)) c.in-Exists.field-0 c.in-Exists.field-1 (tree_of c.deref-in-Exists.result.now) ask)))
 
 pub holds-returns-in-Exists : goal.holds-returns-in-Exists
 holds-returns-in-Exists g t c =
     let ask = rw (c.in-Exists.is, ← c.deref-in-Exists.ensures) at c.requires.ask in
     let closed = rw (c.in-Exists.is, ← c.deref-in-Exists.ensures) at c.requires.closed in
     rw (c.in-Exists.is, ← c.deref-in-Exists.ensures)
-    (ok_decides c.has_answer.result _ _ (λ b. exists_decided c.args.present.now.events.now (drop c.args.first (g.P.Past.tables c.args.present.now.past.now)) c.args.scope.now c.in-Exists.field-1 (tree_of c.deref-in-Exists.result.now) ask.tabled c.in-Exists.field-0 b (λ x free absent. closed x (free, absent)) (λ x there bound. ask.fresh.0 x there (inl bound))) c.has_answer.ensures)
+    (ok_decides c.has_answer.result _ _ (λ b. exists_decided c.args.present.now.events.now (drop c.args.first (g.P.Past.tables c.args.present.now.past.now)) (bound_in c.args.scope.now) c.in-Exists.field-1 (tree_of c.deref-in-Exists.result.now) ask.tabled c.in-Exists.field-0 b (λ x free absent. closed x (free, absent)) (λ x there bound. ask.fresh.0 x there (inl bound))) c.has_answer.ensures)
 
 pub holds-holds_for_all-requires : goal.holds-holds_for_all-requires
 holds-holds_for_all-requires g t c =
@@ -323,7 +322,7 @@ pub holds-returns-in-Forall : goal.holds-returns-in-Forall
 holds-returns-in-Forall g t c =
     let ask = rw (c.in-Forall.is, ← c.deref-in-Forall.ensures) at c.requires.ask in
     let closed = rw (c.in-Forall.is, ← c.deref-in-Forall.ensures) at c.requires.closed in
-    rw (c.in-Forall.is, ← c.deref-in-Forall.ensures) (ok_forall c.holds_for_all.result c.args.present.now.events.now (drop c.args.first (g.P.Past.tables c.args.present.now.past.now)) c.args.scope.now (tree_of c.deref-in-Forall.result.now) c.in-Forall.field-0 c.in-Forall.field-1 ask closed c.holds_for_all.ensures)
+    rw (c.in-Forall.is, ← c.deref-in-Forall.ensures) (ok_forall c.holds_for_all.result c.args.present.now.events.now (drop c.args.first (g.P.Past.tables c.args.present.now.past.now)) (bound_in c.args.scope.now) (tree_of c.deref-in-Forall.result.now) c.in-Forall.field-0 c.in-Forall.field-1 ask closed c.holds_for_all.ensures)
 
 pub holds-has-requires : goal.holds-has-requires
 holds-has-requires g t c =
@@ -336,15 +335,15 @@ holds-has-requires-in-Prev g t c =
 
 pub holds-returns-in-Atom : goal.holds-returns-in-Atom
 holds-returns-in-Atom g t c =
-    rw (c.in-Atom.is, ← c.as_slice.ensures) (subst (λ e. IfOk c.is_event.result (λ b. IsTrue b ↔ IsAmong e c.in-Atom.name (values_of c.args.scope.now c.as_slice.result.now))) c.set.ensures c.is_event.ensures)
+    rw (c.in-Atom.is, ← c.as_slice.ensures) c.has_event.ensures
 
 pub holds-returns-in-Historically : goal.holds-returns-in-Historically
 holds-returns-in-Historically g t c =
-    rw (c.in-Historically.is) (not_decides c.has.result (FirstHas (drop c.args.first (g.P.Past.tables c.args.present.now.past.now)) c.args.scope.now) c.has.ensures)
+    rw (c.in-Historically.is) (not_decides c.has.result (FirstHas (drop c.args.first (g.P.Past.tables c.args.present.now.past.now)) (bound_in c.args.scope.now)) c.has.ensures)
 
 pub holds-returns-in-Prev : goal.holds-returns-in-Prev
 holds-returns-in-Prev g t c =
-    let told = told_holds (drop c.args.first (g.P.Past.tables c.args.present.now.past.now)) c.args.present.now.events.now c.args.scope.now c.args.formula.now c.in-Prev.is in
+    let told = told_holds (drop c.args.first (g.P.Past.tables c.args.present.now.past.now)) c.args.present.now.events.now (bound_in c.args.scope.now) c.args.formula.now c.in-Prev.is in
     (λ t. told.1 (c.has-in-Prev.ensures.0 t), λ holds. c.has-in-Prev.ensures.1 (told.0 holds))
 
 -- ---- hold_both
@@ -363,11 +362,11 @@ hold_both-overflow_add-first g t c =
 
 pub hold_both-holds-requires-then-branch : goal.hold_both-holds-requires-then-branch
 hold_both-holds-requires-then-branch g t c =
-    λ κs lives. (search rules, (search rules, (c.requires.few, (subst (λ l. CanAsk c.args.scope.now l (tree_of c.args.h.now)) (sym (next_tables c.args.present.now.events.now (g.P.Past.tables c.args.present.now.past.now) c.args.first (c.args.first + c.operators.result) c.args.scope.now (tree_of c.args.g.now) (tree_of c.args.h.now) (ap (λ n. c.args.first + n) c.operators.ensures))) c.requires.right, c.requires.closed_right))))
+    λ κs lives. (search rules, (search rules, (c.requires.few, (subst (λ l. CanAsk (bound_in c.args.scope.now) l (tree_of c.args.h.now)) (sym (next_tables c.args.present.now.events.now (g.P.Past.tables c.args.present.now.past.now) c.args.first (c.args.first + c.operators.result) (bound_in c.args.scope.now) (tree_of c.args.g.now) (tree_of c.args.h.now) (ap (λ n. c.args.first + n) c.operators.ensures))) c.requires.right, c.requires.closed_right))))
 
 pub hold_both-returns-then-branch : goal.hold_both-returns-then-branch
 hold_both-returns-then-branch g t c =
-    ok_both c.holds-then-branch.result c.in_ok-holds.field-0 (HoldsNow c.args.present.now.events.now (drop c.args.first (g.P.Past.tables c.args.present.now.past.now)) c.args.scope.now (tree_of c.args.g.now)) (HoldsNow c.args.present.now.events.now (behind (tree_of c.args.g.now) (drop c.args.first (g.P.Past.tables c.args.present.now.past.now))) c.args.scope.now (tree_of c.args.h.now)) c.in_ok-holds.ensures c.if-branch.true (subst (λ l. IfOk c.holds-then-branch.result (λ b. IsTrue b ↔ HoldsNow c.args.present.now.events.now l c.args.scope.now (tree_of c.args.h.now))) (next_tables c.args.present.now.events.now (g.P.Past.tables c.args.present.now.past.now) c.args.first (c.args.first + c.operators.result) c.args.scope.now (tree_of c.args.g.now) (tree_of c.args.h.now) (ap (λ n. c.args.first + n) c.operators.ensures)) c.holds-then-branch.ensures)
+    ok_both c.holds-then-branch.result c.in_ok-holds.field-0 (HoldsNow c.args.present.now.events.now (drop c.args.first (g.P.Past.tables c.args.present.now.past.now)) (bound_in c.args.scope.now) (tree_of c.args.g.now)) (HoldsNow c.args.present.now.events.now (behind (tree_of c.args.g.now) (drop c.args.first (g.P.Past.tables c.args.present.now.past.now))) (bound_in c.args.scope.now) (tree_of c.args.h.now)) c.in_ok-holds.ensures c.if-branch.true (subst (λ l. IfOk c.holds-then-branch.result (λ b. IsTrue b ↔ HoldsNow c.args.present.now.events.now l (bound_in c.args.scope.now) (tree_of c.args.h.now))) (next_tables c.args.present.now.events.now (g.P.Past.tables c.args.present.now.past.now) c.args.first (c.args.first + c.operators.result) (bound_in c.args.scope.now) (tree_of c.args.g.now) (tree_of c.args.h.now) (ap (λ n. c.args.first + n) c.operators.ensures)) c.holds-then-branch.ensures)
 
 -- ---- holds_either
 
@@ -385,11 +384,11 @@ holds_either-overflow_add-first g t c =
 
 pub holds_either-holds-requires-else-branch : goal.holds_either-holds-requires-else-branch
 holds_either-holds-requires-else-branch g t c =
-    λ κs lives. (search rules, (search rules, (c.requires.few, (subst (λ l. CanAsk c.args.scope.now l (tree_of c.args.h.now)) (sym (next_tables c.args.present.now.events.now (g.P.Past.tables c.args.present.now.past.now) c.args.first (c.args.first + c.operators.result) c.args.scope.now (tree_of c.args.g.now) (tree_of c.args.h.now) (ap (λ n. c.args.first + n) c.operators.ensures))) c.requires.right, c.requires.closed_right))))
+    λ κs lives. (search rules, (search rules, (c.requires.few, (subst (λ l. CanAsk (bound_in c.args.scope.now) l (tree_of c.args.h.now)) (sym (next_tables c.args.present.now.events.now (g.P.Past.tables c.args.present.now.past.now) c.args.first (c.args.first + c.operators.result) (bound_in c.args.scope.now) (tree_of c.args.g.now) (tree_of c.args.h.now) (ap (λ n. c.args.first + n) c.operators.ensures))) c.requires.right, c.requires.closed_right))))
 
 pub holds_either-returns-else-branch : goal.holds_either-returns-else-branch
 holds_either-returns-else-branch g t c =
-    ok_second c.holds-else-branch.result c.in_ok-holds.field-0 (HoldsNow c.args.present.now.events.now (drop c.args.first (g.P.Past.tables c.args.present.now.past.now)) c.args.scope.now (tree_of c.args.g.now)) (HoldsNow c.args.present.now.events.now (behind (tree_of c.args.g.now) (drop c.args.first (g.P.Past.tables c.args.present.now.past.now))) c.args.scope.now (tree_of c.args.h.now)) c.in_ok-holds.ensures c.if-branch.false (subst (λ l. IfOk c.holds-else-branch.result (λ b. IsTrue b ↔ HoldsNow c.args.present.now.events.now l c.args.scope.now (tree_of c.args.h.now))) (next_tables c.args.present.now.events.now (g.P.Past.tables c.args.present.now.past.now) c.args.first (c.args.first + c.operators.result) c.args.scope.now (tree_of c.args.g.now) (tree_of c.args.h.now) (ap (λ n. c.args.first + n) c.operators.ensures)) c.holds-else-branch.ensures)
+    ok_second c.holds-else-branch.result c.in_ok-holds.field-0 (HoldsNow c.args.present.now.events.now (drop c.args.first (g.P.Past.tables c.args.present.now.past.now)) (bound_in c.args.scope.now) (tree_of c.args.g.now)) (HoldsNow c.args.present.now.events.now (behind (tree_of c.args.g.now) (drop c.args.first (g.P.Past.tables c.args.present.now.past.now))) (bound_in c.args.scope.now) (tree_of c.args.h.now)) c.in_ok-holds.ensures c.if-branch.false (subst (λ l. IfOk c.holds-else-branch.result (λ b. IsTrue b ↔ HoldsNow c.args.present.now.events.now l (bound_in c.args.scope.now) (tree_of c.args.h.now))) (next_tables c.args.present.now.events.now (g.P.Past.tables c.args.present.now.past.now) c.args.first (c.args.first + c.operators.result) (bound_in c.args.scope.now) (tree_of c.args.g.now) (tree_of c.args.h.now) (ap (λ n. c.args.first + n) c.operators.ensures)) c.holds-else-branch.ensures)
 
 -- ---- holds_where
 
@@ -407,11 +406,11 @@ holds_where-overflow_add-first g t c =
 
 pub holds_where-holds-requires-then-branch : goal.holds_where-holds-requires-then-branch
 holds_where-holds-requires-then-branch g t c =
-    λ κs lives. (search rules, (search rules, (c.requires.few, (subst (λ l. CanAsk c.args.scope.now l (tree_of c.args.h.now)) (sym (next_tables c.args.present.now.events.now (g.P.Past.tables c.args.present.now.past.now) c.args.first (c.args.first + c.operators.result) c.args.scope.now (tree_of c.args.g.now) (tree_of c.args.h.now) (ap (λ n. c.args.first + n) c.operators.ensures))) c.requires.right, c.requires.closed_right))))
+    λ κs lives. (search rules, (search rules, (c.requires.few, (subst (λ l. CanAsk (bound_in c.args.scope.now) l (tree_of c.args.h.now)) (sym (next_tables c.args.present.now.events.now (g.P.Past.tables c.args.present.now.past.now) c.args.first (c.args.first + c.operators.result) (bound_in c.args.scope.now) (tree_of c.args.g.now) (tree_of c.args.h.now) (ap (λ n. c.args.first + n) c.operators.ensures))) c.requires.right, c.requires.closed_right))))
 
 pub holds_where-returns-then-branch : goal.holds_where-returns-then-branch
 holds_where-returns-then-branch g t c =
-    ok_where c.holds-then-branch.result c.in_ok-holds.field-0 (HoldsNow c.args.present.now.events.now (drop c.args.first (g.P.Past.tables c.args.present.now.past.now)) c.args.scope.now (tree_of c.args.g.now)) (HoldsNow c.args.present.now.events.now (behind (tree_of c.args.g.now) (drop c.args.first (g.P.Past.tables c.args.present.now.past.now))) c.args.scope.now (tree_of c.args.h.now)) c.in_ok-holds.ensures c.if-branch.true (subst (λ l. IfOk c.holds-then-branch.result (λ b. IsTrue b ↔ HoldsNow c.args.present.now.events.now l c.args.scope.now (tree_of c.args.h.now))) (next_tables c.args.present.now.events.now (g.P.Past.tables c.args.present.now.past.now) c.args.first (c.args.first + c.operators.result) c.args.scope.now (tree_of c.args.g.now) (tree_of c.args.h.now) (ap (λ n. c.args.first + n) c.operators.ensures)) c.holds-then-branch.ensures)
+    ok_where c.holds-then-branch.result c.in_ok-holds.field-0 (HoldsNow c.args.present.now.events.now (drop c.args.first (g.P.Past.tables c.args.present.now.past.now)) (bound_in c.args.scope.now) (tree_of c.args.g.now)) (HoldsNow c.args.present.now.events.now (behind (tree_of c.args.g.now) (drop c.args.first (g.P.Past.tables c.args.present.now.past.now))) (bound_in c.args.scope.now) (tree_of c.args.h.now)) c.in_ok-holds.ensures c.if-branch.true (subst (λ l. IfOk c.holds-then-branch.result (λ b. IsTrue b ↔ HoldsNow c.args.present.now.events.now l (bound_in c.args.scope.now) (tree_of c.args.h.now))) (next_tables c.args.present.now.events.now (g.P.Past.tables c.args.present.now.past.now) c.args.first (c.args.first + c.operators.result) (bound_in c.args.scope.now) (tree_of c.args.g.now) (tree_of c.args.h.now) (ap (λ n. c.args.first + n) c.operators.ensures)) c.holds-then-branch.ensures)
 
 pub hold_both-returns-else-branch : goal.hold_both-returns-else-branch
 hold_both-returns-else-branch g t c =
@@ -430,7 +429,7 @@ holds_where-returns-else-branch g t c =
 pub holds_for_all-holds_for_all-requires : goal.holds_for_all-holds_for_all-requires
 holds_for_all-holds_for_all-requires g t c =
     let ask = rw (c.in-Forall.is, ← c.deref.ensures) at c.requires.ask.2 in
-    λ κs lives. (search rules, (search rules, (c.requires.few, (c.requires.ask.0, c.requires.ask.1 ++ c.in-Forall.field-1, ask_nested c.args.scope.now (drop c.args.first (g.P.Past.tables c.args.present.now.past.now)) c.requires.ask.0 c.in-Forall.field-0 c.requires.ask.1 c.in-Forall.field-1 (tree_of c.deref.result.now) ask))))
+    λ κs lives. (search rules, (search rules, (c.requires.few, (c.requires.ask.0, c.requires.ask.1 ++ c.in-Forall.field-1, ask_nested (bound_in c.args.scope.now) (drop c.args.first (g.P.Past.tables c.args.present.now.past.now)) c.requires.ask.0 c.in-Forall.field-0 c.requires.ask.1 c.in-Forall.field-1 (tree_of c.deref.result.now) ask))))
 
 pub holds_for_all-holds_for_each-requires : goal.holds_for_all-holds_for_each-requires
 holds_for_all-holds_for_each-requires g t c =
@@ -440,27 +439,27 @@ holds_for_all-holds_for_each-requires g t c =
 pub holds_for_all-has_answer-requires : goal.holds_for_all-has_answer-requires
 holds_for_all-has_answer-requires g t c =
     let ask = rw (c.in-Not.is, ← c.deref-in-Not.ensures) at c.requires.ask.2 in
-    λ κs lives. (search rules, (search rules, (c.requires.few, ask_none c.args.scope.now (drop c.args.first (g.P.Past.tables c.args.present.now.past.now)) c.requires.ask.0 c.in-Not.field-0 c.requires.ask.1 (tree_of c.deref-in-Not.result.now) ask)))
+    λ κs lives. (search rules, (search rules, (c.requires.few, ask_none (bound_in c.args.scope.now) (drop c.args.first (g.P.Past.tables c.args.present.now.past.now)) c.requires.ask.0 c.in-Not.field-0 c.requires.ask.1 (tree_of c.deref-in-Not.result.now) ask)))
 
 pub holds_for_all-returns-in-Forall : goal.holds_for_all-returns-in-Forall
 holds_for_all-returns-in-Forall g t c =
-    rw (c.in-Forall.is, ← c.deref.ensures) (ok_nested c.holds_for_all.result c.args.present.now.events.now (drop c.args.first (g.P.Past.tables c.args.present.now.past.now)) c.args.scope.now (tree_of c.deref.result.now) c.in-Forall.field-0 c.in-Forall.field-1 c.holds_for_all.ensures)
+    rw (c.in-Forall.is, ← c.deref.ensures) (ok_nested c.holds_for_all.result c.args.present.now.events.now (drop c.args.first (g.P.Past.tables c.args.present.now.past.now)) (bound_in c.args.scope.now) (tree_of c.deref.result.now) c.in-Forall.field-0 c.in-Forall.field-1 c.holds_for_all.ensures)
 
 pub holds_for_all-returns-in-Implies : goal.holds_for_all-returns-in-Implies
 holds_for_all-returns-in-Implies g t c =
-    rw (c.in-Implies.is, ← c.deref-in-Implies.ensures, ← c.deref-in-Implies-2.ensures) (ok_each c.holds_for_each.result c.args.present.now.events.now (drop c.args.first (g.P.Past.tables c.args.present.now.past.now)) c.args.scope.now c.in-Implies.field-0 (tree_of c.deref-in-Implies.result.now) (tree_of c.deref-in-Implies-2.result.now) c.holds_for_each.ensures)
+    rw (c.in-Implies.is, ← c.deref-in-Implies.ensures, ← c.deref-in-Implies-2.ensures) (ok_each c.holds_for_each.result c.args.present.now.events.now (drop c.args.first (g.P.Past.tables c.args.present.now.past.now)) (bound_in c.args.scope.now) c.in-Implies.field-0 (tree_of c.deref-in-Implies.result.now) (tree_of c.deref-in-Implies-2.result.now) c.holds_for_each.ensures)
 
 pub holds_for_all-returns-in_ok-has_answer-in-Not : goal.holds_for_all-returns-in_ok-has_answer-in-Not
 holds_for_all-returns-in_ok-has_answer-in-Not g t c =
-    rw (c.in-Not.is, ← c.deref-in-Not.ensures) (λ place xs ask closed. none_decided c.args.present.now.events.now (drop c.args.first (g.P.Past.tables c.args.present.now.past.now)) c.args.scope.now xs (tree_of c.deref-in-Not.result.now) ask.tabled place c.in-Not.field-0 c.in_ok-has_answer-in-Not.field-0 ask.safe.0 (λ x there bound. ask.fresh.0 x there (inl bound)) c.in_ok-has_answer-in-Not.ensures)
+    rw (c.in-Not.is, ← c.deref-in-Not.ensures) (λ place xs ask closed. none_decided c.args.present.now.events.now (drop c.args.first (g.P.Past.tables c.args.present.now.past.now)) (bound_in c.args.scope.now) xs (tree_of c.deref-in-Not.result.now) ask.tabled place c.in-Not.field-0 c.in_ok-has_answer-in-Not.field-0 ask.safe.0 (λ x there bound. ask.fresh.0 x there (inl bound)) c.in_ok-has_answer-in-Not.ensures)
 
 pub holds_for_all-returns-in_default : goal.holds_for_all-returns-in_default
 holds_for_all-returns-in_default g t c =
-    λ place xs ask closed. absurd (below_kind c.args.body.now c.in_default.not-Forall c.in_default.not-Implies c.in_default.not-Not xs (IsBoundBy c.args.scope.now) ask.safe)
+    λ place xs ask closed. absurd (below_kind c.args.body.now c.in_default.not-Forall c.in_default.not-Implies c.in_default.not-Not xs (IsBoundBy (bound_in c.args.scope.now)) ask.safe)
 
 pub holds_for_each-rows-requires : goal.holds_for_each-rows-requires
 holds_for_each-rows-requires g t c =
-    λ κs lives. (search rules, (search rules, (c.requires.few, ask_range c.args.scope.now (drop c.args.first (g.P.Past.tables c.args.present.now.past.now)) c.requires.ask.0.0 c.requires.ask.0.1 c.requires.ask.1 (tree_of c.args.g.now) (tree_of c.args.h.now) c.requires.ask.2)))
+    λ κs lives. (search rules, (search rules, (c.requires.few, ask_range (bound_in c.args.scope.now) (drop c.args.first (g.P.Past.tables c.args.present.now.past.now)) c.requires.ask.0.0 c.requires.ask.0.1 c.requires.ask.1 (tree_of c.args.g.now) (tree_of c.args.h.now) c.requires.ask.2)))
 
 pub holds_for_each-operators-requires : goal.holds_for_each-operators-requires
 holds_for_each-operators-requires g t c =
@@ -472,11 +471,11 @@ holds_for_each-overflow_add-next g t c =
 
 pub holds_for_each-holds_under-requires : goal.holds_for_each-holds_under-requires
 holds_for_each-holds_under-requires g t c =
-    λ κs lives. (search rules, (search rules, (c.requires.few, (each_ask c.args.present.now.events.now (g.P.Past.tables c.args.present.now.past.now) c.args.first (c.args.first + c.operators.result) c.args.scope.now (tree_of c.args.g.now) (tree_of c.args.h.now) (ap (λ n. c.args.first + n) c.operators.ensures) c.in_ok-range.range c.in_ok-range.ensures.table c.in_ok-range.ensures.columns c.in_ok-range.ensures.rows c.requires.ask.0.0 c.requires.ask.0.1 c.requires.ask.1 c.requires.ask.2, each_closed c.args.present.now.events.now (g.P.Past.tables c.args.present.now.past.now) c.args.first (c.args.first + c.operators.result) c.args.scope.now (tree_of c.args.g.now) (tree_of c.args.h.now) (ap (λ n. c.args.first + n) c.operators.ensures) c.in_ok-range.range c.in_ok-range.ensures.table c.in_ok-range.ensures.columns c.in_ok-range.ensures.rows c.requires.ask.0.0 c.requires.ask.0.1 c.requires.ask.1 c.requires.ask.2))))
+    λ κs lives. (search rules, (search rules, (c.requires.few, (each_ask c.args.present.now.events.now (g.P.Past.tables c.args.present.now.past.now) c.args.first (c.args.first + c.operators.result) (bound_in c.args.scope.now) (tree_of c.args.g.now) (tree_of c.args.h.now) (ap (λ n. c.args.first + n) c.operators.ensures) c.in_ok-range.range c.in_ok-range.ensures.table c.in_ok-range.ensures.columns c.in_ok-range.ensures.rows c.requires.ask.0.0 c.requires.ask.0.1 c.requires.ask.1 c.requires.ask.2, each_closed c.args.present.now.events.now (g.P.Past.tables c.args.present.now.past.now) c.args.first (c.args.first + c.operators.result) (bound_in c.args.scope.now) (tree_of c.args.g.now) (tree_of c.args.h.now) (ap (λ n. c.args.first + n) c.operators.ensures) c.in_ok-range.range c.in_ok-range.ensures.table c.in_ok-range.ensures.columns c.in_ok-range.ensures.rows c.requires.ask.0.0 c.requires.ask.0.1 c.requires.ask.1 c.requires.ask.2))))
 
 pub holds_for_each-returns : goal.holds_for_each-returns
 holds_for_each-returns g t c =
-    ok_map c.holds_under.result _ _ (λ b told p q xs ask. each_decided c.args.present.now.events.now (g.P.Past.tables c.args.present.now.past.now) c.args.first (c.args.first + c.operators.result) c.args.scope.now (tree_of c.args.g.now) (tree_of c.args.h.now) (ap (λ n. c.args.first + n) c.operators.ensures) c.in_ok-range.range c.in_ok-range.ensures.table c.in_ok-range.ensures.columns c.in_ok-range.ensures.rows p q xs ask b told) c.holds_under.ensures
+    ok_map c.holds_under.result _ _ (λ b told p q xs ask. each_decided c.args.present.now.events.now (g.P.Past.tables c.args.present.now.past.now) c.args.first (c.args.first + c.operators.result) (bound_in c.args.scope.now) (tree_of c.args.g.now) (tree_of c.args.h.now) (ap (λ n. c.args.first + n) c.operators.ensures) c.in_ok-range.range c.in_ok-range.ensures.table c.in_ok-range.ensures.columns c.in_ok-range.ensures.rows p q xs ask b told) c.holds_under.ensures
 
 -- ---- the loops
 
@@ -485,7 +484,7 @@ gather_under-gather-requires g t c =
     let row = c.row-item.result in
     let all : c.rows-row-items.result.now ≡ c.args.table.now.rows = c.rows-row-items.ensures.rows in
     let there : Contains c.args.table.now.rows row = subst (λ l. Contains l row) all (c.loop-row.row-index, c.loop-row-test.true, sym c.row-item.is) in
-    let inner : c.in_ok-inner.inner ≡ filled c.args.scope.now c.args.table.now.columns row = c.in_ok-inner.ensures ∙ (λ i. filled c.args.scope.now ((c.as_slice.ensures ∙ c.columns.ensures.columns) i) (c.as_slice-in-loop-row.ensures i)) in
+    let inner : filled (bound_in c.args.scope.now) c.as_slice.result.now c.as_slice-in-loop-row.result.now ≡ filled (bound_in c.args.scope.now) c.args.table.now.columns row = (λ i. filled (bound_in c.args.scope.now) ((c.as_slice.ensures ∙ c.columns.ensures.columns) i) (c.as_slice-in-loop-row.ensures i)) in
     λ κs lives. (search rules, (search rules, (c.requires.few, (subst (λ v. CanAsk v (drop c.args.first (g.P.Past.tables c.args.present.now.past.now)) (tree_of c.args.formula.now)) (sym inner) (c.requires.ask row there), subst (λ v. AreInScope c.args.columns.now v (tree_of c.args.formula.now)) (sym inner) (c.requires.within row there)))))
 
 pub gather_under-loop-row-preserved : goal.gather_under-loop-row-preserved
@@ -493,16 +492,16 @@ gather_under-loop-row-preserved g t c =
     let row = c.row-item.result in
     let all : c.rows-row-items.result.now ≡ c.args.table.now.rows = c.rows-row-items.ensures.rows in
     let there : Contains c.args.table.now.rows row = subst (λ l. Contains l row) all (c.loop-row.row-index, c.loop-row-test.true, sym c.row-item.is) in
-    let inner : c.in_ok-inner.inner ≡ filled c.args.scope.now c.args.table.now.columns row = c.in_ok-inner.ensures ∙ (λ i. filled c.args.scope.now ((c.as_slice.ensures ∙ c.columns.ensures.columns) i) (c.as_slice-in-loop-row.ensures i)) in
+    let inner : filled (bound_in c.args.scope.now) c.as_slice.result.now c.as_slice-in-loop-row.result.now ≡ filled (bound_in c.args.scope.now) c.args.table.now.columns row = (λ i. filled (bound_in c.args.scope.now) ((c.as_slice.ensures ∙ c.columns.ensures.columns) i) (c.as_slice-in-loop-row.ensures i)) in
     let at : row ≡ get_or c.args.table.now.rows c.loop-row.row-index row = subst (λ l. row ≡ get_or l c.loop-row.row-index row) all c.row-item.is in
-    adds_more c.args.columns.now c.args.table.now.rows (λ r w. IsAnswer c.args.present.now.events.now (drop c.args.first (g.P.Past.tables c.args.present.now.past.now)) (filled c.args.scope.now c.args.table.now.columns r) (tree_of c.args.formula.now) c.args.columns.now w) c.loop-row.row-index row _ _ _ (subst (λ (l : List (List Value)). c.loop-row.row-index < length l) all c.loop-row-test.true) c.loop-row.invariant
-    (subst (λ (r : List Value). AddsRows c.args.columns.now c.loop-row.out.items c.gather.new.out.items (IsAnswer c.args.present.now.events.now (drop c.args.first (g.P.Past.tables c.args.present.now.past.now)) (filled c.args.scope.now c.args.table.now.columns r) (tree_of c.args.formula.now) c.args.columns.now)) at
+    adds_more c.args.columns.now c.args.table.now.rows (λ r w. IsAnswer c.args.present.now.events.now (drop c.args.first (g.P.Past.tables c.args.present.now.past.now)) (filled (bound_in c.args.scope.now) c.args.table.now.columns r) (tree_of c.args.formula.now) c.args.columns.now w) c.loop-row.row-index row _ _ _ (subst (λ (l : List (List Value)). c.loop-row.row-index < length l) all c.loop-row-test.true) c.loop-row.invariant
+    (subst (λ (r : List Value). AddsRows c.args.columns.now c.loop-row.out.items c.gather.new.out.items (IsAnswer c.args.present.now.events.now (drop c.args.first (g.P.Past.tables c.args.present.now.past.now)) (filled (bound_in c.args.scope.now) c.args.table.now.columns r) (tree_of c.args.formula.now) c.args.columns.now)) at
     (subst (λ (v : Valuation). AddsRows c.args.columns.now c.loop-row.out.items c.gather.new.out.items (IsAnswer c.args.present.now.events.now (drop c.args.first (g.P.Past.tables c.args.present.now.past.now)) v (tree_of c.args.formula.now) c.args.columns.now)) inner c.in_ok-gather.ensures))
 
 pub gather_under-returns : goal.gather_under-returns
 gather_under-returns g t c =
     let all : c.rows-row-items.result.now ≡ c.args.table.now.rows = c.rows-row-items.ensures.rows in
-    subst (λ (l : List (List Value)). AddsRows c.args.columns.now c.args.out.now.items c.loop-row.out.items (λ w. SomeOf l (λ row. IsAnswer c.args.present.now.events.now (drop c.args.first (g.P.Past.tables c.args.present.now.past.now)) (filled c.args.scope.now c.args.table.now.columns row) (tree_of c.args.formula.now) c.args.columns.now w)))
+    subst (λ (l : List (List Value)). AddsRows c.args.columns.now c.args.out.now.items c.loop-row.out.items (λ w. SomeOf l (λ row. IsAnswer c.args.present.now.events.now (drop c.args.first (g.P.Past.tables c.args.present.now.past.now)) (filled (bound_in c.args.scope.now) c.args.table.now.columns row) (tree_of c.args.formula.now) c.args.columns.now w)))
     (take_all c.loop-row.row-index c.args.table.now.rows (subst (λ (l : List (List Value)). length l ≤ c.loop-row.row-index) all c.loop-row-test.false)) c.loop-row.invariant
 
 pub holds_under-holds-requires : goal.holds_under-holds-requires
@@ -510,7 +509,7 @@ holds_under-holds-requires g t c =
     let row = c.row-item.result in
     let all : c.rows-row-items.result.now ≡ c.args.table.now.rows = c.rows-row-items.ensures.rows in
     let there : Contains c.args.table.now.rows row = subst (λ l. Contains l row) all (c.loop-row.row-index, c.loop-row-test.true, sym c.row-item.is) in
-    let inner : c.in_ok-inner.inner ≡ filled c.args.scope.now c.args.table.now.columns row = c.in_ok-inner.ensures ∙ (λ i. filled c.args.scope.now ((c.as_slice.ensures ∙ c.columns.ensures.columns) i) (c.as_slice-in-loop-row.ensures i)) in
+    let inner : filled (bound_in c.args.scope.now) c.as_slice.result.now c.as_slice-in-loop-row.result.now ≡ filled (bound_in c.args.scope.now) c.args.table.now.columns row = (λ i. filled (bound_in c.args.scope.now) ((c.as_slice.ensures ∙ c.columns.ensures.columns) i) (c.as_slice-in-loop-row.ensures i)) in
     λ κs lives. (search rules, (search rules, (c.requires.few, (subst (λ v. CanAsk v (drop c.args.first (g.P.Past.tables c.args.present.now.past.now)) (tree_of c.args.formula.now)) (sym inner) (c.requires.ask row there), subst (λ v. FreeWithin (tree_of c.args.formula.now) (IsBoundBy v)) (sym inner) (c.requires.closed row there)))))
 
 pub holds_under-loop-row-preserved : goal.holds_under-loop-row-preserved
@@ -518,17 +517,17 @@ holds_under-loop-row-preserved g t c =
     let row = c.row-item.result in
     let all : c.rows-row-items.result.now ≡ c.args.table.now.rows = c.rows-row-items.ensures.rows in
     let there : Contains c.args.table.now.rows row = subst (λ l. Contains l row) all (c.loop-row.row-index, c.loop-row-test.true, sym c.row-item.is) in
-    let inner : c.in_ok-inner.inner ≡ filled c.args.scope.now c.args.table.now.columns row = c.in_ok-inner.ensures ∙ (λ i. filled c.args.scope.now ((c.as_slice.ensures ∙ c.columns.ensures.columns) i) (c.as_slice-in-loop-row.ensures i)) in
+    let inner : filled (bound_in c.args.scope.now) c.as_slice.result.now c.as_slice-in-loop-row.result.now ≡ filled (bound_in c.args.scope.now) c.args.table.now.columns row = (λ i. filled (bound_in c.args.scope.now) ((c.as_slice.ensures ∙ c.columns.ensures.columns) i) (c.as_slice-in-loop-row.ensures i)) in
     let at : row ≡ get_or c.args.table.now.rows c.loop-row.row-index row = subst (λ l. row ≡ get_or l c.loop-row.row-index row) all c.row-item.is in
-    let here : HoldsNow c.args.present.now.events.now (drop c.args.first (g.P.Past.tables c.args.present.now.past.now)) (filled c.args.scope.now c.args.table.now.columns row) (tree_of c.args.formula.now) = subst (λ v. HoldsNow c.args.present.now.events.now (drop c.args.first (g.P.Past.tables c.args.present.now.past.now)) v (tree_of c.args.formula.now)) inner (c.in_ok-holds.ensures.0 c.if-not-branch.false) in
-    each_more (λ r. HoldsNow c.args.present.now.events.now (drop c.args.first (g.P.Past.tables c.args.present.now.past.now)) (filled c.args.scope.now c.args.table.now.columns r) (tree_of c.args.formula.now)) c.args.table.now.rows c.loop-row.row-index row (subst (λ (l : List (List Value)). c.loop-row.row-index < length l) all c.loop-row-test.true) at c.loop-row.invariant here
+    let here : HoldsNow c.args.present.now.events.now (drop c.args.first (g.P.Past.tables c.args.present.now.past.now)) (filled (bound_in c.args.scope.now) c.args.table.now.columns row) (tree_of c.args.formula.now) = subst (λ v. HoldsNow c.args.present.now.events.now (drop c.args.first (g.P.Past.tables c.args.present.now.past.now)) v (tree_of c.args.formula.now)) inner (c.in_ok-holds.ensures.0 c.if-not-branch.false) in
+    each_more (λ r. HoldsNow c.args.present.now.events.now (drop c.args.first (g.P.Past.tables c.args.present.now.past.now)) (filled (bound_in c.args.scope.now) c.args.table.now.columns r) (tree_of c.args.formula.now)) c.args.table.now.rows c.loop-row.row-index row (subst (λ (l : List (List Value)). c.loop-row.row-index < length l) all c.loop-row-test.true) at c.loop-row.invariant here
 
 pub holds_under-returns-then-not-branch : goal.holds_under-returns-then-not-branch
 holds_under-returns-then-not-branch g t c =
     let row = c.row-item.result in
     let all : c.rows-row-items.result.now ≡ c.args.table.now.rows = c.rows-row-items.ensures.rows in
     let there : Contains c.args.table.now.rows row = subst (λ l. Contains l row) all (c.loop-row.row-index, c.loop-row-test.true, sym c.row-item.is) in
-    let inner : c.in_ok-inner.inner ≡ filled c.args.scope.now c.args.table.now.columns row = c.in_ok-inner.ensures ∙ (λ i. filled c.args.scope.now ((c.as_slice.ensures ∙ c.columns.ensures.columns) i) (c.as_slice-in-loop-row.ensures i)) in
+    let inner : filled (bound_in c.args.scope.now) c.as_slice.result.now c.as_slice-in-loop-row.result.now ≡ filled (bound_in c.args.scope.now) c.args.table.now.columns row = (λ i. filled (bound_in c.args.scope.now) ((c.as_slice.ensures ∙ c.columns.ensures.columns) i) (c.as_slice-in-loop-row.ensures i)) in
     (λ t. absurd (false≢true t), λ each. absurd (false≢true (sym c.if-not-branch.true ∙ c.in_ok-holds.ensures.1 (subst (λ v. HoldsNow c.args.present.now.events.now (drop c.args.first (g.P.Past.tables c.args.present.now.past.now)) v (tree_of c.args.formula.now)) (sym inner) (each row there)))))
 
 pub holds_under-returns : goal.holds_under-returns

@@ -2,7 +2,7 @@ use Rattle.std.proofs.Common.{◌+◌, ◌*◌, List, drop, take, Contains}
 use Rattle.enf_formula.specs.Formulas.{tree_of}
 use Rattle.enf_formula.specs.Shape.{size_of}
 use Rattle.enf_value.specs.declared.values.Value.{Value}
-use Rattle.valuations.specs.Scopes.{filled}
+use Rattle.valuations.specs.Scopes.{bound_in, filled}
 use Rattle.monitorable_guard.specs.Answers.{AddsRows, IsAnswer}
 use Rattle.monitorable_guard.specs.Present.{HoldsNow}
 use Rattle.monitorable_guard.proofs.RowsLemmas.{SomeOf}
@@ -51,7 +51,7 @@ abbrev pub decreases-holds_under : goal.decreases-holds_under
 decreases-holds_under g l = 8 * size_of (tree_of l.formula.now) + 3
 
 abbrev pub invariant-gather_under-loop-row : goal.invariant-gather_under-loop-row
-invariant-gather_under-loop-row g l = AddsRows l.columns l.fn.out.items l.out.items (λ w. SomeOf (take l.row-index l.table.rows) (λ row. IsAnswer l.present.events.now (drop l.first (g.P.Past.tables l.present.past.now)) (filled l.scope l.table.columns row) (tree_of l.formula) l.columns w))
+invariant-gather_under-loop-row g l = AddsRows l.columns l.fn.out.items l.out.items (λ w. SomeOf (take l.row-index l.table.rows) (λ row. IsAnswer l.present.events.now (drop l.first (g.P.Past.tables l.present.past.now)) (filled (bound_in l.scope) l.table.columns row) (tree_of l.formula) l.columns w))
 
 abbrev pub invariant-holds_under-loop-row : goal.invariant-holds_under-loop-row
-invariant-holds_under-loop-row g l = (row : List Value) → Contains (take l.row-index l.table.rows) row → HoldsNow l.present.events.now (drop l.first (g.P.Past.tables l.present.past.now)) (filled l.scope l.table.columns row) (tree_of l.formula)
+invariant-holds_under-loop-row g l = (row : List Value) → Contains (take l.row-index l.table.rows) row → HoldsNow l.present.events.now (drop l.first (g.P.Past.tables l.present.past.now)) (filled (bound_in l.scope) l.table.columns row) (tree_of l.formula)

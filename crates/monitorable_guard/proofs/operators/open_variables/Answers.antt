@@ -9,6 +9,7 @@ use Rattle.enf_value.specs.declared.terms.VarId.{VarId}
 use Rattle.enf_value.specs.declared.values.Value.{Value}
 use Rattle.valuations.specs.Columns.{Contains-filter, Contains-from_filter}
 use Rattle.monitorable_guard.specs.Answers.{AreOpenUnder}
+use Rattle.valuations.specs.Scopes.{bound_in}
 use Rattle.monitorable_guard.proofs.operators.open_variables.Goals as goal
 
 apart : (o : Option Value) → IsSome o → is_none o ≡ true → ⊥
@@ -29,4 +30,4 @@ open_from v f free are = record {
 }
 
 pub returns : goal.returns
-returns c = subst (AreOpenUnder c.args.scope.now (tree_of c.args.formula.now)) (sym (c.from_vec.ensures ∙ c.in_ok-found.ensures ∙ ap (filter (λ x. is_none (value_at c.args.scope.now x))) c.as_slice.ensures)) (open_from c.args.scope.now (tree_of c.args.formula.now) _ c.in_ok-free.ensures)
+returns c = subst (AreOpenUnder (bound_in c.args.scope.now) (tree_of c.args.formula.now)) (sym (c.from_vec.ensures ∙ c.in_ok-found.ensures ∙ ap (filter (λ x. is_none (value_at (bound_in c.args.scope.now) x))) c.as_slice.ensures)) (open_from (bound_in c.args.scope.now) (tree_of c.args.formula.now) _ c.in_ok-free.ensures)

@@ -1,7 +1,8 @@
 use Rattle.std.proofs.Common.{◌≡◌, take, is_none}
 use Rattle.std.specs.List.{filter}
 use Rattle.enf_value.specs.Valuations.{value_at}
+use Rattle.valuations.specs.Scopes.{bound_in}
 use Rattle.monitorable_guard.proofs.operators.unbound.Given as goal
 
 abbrev pub invariant-loop-variable : goal.invariant-loop-variable
-invariant-loop-variable l = l.found.items ≡ filter (λ x. is_none (value_at l.scope x)) (take l.variable-index l.variables)
+invariant-loop-variable l = l.found.items ≡ filter (λ x. is_none (value_at (bound_in l.scope) x)) (take l.variable-index l.variables)

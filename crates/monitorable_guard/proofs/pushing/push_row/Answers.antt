@@ -5,6 +5,6 @@ use Rattle.monitorable_guard.proofs.RowsLemmas.{adds_row}
 use Rattle.monitorable_guard.proofs.pushing.push_row.Goals as goal
 
 pub returns : goal.returns
-returns c =
-    subst (λ after. AddsRows c.args.columns.now c.args.out.now.items after (λ w. AgreeOn c.args.columns.now w c.args.scope.now)) (sym c.in_ok-push.ensures.items)
-    (adds_row c.args.scope.now c.args.columns.now c.args.out.now.items c.in_ok-row.row c.in_ok-row.ensures)
+returns g c =
+    subst (λ after. AddsRows c.args.columns.now c.args.out.now.items after (λ w. AgreeOn c.args.columns.now w (g.V.Lookup.valuation c.args.scope.now))) (sym c.in_ok-push.ensures.items)
+    (adds_row (g.V.Lookup.valuation c.args.scope.now) c.args.columns.now c.args.out.now.items c.in_ok-row.row c.in_ok-row.ensures)

@@ -3,7 +3,7 @@ use Rattle.std.proofs.lemmas.List.{take_all}
 use Rattle.enf_value.specs.declared.values.Value.{Value}
 use Rattle.enf_value.specs.Valuations.{Valuation}
 use Rattle.valuations.specs.RowLaws.{fits}
-use Rattle.valuations.specs.Scopes.{filled}
+use Rattle.valuations.specs.Scopes.{bound_in, filled}
 use Rattle.valuations.specs.Tables.{AgreeOn}
 use Rattle.monitorable_guard.specs.Answers.{AddsRows, IsBoundBy}
 use Rattle.monitorable_guard.proofs.EvaluationLemmas.{filled_binds}
@@ -15,21 +15,21 @@ push_row-requires c =
     let rows = c.rows-row-items.result.now in
     let row = c.row-item.result in
     let there : Contains c.args.table.now.rows row = subst (λ l. Contains l row) c.rows-row-items.ensures.rows (c.loop-row.row-index, c.loop-row-test.true, sym c.row-item.is) in
-    let inner : c.in_ok-inner.inner ≡ filled c.args.scope.now c.args.table.now.columns row = c.in_ok-inner.ensures ∙ (λ i. filled c.args.scope.now ((c.as_slice.ensures ∙ c.columns.ensures.columns) i) (c.as_slice-in-loop-row.ensures i)) in
-    λ x column. subst (λ v. IsBoundBy v x) (sym inner) (filled_binds c.args.scope.now c.args.table.now.columns row x (fits c.args.table.now row c.requires.table there) (c.requires.within x column))
+    let inner : filled (bound_in c.args.scope.now) c.as_slice.result.now c.as_slice-in-loop-row.result.now ≡ filled (bound_in c.args.scope.now) c.args.table.now.columns row = (λ i. filled (bound_in c.args.scope.now) ((c.as_slice.ensures ∙ c.columns.ensures.columns) i) (c.as_slice-in-loop-row.ensures i)) in
+    λ x column. subst (λ v. IsBoundBy v x) (sym inner) (filled_binds (bound_in c.args.scope.now) c.args.table.now.columns row x (fits c.args.table.now row c.requires.table there) (c.requires.within x column))
 
 pub loop-row-preserved : goal.loop-row-preserved
 loop-row-preserved c =
     let row = c.row-item.result in
     let all : c.rows-row-items.result.now ≡ c.args.table.now.rows = c.rows-row-items.ensures.rows in
-    let inner : c.in_ok-inner.inner ≡ filled c.args.scope.now c.args.table.now.columns row = c.in_ok-inner.ensures ∙ (λ i. filled c.args.scope.now ((c.as_slice.ensures ∙ c.columns.ensures.columns) i) (c.as_slice-in-loop-row.ensures i)) in
+    let inner : filled (bound_in c.args.scope.now) c.as_slice.result.now c.as_slice-in-loop-row.result.now ≡ filled (bound_in c.args.scope.now) c.args.table.now.columns row = (λ i. filled (bound_in c.args.scope.now) ((c.as_slice.ensures ∙ c.columns.ensures.columns) i) (c.as_slice-in-loop-row.ensures i)) in
     let at : row ≡ get_or c.args.table.now.rows c.loop-row.row-index row = subst (λ l. row ≡ get_or l c.loop-row.row-index row) all c.row-item.is in
-    adds_more c.args.columns.now c.args.table.now.rows (λ r w. AgreeOn c.args.columns.now w (filled c.args.scope.now c.args.table.now.columns r)) c.loop-row.row-index row _ _ _ (subst (λ (l : List (List Value)). c.loop-row.row-index < length l) all c.loop-row-test.true) c.loop-row.invariant
-    (subst (λ (r : List Value). AddsRows c.args.columns.now c.loop-row.out.items c.push_row.new.out.items (λ w. AgreeOn c.args.columns.now w (filled c.args.scope.now c.args.table.now.columns r))) at
+    adds_more c.args.columns.now c.args.table.now.rows (λ r w. AgreeOn c.args.columns.now w (filled (bound_in c.args.scope.now) c.args.table.now.columns r)) c.loop-row.row-index row _ _ _ (subst (λ (l : List (List Value)). c.loop-row.row-index < length l) all c.loop-row-test.true) c.loop-row.invariant
+    (subst (λ (r : List Value). AddsRows c.args.columns.now c.loop-row.out.items c.push_row.new.out.items (λ w. AgreeOn c.args.columns.now w (filled (bound_in c.args.scope.now) c.args.table.now.columns r))) at
     (subst (λ (v : Valuation). AddsRows c.args.columns.now c.loop-row.out.items c.push_row.new.out.items (λ w. AgreeOn c.args.columns.now w v)) inner c.in_ok-push_row.ensures))
 
 pub returns : goal.returns
 returns c =
     let all : c.rows-row-items.result.now ≡ c.args.table.now.rows = c.rows-row-items.ensures.rows in
-    subst (λ (l : List (List Value)). AddsRows c.args.columns.now c.args.out.now.items c.loop-row.out.items (λ w. SomeOf l (λ row. AgreeOn c.args.columns.now w (filled c.args.scope.now c.args.table.now.columns row))))
+    subst (λ (l : List (List Value)). AddsRows c.args.columns.now c.args.out.now.items c.loop-row.out.items (λ w. SomeOf l (λ row. AgreeOn c.args.columns.now w (filled (bound_in c.args.scope.now) c.args.table.now.columns row))))
     (take_all c.loop-row.row-index c.args.table.now.rows (subst (λ (l : List (List Value)). length l ≤ c.loop-row.row-index) all c.loop-row-test.false)) c.loop-row.invariant
