@@ -14,23 +14,7 @@ use Rattle.valuations.specs.Tables.{is_among, shared, not_shared}
 
 -- ---- being in a list
 
-pub here : {X : Type 0} (x : X) (xs : List X) → Contains (x ∷ xs) x
-here x xs = (0, omega arith, refl)
-
-pub later : {X : Type 0} (x y : X) (xs : List X) → Contains xs x → Contains (y ∷ xs) x
-later x y xs there = (suc there.0, omega (arith, there.1), there.2)
-
-pub first_or_later : {X : Type 0} (x y : X) (xs : List X) → Contains (y ∷ xs) x → (y ≡ x) ⊎ Contains xs x
-first_or_later x y xs (zero, within, is) = inl is
-first_or_later x y xs (suc k, within, is) = inr (k, omega (arith, within), is)
-
-pub none_in_nil : {X : Type 0} (x : X) → Contains [] x → ⊥
-none_in_nil x (k, within, is) = absurd (omega (arith, within))
-
-pub there_from_get : {X : Type 0} (xs : List X) (k : ℕ) (x : X) → slice_get xs k ≡ Some x → Contains xs x
-there_from_get [] k x e = absurd (none-some x e)
-there_from_get (y ∷ ys) zero x e = (0, omega arith, same_Some y x e)
-there_from_get (y ∷ ys) (suc k) x e = later x y ys (there_from_get ys k x e)
+pub use Rattle.enf_value.specs.ListLaws.{here, later, first_or_later, none_in_nil, there_from_get, Contains-append}
 
 pub Contains-filter : {X : Type 0} (p : X → Bool) (xs : List X) (x : X) → Contains xs x → p x ≡ true
     → Contains (filter p xs) x
@@ -66,16 +50,6 @@ HasNoRepeats-filter p (x ∷ xs) d = by (p x) (HasNoRepeats-filter p xs d.1)
     by : (b : Bool) → HasNoRepeats (filter p xs) → HasNoRepeats (cond b (x ∷ filter p xs) (filter p xs))
     by true rest = (λ there. d.0 (Contains-from_filter p xs x there).0, rest)
     by false rest = rest
-
-pub Contains-append : {X : Type 0} (xs ys : List X) (x : X) → Contains (xs ++ ys) x → Contains xs x ⊎ Contains ys x
-Contains-append [] ys x there = inr there
-Contains-append (y ∷ xs) ys x there =
-    ⊎_elim (λ same. inl (
-      0,
-      omega arith,
-      same,
-    )) (λ behind. ⊎_elim (λ front. inl (later x y xs front)) (λ back. inr back)
-    (Contains-append xs ys x behind)) (first_or_later x y (xs ++ ys) there)
 
 pub HasNoRepeats-append : {X : Type 0} (xs ys : List X) → HasNoRepeats xs → HasNoRepeats ys → ((x : X)
     → Contains xs x → Contains ys x → ⊥) → HasNoRepeats (xs ++ ys)
