@@ -11,7 +11,6 @@ use Rattle.std.proofs.lemmas.Option.{same_Some, none-some}
 use Rattle.enf_value.specs.Membership.{HasNoRepeats}
 use Rattle.enf_value.specs.declared.terms.VarId.{VarId}
 use Rattle.valuations.specs.Tables.{is_among, shared, not_shared}
-
 -- ---- being in a list
 
 pub use Rattle.enf_value.specs.ListLaws.{here, later, first_or_later, none_in_nil, there_from_get, Contains-append}

@@ -1,0 +1,77 @@
+use Rattle.std.proofs.Common.{rules, ◌≡◌, ℕ, zero, suc, ◌<◌, List, [], ◌∷◌, Contains, Option, Some, refl, sym, subst, inl, inr, lit<, lit≤, arith, ⊎_elim}
+use Rattle.enf_value.specs.declared.events.Event.{Event}
+use Rattle.enf_formula.specs.Cases.{event_p}
+use Rattle.trace_meaning.specs.declared.kinds.StepKind.TheVariants.{System, Inserted}
+use Rattle.valuations.specs.Columns.{first_or_later, none_in_nil}
+use Rattle.obligations.specs.Missing.{cause}
+use Rattle.obligations.specs.Pending.{HasDeadline, NoneIsOver, Pend}
+use Rattle.obligations.specs.declared.instances.Instance.{Instance}
+use Rattle.choice_step.specs.Cases.{due_at_5, empty_at_0, for_due, p_in_time, served_at_5}
+use Rattle.choice_step.specs.Choice.{Waiting}
+use Rattle.choice_step.specs.Follows.{GoesOut, Inserts, IsLeastDeadline, NoneIsPassed, Answers}
+use Rattle.choice_step.specs.Follows.{ActedStep}
+use Rattle.choice_step.proofs.worked_cases.deadlines.Goals as goal
+
+due : Pend (p_in_time ∷ []) (empty_at_0.step ∷ []) (due_at_5 ∷ [])
+due = ([], refl, ([], due_at_5 ∷ [], refl, (due_at_5 ∷ [], [], inr ((cause event_p 1, [], search rules), refl), refl, refl), refl))
+
+first : GoesOut (p_in_time ∷ []) [] System 0 [] empty_at_0
+first = record { pending = []; pend = refl; kind_is = refl; time_is = refl; decided = (refl, (refl, tt)) }
+
+-- the deadline of the only instance that is pending
+at_5 : (i : Instance) (deadline : ℕ) → Contains (due_at_5 ∷ []) i → HasDeadline (p_in_time ∷ []) i deadline → 5 ≡ deadline
+at_5 i deadline there is =
+    ⊎_elim
+    (λ (same : due_at_5 ≡ i). (subst (λ j. HasDeadline (p_in_time ∷ []) j deadline) (sym same) is).1)
+    (λ none. absurd (none_in_nil i none))
+    (first_or_later i due_at_5 [] there)
+
+nothing_passes : Inserts (p_in_time ∷ []) [] (Some 0) []
+nothing_passes = ([], refl, λ i deadline there is passed. none_in_nil i there)
+
+not_yet : Inserts (p_in_time ∷ []) (empty_at_0.step ∷ []) (Some 5) []
+not_yet = (due_at_5 ∷ [], due, λ i deadline there is passed. let at = at_5 i deadline there is in omega (arith, at, passed))
+
+pub returns-clause-not_at_its_time : goal.returns-clause-not_at_its_time
+returns-clause-not_at_its_time c =
+    ([], empty_at_0 ∷ [], [], nothing_passes, (empty_at_0, first, refl), ([], [], [], not_yet, refl, refl, refl), refl)
+
+none_earlier : NoneIsOver (p_in_time ∷ []) (due_at_5 ∷ []) 5
+none_earlier zero d below deadline is = let at = is.1 in omega (arith, at)
+none_earlier (suc k) d below deadline is = absurd (omega (arith, below))
+
+least : IsLeastDeadline (p_in_time ∷ []) (due_at_5 ∷ []) 5
+least = record { instance = due_at_5; there = (0, lit< tt, refl); is = (refl, refl); least = none_earlier }
+
+served : GoesOut (p_in_time ∷ []) (empty_at_0.step ∷ []) Inserted 5 [] served_at_5
+served = record {
+  pending = due_at_5 ∷ [];
+  pend = due;
+  kind_is = refl;
+  time_is = refl;
+  decided = (Waiting due_at_5, cause event_p 1, event_p ∷ [], inl (refl, [], search rules), refl, refl, (refl, (search rules, (search rules, tt))));
+}
+
+nothing_left : Pend (p_in_time ∷ []) (empty_at_0.step ∷ served_at_5.step ∷ []) []
+nothing_left = (
+  due_at_5 ∷ [],
+  due,
+  (
+    [],
+    [],
+    ([], [], inl ((lit≤ tt, lit≤ tt), search rules, refl), refl, refl),
+    ([], [], inl (search rules, refl), refl, refl),
+    refl,
+  ),
+)
+
+pub returns-clause-behind_it : goal.returns-clause-behind_it
+returns-clause-behind_it c =
+    ([], empty_at_0 ∷ [], served_at_5 ∷ [], nothing_passes, (empty_at_0, first, refl), (served_at_5 ∷ [], [], [], (5, (due_at_5 ∷ [], due, least), lit< tt, served, ([], nothing_left, λ i deadline there is passed. none_in_nil i there)), refl, refl, refl), refl)
+
+pub returns-clause-drained : goal.returns-clause-drained
+returns-clause-drained c =
+    (5, (due_at_5 ∷ [], due, least), tt, served, ([], nothing_left, λ i deadline there is passed. none_in_nil i there))
+
+pub returns-clause-not_later : goal.returns-clause-not_later
+returns-clause-not_later c late = let at = at_5 late.instance 6 late.there late.is in omega (arith, at)

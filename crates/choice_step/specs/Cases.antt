@@ -1,0 +1,79 @@
+-- Small policies and steps, on which the choice loop can be checked by eye.
+use Rattle.std.specs.Prelude.{ℕ, Bool, false, true, List, [], ◌∷◌}
+use Rattle.enf_value.specs.Valuations.{no_values}
+use Rattle.enf_value.specs.declared.events.Event.{Event}
+use Rattle.enf_formula.specs.Cases.{event_p, event_q, formula_p, formula_q, name_p, name_q}
+use Rattle.trace_meaning.specs.Records.{Record}
+use Rattle.trace_meaning.specs.declared.kinds.StepKind.TheVariants.{System, Inserted}
+use Rattle.plan_terms.specs.Plans.{Plan, Cause, Suppress, Guarded, Eventually}
+use Rattle.obligations.specs.declared.instances.Instance.{Instance}
+use Rattle.obligations.specs.declared.literals.LiteralKind.{LiteralKind}
+use Rattle.obligations.specs.declared.literals.LiteralKind.TheVariants as kind
+use Rattle.choice_step.specs.Choice.{Decides}
+use Rattle.choice_step.specs.Follows.{ActedStep, Follows, FollowsDrain}
+use Rattle.choice_step.specs.declared.actions.Action.{Action}
+
+-- p() is to be there, and q() is not to be
+abbrev pub p_is_there : Plan
+p_is_there = Cause 0 0 name_p []
+
+abbrev pub q_is_not : Plan
+q_is_not = Suppress 0 0 name_q []
+
+-- a step of the system at time 5, the first of the trace, with nothing pending, goes out so
+abbrev pub Chooses : List Plan → (before : List Event) → List Action → (after : List Event) → Type 0
+Chooses plans before actions after = Decides plans [] [] false 5 before actions after
+
+-- an action for the root of a rule at that step
+abbrev pub for_root : LiteralKind → Event → (rule : ℕ) → Action
+for_root kind event rule = record {
+  kind = kind;
+  event = event;
+  time = 5;
+  position = 0;
+  rule = rule;
+  node = 0;
+  leaf = 0;
+  origin = 0;
+  valuation = no_values;
+}
+
+-- p() by time 5, which was begun before
+abbrev pub p_in_time : Plan
+p_in_time = Eventually 0 0 0 5 (Cause 1 0 name_p [])
+
+abbrev pub due_at_5 : Instance
+due_at_5 = record { rule = 0; node = 0; valuation = no_values; origin = 0; low = 0; high = 5 }
+
+-- a step at time 5 behind one without events at time 0, where that is pending
+abbrev pub ChoosesDue : (inserted : Bool) → (before : List Event) → List Action → (after : List Event) → Type 0
+ChoosesDue inserted before actions after =
+    Decides (p_in_time ∷ []) (record { time = 0; events = [] } ∷ []) (due_at_5 ∷ []) inserted 5 before actions after
+
+abbrev pub for_due : Action
+for_due = record {
+  kind = kind.Cause;
+  event = event_p;
+  time = 5;
+  position = 1;
+  rule = 0;
+  node = 0;
+  leaf = 1;
+  origin = 0;
+  valuation = no_values;
+}
+
+-- a step without events at time 0, and one with p() that is inserted at 5
+abbrev pub empty_at_0 : ActedStep
+empty_at_0 = record { kind = System; step = record { time = 0; events = [] }; actions = [] }
+
+abbrev pub served_at_5 : ActedStep
+served_at_5 = record { kind = Inserted; step = record { time = 5; events = event_p ∷ [] }; actions = for_due ∷ [] }
+
+-- what goes out for these records from the empty trace on, where p() is to come within 5
+abbrev pub GoesFor : List Record → List ActedStep → Type 0
+GoesFor records out = Follows (p_in_time ∷ []) [] records out
+
+-- and where all is served behind the step at time 0
+abbrev pub Drains : List ActedStep → Type 0
+Drains out = FollowsDrain (p_in_time ∷ []) (empty_at_0.step ∷ []) out

@@ -1,0 +1,99 @@
+-- What the choice loop does at one step: as long as something is missing, it acts for the first that misses something.
+use Rattle.std.specs.Prelude.{◌≡◌, ◌==◌, ◌&&◌, ℕ, zero, suc, Bool, List, [], ◌∷◌, ◌++◌, ◌⊎◌, map}
+use Rattle.std.specs.List.{AllByRecursion}
+use Rattle.enf_value.specs.Membership.{TakesOut}
+use Rattle.enf_value.specs.Valuations.{Valuation, no_values}
+use Rattle.enf_value.specs.declared.events.Event.{Event}
+use Rattle.enf_value.specs.declared.steps.Step.{Step}
+use Rattle.plan_terms.specs.Plans.{Plan}
+use Rattle.obligations.specs.Begun.{time_now}
+use Rattle.obligations.specs.Missing.{Missing}
+use Rattle.obligations.specs.Pending.{MissingOf}
+use Rattle.obligations.specs.Rows.{last_position}
+use Rattle.obligations.specs.declared.instances.Instance.{Instance}
+use Rattle.obligations.specs.declared.literals.Literal.{Literal}
+use Rattle.obligations.specs.declared.literals.LiteralKind.{LiteralKind}
+use Rattle.obligations.specs.declared.literals.LiteralKind.TheVariants.{Cause, Suppress}
+use Rattle.choice_step.specs.declared.actions.Action.{Action}
+
+-- who is asked at a step: a pending instance, or the root of a rule
+pub data Asked : Type 0 where
+  Waiting : Instance → Asked
+  Root : (rule : ℕ) → Plan → Asked
+
+-- the roots of the rules in the order of the policy; the first rule has this number
+abbrev pub roots_from : (rule : ℕ) → List Plan → List Asked
+roots_from rule [] = []
+roots_from rule (plan ∷ plans) = Root rule plan ∷ roots_from (suc rule) plans
+
+-- in which order they are asked: what is pending in its order, and then the roots
+abbrev pub all_asked : List Plan → List Instance → List Asked
+all_asked plans pending = map Waiting pending ++ roots_from 0 plans
+
+-- at an inserted step at the end of its window an instance is forced
+abbrev pub is_forced : (inserted : Bool) → (time : ℕ) → Instance → Bool
+is_forced inserted time i = inserted && (time == i.high)
+
+-- what one that is asked misses at the last position of a trace
+abbrev pub Misses : List Plan → (inserted : Bool) → List Step → Asked → List Literal → Type 0
+Misses plans inserted trace (Waiting i) literals =
+    MissingOf plans trace i (is_forced inserted (time_now trace) i) literals
+Misses plans inserted trace (Root rule plan) literals = Missing trace plan no_values literals
+
+abbrev pub MissesNothing : List Plan → (inserted : Bool) → List Step → Asked → Type 0
+MissesNothing plans inserted trace asked = Misses plans inserted trace asked []
+
+-- of those that are asked, the first that misses something, and the first literal that it misses
+abbrev pub IsFirst : List Plan → (inserted : Bool) → List Step → List Asked → Asked → Literal → Type 0
+IsFirst plans inserted trace [] asked literal = ⊥
+IsFirst plans inserted trace (next ∷ others) asked literal =
+    ((next ≡ asked) × (rest : List Literal) × Misses plans inserted trace next (literal ∷ rest))
+    ⊎ (MissesNothing plans inserted trace next × IsFirst plans inserted trace others asked literal)
+
+-- the action for one that is asked at the last position
+abbrev pub action_for : List Step → Asked → Literal → Action
+action_for trace (Waiting i) literal = record {
+  kind = literal.kind;
+  event = literal.event;
+  time = time_now trace;
+  position = last_position trace;
+  rule = i.rule;
+  node = i.node;
+  leaf = literal.leaf;
+  origin = i.origin;
+  valuation = i.valuation;
+}
+action_for trace (Root rule plan) literal = record {
+  kind = literal.kind;
+  event = literal.event;
+  time = time_now trace;
+  position = last_position trace;
+  rule = rule;
+  node = 0;
+  leaf = literal.leaf;
+  origin = last_position trace;
+  valuation = no_values;
+}
+
+-- an event that is caused goes last; one that is suppressed is taken out, and the rest keeps its order
+abbrev pub Applies : LiteralKind → Event → List Event → List Event → Type 0
+Applies Cause event before after = after ≡ before ++ event ∷ []
+Applies Suppress event before after = TakesOut event before after
+
+-- a step at a time behind a trace
+abbrev pub with_step : List Step → (time : ℕ) → List Event → List Step
+with_step trace time events = trace ++ record { time = time; events = events } ∷ []
+
+-- from some events of a step behind a trace, before which this was pending, the actions lead to events that leave
+-- nothing missing: each is for the first that misses something with the events before it
+abbrev pub Decides : List Plan → List Step → List Instance → (inserted : Bool) → (time : ℕ)
+    → (before : List Event) → List Action → (after : List Event) → Type 0
+Decides plans trace pending inserted time before [] after =
+    (after ≡ before)
+    × AllByRecursion (MissesNothing plans inserted (with_step trace time before)) (all_asked plans pending)
+Decides plans trace pending inserted time before (action ∷ actions) after =
+    (asked : Asked) × (literal : Literal) × (between : List Event)
+    × IsFirst plans inserted (with_step trace time before) (all_asked plans pending) asked literal
+    × (action ≡ action_for (with_step trace time before) asked literal)
+    × Applies literal.kind literal.event before between
+    × Decides plans trace pending inserted time between actions after

@@ -1,0 +1,5 @@
+pub mod RowsLemmas
+pub mod LostLemmas
+pub mod EnoughLemmas
+pub mod OneLemmas
+pub mod LawLemmas

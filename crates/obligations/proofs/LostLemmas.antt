@@ -1,0 +1,49 @@
+-- Leaves and rows that miss something.
+use Rattle.std.proofs.Common.{◌≡◌, ℕ, zero, suc, ◌+◌, ◌<◌, ◌≤◌, List, [], ◌∷◌, ◌++◌, length, Contains, Option, None, Some, IsTrue, refl, sym, ap, subst, arith, ⊎_elim, ◌⊎◌}
+use Rattle.std.specs.Prelude.{All}
+use Rattle.std.specs.List.{AllByRecursion}
+use Rattle.enf_value.specs.Data.{step_at}
+use Rattle.enf_value.specs.Membership.{IsIn}
+use Rattle.enf_value.specs.Valuations.{Valuation, values_of, with_values}
+use Rattle.enf_value.specs.declared.events.Event.{Event}
+use Rattle.enf_value.specs.declared.events.NameId.{NameId}
+use Rattle.enf_value.specs.declared.steps.Step.{Step}
+use Rattle.enf_value.specs.declared.values.Value.{Value}
+use Rattle.enf_formula.specs.Laws.{PastDecides}
+use Rattle.enf_formula.specs.Satisfaction.{IsAmong, Sat, elapsed}
+use Rattle.plan_terms.specs.Nodes.{nodes}
+use Rattle.plan_terms.specs.PlanFormula.{formula_for, from_to}
+use Rattle.plan_terms.specs.Plans.{Plan, Cause, Suppress, Both, Either, TestOr, Guarded, Eventually, Always}
+use Rattle.plan_terms.specs.Plans.{Until, Next}
+use Rattle.enf_value.specs.ListLaws.{here, later}
+use Rattle.obligations.specs.Enough.{LooksBack}
+use Rattle.obligations.specs.Missing.{Missing, HasSome, IsAbsent, IsPresent, LiteralUnless, OfEvent, cause, suppress}
+use Rattle.obligations.specs.Rows.{Gathers, last_position}
+use Rattle.obligations.specs.declared.literals.Literal.{Literal}
+
+pub no_cons : {X : Type 0} (x : X) (xs : List X) → x ∷ xs ≡ [] → ⊥
+no_cons x xs same = let n : length (x ∷ xs) ≡ 0 = ap length same in omega arith
+
+-- a leaf that misses something
+pub cause_absent : (trace : List Step) (name : NameId) (node : ℕ) (args : Option (List Value)) (l : Literal)
+    (ls : List Literal) → OfEvent name args (λ e. LiteralUnless (IsPresent trace e) (cause e node) (l ∷ ls))
+    → IsAmong (step_at trace (last_position trace)).events name args → ⊥
+cause_absent trace name node None l ls missing = λ among. among
+cause_absent trace name node (Some args) l ls missing =
+    ⊎_elim (λ present. absurd (no_cons l ls present.1)) (λ absent. absent.0) missing
+
+pub suppress_present : (trace : List Step) (name : NameId) (node : ℕ) (args : Option (List Value)) (l : Literal)
+    (ls : List Literal) → OfEvent name args (λ e. LiteralUnless (IsAbsent trace e) (suppress e node) (l ∷ ls))
+    → (IsAmong (step_at trace (last_position trace)).events name args → ⊥) → ⊥
+suppress_present trace name node None l ls missing = λ _. missing
+suppress_present trace name node (Some args) l ls missing =
+    ⊎_elim (λ absent. absurd (no_cons l ls absent.1)) (λ present. present.0) missing
+
+-- of what is gathered over rows, some row has given it
+pub some_row : (P : List Value → List Literal → Type 0) (rows : List (List Value)) (l : Literal) (ls : List Literal)
+    → Gathers P rows (l ∷ ls) → (row : List Value) × Contains rows row × HasSome (P row)
+some_row P [] l ls gathered = absurd (no_cons l ls gathered)
+some_row P (row ∷ rows) l ls ([], rest, none, more, are) =
+    let behind = some_row P rows l ls (subst (Gathers P rows) (sym are) more) in
+    (behind.0, later behind.0 row rows behind.1, behind.2)
+some_row P (row ∷ rows) l ls (k ∷ ks, rest, some, more, are) = (row, here row rows, (k, ks, some))

@@ -1,0 +1,99 @@
+-- Small plans, traces and instances, on which the definitions can be checked by eye.
+use Rattle.std.specs.Prelude.{ℕ, ◌+◌, Bool, pos, List, [], ◌∷◌}
+use Rattle.enf_value.specs.Valuations.{no_values}
+use Rattle.enf_value.specs.declared.events.Event.{Event}
+use Rattle.enf_value.specs.declared.steps.Step.{Step}
+use Rattle.enf_value.specs.declared.terms.Term.TheVariants.{Var}
+use Rattle.enf_value.specs.declared.values.Value.TheVariants.{Num}
+use Rattle.enf_formula.specs.Cases.{at_time, event_p_of, event_q_of, formula_p_x, name_p, name_q, x}
+use Rattle.enf_formula.specs.Formulas.{Formula, True, False}
+use Rattle.plan_terms.specs.Plans.{Plan, Cause, Suppress, Guarded, Eventually, Always, Until, Next}
+use Rattle.obligations.specs.Begun.{Begun}
+use Rattle.obligations.specs.Pending.{MissingOf, After, Pend}
+use Rattle.obligations.specs.Residuals.{Residual}
+use Rattle.obligations.specs.declared.instances.Instance.{Instance}
+use Rattle.obligations.specs.declared.literals.Literal.{Literal}
+
+-- p() is to be there, and q() is not to be
+abbrev pub cause_p : (node : ℕ) → Plan
+cause_p node = Cause node 0 name_p []
+
+abbrev pub bar_q : (node : ℕ) → Plan
+bar_q node = Suppress node 0 name_q []
+
+-- one step at time 5
+abbrev pub at_5 : List Event → List Step
+at_5 events = at_time 5 events ∷ []
+
+-- a test that holds, and one that does not
+abbrev pub holds : Formula
+holds = True 0
+
+abbrev pub fails : Formula
+fails = False 0
+
+-- q(x) for each x with p(x)
+abbrev pub cause_q_x : (node : ℕ) → Plan
+cause_q_x node = Cause node 0 name_q (Var x ∷ [])
+
+abbrev pub each_q : (node : ℕ) → Plan
+each_q node = Guarded node (x ∷ []) 0 formula_p_x (cause_q_x (node + 1))
+
+-- p(2) p(1), the greater value first
+abbrev pub two_and_one : List Event
+two_and_one = event_p_of (Num (pos 2)) ∷ event_p_of (Num (pos 1)) ∷ []
+
+-- q(1) and q(2)
+abbrev pub q_of_1 : Event
+q_of_1 = event_q_of (Num (pos 1))
+
+abbrev pub q_of_2 : Event
+q_of_2 = event_q_of (Num (pos 2))
+
+-- an instance of a node of the first rule, which was begun at position 0, with this window
+abbrev pub waiting : (node low high : ℕ) → Instance
+waiting node low high =
+    record { rule = 0; node = node; valuation = no_values; origin = 0; low = low; high = high }
+
+-- what the plan begins at the only step, under no binding, is just this; and it is not
+abbrev pub Begins : List Step → Plan → List Instance → Type 0
+Begins trace plan instances = Begun trace 0 plan no_values instances
+
+-- a window of ten units that opens at once, and one that opens a unit later
+abbrev pub soon_p : (node low : ℕ) → Plan
+soon_p node low = Eventually node 0 low 10 (cause_p (node + 1))
+
+abbrev pub always_p : (node low : ℕ) → Plan
+always_p node low = Always node 0 low 10 (cause_p (node + 1))
+
+-- no q() until p()
+abbrev pub no_q_until_p : (node low : ℕ) → Plan
+no_q_until_p node low = Until node 0 low 10 (bar_q (node + 1)) (cause_p (node + 2))
+
+abbrev pub next_p : (node : ℕ) → Plan
+next_p node = Next node 0 10 (cause_p (node + 1))
+
+-- begun at position 0 of one step at time 5, under no binding
+abbrev pub begun_at_5 : (node low high : ℕ) → Instance
+begun_at_5 node low high =
+    record { rule = 0; node = node; valuation = no_values; origin = 0; low = low; high = high }
+
+-- a step at time 1, and one with these events at a time
+abbrev pub then_at : ℕ → List Event → List Step
+then_at time events = at_time 1 [] ∷ at_time time events ∷ []
+
+-- an instance of the root of the only rule misses this, where its window is from 3 to 6
+abbrev pub Misses : List Step → Plan → (forced : Bool) → List Literal → Type 0
+Misses trace plan forced literals = MissingOf (plan ∷ []) trace (waiting 0 3 6) forced literals
+
+-- and becomes this
+abbrev pub Becomes : List Step → Plan → List Instance → Type 0
+Becomes trace plan after = After (plan ∷ []) trace (waiting 0 3 6) after
+
+-- and it is owed this by the positions from one on
+abbrev pub Owes : List Step → Plan → (from : ℕ) → Type 0
+Owes trace plan from = Residual (plan ∷ []) trace from (waiting 0 3 6)
+
+-- just these are pending behind the trace, under one rule
+abbrev pub Pends : List Step → Plan → List Instance → Type 0
+Pends trace plan pending = Pend (plan ∷ []) trace pending

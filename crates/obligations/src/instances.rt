@@ -1,0 +1,14 @@
+//! Nodes of plans that were begun.
+use valuations::Valuation;
+
+/// An operator on the future that was begun: its rule and node, the values of the variables in scope there, the
+/// position at which it was begun, and the first and the last time of its window.
+#[derive(Debug, Drop)]
+pub struct Instance {
+    pub rule: u32,
+    pub node: u32,
+    pub valuation: Valuation,
+    pub origin: u64,
+    pub low: u64,
+    pub high: u64,
+}

@@ -1,0 +1,137 @@
+//! Worked cases of the definitions, each a clause of a function with an empty body.
+ghost use Rattle.std.specs.Prelude.{◌≡◌, [], ◌∷◌, true, false};
+ghost use Rattle.enf_value.specs.Valuations.{no_values};
+ghost use Rattle.enf_formula.specs.Cases.{event_p, event_q};
+ghost use Rattle.obligations.specs.Cases.{at_5, always_p, bar_q, cause_p, each_q, fails, holds, next_p};
+ghost use Rattle.obligations.specs.Cases.{no_q_until_p, q_of_1, q_of_2, soon_p, two_and_one, waiting, Begins};
+ghost use Rattle.obligations.specs.Cases.{begun_at_5, then_at, Misses, Becomes, Owes, Pends};
+ghost use Rattle.obligations.specs.Missing.{Missing, cause, suppress};
+ghost use Rattle.plan_terms.specs.Plans as plan;
+
+/// What leaves and connectives miss.
+pub fn missing_now()
+    ensures cause_absent { Missing (at_5 []) (cause_p 3) no_values (cause event_p 3 ∷ []) }
+    ensures cause_present { Missing (at_5 (event_p ∷ [])) (cause_p 3) no_values [] }
+    ensures cause_another_there { Missing (at_5 (event_q ∷ [])) (cause_p 3) no_values [] → ⊥ }
+    ensures suppress_present { Missing (at_5 (event_q ∷ [])) (bar_q 3) no_values (suppress event_q 3 ∷ []) }
+    ensures suppress_absent { Missing (at_5 []) (bar_q 3) no_values [] }
+    ensures both { Missing (at_5 (event_q ∷ [])) (plan.Both 0 (cause_p 1) (bar_q 2)) no_values
+        (cause event_p 1 ∷ suppress event_q 2 ∷ []) }
+    ensures left_side_holds { Missing (at_5 (event_p ∷ event_q ∷ [])) (plan.Either 0 (cause_p 1) (bar_q 2))
+        no_values [] }
+    ensures right_side_holds { Missing (at_5 []) (plan.Either 0 (cause_p 1) (bar_q 2)) no_values [] }
+    ensures no_side_holds { Missing (at_5 (event_q ∷ [])) (plan.Either 0 (cause_p 1) (bar_q 2)) no_values
+        (suppress event_q 2 ∷ []) }
+    ensures not_the_left_side { Missing (at_5 (event_q ∷ [])) (plan.Either 0 (cause_p 1) (bar_q 2)) no_values
+        (cause event_p 1 ∷ []) → ⊥ }
+    ensures test_holds { Missing (at_5 []) (plan.TestOr 0 0 holds (cause_p 1)) no_values [] }
+    ensures test_fails { Missing (at_5 []) (plan.TestOr 0 0 fails (cause_p 1)) no_values (cause event_p 1 ∷ []) }
+{}
+
+/// What the rows of a guard miss, in rising order.
+pub fn missing_of_rows()
+    ensures in_order { Missing (at_5 two_and_one) (each_q 0) no_values (cause q_of_1 1 ∷ cause q_of_2 1 ∷ []) }
+    ensures no_row { Missing (at_5 []) (each_q 0) no_values [] }
+{}
+
+/// What operators on the future miss where they are begun.
+pub fn missing_ahead()
+    ensures eventually { Missing (at_5 []) (soon_p 0 0) no_values [] }
+    ensures next { Missing (at_5 []) (next_p 0) no_values [] }
+    ensures always_from_now { Missing (at_5 []) (always_p 0 0) no_values (cause event_p 1 ∷ []) }
+    ensures always_not_nothing { Missing (at_5 []) (always_p 0 0) no_values [] → ⊥ }
+    ensures always_from_later { Missing (at_5 []) (always_p 0 1) no_values [] }
+    ensures until_right_holds { Missing (at_5 (event_p ∷ event_q ∷ [])) (no_q_until_p 0 0) no_values [] }
+    ensures until_right_too_early { Missing (at_5 (event_p ∷ event_q ∷ [])) (no_q_until_p 0 1) no_values
+        (suppress event_q 1 ∷ []) }
+    ensures until_left { Missing (at_5 (event_q ∷ [])) (no_q_until_p 0 0) no_values (suppress event_q 1 ∷ []) }
+    ensures until_not_right { Missing (at_5 (event_q ∷ [])) (no_q_until_p 0 0) no_values
+        (cause event_p 2 ∷ []) → ⊥ }
+{}
+
+/// What is begun.
+pub fn begun()
+    ensures leaf { Begins (at_5 (event_p ∷ [])) (cause_p 0) [] }
+    ensures eventually { Begins (at_5 []) (soon_p 0 0) (begun_at_5 0 5 15 ∷ []) }
+    ensures eventually_met { Begins (at_5 (event_p ∷ [])) (soon_p 0 0) [] }
+    ensures eventually_not_left_open { Begins (at_5 (event_p ∷ [])) (soon_p 0 0) (begun_at_5 0 5 15 ∷ []) → ⊥ }
+    ensures eventually_too_early { Begins (at_5 (event_p ∷ [])) (soon_p 0 1) (begun_at_5 0 6 15 ∷ []) }
+    ensures next { Begins (at_5 (event_p ∷ [])) (next_p 0) (begun_at_5 0 5 15 ∷ []) }
+    ensures always { Begins (at_5 (event_p ∷ [])) (always_p 0 0) (begun_at_5 0 5 15 ∷ []) }
+    ensures always_from_later { Begins (at_5 []) (always_p 0 1) (begun_at_5 0 6 15 ∷ []) }
+    ensures until { Begins (at_5 []) (no_q_until_p 0 0) (begun_at_5 0 5 15 ∷ []) }
+    ensures until_met { Begins (at_5 (event_p ∷ [])) (no_q_until_p 0 0) [] }
+    ensures until_too_early { Begins (at_5 (event_p ∷ [])) (no_q_until_p 0 1) (begun_at_5 0 6 15 ∷ []) }
+    ensures test_holds { Begins (at_5 []) (plan.TestOr 0 0 holds (soon_p 1 0)) [] }
+    ensures test_fails { Begins (at_5 []) (plan.TestOr 0 0 fails (soon_p 1 0)) (begun_at_5 1 5 15 ∷ []) }
+{}
+
+/// Which side of an alternative is begun.
+pub fn begun_sides()
+    ensures present_right { Begins (at_5 (event_p ∷ [])) (plan.Either 0 (next_p 1) (cause_p 3)) [] }
+    ensures present_left { Begins (at_5 (event_p ∷ [])) (plan.Either 0 (cause_p 1) (next_p 2)) [] }
+    ensures left_passed_over { Begins (at_5 []) (plan.Either 0 (cause_p 1) (next_p 2)) (begun_at_5 2 5 15 ∷ []) }
+    ensures right_passed_over { Begins (at_5 []) (plan.Either 0 (next_p 1) (cause_p 3)) (begun_at_5 1 5 15 ∷ []) }
+    ensures right_first { Begins (at_5 []) (plan.Either 0 (next_p 1) (next_p 3)) (begun_at_5 3 5 15 ∷ []) }
+    ensures not_left_first { Begins (at_5 []) (plan.Either 0 (next_p 1) (next_p 3)) (begun_at_5 1 5 15 ∷ []) → ⊥ }
+    ensures right_misses { Begins (at_5 []) (plan.Either 0 (next_p 1) (always_p 3 0)) (begun_at_5 1 5 15 ∷ []) }
+    ensures both_miss { Begins (at_5 []) (plan.Either 0 (cause_p 1) (always_p 2 0)) [] }
+{}
+
+/// What a pending instance misses, where its window is from 3 to 6.
+pub fn pending_misses()
+    ensures eventually_waits { Misses (then_at 4 []) (soon_p 0 2) false [] }
+    ensures eventually_forced { Misses (then_at 6 []) (soon_p 0 2) true (cause event_p 1 ∷ []) }
+    ensures eventually_not_forced { Misses (then_at 6 []) (soon_p 0 2) false (cause event_p 1 ∷ []) → ⊥ }
+    ensures next_at_once { Misses (then_at 2 []) (next_p 0) false (cause event_p 1 ∷ []) }
+    ensures always_first { Misses (then_at 3 []) (always_p 0 2) false (cause event_p 1 ∷ []) }
+    ensures always_last { Misses (then_at 6 []) (always_p 0 2) false (cause event_p 1 ∷ []) }
+    ensures always_too_early { Misses (then_at 2 []) (always_p 0 2) false [] }
+    ensures always_too_late { Misses (then_at 7 []) (always_p 0 2) false [] }
+    ensures until_right_in_window { Misses (then_at 3 (event_p ∷ event_q ∷ [])) (no_q_until_p 0 2) false [] }
+    ensures until_right_at_the_end { Misses (then_at 6 (event_p ∷ event_q ∷ [])) (no_q_until_p 0 2) false [] }
+    ensures until_right_too_early { Misses (then_at 2 (event_p ∷ event_q ∷ [])) (no_q_until_p 0 2) false
+        (suppress event_q 1 ∷ []) }
+    ensures until_left { Misses (then_at 4 (event_q ∷ [])) (no_q_until_p 0 2) false (suppress event_q 1 ∷ []) }
+    ensures until_forced { Misses (then_at 6 []) (no_q_until_p 0 2) true (cause event_p 2 ∷ []) }
+    ensures until_not_forced { Misses (then_at 6 []) (no_q_until_p 0 2) false [] }
+{}
+
+/// What a pending instance becomes, where its window is from 3 to 6.
+pub fn pending_becomes()
+    ensures eventually_waits { Becomes (then_at 4 []) (soon_p 0 2) (waiting 0 3 6 ∷ []) }
+    ensures eventually_met_first { Becomes (then_at 3 (event_p ∷ [])) (soon_p 0 2) [] }
+    ensures eventually_met_last { Becomes (then_at 6 (event_p ∷ [])) (soon_p 0 2) [] }
+    ensures eventually_too_early { Becomes (then_at 2 (event_p ∷ [])) (soon_p 0 2) (waiting 0 3 6 ∷ []) }
+    ensures eventually_not_met_early { Becomes (then_at 2 (event_p ∷ [])) (soon_p 0 2) [] → ⊥ }
+    ensures next_is_over { Becomes (then_at 2 (event_p ∷ [])) (next_p 0) [] }
+    ensures always_too_early { Becomes (then_at 2 []) (always_p 0 2) (waiting 0 3 6 ∷ []) }
+    ensures always_stays_to_the_end { Becomes (then_at 6 (event_p ∷ [])) (always_p 0 2) (waiting 0 3 6 ∷ []) }
+    ensures always_is_over { Becomes (then_at 7 []) (always_p 0 2) [] }
+    ensures until_met_first { Becomes (then_at 3 (event_p ∷ [])) (no_q_until_p 0 2) [] }
+    ensures until_met_last { Becomes (then_at 6 (event_p ∷ [])) (no_q_until_p 0 2) [] }
+    ensures until_too_early { Becomes (then_at 2 (event_p ∷ [])) (no_q_until_p 0 2) (waiting 0 3 6 ∷ []) }
+    ensures until_waits { Becomes (then_at 4 []) (no_q_until_p 0 2) (waiting 0 3 6 ∷ []) }
+{}
+
+/// What a pending instance is still owed by the positions from one on, where its window is from 3 to 6.
+pub fn residuals()
+    ensures eventually_at_the_end { Owes (then_at 6 (event_p ∷ [])) (soon_p 0 2) 1 }
+    ensures eventually_too_late { Owes (then_at 7 (event_p ∷ [])) (soon_p 0 2) 1 → ⊥ }
+    ensures eventually_behind { Owes (then_at 6 (event_p ∷ [])) (soon_p 0 2) 2 → ⊥ }
+    ensures always_at_the_end { Owes (then_at 6 (event_p ∷ [])) (always_p 0 2) 1 }
+    ensures always_broken { Owes (then_at 6 []) (always_p 0 2) 1 → ⊥ }
+    ensures always_is_over { Owes (then_at 7 []) (always_p 0 2) 1 }
+    ensures until_at_once { Owes (then_at 3 (event_p ∷ event_q ∷ [])) (no_q_until_p 0 2) 1 }
+    ensures until_never { Owes (then_at 4 []) (no_q_until_p 0 2) 1 → ⊥ }
+    ensures next_at_the_end { Owes (then_at 6 (event_p ∷ [])) (next_p 0) 1 }
+    ensures next_too_late { Owes (then_at 7 (event_p ∷ [])) (next_p 0) 1 → ⊥ }
+    ensures next_needs_a_position { Owes (then_at 6 (event_p ∷ [])) (next_p 0) 2 → ⊥ }
+{}
+
+/// What is pending behind a trace.
+pub fn pending()
+    ensures nothing_at_first { Pends [] (soon_p 0 0) [] }
+    ensures begun { Pends (at_5 []) (soon_p 0 0) (begun_at_5 0 5 15 ∷ []) }
+    ensures met { Pends (at_5 (event_p ∷ [])) (soon_p 0 0) [] }
+{}
