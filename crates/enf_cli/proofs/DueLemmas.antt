@@ -15,7 +15,6 @@ use Rattle.enforce_types.specs.declared.refusals.TypeRefusal.TheVariants as type
 use Rattle.formula_reader.specs.Reading.{IsTextAnswer}
 use Rattle.formula_reader.specs.Resolution.{Rule}
 use Rattle.formula_reader.specs.declared.policies.PolicyRefusal.{PolicyRefusal as PolicyTextRefusal}
-use Rattle.formula_reader.specs.declared.policies.PolicyRefusal.TheVariants as read
 use Rattle.log_stream.specs.Judgement.{IsAnswer}
 use Rattle.log_stream.specs.LogLaws.{BeginsWith-append, Refuses-append, Spells-append}
 use Rattle.log_stream.specs.Logs.{BeginsWith, HasRecord, IsLog, IsPending, Refuses as RefusesText, Spells, behind_blanks, record_bytes, record_length}
@@ -28,7 +27,6 @@ use Rattle.signature.specs.Laws.{OneAnswer, same_answer}
 use Rattle.signature.specs.Refusals.{IsAnswer as IsSignatureAnswer}
 use Rattle.signature.specs.declared.entries.NameEntry.{NameEntry}
 use Rattle.signature.specs.declared.refusals.SignatureRefusal.{SignatureRefusal as TextRefusal}
-use Rattle.signature.specs.declared.refusals.SignatureRefusal.TheVariants as answers
 use Rattle.trace_meaning.specs.Records.{NeverFall, clock_after, time_of}
 use Rattle.enf_cli.specs.Accepted.{UpToDate, record_of, records_of}
 use Rattle.enf_cli.specs.Calls.{Call, LeavesFiles, LeavesGate}
@@ -166,9 +164,7 @@ module _ (one : OneAnswer) (one_text : OneTextAnswer) (accepted : AcceptedIsNotR
 
   signature_not_refused : (why : SignatureRefusal) (bytes : List ℕ) (entries : List NameEntry) → SpellsSignature bytes entries → IsRefusedSignature why bytes → ⊥
   signature_not_refused signatures.TooLong bytes entries is refused = omega (arith, is.short, refused)
-  signature_not_refused (signatures.Syntax place) bytes entries is refused = spelled_not_refused bytes entries (answers.Syntax place) is refused.1
-  signature_not_refused (signatures.Repeated name place) bytes entries is refused = spelled_not_refused bytes entries (answers.Repeated refused.2 place) is refused.3
-  signature_not_refused (signatures.Limit place) bytes entries is refused = spelled_not_refused bytes entries (answers.Limit refused.1 place) is refused.2
+  signature_not_refused (signatures.Text why name) bytes entries is refused = spelled_not_refused bytes entries why is refused.1
 
   -- nor has one that spells an accepted policy, by its reading or by its typing
   read_not_refused : (entries : List NameEntry) (bytes : List ℕ) (policy : List Rule) (refusal : PolicyTextRefusal) → SpellsPolicy entries bytes policy → IsTextAnswer entries bytes (Err refusal) → ⊥
@@ -183,18 +179,13 @@ module _ (one : OneAnswer) (one_text : OneTextAnswer) (accepted : AcceptedIsNotR
 
   policy_not_refused : (entries : List NameEntry) (why : PolicyRefusal) (bytes : List ℕ) (policy : List Rule) → SpellsPolicy entries bytes policy → IsRefusedPolicy entries why bytes → ⊥
   policy_not_refused entries policies.TooLong bytes policy is refused = omega (arith, is.reads.short, refused)
-  policy_not_refused entries (policies.Syntax place) bytes policy is refused = read_not_refused entries bytes policy (read.Syntax place) is refused.answer
-  policy_not_refused entries (policies.UnknownName place) bytes policy is refused = read_not_refused entries bytes policy (read.UnknownName place) is refused.answer
-  policy_not_refused entries (policies.Arity place) bytes policy is refused = read_not_refused entries bytes policy (read.Arity place) is refused.answer
-  policy_not_refused entries (policies.Sort place) bytes policy is refused = read_not_refused entries bytes policy (read.SortClash place) is refused.answer
-  policy_not_refused entries (policies.FreeVariable place) bytes policy is refused = read_not_refused entries bytes policy (read.FreeVariable place) is refused.answer
-  policy_not_refused entries (policies.Rebound place) bytes policy is refused = read_not_refused entries bytes policy (read.Rebound place) is refused.answer
-  policy_not_refused entries (policies.Limit place) bytes policy is refused = read_not_refused entries bytes policy (read.Limit place) is refused.answer
-  policy_not_refused entries (policies.Unguarded place) bytes policy is refused = let none = typed_not_refused entries bytes policy (types.Unguarded place) is refused in absurd cc
-  policy_not_refused entries (policies.NotEnforceable place) bytes policy is refused = let none = typed_not_refused entries bytes policy (types.NotEnforceable place) is refused in absurd cc
-  policy_not_refused entries (policies.RoleClash name) bytes policy is refused = let none = typed_not_refused entries bytes policy (types.RoleClash refused.0) is refused.2 in absurd cc
-  policy_not_refused entries (policies.Untriggered place) bytes policy is refused = let none = typed_not_refused entries bytes policy (types.Untriggered place) is refused in absurd cc
-  policy_not_refused entries (policies.Cyclic name) bytes policy is refused = let none = typed_not_refused entries bytes policy (types.Cyclic refused.0) is refused.2 in absurd cc
+  policy_not_refused entries (policies.Text why) bytes policy is refused = read_not_refused entries bytes policy why is refused.answer
+  policy_not_refused entries (policies.Typing (types.Unguarded place) name) bytes policy is refused = let none = typed_not_refused entries bytes policy (types.Unguarded place) is refused.0 in absurd cc
+  policy_not_refused entries (policies.Typing (types.NotEnforceable place) name) bytes policy is refused = let none = typed_not_refused entries bytes policy (types.NotEnforceable place) is refused.0 in absurd cc
+  policy_not_refused entries (policies.Typing (types.RoleClash number) name) bytes policy is refused = let none = typed_not_refused entries bytes policy (types.RoleClash number) is refused.0 in absurd cc
+  policy_not_refused entries (policies.Typing (types.Untriggered place) name) bytes policy is refused = let none = typed_not_refused entries bytes policy (types.Untriggered place) is refused.0 in absurd cc
+  policy_not_refused entries (policies.Typing (types.Cyclic number) name) bytes policy is refused = let none = typed_not_refused entries bytes policy (types.Cyclic number) is refused.0 in absurd cc
+  policy_not_refused entries (policies.Typing types.NoMemory name) bytes policy is refused = absurd refused
 
   module _ {Gate : Type 0} (call : Call Gate) (entries : List NameEntry) (t : AsksSignature NamesFiles call entries) where
     -- files have no other signature under the name

@@ -1,18 +1,17 @@
 -- The files that the words name: what they hold, what is refused of it, and reads of them that give nothing.
-use Rattle.std.specs.Prelude.{◌≡◌, ℕ, ◌+◌, ◌<◌, ◌≤◌, List, length, drop, take_while, Option, None, Some, IfSome, Err}
+use Rattle.std.specs.Prelude.{◌≡◌, ℕ, ◌+◌, ◌<◌, ◌≤◌, List, [], length, drop, take_while, Option, None, Some, IfSome, Err}
 use Rattle.enf_io.specs.Contents.{Contents, Missing, Holds}
 use Rattle.enf_io.specs.FileCalls.{FileView, ReadsFile}
 use Rattle.enf_io.specs.declared.devices.IoRefusal.{IoRefusal}
 use Rattle.enf_io.specs.declared.devices.IoRefusal.TheVariants.{Failed, NoMemory}
-use Rattle.enf_value.specs.declared.events.NameId.{NameId}
+use Rattle.enforce_types.specs.declared.refusals.TypeRefusal.{TypeRefusal}
 use Rattle.enforce_types.specs.declared.refusals.TypeRefusal.TheVariants as types
 use Rattle.formula_reader.specs.Canonical.{name_text}
 use Rattle.formula_reader.specs.Resolution.{Rule}
-use Rattle.formula_reader.specs.declared.policies.PolicyRefusal.TheVariants as read
 use Rattle.signature.specs.Refusals.{IsAnswer}
 use Rattle.enf_value.specs.Names.{is_word_byte}
 use Rattle.signature.specs.declared.entries.NameEntry.{NameEntry}
-use Rattle.signature.specs.declared.refusals.SignatureLimit.{SignatureLimit}
+use Rattle.signature.specs.declared.refusals.SignatureRefusal.{SignatureRefusal as TextRefusal}
 use Rattle.signature.specs.declared.refusals.SignatureRefusal.TheVariants as answers
 use Rattle.enf_value.specs.declared.limits.TheConstants.{MOST_FILE_BYTES}
 use Rattle.enf_cli.specs.Policies.{ReadsRefused, SpellsPolicy, SpellsRefused}
@@ -50,35 +49,30 @@ pub record HoldsPolicy (told : Option (List ℕ → Contents)) (name : List ℕ)
 abbrev pub word_from : ℕ → List ℕ → List ℕ
 word_from place bytes = take_while is_word_byte (drop place bytes)
 
--- the bytes are no more than a file may have, and their first refusal is one at a place, with the name that it is about
+-- the name that a refusal of a signature has with it: that which is repeated at its place
+abbrev pub repeated_name : TextRefusal → List ℕ → List ℕ
+repeated_name (answers.Repeated number place) bytes = word_from place bytes
+repeated_name why bytes = []
+
+-- the bytes are more than a file may have, or this is their first refusal
 abbrev pub IsRefusedSignature : SignatureRefusal → List ℕ → Type 0
 IsRefusedSignature signatures.TooLong bytes = MOST_FILE_BYTES < length bytes
-IsRefusedSignature (signatures.Syntax place) bytes =
-    (length bytes ≤ MOST_FILE_BYTES) × IsAnswer bytes (Err (answers.Syntax place))
-IsRefusedSignature (signatures.Repeated name place) bytes =
-    (length bytes ≤ MOST_FILE_BYTES) × (name.items ≡ word_from place bytes)
-    × (number : NameId) × IsAnswer bytes (Err (answers.Repeated number place))
-IsRefusedSignature (signatures.Limit place) bytes =
-    (length bytes ≤ MOST_FILE_BYTES) × (which : SignatureLimit) × IsAnswer bytes (Err (answers.Limit which place))
+IsRefusedSignature (signatures.Text why name) bytes =
+    (length bytes ≤ MOST_FILE_BYTES) × IsAnswer bytes (Err why) × (name.items ≡ repeated_name why bytes)
 
--- the bytes are more than a file may have, or their first refusal is one at a place or of a name
+-- the name that a refusal of the typing is about
+abbrev pub refused_name : List NameEntry → TypeRefusal → List ℕ
+refused_name entries (types.RoleClash number) = name_text entries number
+refused_name entries (types.Cyclic number) = name_text entries number
+refused_name entries why = []
+
+-- the bytes are more than a file may have, or this is their first refusal, by the reading or else by the typing
 abbrev pub IsRefusedPolicy : List NameEntry → PolicyRefusal → List ℕ → Type 0
 IsRefusedPolicy entries policies.TooLong bytes = MOST_FILE_BYTES < length bytes
-IsRefusedPolicy entries (policies.Syntax place) bytes = ReadsRefused entries bytes (read.Syntax place)
-IsRefusedPolicy entries (policies.UnknownName place) bytes = ReadsRefused entries bytes (read.UnknownName place)
-IsRefusedPolicy entries (policies.Arity place) bytes = ReadsRefused entries bytes (read.Arity place)
-IsRefusedPolicy entries (policies.Sort place) bytes = ReadsRefused entries bytes (read.SortClash place)
-IsRefusedPolicy entries (policies.FreeVariable place) bytes = ReadsRefused entries bytes (read.FreeVariable place)
-IsRefusedPolicy entries (policies.Rebound place) bytes = ReadsRefused entries bytes (read.Rebound place)
-IsRefusedPolicy entries (policies.Limit place) bytes = ReadsRefused entries bytes (read.Limit place)
-IsRefusedPolicy entries (policies.Unguarded place) bytes = SpellsRefused entries bytes (types.Unguarded place)
-IsRefusedPolicy entries (policies.NotEnforceable place) bytes =
-    SpellsRefused entries bytes (types.NotEnforceable place)
-IsRefusedPolicy entries (policies.RoleClash name) bytes = (number : NameId)
-    × (name.items ≡ name_text entries number) × SpellsRefused entries bytes (types.RoleClash number)
-IsRefusedPolicy entries (policies.Untriggered place) bytes = SpellsRefused entries bytes (types.Untriggered place)
-IsRefusedPolicy entries (policies.Cyclic name) bytes = (number : NameId)
-    × (name.items ≡ name_text entries number) × SpellsRefused entries bytes (types.Cyclic number)
+IsRefusedPolicy entries (policies.Text why) bytes = ReadsRefused entries bytes why
+IsRefusedPolicy entries (policies.Typing types.NoMemory name) bytes = ⊥
+IsRefusedPolicy entries (policies.Typing why name) bytes =
+    SpellsRefused entries bytes why × (name.items ≡ refused_name entries why)
 
 -- the file holds what is refused so as a signature
 pub record HoldsRefusedSignature (told : Option (List ℕ → Contents)) (name : List ℕ)

@@ -1,5 +1,11 @@
 -- Refusals: their lines on the report, and their statuses.
 use Rattle.std.specs.Prelude.{ℕ, List, ◌++◌, codes, decimal}
+use Rattle.enforce_types.specs.declared.refusals.TypeRefusal.{TypeRefusal}
+use Rattle.enforce_types.specs.declared.refusals.TypeRefusal.TheVariants as types
+use Rattle.formula_reader.specs.declared.policies.PolicyRefusal.{PolicyRefusal as ReadRefusal}
+use Rattle.formula_reader.specs.declared.policies.PolicyRefusal.TheVariants as read
+use Rattle.signature.specs.declared.refusals.SignatureRefusal.{SignatureRefusal as TextRefusal}
+use Rattle.signature.specs.declared.refusals.SignatureRefusal.TheVariants as answers
 use Rattle.enf_cli.specs.declared.refusals.PolicyRefusal.{PolicyRefusal}
 use Rattle.enf_cli.specs.declared.refusals.PolicyRefusal.TheVariants as policies
 use Rattle.enf_cli.specs.declared.refusals.RecordRefusal.{RecordRefusal}
@@ -16,31 +22,46 @@ usage_line =
     codes "usage: enf enforce SIG POLICY [--resume FILE] [--save FILE] | check SIG POLICY"
     ++ codes " | audit SIG POLICY | gen START N | drill START N\n"
 
+-- the last line on the report where memory ran out
+abbrev pub no_memory_line : List ℕ
+no_memory_line = codes "no memory\n"
+
+-- what is said of a refusal of a signature's text, which has this name with it
+abbrev pub text_of_signature : TextRefusal → List ℕ → List ℕ
+text_of_signature (answers.Syntax place) name = codes "signature: syntax at " ++ decimal place ++ codes "\n"
+text_of_signature (answers.Repeated number place) name =
+    codes "signature: repeated " ++ name ++ codes " at " ++ decimal place ++ codes "\n"
+text_of_signature (answers.Limit which place) name = codes "signature: limit at " ++ decimal place ++ codes "\n"
+text_of_signature answers.NoMemory name = no_memory_line
+
 abbrev pub text_of_signature_refusal : SignatureRefusal → List ℕ
 text_of_signature_refusal signatures.TooLong = codes "signature: too long\n"
-text_of_signature_refusal (signatures.Syntax place) = codes "signature: syntax at " ++ decimal place ++ codes "\n"
-text_of_signature_refusal (signatures.Repeated name place) =
-    codes "signature: repeated " ++ name.items ++ codes " at " ++ decimal place ++ codes "\n"
-text_of_signature_refusal (signatures.Limit place) = codes "signature: limit at " ++ decimal place ++ codes "\n"
+text_of_signature_refusal (signatures.Text why name) = text_of_signature why name.items
+
+-- what is said of a refusal of a policy's text
+abbrev pub text_of_reading : ReadRefusal → List ℕ
+text_of_reading (read.Syntax place) = codes "policy: syntax at " ++ decimal place ++ codes "\n"
+text_of_reading (read.UnknownName place) = codes "policy: unknown name at " ++ decimal place ++ codes "\n"
+text_of_reading (read.Arity place) = codes "policy: arity at " ++ decimal place ++ codes "\n"
+text_of_reading (read.SortClash place) = codes "policy: sort at " ++ decimal place ++ codes "\n"
+text_of_reading (read.FreeVariable place) = codes "policy: free variable at " ++ decimal place ++ codes "\n"
+text_of_reading (read.Rebound place) = codes "policy: rebound at " ++ decimal place ++ codes "\n"
+text_of_reading (read.Limit place) = codes "policy: limit at " ++ decimal place ++ codes "\n"
+text_of_reading read.NoMemory = no_memory_line
+
+-- what is said of a refusal of the typing, which is about this name
+abbrev pub text_of_typing : TypeRefusal → List ℕ → List ℕ
+text_of_typing (types.Unguarded place) name = codes "policy: unguarded at " ++ decimal place ++ codes "\n"
+text_of_typing (types.NotEnforceable place) name = codes "policy: not enforceable at " ++ decimal place ++ codes "\n"
+text_of_typing (types.RoleClash number) name = codes "policy: role clash " ++ name ++ codes "\n"
+text_of_typing (types.Untriggered place) name = codes "policy: untriggered at " ++ decimal place ++ codes "\n"
+text_of_typing (types.Cyclic number) name = codes "policy: cyclic " ++ name ++ codes "\n"
+text_of_typing types.NoMemory name = no_memory_line
 
 abbrev pub text_of_policy_refusal : PolicyRefusal → List ℕ
 text_of_policy_refusal policies.TooLong = codes "policy: too long\n"
-text_of_policy_refusal (policies.Syntax place) = codes "policy: syntax at " ++ decimal place ++ codes "\n"
-text_of_policy_refusal (policies.UnknownName place) =
-    codes "policy: unknown name at " ++ decimal place ++ codes "\n"
-text_of_policy_refusal (policies.Arity place) = codes "policy: arity at " ++ decimal place ++ codes "\n"
-text_of_policy_refusal (policies.Sort place) = codes "policy: sort at " ++ decimal place ++ codes "\n"
-text_of_policy_refusal (policies.FreeVariable place) =
-    codes "policy: free variable at " ++ decimal place ++ codes "\n"
-text_of_policy_refusal (policies.Rebound place) = codes "policy: rebound at " ++ decimal place ++ codes "\n"
-text_of_policy_refusal (policies.Limit place) = codes "policy: limit at " ++ decimal place ++ codes "\n"
-text_of_policy_refusal (policies.Unguarded place) = codes "policy: unguarded at " ++ decimal place ++ codes "\n"
-text_of_policy_refusal (policies.NotEnforceable place) =
-    codes "policy: not enforceable at " ++ decimal place ++ codes "\n"
-text_of_policy_refusal (policies.RoleClash name) = codes "policy: role clash " ++ name.items ++ codes "\n"
-text_of_policy_refusal (policies.Untriggered place) =
-    codes "policy: untriggered at " ++ decimal place ++ codes "\n"
-text_of_policy_refusal (policies.Cyclic name) = codes "policy: cyclic " ++ name.items ++ codes "\n"
+text_of_policy_refusal (policies.Text why) = text_of_reading why
+text_of_policy_refusal (policies.Typing why name) = text_of_typing why name.items
 
 -- what is said of a record
 abbrev pub text_of_record_refusal : RecordRefusal → List ℕ
@@ -64,10 +85,6 @@ text_of_refusal refusals.NotBuilt = codes "policy: not built\n"
 text_of_refusal (refusals.Record number why) =
     codes "record " ++ decimal number ++ codes ": " ++ text_of_record_refusal why ++ codes "\n"
 text_of_refusal refusals.ReadFault = codes "read fault\n"
-
--- the last line on the report where memory ran out
-abbrev pub no_memory_line : List ℕ
-no_memory_line = codes "no memory\n"
 
 abbrev pub status_of : Refusal → Status
 status_of refusals.Words = statuses.Words

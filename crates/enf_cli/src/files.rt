@@ -1,6 +1,8 @@
 //! The signature and the policy, as the files give them.
 ghost use Rattle.std.specs.Prelude.{◌≡◌, ◌≤◌, Err, IfOk, IfErr, List, MatchOption, OnOk, Some, ℕ, length};
-ghost use Rattle.enf_cli.specs.Files.{EndsFile, HoldsPolicy, HoldsRefusedPolicy, HoldsRefusedSignature, HoldsSignature, IsLong, IsNotRead, IsRefusedPolicy, IsRefusedSignature, IsShort, word_from};
+ghost use Rattle.enf_cli.specs.Files.{EndsFile, HoldsPolicy, HoldsRefusedPolicy, HoldsRefusedSignature};
+ghost use Rattle.enf_cli.specs.Files.{HoldsSignature, IsLong, IsNotRead, IsRefusedPolicy, IsRefusedSignature, IsShort};
+ghost use Rattle.enf_cli.specs.Files.{word_from};
 ghost use Rattle.enf_cli.specs.Policies.{SpellsRefused, formulas};
 ghost use Rattle.enforce_types.specs.Accepted.{IsTyped};
 ghost use Rattle.enforce_types.specs.Typed.{typed_of};
@@ -75,69 +77,56 @@ pub fn read_policy<F: Files>(
     }
 }
 
-// What a refusal of the signature's text says, with the name that stands at its place.
+// What is said of a refusal of the signature's text, with the name that stands at its place if that is repeated.
 fn refusal_of(
     alloc: Global,
     bytes: &[u8],
-    refusal: signature::SignatureRefusal,
+    why: signature::SignatureRefusal,
 ) -> Result<SignatureRefusal, NoMemory>
     requires short { length bytes.now ≤ MOST_FILE_BYTES }
-    requires answer { GivesAnswer bytes.now (Err refusal) }
-    ensures { IfOk result (λ why. IsRefusedSignature why bytes.now) }
+    requires answer { GivesAnswer bytes.now (Err why) }
+    ensures { IfOk result (λ refusal. IsRefusedSignature refusal bytes.now) }
 {
-    match refusal {
-        signature::SignatureRefusal::Syntax { place } => Ok(SignatureRefusal::Syntax { place }),
-        signature::SignatureRefusal::Repeated { place, .. } => Ok(SignatureRefusal::Repeated {
-            name: word_at(alloc, bytes, place)?,
-            place,
-        }),
-        signature::SignatureRefusal::Limit { place, .. } => Ok(SignatureRefusal::Limit { place }),
-        signature::SignatureRefusal::NoMemory => Err(NoMemory),
-    }
+    let name = match why {
+        signature::SignatureRefusal::NoMemory => return Err(NoMemory),
+        signature::SignatureRefusal::Repeated { place, .. } => word_at(alloc, bytes, place)?,
+        signature::SignatureRefusal::Syntax { .. } | signature::SignatureRefusal::Limit { .. } => {
+            Vec::new(alloc)
+        }
+    };
+    Ok(SignatureRefusal::Text { why, name })
 }
 
-// What a refusal of the reader of policies says.
-fn policy_refusal_of(refusal: formula_reader::PolicyRefusal) -> Result<PolicyRefusal, NoMemory>
-    ensures { IfOk result (λ why. (entries : List NameEntry) (bytes : List ℕ) → length bytes ≤ MOST_FILE_BYTES
-        → GivesTextAnswer entries bytes (Err refusal) → IsRefusedPolicy entries why bytes) }
+// What is said of a refusal of the reader of policies.
+fn policy_refusal_of(why: formula_reader::PolicyRefusal) -> Result<PolicyRefusal, NoMemory>
+    ensures { IfOk result (λ refusal. (entries : List NameEntry) (bytes : List ℕ) → length bytes ≤ MOST_FILE_BYTES
+        → GivesTextAnswer entries bytes (Err why) → IsRefusedPolicy entries refusal bytes) }
 {
-    match refusal {
-        formula_reader::PolicyRefusal::Syntax { place } => Ok(PolicyRefusal::Syntax { place }),
-        formula_reader::PolicyRefusal::UnknownName { place } => {
-            Ok(PolicyRefusal::UnknownName { place })
-        }
-        formula_reader::PolicyRefusal::Arity { place } => Ok(PolicyRefusal::Arity { place }),
-        formula_reader::PolicyRefusal::SortClash { place } => Ok(PolicyRefusal::Sort { place }),
-        formula_reader::PolicyRefusal::FreeVariable { place } => {
-            Ok(PolicyRefusal::FreeVariable { place })
-        }
-        formula_reader::PolicyRefusal::Rebound { place } => Ok(PolicyRefusal::Rebound { place }),
-        formula_reader::PolicyRefusal::Limit { place } => Ok(PolicyRefusal::Limit { place }),
+    match why {
         formula_reader::PolicyRefusal::NoMemory => Err(NoMemory),
+        _ => Ok(PolicyRefusal::Text(why)),
     }
 }
 
-// What a refusal of the typing says, with the text of the name that it is about.
+// What is said of a refusal of the typing, with the text of the name that it is about.
 fn type_refusal_of(
     alloc: Global,
     signature: &Signature,
-    refusal: TypeRefusal,
+    why: TypeRefusal,
 ) -> Result<PolicyRefusal, NoMemory>
-    ensures { IfOk result (λ why. (bytes : List ℕ) → SpellsRefused signature.now bytes refusal
-        → IsRefusedPolicy signature.now why bytes) }
+    ensures { IfOk result (λ refusal. (bytes : List ℕ) → SpellsRefused signature.now bytes why
+        → IsRefusedPolicy signature.now refusal bytes) }
 {
-    match refusal {
-        TypeRefusal::Unguarded { place } => Ok(PolicyRefusal::Unguarded { place }),
-        TypeRefusal::NotEnforceable { place } => Ok(PolicyRefusal::NotEnforceable { place }),
-        TypeRefusal::RoleClash { name } => Ok(PolicyRefusal::RoleClash {
-            name: Vec::from_slice(alloc, text_of_name(signature, name))?,
-        }),
-        TypeRefusal::Untriggered { place } => Ok(PolicyRefusal::Untriggered { place }),
-        TypeRefusal::Cyclic { name } => Ok(PolicyRefusal::Cyclic {
-            name: Vec::from_slice(alloc, text_of_name(signature, name))?,
-        }),
-        TypeRefusal::NoMemory => Err(NoMemory),
-    }
+    let name = match why {
+        TypeRefusal::NoMemory => return Err(NoMemory),
+        TypeRefusal::RoleClash { name } | TypeRefusal::Cyclic { name } => {
+            Vec::from_slice(alloc, text_of_name(signature, name))?
+        }
+        TypeRefusal::Unguarded { .. }
+        | TypeRefusal::NotEnforceable { .. }
+        | TypeRefusal::Untriggered { .. } => Vec::new(alloc),
+    };
+    Ok(PolicyRefusal::Typing { why, name })
 }
 
 /// The text of a name; nothing, where there is no such name.

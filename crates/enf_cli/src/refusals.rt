@@ -1,6 +1,19 @@
-//! Why a run is refused, and the status that it ends with.
-ghost use Rattle.std.specs.Prelude.{◌≡◌};
-ghost use Rattle.enf_cli.specs.Refusals.{code_of, status_of};
+//! Why a run is refused, the line that says so on the report, and the status that the run ends with. A refusal of a library
+//! is kept as the library gives it. No line takes memory.
+ghost use Rattle.std.specs.Prelude.{◌≡◌, ◌++◌, codes, decimal};
+ghost use Rattle.enf_cli.specs.Refusals.{code_of, status_of, text_of_policy_refusal, text_of_reading, text_of_refusal};
+ghost use Rattle.enf_cli.specs.Refusals.{text_of_signature, text_of_signature_refusal, text_of_typing};
+ghost use Rattle.enf_cli.specs.declared.refusals.Refusal.TheVariants as refusal;
+ghost use Rattle.enf_cli.specs.Reports.{WritesText};
+
+use crate::endings::Cut;
+use crate::reporting::{write_at, write_pieces};
+use enf_io::devices::Sink;
+use enforce_types::TypeRefusal;
+use itoa::Buffer;
+
+const USAGE: &[u8] =
+    b"usage: enf enforce SIG POLICY [--resume FILE] [--save FILE] | check SIG POLICY | audit SIG POLICY | gen START N | drill START N\n";
 
 /// How a run ended: 0 done, 1 the words match no form, 2 the signature or the policy is refused,
 /// 3 a record is refused, 4 a read fault, 5 a write fault, 6 no memory.
@@ -24,34 +37,123 @@ impl Status {
     }
 }
 
-/// Why the signature is refused. A place is a byte offset, counted from 0.
+/// Why the signature is refused.
 #[derive(Debug, Drop)]
 pub enum SignatureRefusal {
     TooLong,
-    Syntax { place: u32 },
-    /// The name is declared for the second time.
-    Repeated { name: Vec<u8>, place: u32 },
-    Limit { place: u32 },
+    /// By its reader; with the name that is repeated, or none.
+    Text {
+        why: signature::SignatureRefusal,
+        name: Vec<u8>,
+    },
 }
 
-/// Why the policy is refused. A place is a byte offset, counted from 0.
+impl SignatureRefusal {
+    fn write<R: Sink>(&self, report: &mut R) -> Result<(), Cut>
+        ensures { WritesText (text_of_signature_refusal self.now) result
+            (R.seen report.old) (R.seen report.new) }
+    {
+        match self {
+            SignatureRefusal::TooLong => write_pieces(&[b"signature: too long\n"], report),
+            SignatureRefusal::Text { why, name } => write_signature(*why, name, report),
+        }
+    }
+}
+
+fn write_signature<R: Sink>(
+    why: signature::SignatureRefusal,
+    name: &[u8],
+    report: &mut R,
+) -> Result<(), Cut>
+    ensures { WritesText (text_of_signature why name.now) result (R.seen report.old) (R.seen report.new) }
+{
+    match why {
+        signature::SignatureRefusal::Syntax { place } => {
+            write_at(b"signature: syntax at ", place, report)
+        }
+        signature::SignatureRefusal::Repeated { place, .. } => {
+            let mut digits = Buffer::new();
+            let at = digits.format(place).as_bytes();
+            write_pieces(&[b"signature: repeated ", name, b" at ", at, b"\n"], report)
+        }
+        signature::SignatureRefusal::Limit { place, .. } => {
+            write_at(b"signature: limit at ", place, report)
+        }
+        signature::SignatureRefusal::NoMemory => write_pieces(&[b"no memory\n"], report),
+    }
+}
+
+/// Why the policy is refused.
 #[derive(Debug, Drop)]
 pub enum PolicyRefusal {
     TooLong,
-    Syntax { place: u32 },
-    UnknownName { place: u32 },
-    Arity { place: u32 },
-    Sort { place: u32 },
-    FreeVariable { place: u32 },
-    Rebound { place: u32 },
-    Limit { place: u32 },
-    Unguarded { place: u32 },
-    NotEnforceable { place: u32 },
-    /// Events of the name are caused and suppressed.
-    RoleClash { name: Vec<u8> },
-    Untriggered { place: u32 },
-    /// Each event of the name may cause the next.
-    Cyclic { name: Vec<u8> },
+    /// By its reader.
+    Text(formula_reader::PolicyRefusal),
+    /// By its typing; with the text of the name that it is about, or none.
+    Typing { why: TypeRefusal, name: Vec<u8> },
+}
+
+impl PolicyRefusal {
+    fn write<R: Sink>(&self, report: &mut R) -> Result<(), Cut>
+        ensures { WritesText (text_of_policy_refusal self.now) result
+            (R.seen report.old) (R.seen report.new) }
+    {
+        match self {
+            PolicyRefusal::TooLong => write_pieces(&[b"policy: too long\n"], report),
+            PolicyRefusal::Text(why) => write_reading(*why, report),
+            PolicyRefusal::Typing { why, name } => write_typing(*why, name, report),
+        }
+    }
+}
+
+fn write_reading<R: Sink>(why: formula_reader::PolicyRefusal, report: &mut R) -> Result<(), Cut>
+    ensures { WritesText (text_of_reading why) result (R.seen report.old) (R.seen report.new) }
+{
+    match why {
+        formula_reader::PolicyRefusal::Syntax { place } => {
+            write_at(b"policy: syntax at ", place, report)
+        }
+        formula_reader::PolicyRefusal::UnknownName { place } => {
+            write_at(b"policy: unknown name at ", place, report)
+        }
+        formula_reader::PolicyRefusal::Arity { place } => write_at(
+            b"policy: arity at ",
+            place,
+            report,
+        ),
+        formula_reader::PolicyRefusal::SortClash { place } => {
+            write_at(b"policy: sort at ", place, report)
+        }
+        formula_reader::PolicyRefusal::FreeVariable { place } => {
+            write_at(b"policy: free variable at ", place, report)
+        }
+        formula_reader::PolicyRefusal::Rebound { place } => {
+            write_at(b"policy: rebound at ", place, report)
+        }
+        formula_reader::PolicyRefusal::Limit { place } => write_at(
+            b"policy: limit at ",
+            place,
+            report,
+        ),
+        formula_reader::PolicyRefusal::NoMemory => write_pieces(&[b"no memory\n"], report),
+    }
+}
+
+fn write_typing<R: Sink>(why: TypeRefusal, name: &[u8], report: &mut R) -> Result<(), Cut>
+    ensures { WritesText (text_of_typing why name.now) result (R.seen report.old) (R.seen report.new) }
+{
+    match why {
+        TypeRefusal::Unguarded { place } => write_at(b"policy: unguarded at ", place, report),
+        TypeRefusal::NotEnforceable { place } => {
+            write_at(b"policy: not enforceable at ", place, report)
+        }
+        TypeRefusal::RoleClash { .. } => {
+            write_pieces(&[b"policy: role clash ", name, b"\n"], report)
+        }
+        TypeRefusal::Untriggered { place } => write_at(b"policy: untriggered at ", place, report),
+        TypeRefusal::Cyclic { .. } => write_pieces(&[b"policy: cyclic ", name, b"\n"], report),
+        TypeRefusal::NoMemory => write_pieces(&[b"no memory\n"], report),
+    }
 }
 
 /// Why a record is refused. A place is a byte offset within the record, counted from 0.
@@ -69,6 +171,76 @@ pub enum RecordRefusal {
     InputLimit,
 }
 
+fn write_record_refusal<R: Sink>(number: u64, why: RecordRefusal, report: &mut R) -> Result<(), Cut>
+    ensures { WritesText (text_of_refusal (refusal.Record number why)) result
+        (R.seen report.old) (R.seen report.new) }
+{
+    match why {
+        RecordRefusal::Bad { place } => write_record(number, b"bad at ", place, report),
+        RecordRefusal::UnknownName { place } => {
+            write_record(number, b"unknown name at ", place, report)
+        }
+        RecordRefusal::Arity { place } => write_record(number, b"arity at ", place, report),
+        RecordRefusal::Sort { place } => write_record(number, b"sort at ", place, report),
+        RecordRefusal::TooLong => write_whole_record(number, b"too long", report),
+        RecordRefusal::TimeTooLarge => write_whole_record(number, b"time too large", report),
+        RecordRefusal::Truncated => write_whole_record(number, b"truncated", report),
+        RecordRefusal::Falling { given, clock } => write_falling(number, given, clock, report),
+        RecordRefusal::InputLimit => write_whole_record(number, b"input limit", report),
+    }
+}
+
+// What is said of a record as a whole.
+fn write_whole_record<R: Sink>(number: u64, what: &[u8], report: &mut R) -> Result<(), Cut>
+    ensures { WritesText
+        (codes "record " ++ decimal number ++ codes ": " ++ what.now ++ codes "\n") result
+        (R.seen report.old) (R.seen report.new) }
+{
+    let mut digits = Buffer::new();
+    let number = digits.format(number).as_bytes();
+    write_pieces(&[b"record ", number, b": ", what, b"\n"], report)
+}
+
+// What is said of a place in a record.
+fn write_record<R: Sink>(number: u64, what: &[u8], place: u32, report: &mut R) -> Result<(), Cut>
+    ensures { WritesText
+        (codes "record " ++ decimal number ++ codes ": " ++ (what.now ++ decimal place) ++ codes "\n")
+        result (R.seen report.old) (R.seen report.new) }
+{
+    let mut digits = Buffer::new();
+    let number = digits.format(number).as_bytes();
+    let mut place_digits = Buffer::new();
+    let place = place_digits.format(place).as_bytes();
+    write_pieces(&[b"record ", number, b": ", what, place, b"\n"], report)
+}
+
+// What is said of a record whose time is below the clock.
+fn write_falling<R: Sink>(number: u64, given: u64, clock: u64, report: &mut R) -> Result<(), Cut>
+    ensures { WritesText
+        (codes "record " ++ decimal number ++ codes ": "
+        ++ (codes "time " ++ decimal given ++ codes " is below " ++ decimal clock) ++ codes "\n")
+        result (R.seen report.old) (R.seen report.new) }
+{
+    let mut number_digits = Buffer::new();
+    let number = number_digits.format(number).as_bytes();
+    let mut given_digits = Buffer::new();
+    let given = given_digits.format(given).as_bytes();
+    let mut clock_digits = Buffer::new();
+    let clock = clock_digits.format(clock).as_bytes();
+    write_pieces(
+        &[
+            b"record ",
+            number,
+            b": time ",
+            given,
+            b" is below ",
+            clock,
+            b"\n",
+        ],
+        report,
+    )
+}
+
 /// What the last line on the report says.
 #[derive(Debug, Drop)]
 pub enum Refusal {
@@ -83,6 +255,21 @@ pub enum Refusal {
 }
 
 impl Refusal {
+    /// Adds the line that says so to the report.
+    pub fn write<R: Sink>(&self, report: &mut R) -> Result<(), Cut>
+        ensures { WritesText (text_of_refusal self.now) result
+            (R.seen report.old) (R.seen report.new) }
+    {
+        match self {
+            Refusal::Words => write_pieces(&[USAGE], report),
+            Refusal::Signature(why) => why.write(report),
+            Refusal::Policy(why) => why.write(report),
+            Refusal::NotBuilt => write_pieces(&[b"policy: not built\n"], report),
+            Refusal::Record { number, why } => write_record_refusal(*number, *why, report),
+            Refusal::ReadFault => write_pieces(&[b"read fault\n"], report),
+        }
+    }
+
     /// The status that the refusal ends with.
     pub fn status(&self) -> Status
         ensures { result ≡ status_of self.now }

@@ -1,5 +1,5 @@
 //! The examples: these are the bytes of the files in examples/.
-use super::calm::{SIGNATURE, enforced};
+use super::calm::{SIGNATURE, checked, enforced};
 use crate::refusals::Status;
 use std::test::Fail;
 
@@ -8,6 +8,39 @@ const ACCESS_SIGNATURE: &[u8] =
 
 const ACCESS_POLICY: &[u8] =
     b"rule raise: forall user. denied(user) -> alarm();\nrule shut: forall door. forced(door) -> lock();\n";
+
+const DATA_SIGNATURE: &[u8] = b"consent(text);
+request(text);
+use(text) -;
+delete(text) +;
+lock(text);
+unlock(text) +;
+notice(text) +;
+";
+
+const DATA_POLICY: &[u8] = b"# A person's data is used with consent alone.
+rule consent: forall person. use(person) -> once[0,*] consent(person);
+# A request is answered by a deletion within 30 days.
+rule erase: forall person. request(person) -> eventually[0,30] delete(person);
+# Locked data is not used until it is unlocked, within 10 days.
+rule hold: forall person. lock(person) -> (not use(person)) until[0,10] unlock(person);
+";
+
+const DATA_CHECKED: &[u8] =
+    b"rule consent: forall person. (use(person) -> (once[0,*] consent(person)));
+rule erase: forall person. (request(person) -> (eventually[0,30] delete(person)));
+rule hold: forall person. (lock(person) -> ((not use(person)) until[0,10] unlock(person)));
+transparent yes
+horizon 270
+suppress use
+cause delete
+cause unlock
+";
+
+const REMINDER_POLICY: &[u8] =
+    b"# A notice is followed by another one within a week, and so on for ever.
+rule remind: forall person. notice(person) -> eventually[1,7] notice(person);
+";
 
 #[test]
 fn the_examples_are_enforced(rt: HostRuntime) -> Result<(), Fail> {
@@ -42,6 +75,31 @@ fn the_examples_are_enforced(rt: HostRuntime) -> Result<(), Fail> {
         ),
     ] {
         let outcome = enforced(alloc, signature, policy, log, Vec::new(alloc))?;
+        outcome.assert_is(&rt, name, status, output, report);
+    }
+    Ok(())
+}
+
+#[test]
+fn the_examples_are_checked(rt: HostRuntime) -> Result<(), Fail> {
+    let alloc = rt.alloc();
+    for (name, policy, status, output, report) in [
+        (
+            "data",
+            DATA_POLICY,
+            Status::Done,
+            DATA_CHECKED,
+            b"".as_slice(),
+        ),
+        (
+            "reminder",
+            REMINDER_POLICY,
+            Status::Files,
+            b"",
+            b"policy: cyclic notice\n",
+        ),
+    ] {
+        let outcome = checked(alloc, DATA_SIGNATURE, policy)?;
         outcome.assert_is(&rt, name, status, output, report);
     }
     Ok(())

@@ -3,7 +3,7 @@ use Rattle.enf_cli.specs.Refusals.{text_of_refusal}
 use Rattle.enf_cli.specs.Reports.{WritesText}
 use Rattle.enf_cli.specs.declared.refusals.RecordRefusal.{RecordRefusal}
 use Rattle.enf_cli.specs.declared.refusals.Refusal.TheVariants.{Record}
-use Rattle.enf_cli.proofs.reporting.write_record_refusal.Goals as goal
+use Rattle.enf_cli.proofs.refusals.write_record_refusal.Goals as goal
 
 pub returns-in-UnknownName : goal.returns-in-UnknownName
 returns-in-UnknownName g c =
