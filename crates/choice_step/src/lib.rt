@@ -1,5 +1,5 @@
 //! Which events are added and taken out at a step, so that nothing is missing there. It stands on `obligations`,
-//! `plan_terms`, `valuations`, `trace_meaning`, `enf_formula` and `enf_value`.
+//! `plan_terms`, `monitorable_guard`, `valuations`, `trace_meaning`, `enf_formula` and `enf_value`.
 #![tactic(auto)]
 
 pub mod actions;

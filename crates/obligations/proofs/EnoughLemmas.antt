@@ -470,7 +470,7 @@ module _ (past : PastDecides) (rows_are_one : RowsAreOne) (missing_is_one : Miss
           let owed' = subst (AllByRecursion Owed) {y = i ∷ inside.1.0} inside.1.2 owed in
           always_later node place low high body i (owed_of (Always node place low high body) i found owed'.0)
           (λ within. body_holds body back named inside.1.0 (always_misses body within misses) inside.1.1 owed'.1))
-          (λ over. λ j left. let upper = left.in_window.1 in let late = over.0 in let order = ordered j left.from_there left.is_there in absurd (omega (arith, upper, late, order, same_time)))
+          (λ over. λ j left. let upper = left.in_window.1 in let late = over.1 in let order = ordered j left.from_there left.is_there in absurd (omega (arith, upper, late, order, same_time)))
           rest)
           becomes
 

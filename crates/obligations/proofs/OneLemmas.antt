@@ -1,6 +1,6 @@
 -- A plan misses one list of literals at most, and begins one list of instances.
-use Rattle.std.proofs.Common.{◌≡◌, ℕ, zero, suc, Bool, true, false, List, [], ◌∷◌, ◌++◌, Option, None, Some, length, refl, sym, ap, subst, arith, ⊎_elim, ◌⊎◌, ◌∙◌}
-use Rattle.enf_value.specs.Valuations.{Valuation, values_of, with_values}
+use Rattle.std.proofs.Common.{◌≡◌, ℕ, zero, suc, Bool, true, false, List, [], ◌∷◌, ◌++◌, Option, None, Some, length, refl, sym, ap, subst, arith, ⊎_elim, ◌⊎◌, ◌∙◌, take}
+use Rattle.enf_value.specs.Valuations.{Valuation, no_values, values_of, with_values}
 use Rattle.enf_value.specs.declared.events.Event.{Event}
 use Rattle.enf_value.specs.declared.events.NameId.{NameId}
 use Rattle.enf_value.specs.declared.steps.Step.{Step}
@@ -9,7 +9,12 @@ use Rattle.plan_terms.specs.Plans.{Plan, Cause, Suppress, Both, Either, TestOr, 
 use Rattle.plan_terms.specs.Plans.{Until, Next}
 use Rattle.obligations.specs.Missing.{Missing, MissingIsOne, HasSome, LiteralUnless, MissesEither, MissesUntil, MissesAlways, OfEvent}
 use Rattle.obligations.specs.Missing.{IsAbsent, IsPresent, cause, suppress}
+use Rattle.obligations.specs.Begun.{Begun, BeginsAlways, BeginsOrWaits, LacksNothing, LacksSome, Takes, TakesPresent, Where}
+use Rattle.obligations.specs.Begun.{WithBehind, begun_now, has_future}
+use Rattle.obligations.specs.Pending.{After, AfterIsOne, AtNode, BecomesAt, BegunByRoots, BegunIsOne, IsNowIn}
+use Rattle.obligations.specs.Pending.{MissesAt, MissingOfIsOne, PendIsOne, PendsBehind, node_of}
 use Rattle.obligations.specs.Rows.{Gathers, RowsAreOne}
+use Rattle.obligations.specs.declared.instances.Instance.{Instance}
 use Rattle.obligations.specs.declared.literals.Literal.{Literal}
 
 -- at most one list has the property
@@ -83,3 +88,152 @@ module _ (rows_are_one : RowsAreOne) where
   missing_is_one trace (Always node place low high body) v ks ls first second = always_is_one low (Missing trace body v) (missing_is_one trace body v) ks ls first second
   missing_is_one trace (Until node place low high left right) v ks ls first second = until_is_one low (Missing trace left v) (Missing trace right v) (missing_is_one trace left v) (missing_is_one trace right v) ks ls first second
   missing_is_one trace (Next node place high body) v ks ls first second = first ∙ sym second
+
+-- ---- what is begun, and what becomes of it
+
+-- a choice between two, of which not both can be
+choice_is_one : {X : Type 0} (P Q : Type 0) (A B : List X → Type 0) → (P → Q → ⊥) → IsOne A → IsOne B
+    → IsOne (λ xs. (P × A xs) ⊎ (Q × B xs))
+choice_is_one P Q A B apart a b xs ys first second =
+    ⊎_elim
+    (λ p. ⊎_elim (λ q. a xs ys p.1 q.1) (λ q. absurd (apart p.0 q.0)) second)
+    (λ p. ⊎_elim (λ q. absurd (apart q.0 p.0)) (λ q. b xs ys p.1 q.1) second)
+    first
+
+same_is_one : {X : Type 0} (zs : List X) → IsOne (λ xs. xs ≡ zs)
+same_is_one zs xs ys first second = first ∙ sym second
+
+where_one : {X : Type 0} (ahead : Bool) (A B : List X → Type 0) → IsOne A → IsOne B → IsOne (λ xs. Where ahead (A xs) (B xs))
+where_one true A B a b xs ys first second = a xs ys first second
+where_one false A B a b xs ys first second = b xs ys first second
+
+behind_is_one : (i : Instance) (P : List Instance → Type 0) → IsOne P → IsOne (WithBehind i P)
+behind_is_one i P one xs ys (a, pa, ea) (b, pb, eb) = ea ∙ (ap (λ l. i ∷ l) (one a b pa pb) ∙ sym eb)
+
+module _ (rows_are_one : RowsAreOne) where
+  apart : (trace : List Step) (plan : Plan) (v : Valuation) → LacksNothing trace plan v → LacksSome trace plan v → ⊥
+  apart trace plan v = nothing_or_some (Missing trace plan v) (missing_is_one rows_are_one trace plan v)
+
+  takes_one : (trace : List Step) (side : Plan) (v : Valuation) (A B : List Instance → Type 0) → IsOne A → IsOne B
+      → IsOne (λ xs. Takes trace side v (A xs) (B xs))
+  takes_one trace side v A B a b =
+      choice_is_one (LacksNothing trace side v) (LacksSome trace side v) A B (apart trace side v) a b
+
+  waits_one : (trace : List Step) (low : ℕ) (body : Plan) (v : Valuation) (A B : List Instance → Type 0) → IsOne A
+      → IsOne B → IsOne (λ xs. BeginsOrWaits trace low body v (A xs) (B xs))
+  waits_one trace zero body v A B a b xs ys first second = takes_one trace body v A B a b xs ys first second
+  waits_one trace (suc low) body v A B a b xs ys first second = b xs ys first second
+
+  always_one : (low : ℕ) (i : Instance) (A : List Instance → Type 0) → IsOne A → IsOne (BeginsAlways low i A)
+  always_one zero i A a xs ys first second = behind_is_one i A a xs ys first second
+  always_one (suc low) i A a xs ys first second = first ∙ sym second
+
+  either_one : (trace : List Step) (left right : Plan) (v : Valuation) (L R : List Instance → Type 0) → IsOne L → IsOne R
+      → IsOne (λ xs. TakesPresent trace right v (R xs) (TakesPresent trace left v (L xs) (Takes trace right v (R xs) (Takes trace left v (L xs) (xs ≡ [])))))
+  either_one trace left right v L R l r =
+      let last = takes_one trace left v L (λ xs. xs ≡ []) l (same_is_one []) in
+      let third = takes_one trace right v R (λ xs. Takes trace left v (L xs) (xs ≡ [])) r last in
+      let second = where_one (has_future left) (λ xs. Takes trace right v (R xs) (Takes trace left v (L xs) (xs ≡ []))) (λ xs. Takes trace left v (L xs) (Takes trace right v (R xs) (Takes trace left v (L xs) (xs ≡ [])))) third (takes_one trace left v L (λ xs. Takes trace right v (R xs) (Takes trace left v (L xs) (xs ≡ []))) l third) in
+      where_one (has_future right) (λ xs. TakesPresent trace left v (L xs) (Takes trace right v (R xs) (Takes trace left v (L xs) (xs ≡ [])))) (λ xs. Takes trace right v (R xs) (TakesPresent trace left v (L xs) (Takes trace right v (R xs) (Takes trace left v (L xs) (xs ≡ []))))) second (takes_one trace right v R (λ xs. TakesPresent trace left v (L xs) (Takes trace right v (R xs) (Takes trace left v (L xs) (xs ≡ [])))) r second)
+
+  joined_one : (a more b others xs ys : List Instance) → a ≡ b → more ≡ others → xs ≡ a ++ more → ys ≡ b ++ others → xs ≡ ys
+  joined_one a more b others xs ys same rest ea eb =
+      ea ∙ (ap (λ l. l ++ more) same ∙ (ap (λ l. b ++ l) rest ∙ sym eb))
+
+  pub begun_is_one : BegunIsOne
+  begun_is_one trace rule (Cause node place name terms) v xs ys first second = first ∙ sym second
+  begun_is_one trace rule (Suppress node place name terms) v xs ys first second = first ∙ sym second
+  begun_is_one trace rule (Both node left right) v xs ys (a, more, pa, pm, ea) (b, others, pb, po, eb) =
+      joined_one a more b others xs ys (begun_is_one trace rule left v a b pa pb) (begun_is_one trace rule right v more others pm po) ea eb
+  begun_is_one trace rule (Either node left right) v xs ys first second =
+      either_one trace left right v (Begun trace rule left v) (Begun trace rule right v) (begun_is_one trace rule left v) (begun_is_one trace rule right v) xs ys first second
+  begun_is_one trace rule (TestOr node guard test body) v xs ys first second =
+      ⊎_elim
+      (λ a. ⊎_elim (λ b. a.1 ∙ sym b.1) (λ b. absurd (b.0 a.0)) second)
+      (λ a. ⊎_elim (λ b. absurd (a.0 b.0)) (λ b. begun_is_one trace rule body v xs ys a.1 b.1) second)
+      first
+  begun_is_one trace rule (Guarded node vars guard test body) v xs ys (rows, are, first) (others, too, second) =
+      let same : others ≡ rows = rows_are_one trace v vars test others rows too are in
+      gathers_one (λ row. Begun trace rule body (with_values vars row v)) (λ row. begun_is_one trace rule body (with_values vars row v)) rows xs ys first
+      (subst (λ r. Gathers (λ row. Begun trace rule body (with_values vars row v)) r ys) same second)
+  begun_is_one trace rule (Eventually node place low high body) v xs ys first second =
+      waits_one trace low body v (Begun trace rule body v) (λ zs. zs ≡ begun_now trace rule node low high v ∷ []) (begun_is_one trace rule body v) (same_is_one (begun_now trace rule node low high v ∷ [])) xs ys first second
+  begun_is_one trace rule (Always node place low high body) v xs ys first second =
+      always_one low (begun_now trace rule node low high v) (Begun trace rule body v) (begun_is_one trace rule body v) xs ys first second
+  begun_is_one trace rule (Until node place low high left right) v xs ys first second =
+      waits_one trace low right v (Begun trace rule right v) (WithBehind (begun_now trace rule node low high v) (Begun trace rule left v)) (begun_is_one trace rule right v) (behind_is_one (begun_now trace rule node low high v) (Begun trace rule left v) (begun_is_one trace rule left v)) xs ys first second
+  begun_is_one trace rule (Next node place high body) v xs ys first second = first ∙ sym second
+
+  in_window_one : {X : Type 0} (trace : List Step) (plan : Plan) (i : Instance) (A B : List X → Type 0) → IsOne A → IsOne B
+      → IsOne (λ xs. (IsNowIn trace i × LacksNothing trace plan i.valuation × A xs) ⊎ ((IsNowIn trace i → LacksSome trace plan i.valuation) × B xs))
+  in_window_one trace plan i A B a b xs ys first second =
+      ⊎_elim
+      (λ p. ⊎_elim (λ q. a xs ys p.2 q.2) (λ q. absurd (apart trace plan i.valuation p.1 (q.0 p.0))) second)
+      (λ p. ⊎_elim (λ q. absurd (apart trace plan i.valuation q.1 (p.0 q.0))) (λ q. b xs ys p.1 q.1) second)
+      first
+
+  misses_one : (trace : List Step) (node : Plan) (i : Instance) (forced : Bool) → IsOne (MissesAt trace node i forced)
+  misses_one trace (Eventually node place low high body) i forced xs ys first second =
+      where_one forced (Missing trace body i.valuation) (λ zs. zs ≡ []) (missing_is_one rows_are_one trace body i.valuation) (same_is_one []) xs ys first second
+  misses_one trace (Next node place high body) i forced xs ys first second = missing_is_one rows_are_one trace body i.valuation xs ys first second
+  misses_one trace (Always node place low high body) i forced xs ys first second =
+      choice_is_one (IsNowIn trace i) (IsNowIn trace i → ⊥) (Missing trace body i.valuation) (λ zs. zs ≡ []) (λ inside outside. outside inside) (missing_is_one rows_are_one trace body i.valuation) (same_is_one []) xs ys first second
+  misses_one trace (Until node place low high left right) i forced xs ys first second =
+      in_window_one trace right i (λ zs. zs ≡ []) (λ zs. Where forced (Missing trace right i.valuation zs) (Missing trace left i.valuation zs)) (same_is_one []) (where_one forced (Missing trace right i.valuation) (Missing trace left i.valuation) (missing_is_one rows_are_one trace right i.valuation) (missing_is_one rows_are_one trace left i.valuation)) xs ys first second
+  misses_one trace (Cause node place name terms) i forced xs ys first second = absurd first
+  misses_one trace (Suppress node place name terms) i forced xs ys first second = absurd first
+  misses_one trace (Both node left right) i forced xs ys first second = absurd first
+  misses_one trace (Either node left right) i forced xs ys first second = absurd first
+  misses_one trace (TestOr node guard test body) i forced xs ys first second = absurd first
+  misses_one trace (Guarded node vars guard test body) i forced xs ys first second = absurd first
+
+  becomes_one : (trace : List Step) (node : Plan) (i : Instance) → IsOne (BecomesAt trace node i)
+  becomes_one trace (Eventually node place low high body) i xs ys first second =
+      in_window_one trace body i (Begun trace i.rule body i.valuation) (λ zs. zs ≡ i ∷ []) (begun_is_one trace i.rule body i.valuation) (same_is_one (i ∷ [])) xs ys first second
+  becomes_one trace (Next node place high body) i xs ys first second = begun_is_one trace i.rule body i.valuation xs ys first second
+  becomes_one trace (Always node place low high body) i xs ys first second =
+      ⊎_elim
+      (λ p. ⊎_elim (λ q. p.1 ∙ sym q.1) (λ q. ⊎_elim (λ r. let early = p.0 in let within = r.0.0 in absurd (omega (arith, early, within))) (λ r. let early = p.0 in let within = r.0 in absurd (omega (arith, early, within))) q) second)
+      (λ o. ⊎_elim
+      (λ p. ⊎_elim (λ q. let early = q.0 in let within = p.0.0 in absurd (omega (arith, early, within))) (λ q. ⊎_elim (λ r. behind_is_one i (Begun trace i.rule body i.valuation) (begun_is_one trace i.rule body i.valuation) xs ys p.1 r.1) (λ r. let late = r.1 in let within = p.0.1 in absurd (omega (arith, late, within))) q) second)
+      (λ p. ⊎_elim (λ q. let early = q.0 in let within = p.0 in absurd (omega (arith, early, within))) (λ q. ⊎_elim (λ r. let late = p.1 in let within = r.0.1 in absurd (omega (arith, late, within))) (λ r. p.2 ∙ sym r.2) q) second)
+      o)
+      first
+  becomes_one trace (Until node place low high left right) i xs ys first second =
+      in_window_one trace right i (Begun trace i.rule right i.valuation) (WithBehind i (Begun trace i.rule left i.valuation)) (begun_is_one trace i.rule right i.valuation) (behind_is_one i (Begun trace i.rule left i.valuation) (begun_is_one trace i.rule left i.valuation)) xs ys first second
+  becomes_one trace (Cause node place name terms) i xs ys first second = absurd first
+  becomes_one trace (Suppress node place name terms) i xs ys first second = absurd first
+  becomes_one trace (Both node left right) i xs ys first second = absurd first
+  becomes_one trace (Either node left right) i xs ys first second = absurd first
+  becomes_one trace (TestOr node guard test body) i xs ys first second = absurd first
+  becomes_one trace (Guarded node vars guard test body) i xs ys first second = absurd first
+
+  at_node_one : {X : Type 0} (P : Plan → List X → Type 0) → ((node : Plan) → IsOne (P node)) → (found : Option Plan)
+      → IsOne (λ xs. AtNode found (λ node. P node xs))
+  at_node_one P one None xs ys first second = absurd first
+  at_node_one P one (Some node) xs ys first second = one node xs ys first second
+
+  pub missing_of_is_one : MissingOfIsOne
+  missing_of_is_one plans trace i forced xs ys first second =
+      at_node_one (λ node. MissesAt trace node i forced) (λ node. misses_one trace node i forced) (node_of plans i) xs ys first second
+
+  pub after_is_one : AfterIsOne
+  after_is_one plans trace i xs ys first second =
+      at_node_one (λ node. BecomesAt trace node i) (λ node. becomes_one trace node i) (node_of plans i) xs ys first second
+
+  roots_one : (trace : List Step) (rule : ℕ) (plans : List Plan) → IsOne (BegunByRoots trace rule plans)
+  roots_one trace rule [] xs ys first second = first ∙ sym second
+  roots_one trace rule (plan ∷ plans) xs ys (a, more, pa, pm, ea) (b, others, pb, po, eb) =
+      joined_one a more b others xs ys (begun_is_one trace rule plan no_values a b pa pb) (roots_one trace (suc rule) plans more others pm po) ea eb
+
+  pends_one : (plans : List Plan) (trace : List Step) (steps : ℕ) → IsOne (PendsBehind plans trace steps)
+  pends_one plans trace zero xs ys first second = first ∙ sym second
+  pends_one plans trace (suc steps) xs ys (before, pend, (kept, begun, goes, begins, are)) (before', pend', (kept', begun', goes', begins', are')) =
+      let same : before' ≡ before = pends_one plans trace steps before' before pend' pend in
+      let goes_too = subst (λ l. Gathers (After plans (take (suc steps) trace)) l kept') same goes' in
+      joined_one kept begun kept' begun' xs ys
+      (gathers_one (After plans (take (suc steps) trace)) (λ i. after_is_one plans (take (suc steps) trace) i) before kept kept' goes goes_too)
+      (roots_one (take (suc steps) trace) 0 plans begun begun' begins begins') are are'
+
+  pub pend_is_one : PendIsOne
+  pend_is_one plans trace xs ys first second = pends_one plans trace (length trace) xs ys first second

@@ -53,7 +53,7 @@ BecomesAt trace (Next node place high body) i after = Begun trace i.rule body i.
 BecomesAt trace (Always node place low high body) i after =
     ((time_now trace < i.low) × (after ≡ i ∷ []))
     ⊎ (IsNowIn trace i × WithBehind i (Begun trace i.rule body i.valuation) after)
-    ⊎ ((i.high < time_now trace) × (after ≡ []))
+    ⊎ ((i.low ≤ time_now trace) × (i.high < time_now trace) × (after ≡ []))
 BecomesAt trace (Until node place low high left right) i after =
     BeginsInWindow trace right i (Begun trace i.rule right i.valuation after)
     (WithBehind i (Begun trace i.rule left i.valuation) after)
@@ -149,3 +149,21 @@ pub record IsReady (plans : List Plan) (trace : List Step) (clock : ℕ) : Type 
   pub pend : Pend plans trace pending
   pub in_time : NoneIsOver plans pending clock
   pub not_later : last_time trace ≤ clock
+
+-- of each plan, instance and trace there is one answer at most
+abbrev pub BegunIsOne : Type 0
+BegunIsOne = (trace : List Step) (rule : ℕ) (plan : Plan) (v : Valuation) (begun others : List Instance)
+    → Begun trace rule plan v begun → Begun trace rule plan v others → begun ≡ others
+
+abbrev pub MissingOfIsOne : Type 0
+MissingOfIsOne = (plans : List Plan) (trace : List Step) (i : Instance) (forced : Bool)
+    (literals others : List Literal) → MissingOf plans trace i forced literals
+    → MissingOf plans trace i forced others → literals ≡ others
+
+abbrev pub AfterIsOne : Type 0
+AfterIsOne = (plans : List Plan) (trace : List Step) (i : Instance) (after others : List Instance)
+    → After plans trace i after → After plans trace i others → after ≡ others
+
+abbrev pub PendIsOne : Type 0
+PendIsOne = (plans : List Plan) (trace : List Step) (pending others : List Instance)
+    → Pend plans trace pending → Pend plans trace others → pending ≡ others

@@ -1,6 +1,7 @@
 //! Laws of what plans miss and begin, each the contract of a function that does nothing.
 ghost use Rattle.obligations.specs.Enough.{NothingMissedIsEnough, NothingMissedIsEnoughPending, SomethingMissedIsLost};
 ghost use Rattle.obligations.specs.Missing.{MissingIsOne};
+ghost use Rattle.obligations.specs.Pending.{AfterIsOne, BegunIsOne, MissingOfIsOne, PendIsOne};
 ghost use Rattle.obligations.specs.Rows.{RowsAreOne};
 
 use enf_formula::laws;
@@ -11,7 +12,15 @@ pub fn missing_is_one()
     ensures missing { MissingIsOne }
 {}
 
-/// Where nothing is missing, what is begun or becomes of what was pending is all that is still owed.
+/// What is begun, what an instance misses and becomes, and what is pending behind a trace, is one list at most.
+pub fn pending_is_one()
+    ensures begun { BegunIsOne }
+    ensures missing { MissingOfIsOne }
+    ensures after { AfterIsOne }
+    ensures pending { PendIsOne }
+{}
+
+/// Where nothing is missing, it is enough that later positions meet what is begun, and what becomes of what was pending.
 pub fn nothing_missed_is_enough()
     ensures begun { NothingMissedIsEnough }
     ensures pending { NothingMissedIsEnoughPending }
@@ -19,7 +28,7 @@ pub fn nothing_missed_is_enough()
     laws::dependence();
 }
 
-/// Where a plan misses something, it is lost: no longer trace satisfies it there.
+/// Where a plan that is begun misses something, no longer trace satisfies it there.
 pub fn something_missed_is_lost()
     ensures { SomethingMissedIsLost }
 {

@@ -1,5 +1,5 @@
-//! What plans owe at a step of a trace, and what they leave pending. It stands on `plan_terms`, `valuations`,
-//! `trace_meaning`, `enf_formula` and `enf_value`.
+//! What plans owe at a step of a trace, and what they leave pending. It stands on `plan_terms`,
+//! `monitorable_guard`, `valuations`, `trace_meaning`, `enf_formula` and `enf_value`.
 #![tactic(auto)]
 
 pub mod instances;
