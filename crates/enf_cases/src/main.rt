@@ -3,6 +3,7 @@
 //! An input writes `\n`, `\r`, `\t`, `\\` and `\xNN` for bytes that a line cannot hold.
 #![tactic(auto)]
 
+mod beginnings;
 mod case;
 mod escapes;
 mod evaluations;
