@@ -77,3 +77,25 @@ GoesFor records out = Follows (p_in_time ∷ []) [] records out
 -- and where all is served behind the step at time 0
 abbrev pub Drains : List ActedStep → Type 0
 Drains out = FollowsDrain (p_in_time ∷ []) (empty_at_0.step ∷ []) out
+
+-- the same, under a second rule by which q() is to be there
+abbrev pub ChoosesDueAndRoot : (actions : List Action) → (after : List Event) → Type 0
+ChoosesDueAndRoot actions after = Decides (p_in_time ∷ Cause 0 0 name_q [] ∷ [])
+    (record { time = 0; events = [] } ∷ []) (due_at_5 ∷ []) true 5 [] actions after
+
+abbrev pub for_second_root : Action
+for_second_root = record {
+  kind = kind.Cause;
+  event = event_q;
+  time = 5;
+  position = 1;
+  rule = 1;
+  node = 0;
+  leaf = 0;
+  origin = 1;
+  valuation = no_values;
+}
+
+-- the step that serves the deadline, a unit late
+abbrev pub served_at_6 : ActedStep
+served_at_6 = record { kind = Inserted; step = record { time = 6; events = event_p ∷ [] }; actions = for_due ∷ [] }

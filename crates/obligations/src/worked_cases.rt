@@ -1,7 +1,8 @@
 //! Worked cases of the definitions, each a clause of a function with an empty body.
 ghost use Rattle.std.specs.Prelude.{◌≡◌, [], ◌∷◌, true, false};
 ghost use Rattle.enf_value.specs.Valuations.{no_values};
-ghost use Rattle.enf_formula.specs.Cases.{event_p, event_q};
+ghost use Rattle.enf_formula.specs.Cases.{at_time, event_p, event_q};
+ghost use Rattle.obligations.specs.Begun.{Begun};
 ghost use Rattle.obligations.specs.Cases.{at_5, always_p, bar_q, cause_p, each_q, fails, holds, next_p};
 ghost use Rattle.obligations.specs.Cases.{no_q_until_p, q_of_1, q_of_2, soon_p, two_and_one, waiting, Begins};
 ghost use Rattle.obligations.specs.Cases.{begun_at_5, then_at, Misses, Becomes, Owes, Pends};
@@ -66,6 +67,22 @@ pub fn begun()
     ensures test_fails { Begins (at_5 []) (plan.TestOr 0 0 fails (soon_p 1 0)) (begun_at_5 1 5 15 ∷ []) }
 {}
 
+/// In which order instances are begun, by which rule, and where.
+pub fn begun_in_order()
+    ensures both { Begins (at_5 []) (plan.Both 0 (next_p 1) (next_p 3))
+        (begun_at_5 1 5 15 ∷ begun_at_5 3 5 15 ∷ []) }
+    ensures both_not_turned { Begins (at_5 []) (plan.Both 0 (next_p 1) (next_p 3))
+        (begun_at_5 3 5 15 ∷ begun_at_5 1 5 15 ∷ []) → ⊥ }
+    ensures always_before_its_body { Begins (at_5 []) (plan.Always 0 0 0 10 (next_p 1))
+        (begun_at_5 0 5 15 ∷ begun_at_5 1 5 15 ∷ []) }
+    ensures always_not_behind_it { Begins (at_5 []) (plan.Always 0 0 0 10 (next_p 1))
+        (begun_at_5 1 5 15 ∷ begun_at_5 0 5 15 ∷ []) → ⊥ }
+    ensures until_before_its_left_side { Begins (at_5 []) (plan.Until 0 0 0 10 (next_p 1) (cause_p 3))
+        (begun_at_5 0 5 15 ∷ begun_at_5 1 5 15 ∷ []) }
+    ensures under_its_rule_at_its_position { Begun (then_at 4 []) 1 (next_p 0) no_values
+        (record { rule = 1; node = 0; valuation = no_values; origin = 1; low = 4; high = 14 } ∷ []) }
+{}
+
 /// Which side of an alternative is begun.
 pub fn begun_sides()
     ensures present_right { Begins (at_5 (event_p ∷ [])) (plan.Either 0 (next_p 1) (cause_p 3)) [] }
@@ -94,6 +111,11 @@ pub fn pending_misses()
         (suppress event_q 1 ∷ []) }
     ensures until_left { Misses (then_at 4 (event_q ∷ [])) (no_q_until_p 0 2) false (suppress event_q 1 ∷ []) }
     ensures until_forced { Misses (then_at 6 []) (no_q_until_p 0 2) true (cause event_p 2 ∷ []) }
+    ensures until_forced_right_alone { Misses (then_at 6 (event_q ∷ [])) (no_q_until_p 0 2) true
+        (cause event_p 2 ∷ []) }
+    ensures until_forced_not_both { Misses (then_at 6 (event_q ∷ [])) (no_q_until_p 0 2) true
+        (suppress event_q 1 ∷ cause event_p 2 ∷ []) → ⊥ }
+    ensures next_there { Misses (then_at 2 (event_p ∷ [])) (next_p 0) false [] }
     ensures until_not_forced { Misses (then_at 6 []) (no_q_until_p 0 2) false [] }
 {}
 
@@ -133,5 +155,7 @@ pub fn residuals()
 pub fn pending()
     ensures nothing_at_first { Pends [] (soon_p 0 0) [] }
     ensures begun { Pends (at_5 []) (soon_p 0 0) (begun_at_5 0 5 15 ∷ []) }
+    ensures kept_before_begun { Pends (at_time 1 [] ∷ at_5 []) (soon_p 0 0)
+        (waiting 0 1 11 ∷ record { rule = 0; node = 0; valuation = no_values; origin = 1; low = 5; high = 15 } ∷ []) }
     ensures met { Pends (at_5 (event_p ∷ [])) (soon_p 0 0) [] }
 {}

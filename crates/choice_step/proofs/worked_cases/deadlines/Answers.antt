@@ -75,3 +75,15 @@ returns-clause-drained c =
 
 pub returns-clause-not_later : goal.returns-clause-not_later
 returns-clause-not_later c late = let at = at_5 late.instance 6 late.there late.is in omega (arith, at)
+
+pub returns-clause-nothing_left_out : goal.returns-clause-nothing_left_out
+returns-clause-nothing_left_out c (pending, pend, none) =
+    let same : pending ≡ due_at_5 ∷ [] = c.pending_is_one.ensures.pending (p_in_time ∷ []) (empty_at_0.step ∷ []) pending (due_at_5 ∷ []) pend due in
+    none due_at_5 5 (subst (λ l. Contains l due_at_5) (sym same) (0, lit< tt, refl)) (refl, refl) tt
+
+pub returns-clause-not_a_unit_late : goal.returns-clause-not_a_unit_late
+returns-clause-not_a_unit_late c (deadline, (pending, pend, least), passed, served, more) =
+    let same : pending ≡ due_at_5 ∷ [] = c.pending_is_one.ensures.pending (p_in_time ∷ []) (empty_at_0.step ∷ []) pending (due_at_5 ∷ []) pend due in
+    let at = at_5 least.instance deadline (subst (λ l. Contains l least.instance) same least.there) least.is in
+    let time : 6 ≡ deadline = served.time_is in
+    omega (arith, at, time)

@@ -11,3 +11,6 @@ returns-clause-until_forced c = inr ((λ inside. (cause event_p 2, [], search ru
 
 pub returns-clause-until_not_forced : goal.returns-clause-until_not_forced
 returns-clause-until_not_forced c = inr ((λ inside. (cause event_p 2, [], search rules)), search rules)
+
+pub returns-clause-until_forced_right_alone : goal.returns-clause-until_forced_right_alone
+returns-clause-until_forced_right_alone c = inr ((λ inside. (cause event_p 2, [], search rules)), search rules)
