@@ -7,7 +7,7 @@ use Rattle.enf_value.specs.declared.steps.Step.{Step}
 use Rattle.enf_value.specs.Membership.{HasNoRepeats}
 use Rattle.enf_value.specs.declared.events.Event.{Event}
 use Rattle.enf_value.specs.declared.events.NameId.{NameId}
-use Rattle.trace_meaning.specs.Lawful.{Leads, Lawful, Answers, AnswersAll, IsInsertedLawfully, IsLaterThan}
+use Rattle.trace_meaning.specs.Lawful.{Leads, Lawful, IsChangedTo, AreChangedTo, IsInsertedLawfully, IsLaterThan}
 use Rattle.enforcer_core.specs.Reactions.{ReactAll, Decides, caused}
 use Rattle.trace_meaning.specs.OutSteps.{OutStep, Cause, event_of, onto_system, system_steps}
 use Rattle.trace_meaning.specs.Records.{StepRecord}
@@ -58,10 +58,10 @@ Decides-Lawful causable suppressible rules before out may d =
     let leads : Leads causable suppressible out.changes before.events out.step.events =
     subst (λ cs. Leads causable suppressible cs before.events out.step.events) (sym d.changes)
     (subst (λ (s : Step). Leads causable suppressible (map Cause d.added) before.events s.events) (sym d.step) (added_lawfully causable suppressible rules before.events d.added (recursion_from_All _ rules may) d.reacted)) in
-    let answers : Answers causable suppressible before out = record { same_time = ap (λ s. s.time) d.step; changed = leads } in
+    let changed : IsChangedTo causable suppressible before out = record { same_time = ap (λ s. s.time) d.step; changed = leads } in
     let system : system_steps (out ∷ []) ≡ out ∷ [] = ap (λ k. onto_system k out []) d.kind in
     record {
-      answered = subst (AnswersAll causable suppressible (before ∷ [])) (sym system) (answers, tt);
+      changed = subst (AreChangedTo causable suppressible (before ∷ [])) (sym system) (changed, tt);
       inserted = All-cons (λ o. IsInsertedLawfully causable suppressible o o.kind) out [] (subst (IsInsertedLawfully causable suppressible out) (sym d.kind) tt) (All-nil (λ (o : OutStep). IsInsertedLawfully causable suppressible o o.kind));
       once = All-cons (λ (o : OutStep). HasNoRepeats (map event_of o.changes)) out [] (subst (λ cs. HasNoRepeats (map event_of cs)) (sym d.changes) (subst HasNoRepeats (sym (events_of_causes d.added)) (added_once rules before.events d.added d.reacted))) (All-nil (λ (o : OutStep). HasNoRepeats (map event_of o.changes)));
       in_order = (All-nil (λ p. IsLaterThan out.kind p.kind out.step.time p.step.time), tt);

@@ -6,7 +6,7 @@ use Rattle.enf_value.specs.Membership.{HasNoRepeats}
 use Rattle.enf_value.specs.declared.events.NameId.{NameId}
 use Rattle.enf_value.specs.declared.steps.Step.{Step}
 use Rattle.trace_meaning.specs.Laws.{OrderOfAny, WithinJoins, LawfulJoins}
-use Rattle.trace_meaning.specs.Lawful.{AnswersAll, AreInOrder, IsInsertedLawfully, IsLaterThan}
+use Rattle.trace_meaning.specs.Lawful.{AreChangedTo, AreInOrder, IsInsertedLawfully, IsLaterThan}
 use Rattle.trace_meaning.specs.OutSteps.{OutStep, IsUntil, event_of, onto_system, system_steps}
 use Rattle.trace_meaning.specs.Records.{recorded}
 use Rattle.trace_meaning.specs.declared.kinds.StepKind.{StepKind}
@@ -33,11 +33,11 @@ in_order_join c (o ∷ out) more until from a b = (
   in_order_join c out more (All-tail (λ o. IsUntil c o.kind o.step.time) o out until) from a.1 b,
 )
 
-answers_join : (causable suppressible : NameId → Bool) (xs ys : List Step) (os ps : List OutStep) → AnswersAll causable suppressible xs os → AnswersAll causable suppressible ys ps → AnswersAll causable suppressible (xs ++ ys) (os ++ ps)
-answers_join causable suppressible [] ys [] ps a b = b
-answers_join causable suppressible [] ys (o ∷ os) ps a b = absurd a
-answers_join causable suppressible (x ∷ xs) ys [] ps a b = absurd a
-answers_join causable suppressible (x ∷ xs) ys (o ∷ os) ps a b = (a.0, answers_join causable suppressible xs ys os ps a.1 b)
+changed_join : (causable suppressible : NameId → Bool) (xs ys : List Step) (os ps : List OutStep) → AreChangedTo causable suppressible xs os → AreChangedTo causable suppressible ys ps → AreChangedTo causable suppressible (xs ++ ys) (os ++ ps)
+changed_join causable suppressible [] ys [] ps a b = b
+changed_join causable suppressible [] ys (o ∷ os) ps a b = absurd a
+changed_join causable suppressible (x ∷ xs) ys [] ps a b = absurd a
+changed_join causable suppressible (x ∷ xs) ys (o ∷ os) ps a b = (a.0, changed_join causable suppressible xs ys os ps a.1 b)
 
 onto_join : (k : StepKind) (o : OutStep) (xs ys : List OutStep) → onto_system k o (xs ++ ys) ≡ onto_system k o xs ++ ys
 onto_join System o xs ys = refl
@@ -59,9 +59,9 @@ within_joins a b c out more ab bc first then = record {
 
 pub lawful_joins : LawfulJoins
 lawful_joins causable suppressible a b c records records' out out' first then before after = record {
-  answered = subst (λ ss. AnswersAll causable suppressible ss (system_steps (out ++ out'))) (sym (recorded_join records records'))
-      (subst (AnswersAll causable suppressible (recorded records ++ recorded records')) (sym (system_join out out'))
-      (answers_join causable suppressible (recorded records) (recorded records') (system_steps out) (system_steps out') before.answered after.answered));
+  changed = subst (λ ss. AreChangedTo causable suppressible ss (system_steps (out ++ out'))) (sym (recorded_join records records'))
+      (subst (AreChangedTo causable suppressible (recorded records ++ recorded records')) (sym (system_join out out'))
+      (changed_join causable suppressible (recorded records) (recorded records') (system_steps out) (system_steps out') before.changed after.changed));
   inserted = All-append (λ o. IsInsertedLawfully causable suppressible o o.kind) out out' before.inserted after.inserted;
   once = All-append (λ (o : OutStep). HasNoRepeats (map event_of o.changes)) out out' before.once after.once;
   in_order = in_order_join b out out' first.until then.from before.in_order after.in_order;

@@ -28,18 +28,18 @@ abbrev pub IsCause : Change → Type 0
 IsCause (Cause event) = Unit {0}
 IsCause (Suppress event) = ⊥
 
--- a system step has the record's time, and its events after the changes
-pub record Answers (causable suppressible : NameId → Bool) (before : Step) (out : OutStep) : Type 0 where
+-- a record's step goes out at its time, with its events after the changes
+pub record IsChangedTo (causable suppressible : NameId → Bool) (before : Step) (out : OutStep) : Type 0 where
   pub same_time : out.step.time ≡ before.time
   pub changed : Leads causable suppressible out.changes before.events out.step.events
 
 -- step by step, in order, and none left over
-abbrev pub AnswersAll : (NameId → Bool) → (NameId → Bool) → List Step → List OutStep → Type 0
-AnswersAll causable suppressible [] [] = Unit {0}
-AnswersAll causable suppressible [] (o ∷ out) = ⊥
-AnswersAll causable suppressible (s ∷ steps) [] = ⊥
-AnswersAll causable suppressible (s ∷ steps) (o ∷ out) =
-    Answers causable suppressible s o × AnswersAll causable suppressible steps out
+abbrev pub AreChangedTo : (NameId → Bool) → (NameId → Bool) → List Step → List OutStep → Type 0
+AreChangedTo causable suppressible [] [] = Unit {0}
+AreChangedTo causable suppressible [] (o ∷ out) = ⊥
+AreChangedTo causable suppressible (s ∷ steps) [] = ⊥
+AreChangedTo causable suppressible (s ∷ steps) (o ∷ out) =
+    IsChangedTo causable suppressible s o × AreChangedTo causable suppressible steps out
 
 -- an inserted step has what its causes add to no events
 abbrev pub IsInsertedLawfully : (NameId → Bool) → (NameId → Bool) → OutStep → StepKind → Type 0
@@ -60,7 +60,7 @@ AreInOrder (o ∷ out) = All (λ p. IsLaterThan o.kind p.kind o.step.time p.step
 
 -- lawful change of the records to the steps that go out
 pub record Lawful (causable suppressible : NameId → Bool) (records : List Record) (out : List OutStep) : Type 0 where
-  pub answered : AnswersAll causable suppressible (recorded records) (system_steps out)
+  pub changed : AreChangedTo causable suppressible (recorded records) (system_steps out)
   pub inserted : All (λ o. IsInsertedLawfully causable suppressible o o.kind) out
   pub once : All (λ o. HasNoRepeats (map event_of o.changes)) out
   pub in_order : AreInOrder out

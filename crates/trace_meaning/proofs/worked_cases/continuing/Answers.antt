@@ -90,7 +90,7 @@ put_in = inserted_at 3 (event_p ∷ []) (Cause event_p ∷ []) ∷ []
 pub returns-clause-keeps_up : goal.returns-clause-keeps_up
 returns-clause-keeps_up c = record {
   lawful = record {
-    answered = (record { same_time = refl; changed = refl }, tt);
+    changed = (record { same_time = refl; changed = refl }, tt);
     inserted = All-from_recursion (λ o. IsInsertedLawfully may_cause may_suppress o o.kind) as_it_came (tt, tt);
     once = All-from_recursion (λ (o : OutStep). HasNoRepeats (map event_of o.changes)) as_it_came (tt, tt);
     in_order = (All-nil (λ (p : OutStep). IsLaterThan System p.kind 1 p.step.time), tt);
@@ -112,7 +112,7 @@ returns-clause-not_all_that_is_owed c e =
 pub returns-clause-all_that_is_owed : goal.returns-clause-all_that_is_owed
 returns-clause-all_that_is_owed c = record {
   lawful = record {
-    answered = tt;
+    changed = tt;
     inserted = All-from_recursion (λ o. IsInsertedLawfully may_cause may_suppress o o.kind) put_in
         (((event_p ∷ [], (refl, no_p_in_nothing, refl), refl), All-from_recursion IsCause (Cause event_p ∷ []) (tt, tt)), tt);
     once = All-from_recursion (λ (o : OutStep). HasNoRepeats (map event_of o.changes)) put_in ((no_p_in_nothing, tt), tt);
