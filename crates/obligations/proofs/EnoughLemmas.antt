@@ -67,7 +67,7 @@ suppress_absent trace name node (Some args) missing =
     ⊎_elim (λ absent. absent.0) (λ present. absurd (no_nil _ [] present.1)) missing
 
 -- a side that is taken if it does not look ahead
-taken : (ahead : Bool) (trace : List Step) (side : Plan) (v : Valuation) {Begins Else : Type 0}
+pub taken : (ahead : Bool) (trace : List Step) (side : Plan) (v : Valuation) {Begins Else : Type 0}
     → Where ahead Else (Takes trace side v Begins Else) → (LacksNothing trace side v × Begins) ⊎ Else
 taken true trace side v next = inr next
 taken false trace side v next = ⊎_elim (λ begins. inl begins) (λ passed. inr passed.1) next

@@ -3,3 +3,4 @@ pub mod LostLemmas
 pub mod EnoughLemmas
 pub mod OneLemmas
 pub mod LawLemmas
+pub mod TraceLemmas

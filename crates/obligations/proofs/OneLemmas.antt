@@ -226,7 +226,7 @@ module _ (rows_are_one : RowsAreOne) where
   roots_one trace rule (plan ∷ plans) xs ys (a, more, pa, pm, ea) (b, others, pb, po, eb) =
       joined_one a more b others xs ys (begun_is_one trace rule plan no_values a b pa pb) (roots_one trace (suc rule) plans more others pm po) ea eb
 
-  pends_one : (plans : List Plan) (trace : List Step) (steps : ℕ) → IsOne (PendsBehind plans trace steps)
+  pub pends_one : (plans : List Plan) (trace : List Step) (steps : ℕ) → IsOne (PendsBehind plans trace steps)
   pends_one plans trace zero xs ys first second = first ∙ sym second
   pends_one plans trace (suc steps) xs ys (before, pend, (kept, begun, goes, begins, are)) (before', pend', (kept', begun', goes', begins', are')) =
       let same : before' ≡ before = pends_one plans trace steps before' before pend' pend in

@@ -4,4 +4,5 @@ pub mod Begun
 pub mod Pending
 pub mod Residuals
 pub mod Enough
+pub mod Traces
 pub mod Cases

@@ -3,8 +3,11 @@ ghost use Rattle.obligations.specs.Enough.{NothingMissedIsEnough, NothingMissedI
 ghost use Rattle.obligations.specs.Missing.{MissingIsOne};
 ghost use Rattle.obligations.specs.Pending.{AfterIsOne, BegunIsOne, MissingOfIsOne, PendIsOne};
 ghost use Rattle.obligations.specs.Rows.{RowsAreOne};
+ghost use Rattle.obligations.specs.Traces.{CleanGrows, NothingIsPending, PendGrows, PendingIsEnough};
 
 use enf_formula::laws;
+use plan_terms::laws::nodes_have_scopes;
+use trace_meaning::laws::last_time_of_trace;
 
 /// A guard has one list of rows at most, and a plan misses one list of literals.
 pub fn missing_is_one()
@@ -34,3 +37,20 @@ pub fn something_missed_is_lost()
 {
     laws::dependence();
 }
+
+/// Where nothing was missed along a trace, it is enough to meet what is pending behind it; plans that do not look ahead
+/// leave nothing pending.
+pub fn pending_is_enough()
+    ensures enough { PendingIsEnough }
+    ensures nothing { NothingIsPending }
+{
+    laws::dependence();
+    nodes_have_scopes();
+    last_time_of_trace();
+}
+
+/// With a step more at a trace, what is pending goes where the step leads it, and the trace stays clean where the step is.
+pub fn traces_grow()
+    ensures pending { PendGrows }
+    ensures clean { CleanGrows }
+{}

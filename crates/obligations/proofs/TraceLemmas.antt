@@ -1,0 +1,255 @@
+-- That it is enough to meet what is pending behind a clean trace: from its last step to its first.
+use Rattle.std.proofs.Common.{◌≡◌, ℕ, zero, suc, ◌+◌, ◌<◌, ◌≤◌, ◌||◌, Bool, true, false, List, [], ◌∷◌, ◌++◌, length, take, drop, Option, None, Some, slice_get, length-append, refl, sym, ap, subst, ◌∙◌, arith, inl, inr, ⊎_elim, ◌⊎◌, append_assoc}
+use Rattle.std.specs.List.{AllByRecursion, find, list_any}
+use Rattle.std.specs.Option.{option_map}
+use Rattle.std.proofs.lemmas.Bool.{cases_lt, false≢true}
+use Rattle.std.proofs.lemmas.List.{length-take-le, take-append-drop, take-append-le, take_all}
+use Rattle.std.proofs.lemmas.List.Elements.{All-cons, All-nil, recursion_from_All}
+use Rattle.std.proofs.lemmas.Option.{none-some, same_Some}
+use Rattle.enf_value.specs.Data.{IsTrace}
+use Rattle.enf_value.specs.Valuations.{Valuation, no_values, with_values}
+use Rattle.enf_value.specs.declared.steps.Step.{Step}
+use Rattle.enf_value.specs.declared.terms.VarId.{VarId}
+use Rattle.enf_value.specs.declared.values.Value.{Value}
+use Rattle.enf_formula.specs.Laws.{PastDecides}
+use Rattle.enf_formula.specs.Satisfaction.{Sat}
+use Rattle.plan_terms.specs.Nodes.{has_number, is_future, nodes}
+use Rattle.plan_terms.specs.PlanFormula.{formula_for}
+use Rattle.plan_terms.specs.Plans.{Plan, Cause, Suppress, Both, Either, TestOr, Guarded, Eventually, Always}
+use Rattle.plan_terms.specs.Plans.{Until, Next}
+use Rattle.plan_terms.specs.ScopeLaws.{AtEach-found, AtEach-from_nodes, AtEach-nodes, FoundIsFirst}
+use Rattle.plan_terms.specs.Scopes.{scoped_at}
+use Rattle.trace_meaning.specs.Continuation.{last_time}
+use Rattle.trace_meaning.specs.Laws.{LastIsAtTheEnd}
+use Rattle.obligations.specs.Begun.{Begun, LacksNothing, has_future, time_now}
+use Rattle.obligations.specs.Enough.{IsNamed, LooksBack, StandsIn}
+use Rattle.obligations.specs.Pending.{After, AtNode, BecomesAt, BegunByRoots, Goes, HasDeadline, IsClean, IsCleanAt, MissingOf, NoneIsOver, PendsBehind, node_of, nodes_of}
+use Rattle.obligations.specs.Residuals.{Residual}
+use Rattle.obligations.specs.Rows.{Gathers, last_position}
+use Rattle.obligations.specs.Traces.{AllHold, CleanGrows, LooksAtNow, NothingIsPending, PendGrows, PendingIsEnough, PlansStand}
+use Rattle.obligations.specs.declared.instances.Instance.{Instance}
+use Rattle.obligations.proofs.EnoughLemmas.{all_left, all_right, taken}
+use Rattle.obligations.proofs.LawLemmas.{nothing_missed_is_enough, nothing_missed_is_enough_pending}
+use Rattle.obligations.proofs.OneLemmas.{pends_one}
+use Rattle.obligations.proofs.RowsLemmas.{rows_are_one}
+
+-- what holds of each node of a plan holds of each node of one of them
+below : (P : Plan → Type 0) → FoundIsFirst → (plan node : Plan) (number : ℕ)
+    → find (has_number number) (nodes plan) ≡ Some node → AllByRecursion P (nodes plan) → AllByRecursion P (nodes node)
+below P first plan node number found all = by (scoped_at number plan []) refl
+  where
+    by : (at : Option (Plan × List VarId)) → scoped_at number plan [] ≡ at → AllByRecursion P (nodes node)
+    by None is = absurd (none-some node (subst (λ (s : Option (Plan × List VarId)). option_map (λ (n : Plan × List VarId). n.0) s ≡ Some node) is (first plan [] number ∙ found)))
+    by (Some (other, inner)) is =
+        let same : other ≡ node = same_Some other node (subst (λ (s : Option (Plan × List VarId)). option_map (λ (n : Plan × List VarId). n.0) s ≡ Some node) is (first plan [] number ∙ found)) in
+        subst (λ (n : Plan). AllByRecursion P (nodes n)) same
+        (AtEach-nodes P other inner (AtEach-found (λ n scope. P n) plan other [] inner number is (AtEach-from_nodes P plan [] all)))
+
+-- the node of an instance stands in the plan of its rule
+stands_found : FoundIsFirst → (plans : List Plan) → PlansStand plans → (i : Instance) (node : Plan)
+    → node_of plans i ≡ Some node → StandsIn plans i.rule node
+stands_found first plans stand i node is = by (slice_get plans i.rule) refl is
+  where
+    by : (at : Option Plan) → slice_get plans i.rule ≡ at → find (has_number i.node) (nodes_of at) ≡ Some node → StandsIn plans i.rule node
+    by None at found = absurd (none-some node found)
+    by (Some plan) at found =
+        let all : StandsIn plans i.rule plan = stand i.rule plan at in
+        record {
+          back = below LooksBack first plan node i.node found all.back;
+          named = below (IsNamed plans i.rule) first plan node i.node found all.named;
+        }
+
+module _ (past : PastDecides) (first : FoundIsFirst) (last : LastIsAtTheEnd) (plans : List Plan) (stand : PlansStand plans)
+    (trace more : List Step) (is_trace : IsTrace (trace ++ more)) where
+  abbrev longer : List Step
+  longer = trace ++ more
+
+  abbrev Meets : ℕ → List Instance → Type 0
+  Meets from instances = AllByRecursion (Residual plans longer from) instances
+
+  module _ (front rest : List Step) (splits : front ++ rest ≡ longer) (some : 0 < length front) where
+    is_too : IsTrace (front ++ rest)
+    is_too = subst IsTrace (sym splits) is_trace
+
+    meets_too : (instances : List Instance) → Meets (length front) instances
+        → AllByRecursion (Residual plans (front ++ rest) (length front)) instances
+    meets_too instances owed =
+        subst (λ (steps : List Step). AllByRecursion (Residual plans steps (length front)) instances) (sym splits) owed
+
+    root_holds : (rule : ℕ) (plan : Plan) (begun : List Instance) → StandsIn plans rule plan
+        → LacksNothing front plan no_values → Begun front rule plan no_values begun → Meets (length front) begun
+        → Sat longer (last_position front) no_values (formula_for plan)
+    root_holds rule plan begun stands lacks begins owed =
+        subst (λ (steps : List Step). Sat steps (last_position front) no_values (formula_for plan)) splits
+        (nothing_missed_is_enough past plans rule plan front rest no_values begun stands is_too some lacks begins (meets_too begun owed))
+
+    roots_hold : (rule : ℕ) (others : List Plan) (begun : List Instance)
+        → ((k : ℕ) (plan : Plan) → slice_get others k ≡ Some plan → StandsIn plans (rule + k) plan)
+        → AllByRecursion (λ plan. LacksNothing front plan no_values) others → BegunByRoots front rule others begun
+        → Meets (length front) begun → AllHold longer (last_position front) others
+    roots_hold rule [] begun stands lacks begins owed = tt
+    roots_hold rule (plan ∷ others) begun stands lacks (begun1, begun2, begins, behind, are) owed =
+        let owed' : Meets (length front) (begun1 ++ begun2) = subst (Meets (length front)) are owed in (
+          root_holds rule plan begun1 (subst (λ (r : ℕ). StandsIn plans r plan) {x = rule + 0} {y = rule} (omega arith) (stands 0 plan refl)) lacks.0 begins (all_left (Residual plans longer (length front)) begun1 begun2 owed'),
+          roots_hold (suc rule) others begun2 (λ k p at. subst (λ (r : ℕ). StandsIn plans r p) {x = rule + suc k} {y = suc rule + k} (omega arith) (stands (suc k) p at)) lacks.1 behind (all_right (Residual plans longer (length front)) begun1 begun2 owed'),
+        )
+
+    instance_met : (i : Instance) (after : List Instance) → MissingOf plans front i false []
+        → ((deadline : ℕ) → HasDeadline plans i deadline → time_now front ≤ deadline)
+        → After plans front i after → Meets (length front) after → Residual plans longer (last_position front) i
+    instance_met i after missing in_time becomes owed = by (node_of plans i) refl becomes
+      where
+        by : (found : Option Plan) → node_of plans i ≡ found → AtNode found (λ node. BecomesAt front node i after)
+            → Residual plans longer (last_position front) i
+        by None is none = absurd none
+        by (Some node) is becomes' =
+            subst (λ (steps : List Step). Residual plans steps (last_position front) i) splits
+            (nothing_missed_is_enough_pending past plans node front rest i after is (stands_found first plans stand i node is) is_too some missing
+            (All-cons (λ (j : Instance). (deadline : ℕ) → HasDeadline plans j deadline → time_now front ≤ deadline) i [] in_time (All-nil (λ (j : Instance). (deadline : ℕ) → HasDeadline plans j deadline → time_now front ≤ deadline)))
+            becomes (meets_too after owed))
+
+    instances_met : (before kept : List Instance) → Gathers (After plans front) before kept
+        → AllByRecursion (λ i. MissingOf plans front i false []) before
+        → AllByRecursion (λ i. (deadline : ℕ) → HasDeadline plans i deadline → time_now front ≤ deadline) before
+        → Meets (length front) kept → Meets (last_position front) before
+    instances_met [] kept goes missing in_time owed = tt
+    instances_met (i ∷ before) kept (kept1, kept2, becomes, behind, are) missing in_time owed =
+        let owed' : Meets (length front) (kept1 ++ kept2) = subst (Meets (length front)) are owed in (
+          instance_met i kept1 missing.0 in_time.0 becomes (all_left (Residual plans longer (length front)) kept1 kept2 owed'),
+          instances_met before kept2 behind missing.1 in_time.1 (all_right (Residual plans longer (length front)) kept1 kept2 owed'),
+        )
+
+  module _ (clean : IsClean plans trace) where
+    clean_at : (n : ℕ) → n < length trace → (before : List Instance) → PendsBehind plans trace n before
+        → IsCleanAt plans (take (suc n) trace) before
+    clean_at n within before pend =
+        let c = clean n within in
+        subst (IsCleanAt plans (take (suc n) trace)) (pends_one rows_are_one plans trace n c.0 before c.1 pend) c.2
+
+    pub met_behind : (n : ℕ) → n ≤ length trace → (pending : List Instance) → PendsBehind plans trace n pending
+        → Meets n pending → (position : ℕ) → position < n → AllHold longer position plans
+    met_behind zero le pending pend owed position under = absurd (omega (arith, under))
+    met_behind (suc n) le pending (before, pend, (kept, begun, goes, begins, are)) owed position under =
+        let front : List Step = take (suc n) trace in
+        let within : n < length trace = omega (arith, le) in
+        let count : length (take (suc n) trace) ≡ suc n = length-take-le (suc n) trace le in
+        let splits : take (suc n) trace ++ (drop (suc n) trace ++ more) ≡ trace ++ more =
+        sym (append_assoc (take (suc n) trace) (drop (suc n) trace) more) ∙ ap (λ (steps : List Step). steps ++ more) (take-append-drop (suc n) trace) in
+        let some : 0 < length (take (suc n) trace) = omega (arith, count) in
+        let at : last_position (take (suc n) trace) ≡ n = omega (arith, count) in
+        let now : last_time (take (suc n) trace) ≡ time_now (take (suc n) trace) = last (take (suc n) trace) (last_position (take (suc n) trace)) (omega (arith, count)) in
+        let c = clean_at n within before pend in
+        let owed' : Meets (length (take (suc n) trace)) (kept ++ begun) = subst (λ (m : ℕ). Meets m (kept ++ begun)) (sym count) (subst (Meets (suc n)) are owed) in
+        let met : Meets n before = subst (λ (m : ℕ). Meets m before) at
+        (instances_met (take (suc n) trace) (drop (suc n) trace ++ more) splits some before kept goes (recursion_from_All _ before c.instances)
+        (subst (λ (t : ℕ). AllByRecursion (λ i. (deadline : ℕ) → HasDeadline plans i deadline → t ≤ deadline) before) now (recursion_from_All _ before c.in_time))
+        (all_left (Residual plans longer (length (take (suc n) trace))) kept begun owed')) in
+        let held : AllHold longer n plans = subst (λ (m : ℕ). AllHold longer m plans) at
+        (roots_hold (take (suc n) trace) (drop (suc n) trace ++ more) splits some 0 plans begun (λ k plan found. subst (λ (r : ℕ). StandsIn plans r plan) {x = k} {y = 0 + k} (omega arith) (stand k plan found)) (recursion_from_All _ plans c.roots) begins
+        (all_right (Residual plans longer (length (take (suc n) trace))) kept begun owed')) in
+        ⊎_elim
+        (λ (l : position < n). met_behind n (omega (arith, le)) before pend met position l)
+        (λ (g : n ≤ position). subst (λ (m : ℕ). AllHold longer m plans) (omega (arith, under, g)) held)
+        (cases_lt position n)
+
+pub pending_is_enough : PastDecides → FoundIsFirst → LastIsAtTheEnd → PendingIsEnough
+pending_is_enough past first last plans trace more pending stand is_trace clean pend owed position within =
+    met_behind past first last plans stand trace more is_trace clean (length trace) (omega arith) pending pend owed position within
+
+-- ---- plans that do not look ahead
+
+no_future : (plan : Plan) → LooksAtNow plan → has_future plan ≡ false
+no_future plan all = over (nodes plan) all
+  where
+    over : (ps : List Plan) → AllByRecursion (λ p. is_future p ≡ false) ps → list_any is_future ps ≡ false
+    over [] all = refl
+    over (p ∷ ps) all = subst (λ (b : Bool). (b || list_any is_future ps) ≡ false) (sym all.0) (over ps all.1)
+
+module _ (trace : List Step) (rule : ℕ) where
+  none_at_rows : (body : Plan) → ((v : Valuation) (begun : List Instance) → Begun trace rule body v begun → begun ≡ [])
+      → (v : Valuation) (xs : List VarId) (rows : List (List Value)) (begun : List Instance)
+      → Gathers (λ row. Begun trace rule body (with_values xs row v)) rows begun → begun ≡ []
+  none_at_rows body none v xs [] begun gathered = gathered
+  none_at_rows body none v xs (row ∷ rows) begun (begun1, begun2, begins, behind, are) =
+      are ∙ ap (λ (l : List Instance). l ++ begun2) (none (with_values xs row v) begun1 begins) ∙ none_at_rows body none v xs rows begun2 behind
+
+  none_begun : (plan : Plan) → LooksAtNow plan → (v : Valuation) (begun : List Instance) → Begun trace rule plan v begun
+      → begun ≡ []
+  none_begun (Cause node place name terms) all v begun begins = begins
+  none_begun (Suppress node place name terms) all v begun begins = begins
+  none_begun (Both node left right) all v begun (begun1, begun2, begins, behind, are) =
+      are ∙ ap (λ (l : List Instance). l ++ begun2) (none_begun left (all_left _ (nodes left) (nodes right) all.1) v begun1 begins)
+      ∙ none_begun right (all_right _ (nodes left) (nodes right) all.1) v begun2 behind
+  none_begun (Either node left right) all v begun begins =
+      let on_left : LacksNothing trace left v × Begun trace rule left v begun → begun ≡ [] = λ side. none_begun left (all_left _ (nodes left) (nodes right) all.1) v begun side.1 in
+      let on_right : LacksNothing trace right v × Begun trace rule right v begun → begun ≡ [] = λ side. none_begun right (all_right _ (nodes left) (nodes right) all.1) v begun side.1 in
+      ⊎_elim on_right
+      (λ second. ⊎_elim on_left
+      (λ third. ⊎_elim on_right (λ fourth. ⊎_elim on_left (λ neither. neither.1) fourth.1) third)
+      (taken (has_future left) trace left v second))
+      (taken (has_future right) trace right v begins)
+  none_begun (TestOr node guard test body) all v begun begins =
+      ⊎_elim (λ met. met.1) (λ fails. none_begun body all.1 v begun fails.1) begins
+  none_begun (Guarded node xs guard test body) all v begun (rows, are, gathered) =
+      none_at_rows body (none_begun body all.1) v xs rows begun gathered
+  none_begun (Eventually node place low high body) all v begun begins = absurd (false≢true (sym all.0))
+  none_begun (Always node place low high body) all v begun begins = absurd (false≢true (sym all.0))
+  none_begun (Until node place low high left right) all v begun begins = absurd (false≢true (sym all.0))
+  none_begun (Next node place high body) all v begun begins = absurd (false≢true (sym all.0))
+
+none_by_roots : (trace : List Step) (rule : ℕ) (plans : List Plan) (begun : List Instance) → AllByRecursion LooksAtNow plans
+    → BegunByRoots trace rule plans begun → begun ≡ []
+none_by_roots trace rule [] begun all begins = begins
+none_by_roots trace rule (plan ∷ plans) begun all (begun1, begun2, begins, behind, are) =
+    are ∙ ap (λ (l : List Instance). l ++ begun2) (none_begun trace rule plan all.0 no_values begun1 begins) ∙ none_by_roots trace (suc rule) plans begun2 all.1 behind
+
+none_behind : (plans : List Plan) (trace : List Step) → AllByRecursion LooksAtNow plans → (n : ℕ) (pending : List Instance)
+    → PendsBehind plans trace n pending → pending ≡ []
+none_behind plans trace all zero pending pend = pend
+none_behind plans trace all (suc n) pending (before, pend, (kept, begun, goes, begins, are)) =
+    let nothing : kept ≡ [] = subst (λ (l : List Instance). Gathers (After plans (take (suc n) trace)) l kept) (none_behind plans trace all n before pend) goes in
+    are ∙ ap (λ (l : List Instance). l ++ begun) nothing ∙ none_by_roots (take (suc n) trace) 0 plans begun all begins
+
+pub nothing_is_pending : NothingIsPending
+nothing_is_pending plans trace pending all pend = none_behind plans trace all (length trace) pending pend
+
+-- ---- one step more
+
+-- what is pending behind the first steps is so on a longer trace
+longer_pends : (plans : List Plan) (trace more : List Step) (n : ℕ) → n ≤ length trace → (pending : List Instance)
+    → PendsBehind plans trace n pending → PendsBehind plans (trace ++ more) n pending
+longer_pends plans trace more zero le pending pend = pend
+longer_pends plans trace more (suc n) le pending (before, pend, goes) = (
+  before,
+  longer_pends plans trace more n (omega (arith, le)) before pend,
+  subst (λ (front : List Step). Goes plans front before pending) (sym (take-append-le (suc n) trace more le)) goes,
+)
+
+whole : (trace : List Step) (step : Step) → take (suc (length trace)) (trace ++ step ∷ []) ≡ trace ++ step ∷ []
+whole trace step = take_all (suc (length trace)) (trace ++ step ∷ []) (omega (arith, length-append trace (step ∷ [])))
+
+pub pend_grows : PendGrows
+pend_grows plans trace step before after pend goes =
+    subst (λ (n : ℕ). PendsBehind plans (trace ++ step ∷ []) n after) {x = suc (length trace)} {y = length (trace ++ step ∷ [])} (omega (arith, length-append trace (step ∷ []))) (
+      before,
+      longer_pends plans trace (step ∷ []) (length trace) (omega arith) before pend,
+      subst (λ (front : List Step). Goes plans front before after) (sym (whole trace step)) goes,
+    )
+
+pub clean_grows : CleanGrows
+clean_grows plans trace step before clean pend now steps within =
+    ⊎_elim
+    (λ (l : steps < length trace).
+    let c = clean steps l in (
+      c.0,
+      longer_pends plans trace (step ∷ []) steps (omega (arith, l)) c.0 c.1,
+      subst (λ (front : List Step). IsCleanAt plans front c.0) (sym (take-append-le (suc steps) trace (step ∷ []) (omega (arith, l)))) c.2,
+    ))
+    (λ (g : length trace ≤ steps).
+    let at : length trace ≡ steps = omega (arith, g, within, length-append trace (step ∷ [])) in
+    subst (λ (n : ℕ). (pending : List Instance) × PendsBehind plans (trace ++ step ∷ []) n pending × IsCleanAt plans (take (suc n) (trace ++ step ∷ [])) pending) at (
+      before,
+      longer_pends plans trace (step ∷ []) (length trace) (omega arith) before pend,
+      subst (λ (front : List Step). IsCleanAt plans front before) (sym (whole trace step)) now,
+    ))
+    (cases_lt steps (length trace))
