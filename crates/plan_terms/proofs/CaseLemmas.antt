@@ -1,5 +1,5 @@
 -- Small lists of variables.
-use Rattle.std.proofs.Common.{◌≡◌, ℕ, List, [], ◌∷◌, Contains, ap, arith, ⊎_elim, subst}
+use Rattle.std.proofs.Common.{◌≡◌, ℕ, [], ◌∷◌, Contains, ap, arith, ⊎_elim, subst}
 use Rattle.enf_value.specs.ListLaws.{here, later, first_or_later, none_in_nil}
 use Rattle.enf_value.specs.declared.terms.Term.{Term}
 use Rattle.enf_value.specs.declared.terms.Term.TheVariants.{Var}

@@ -2,3 +2,5 @@ pub mod Finding
 pub mod ScopeLemmas
 pub mod TriggerLemmas
 pub mod CaseLemmas
+pub mod ColumnLemmas
+pub mod StandingLemmas

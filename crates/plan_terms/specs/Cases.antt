@@ -3,7 +3,7 @@ use Rattle.std.specs.Prelude.{ℕ, ◌+◌, List, [], ◌∷◌, Option, map}
 use Rattle.std.specs.List.{find}
 use Rattle.enf_value.specs.declared.terms.Term.TheVariants.{Var}
 use Rattle.enf_value.specs.declared.terms.VarId.{VarId}
-use Rattle.enf_formula.specs.Cases.{x, name_p, name_q, formula_p, formula_p_x, formula_q_x, from_on, within}
+use Rattle.enf_formula.specs.Cases.{x, name_p, name_q, formula_p, formula_p_x}
 use Rattle.enf_formula.specs.Formulas as tree
 use Rattle.enf_formula.specs.Formulas.{Formula}
 use Rattle.plan_terms.specs.Nodes.{nodes, has_number, number_of}

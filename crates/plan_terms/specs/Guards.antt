@@ -1,5 +1,5 @@
 -- The guards and tests of plans: each with the variables in scope where it stands, in a list by their numbers.
-use Rattle.std.specs.Prelude.{◌≡◌, ◌⊎◌, ℕ, List, [], ◌∷◌, ◌++◌, map, Some, slice_get, IsTrue, Contains}
+use Rattle.std.specs.Prelude.{◌≡◌, ◌⊎◌, List, [], ◌∷◌, ◌++◌, map, Some, slice_get, IsTrue, Contains}
 use Rattle.std.specs.List.{flat_map}
 use Rattle.enf_value.specs.declared.terms.VarId.{VarId}
 use Rattle.enf_formula.specs.Formulas.{Formula, tree_of}
@@ -72,3 +72,7 @@ CanBeEvaluated guard = Safe guard.0 (Contains guard.1)
 -- it does not look ahead
 abbrev pub LooksBack : Formula × List VarId → Type 0
 LooksBack guard = IsTrue (is_past guard.0)
+
+-- the guard or test of a node does not look ahead
+abbrev pub GuardLooksBack : Plan → Type 0
+GuardLooksBack node = OfGuard LooksBack node []

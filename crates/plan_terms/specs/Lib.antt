@@ -8,5 +8,8 @@ pub mod Changes
 pub mod Triggers
 pub mod Names
 pub mod WellFormed
+pub mod Standing
+pub mod Columns
+pub mod RisingLaws
 pub mod ScopeLaws
 pub mod Cases

@@ -51,6 +51,19 @@ is_future (Always node place low high body) = true
 is_future (Until node place low high left right) = true
 is_future (Next node place high body) = true
 
+-- the node has a deadline: the end of its window is the last time at which it can be met
+abbrev pub has_deadline : Plan → Bool
+has_deadline (Cause node place name terms) = false
+has_deadline (Suppress node place name terms) = false
+has_deadline (Both node left right) = false
+has_deadline (Either node left right) = false
+has_deadline (TestOr node guard test body) = false
+has_deadline (Guarded node vars guard test body) = false
+has_deadline (Eventually node place low high body) = true
+has_deadline (Always node place low high body) = false
+has_deadline (Until node place low high left right) = true
+has_deadline (Next node place high body) = true
+
 -- in a plan whose nodes are numbered, the node with a number is the one at that place in pre-order
 abbrev pub NumberIsPlace : Type 0
 NumberIsPlace = (plan : Plan) (number : ℕ) → IsNumbered plan

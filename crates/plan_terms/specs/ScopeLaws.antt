@@ -1,18 +1,14 @@
 -- What a node inherits from the plan in which it stands.
-use Rattle.std.specs.Prelude.{◌≡◌, ℕ, List, [], ◌∷◌, ◌++◌, map, Option, Some, Contains}
+use Rattle.std.specs.Prelude.{◌≡◌, ℕ, List, ◌++◌, map, Some, Contains}
 use Rattle.std.specs.List.{AllByRecursion, find}
 use Rattle.std.specs.List.Sorted.{IsStrictlySortedBy}
 use Rattle.std.specs.Option.{option_map}
-use Rattle.std.proofs.Common.{⊎_elim, refl, sym, ap, subst, ◌∙◌, append_assoc}
-use Rattle.std.proofs.lemmas.List.{append-nil, map-append}
-use Rattle.enf_value.specs.ListLaws.{AllByRecursion-append, AllByRecursion-contains, AllByRecursion-find}
-use Rattle.enf_value.specs.ListLaws.{AllByRecursion-of_append, AllByRecursion-weaker, Contains-append}
+use Rattle.enf_value.specs.ListLaws.{AllByRecursion-append, AllByRecursion-find}
+use Rattle.enf_value.specs.ListLaws.{AllByRecursion-of_append}
 use Rattle.enf_value.specs.Valuations.{variable_cmp}
-use Rattle.enf_value.specs.declared.terms.Term.TheVariants.{Var}
 use Rattle.enf_value.specs.declared.terms.VarId.{VarId}
 use Rattle.enf_formula.specs.Formulas.{Formula}
 use Rattle.enf_formula.specs.FreeVariables.{IsFree}
-use Rattle.enf_formula.specs.Scopes.{IsInScope}
 use Rattle.plan_terms.specs.Guards.{GuardsAreListed, GuardsAreSafe, OfGuard, guards_in}
 use Rattle.plan_terms.specs.Nodes.{has_number, nodes}
 use Rattle.plan_terms.specs.PlanFormula.{formula_for}

@@ -1,5 +1,5 @@
 -- What the plans of a policy and its guards are, whatever rules they were made for.
-use Rattle.std.specs.Prelude.{◌≡◌, ℕ, ◌<◌, ◌≤◌, ◌^◌, List, [], length, sum_by}
+use Rattle.std.specs.Prelude.{◌≡◌, ◌<◌, ◌≤◌, ◌^◌, List, [], length, sum_by}
 use Rattle.std.specs.List.{AllByRecursion}
 use Rattle.enf_value.specs.declared.limits.TheConstants.{MOST_RULES}
 use Rattle.enf_value.specs.declared.terms.VarId.{VarId}

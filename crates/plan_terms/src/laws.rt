@@ -1,8 +1,10 @@
 //! Laws of plans, each the contract of a function with an empty body.
+ghost use Rattle.plan_terms.specs.Columns.{ColumnsAreVariables};
 ghost use Rattle.plan_terms.specs.Nodes.{NumberIsPlace};
 ghost use Rattle.plan_terms.specs.ScopeLaws.{FoundBeginsWithScope, FoundEndsInTime, FoundHasListedGuards};
 ghost use Rattle.plan_terms.specs.ScopeLaws.{FoundHasRisingScope, FoundHasSafeGuards, FoundIsFirst, FoundIsScoped};
 ghost use Rattle.plan_terms.specs.ScopeLaws.{FreeIsInScope, NodesHaveScopes};
+ghost use Rattle.plan_terms.specs.Standing.{FoundStandIn, NodesStandIn, PlansStandIn};
 ghost use Rattle.plan_terms.specs.Triggers.{TriggersAreMet};
 
 /// Where the nodes are numbered in pre-order from 0, the node with a number is the one at that place.
@@ -35,4 +37,17 @@ pub fn free_is_in_scope()
 /// Where a guard with triggers holds, the step has an event of one of them.
 pub fn triggers_are_met()
     ensures { TriggersAreMet }
+{}
+
+/// Each node of a well-formed plan stands in it: each node below it is the one that its number names, and their guards
+/// look back. So do the plan itself and the node that is found by a number.
+pub fn nodes_stand_in_plans()
+    ensures nodes { NodesStandIn }
+    ensures plans { PlansStandIn }
+    ensures found { FoundStandIn }
+{}
+
+/// The columns of the rows of a guard are its variables, as they are written.
+pub fn columns_are_variables()
+    ensures { ColumnsAreVariables }
 {}

@@ -7,12 +7,12 @@ ghost use Rattle.plan_terms.specs.Cases.{numbers, node_with, cause_q_x, each_soo
 ghost use Rattle.plan_terms.specs.Cases.{wait, choice, wait_and_choice, twice_one, y, each_of, p_y, some_p};
 ghost use Rattle.plan_terms.specs.Changes.{NothingClashes};
 ghost use Rattle.plan_terms.specs.Guards.{GuardsAreListed, GuardsAreSafe, IsFresh, all_guards};
-ghost use Rattle.plan_terms.specs.Limits.{EndsInTime};
+ghost use Rattle.plan_terms.specs.Limits.{AllEndLater, EndsInTime, EndsLater};
 ghost use Rattle.plan_terms.specs.Names.{LooksBelow, names_in};
 ghost use Rattle.plan_terms.specs.Scopes.{IsScoped, scope_at};
 ghost use Rattle.plan_terms.specs.Triggers.{triggers};
 ghost use Rattle.plan_terms.specs.WellFormed.{AreWellFormed};
-ghost use Rattle.plan_terms.specs.Nodes.{nodes, is_future, IsNumbered};
+ghost use Rattle.plan_terms.specs.Nodes.{nodes, has_deadline, is_future, IsNumbered};
 ghost use Rattle.plan_terms.specs.PlanFormula.{formula_for};
 ghost use Rattle.plan_terms.specs.Plans as plan;
 ghost use Rattle.enf_value.specs.declared.terms.Term.TheVariants.{Var};
@@ -36,6 +36,8 @@ pub fn looking_ahead()
     ensures below_a_guard { list_any is_future (nodes each_soon) ≡ true }
     ensures on_one_side { list_any is_future (nodes wait_and_choice) ≡ true }
     ensures now { list_any is_future (nodes (choice 0)) ≡ false }
+    ensures with_deadline { list_any has_deadline (nodes each_soon) ≡ true }
+    ensures without_deadline { list_any has_deadline (nodes (plan.Always 0 1 0 5 (choice 1))) ≡ false }
 {}
 
 /// The formulas that plans stand for.
@@ -113,6 +115,17 @@ pub fn ends()
     ensures eventually_falls { EndsInTime (plan.Eventually 0 1 5 4 cause_q_x) → ⊥ }
     ensures always_falls { EndsInTime (plan.Always 0 1 5 4 cause_q_x) → ⊥ }
     ensures until_falls { EndsInTime (plan.Until 0 1 5 4 cause_q_x cause_q_x) → ⊥ }
+{}
+
+/// Intervals that do not end at once, for each operator on the future.
+pub fn ends_later()
+    ensures at_1 { EndsLater (plan.Next 0 1 1 cause_q_x) }
+    ensures eventually { EndsLater (plan.Eventually 0 1 0 0 cause_q_x) → ⊥ }
+    ensures always { EndsLater (plan.Always 0 1 0 0 cause_q_x) → ⊥ }
+    ensures until { EndsLater (plan.Until 0 1 0 0 cause_q_x cause_q_x) → ⊥ }
+    ensures next { EndsLater (plan.Next 0 1 0 cause_q_x) → ⊥ }
+    ensures all { AllEndLater (each_soon ∷ wait_and_choice ∷ []) }
+    ensures one_ends_at_once { AllEndLater (each_soon ∷ plan.Always 0 1 0 5 (plan.Next 1 2 0 cause_q_x) ∷ []) → ⊥ }
 {}
 
 /// Plans with their guards.

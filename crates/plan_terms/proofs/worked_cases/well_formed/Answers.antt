@@ -1,10 +1,10 @@
-use Rattle.std.proofs.Common.{◌≡◌, ℕ, zero, suc, [], ◌∷◌, arith, refl, sym, ap}
+use Rattle.std.proofs.Common.{◌≡◌, ℕ, zero, suc, [], arith, refl, sym, ap}
 use Rattle.std.specs.List.Sorted.{IsStrictlySortedBy}
 use Rattle.enf_formula.specs.Cases.{x, name_q}
 use Rattle.enf_value.specs.ListLaws.{here, none_in_nil}
 use Rattle.plan_terms.specs.Cases.{cause_q_x, each_soon, soon_q_x}
 use Rattle.plan_terms.specs.Nodes.{IsNumbered, number_of}
-use Rattle.plan_terms.specs.Plans.{Plan, Cause}
+use Rattle.plan_terms.specs.Plans.{Cause}
 use Rattle.plan_terms.proofs.CaseLemmas.{known, told}
 use Rattle.plan_terms.proofs.worked_cases.well_formed.Goals as goal
 
