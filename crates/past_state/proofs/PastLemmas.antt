@@ -20,7 +20,7 @@ use Rattle.valuations.specs.Tables.{Relation, Has, AgreeOn}
 use Rattle.trace_meaning.specs.Continuation.{last_time}
 use Rattle.past_state.specs.Memories.{given_by}
 use Rattle.past_state.specs.Operators.{operators, all_operators, all_outermost}
-use Rattle.past_state.specs.Past.{Past, PastTables, IsPast, IsSound, TablesStand, AreOf, RunStands, CommitStands, AreEvaluated, AreSatisfied, ArePastTables, HasOpenColumns, BeginAt, BindsBound, IsEvaluated, IsGuard, IsSatisfied, IsTestOf, formulas, formula_of, tables_of}
+use Rattle.past_state.specs.Past.{Past, PastTables, IsPast, IsSound, TablesStand, TablesWillStand, GuardsWillHold, AreOf, RunStands, CommitStands, AreEvaluated, AreSatisfied, ArePastTables, HasOpenColumns, BeginAt, BindsBound, IsEvaluated, IsGuard, IsSatisfied, IsTestOf, formulas, formula_of, tables_of}
 use Rattle.past_state.specs.Runs.{AllStand, AreInsideOut, AreOrdered, AllFit, Runs, outer_onto, AllCommitted, AreSameKinds}
 use Rattle.past_state.specs.declared.guards.PlacedGuard.{PlacedGuard}
 use Rattle.past_state.specs.declared.memories.StepTables.{StepTables}
@@ -184,6 +184,14 @@ evaluated_satisfied present tables number g events v t are is opened bound holds
     (subst (λ e. HoldsNow e (tables_of g tables) w (formula_of g) ↔ Sat (trace ++ step ∷ []) (length trace) w (formula_of g)) (ap (λ s. s.events) (new_at trace step) ∙ same)
     (present (trace ++ step ∷ []) (length trace) (tables_of g tables) w (formula_of g) sound.0 (guard_stands tables number g trace step are is stand)
     (λ x free. ⊎_elim (λ there. subst IsSome (agree x there) (bound x there)) (λ absent. binds x ((opened.exact x).1 (free, absent))) (among_or_not g.guard.bound x))))
+
+-- and a guard holds by its tables where it is satisfied
+pub guards_hold : PresentIsSatisfied → (past : Past) (time : ℕ) (events : List Event) (tables : PastTables) → ArePastTables tables → TablesWillStand past time events tables
+    → GuardsWillHold past time events tables
+guards_hold present past time events tables are will trace step at same later stands number g is v binds =
+    let sound = sound_at tables.guards number g are.sound is in
+    subst (λ e. HoldsNow e (tables_of g tables) v (formula_of g) ↔ Sat (trace ++ step ∷ []) (length trace) v (formula_of g)) (ap (λ s. s.events) (new_at trace step) ∙ same)
+    (present (trace ++ step ∷ []) (length trace) (tables_of g tables) v (formula_of g) sound.0 (guard_stands tables number g trace step are is (will trace step at same later stands)) binds)
 
 pub get_is : {X : Type 0} (xs : List X) (i : ℕ) (x : X) → i < length xs → x ≡ get_or xs i x → slice_get xs i ≡ Some x
 get_is [] i x below is = absurd (omega (arith, below))

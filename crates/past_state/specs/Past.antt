@@ -1,7 +1,7 @@
 -- Past states, and their tables at a step.
 use Rattle.std.specs.Prelude.{◌≡◌, ◌↔◌, ◌⊎◌, ℕ, ◌+◌, ◌≤◌, List, [], ◌∷◌, ◌++◌, length, map, reverse, drop, All, IsTrue}
-use Rattle.std.specs.Prelude.{Bool, Contains, Some, slice_get}
-use Rattle.enf_value.specs.Valuations.{Valuation}
+use Rattle.std.specs.Prelude.{Bool, Contains, IsSome, Some, slice_get}
+use Rattle.enf_value.specs.Valuations.{Valuation, value_at}
 use Rattle.enf_value.specs.declared.events.Event.{Event}
 use Rattle.enf_value.specs.declared.steps.Step.{Step}
 use Rattle.enf_value.specs.declared.terms.VarId.{VarId}
@@ -104,6 +104,16 @@ IsGuard guards number g = slice_get guards number ≡ Some g
 -- the tables of a guard
 abbrev pub tables_of : PlacedGuard → PastTables → List Relation
 tables_of g tables = drop g.start tables.stack
+
+-- for each trace for which the past stands, and a step with these events at this time that is not earlier: a guard holds
+-- by its tables, under a valuation of its free variables, where it is satisfied at the step
+abbrev pub GuardsWillHold : Past → ℕ → List Event → PastTables → Type 0
+GuardsWillHold past time events tables = (trace : List Step) (step : Step) → step.time ≡ time
+    → step.events ≡ events → last_time trace ≤ time → PastStands trace past → (number : ℕ) (g : PlacedGuard)
+    → IsGuard tables.guards number g → (v : Valuation)
+    → ((x : VarId) → IsFree x (formula_of g) → IsSome (value_at v x))
+    → HoldsNow events (tables_of g tables) v (formula_of g)
+    ↔ Sat (trace ++ step ∷ []) (length trace) v (formula_of g)
 
 -- v binds the guard's bound variables
 abbrev pub BindsBound : List PlacedGuard → ℕ → Valuation → Type 0

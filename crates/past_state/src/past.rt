@@ -75,6 +75,7 @@ impl Model for Tables {
 
 impl PastState {
     ghost use Rattle.past_state.specs.Past.{AreOf, PastStands, TablesWillStand, CommittedWillStand, PastCommitted};
+    ghost use Rattle.past_state.specs.Past.{GuardsWillHold};
     ghost use Rattle.past_state.specs.Guarded.{AreCopies, IsFreshGuard};
     ghost use Rattle.past_state.specs.Known.{AreKnown};
     ghost use Rattle.past_state.specs.LastTimes.{AreAtLast};
@@ -99,6 +100,7 @@ impl PastState {
         requires { AreUpToTimeOf time self.now.operators }
         ensures are { IfOk result (AreOf self.now time events.now) }
         ensures stand { IfOk result (TablesWillStand self.now time events.now) }
+        ensures hold { IfOk result (GuardsWillHold self.now time events.now) }
         ensures known { IfOk result (AreKnown self.now events.now) }
     {
         let events = StepEvents::of(alloc, events)?;
@@ -115,8 +117,10 @@ impl PastState {
         requires { AreUpToTimeOf time self.now.operators }
         ensures are { IfOk result (AreOf self.now time events.now) }
         ensures stand { IfOk result (TablesWillStand self.now time events.now) }
+        ensures hold { IfOk result (GuardsWillHold self.now time events.now) }
         ensures known { IfOk result (AreKnown self.now events.now) }
     {
+        present_is_satisfied();
         steps_stand();
         tables_are_known();
         let ran = run(alloc, self.operators.items.as_slice(), time, events)?;

@@ -2,7 +2,7 @@ use Rattle.std.proofs.Common.{◌∙◌, [], sym, subst, ap}
 use Rattle.past_state.specs.LazyTables.{CanAskEach, tables_at}
 use Rattle.past_state.specs.Past.{IsPast, AreOf}
 use Rattle.past_state.specs.Runs.{AreOrdered, Runs}
-use Rattle.past_state.proofs.PastLemmas.{ordered, tables_are}
+use Rattle.past_state.proofs.PastLemmas.{guards_hold, ordered, tables_are}
 use Rattle.past_state.proofs.past.PastState.tables_at.Goals as goal
 
 pub run-requires-clause-ordered : goal.run-requires-clause-ordered
@@ -32,3 +32,8 @@ returns-clause-stand c = c.steps_stand.ensures.tables c.args.self.now c.args.tim
 
 pub returns-clause-known : goal.returns-clause-known
 returns-clause-known c = c.tables_are_known.ensures c.args.self.now c.args.time c.args.events.now _ (subst IsPast c.self.view_is c.self.invariant) (are c)
+
+pub returns-clause-hold : goal.returns-clause-hold
+returns-clause-hold c = guards_hold c.present_is_satisfied.ensures c.args.self.now c.args.time c.args.events.now _
+    (tables_are c.args.self.now c.args.time c.args.events.now _ (subst IsPast c.self.view_is c.self.invariant) (are c))
+    (c.steps_stand.ensures.tables c.args.self.now c.args.time c.args.events.now _ (subst IsPast c.self.view_is c.self.invariant) (are c))
