@@ -1,6 +1,6 @@
 -- Past states step by step.
 use Rattle.std.proofs.Common.{◌≡◌, ◌∙◌, ◌↔◌, ⊎_elim, ℕ, zero, suc, ◌+◌, ◌<◌, ◌≤◌, IsTrue, List, [], ◌∷◌, ◌++◌, length, drop, reverse, get_or, All, Contains, Some, refl, sym, ap, subst, arith, append-nil, append_assoc, length-append}
-use Rattle.std.specs.Prelude.{Bool, IsSome, not, slice_get}
+use Rattle.std.specs.Prelude.{Bool, IsSome, slice_get}
 use Rattle.enf_value.specs.declared.terms.VarId.{VarId}
 use Rattle.std.proofs.lemmas.Option.{same_Some, none-some}
 use Rattle.std.proofs.lemmas.Bool.{and_parts}
@@ -14,6 +14,7 @@ use Rattle.enf_formula.specs.Satisfaction.{Sat}
 use Rattle.enf_value.specs.Valuations.{Valuation}
 use Rattle.monitorable_guard.specs.Evaluation.{AreOpen, CanEvaluate, FitOperators, HoldsFor}
 use Rattle.monitorable_guard.specs.Present.{HoldsNow, PresentIsSatisfied, StandFor, outermost}
+use Rattle.monitorable_guard.specs.Safety.{FreeWithin}
 use Rattle.valuations.specs.Columns.{among_or_not}
 use Rattle.valuations.specs.Just.{Binds}
 use Rattle.valuations.specs.Tables.{Relation, Has, AgreeOn}
@@ -29,7 +30,7 @@ use Rattle.past_state.proofs.MemoryLemmas.{Laws, fit_back, fit_front, fit_long, 
 use Rattle.past_state.proofs.OrderLemmas.{all_go}
 use Rattle.past_state.proofs.RunLemmas.{fit_run, stand_run, committed_run, still_all_for}
 use Rattle.past_state.proofs.HeldLemmas.{new_at}
-use Rattle.past_state.proofs.RowLemmas.{iff_then, some_row}
+use Rattle.past_state.proofs.RowLemmas.{iff_then}
 
 pub inside_out : (fs : List Formula) → AreInsideOut [] (reverse (all_operators fs))
 inside_out fs = subst (AreInsideOut []) (append-nil (reverse (all_operators fs))) ((all_go fs []).ordered [] tt)
@@ -247,18 +248,19 @@ are_satisfied present tables number g past events v t asked binds opened holds h
 
 -- ---- a test
 
-pub test_evaluated : (tables : PastTables) (number : ℕ) (g : PlacedGuard) (past : List Relation) (events : List Event) (v : Valuation) (t : Relation) (empty : Bool) → OfGuard tables number g past
-    → IsTestOf tables.guards number → AreOpen (formula_of g) g.guard.bound t.columns → HoldsFor events (past) (formula_of g) g.guard.bound v t
-    → (IsTrue empty ↔ (t.rows ≡ [])) → IsEvaluated tables number events v (not empty)
-test_evaluated tables number g past events v t empty asked test opened holds tells h is =
-    let none : (x : VarId) → Contains t.columns x → ⊥ = λ x there. let open_x = (opened.exact x).0 there in open_x.1 (test g asked.is x open_x.0) in
-    subst (λ k. IsTrue (not empty) ↔ HoldsNow events (tables_of k tables) v (formula_of k)) (same_guard tables.guards number g h asked.is is)
-    (iff_then (some_row t v empty tells none)
-    (subst (λ l. HoldsFor events l (formula_of g) g.guard.bound v t) asked.part holds v (λ x there. refl) (λ x there. absurd (none x there))))
+pub test_of : (tables : PastTables) (number : ℕ) (g : PlacedGuard) (past : List Relation) → OfGuard tables number g past → IsTestOf tables.guards number
+    → FreeWithin (formula_of g) (Contains g.guard.bound)
+test_of tables number g past asked test = test g asked.is
 
-pub test_satisfied : PresentIsSatisfied → (tables : PastTables) (number : ℕ) (events : List Event) (v : Valuation) (holds : Bool) → ArePastTables tables → IsTestOf tables.guards number
+pub is_evaluated : (tables : PastTables) (number : ℕ) (g : PlacedGuard) (past : List Relation) (events : List Event) (v : Valuation) (holds : Bool) → OfGuard tables number g past
+    → (IsTrue holds ↔ HoldsNow events past v (formula_of g)) → IsEvaluated tables number events v holds
+is_evaluated tables number g past events v holds asked told h is =
+    subst (λ k. IsTrue holds ↔ HoldsNow events (tables_of k tables) v (formula_of k)) (same_guard tables.guards number g h asked.is is)
+    (subst (λ l. IsTrue holds ↔ HoldsNow events l v (formula_of g)) asked.part told)
+
+pub is_satisfied : PresentIsSatisfied → (tables : PastTables) (number : ℕ) (events : List Event) (v : Valuation) (holds : Bool) → ArePastTables tables → IsTestOf tables.guards number
     → BindsBound tables.guards number v → IsEvaluated tables number events v holds → IsSatisfied tables number events v holds
-test_satisfied present tables number events v holds are test binds evaluated h is trace step same stand =
+is_satisfied present tables number events v holds are test binds evaluated h is trace step same stand =
     iff_then (evaluated h is)
     (subst (λ e. HoldsNow e (tables_of h tables) v (formula_of h) ↔ Sat (trace ++ step ∷ []) (length trace) v (formula_of h)) (ap (λ s. s.events) (new_at trace step) ∙ same)
     (present (trace ++ step ∷ []) (length trace) (tables_of h tables) v (formula_of h) (sound_at tables.guards number h are.sound is).0 (guard_stands tables number h trace step are is stand)

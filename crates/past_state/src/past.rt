@@ -1,5 +1,6 @@
 //! What the operators on the past of guards remember.
 ghost use Rattle.std.specs.Prelude.{◌≡◌, ◌≤◌, ℕ, [], None, IfOk, OnOk, All};
+ghost use Rattle.valuations.specs.Scopes.{bound_in};
 ghost use Rattle.valuations.specs.Tables.{IsTable};
 
 use crate::asking::LazyTables;
@@ -15,7 +16,7 @@ use monitorable_guard::{Guard, StepEvents};
 use std::alloc::Global;
 use std::marker::Model;
 use std::rc::Rc;
-use valuations::{Table, Valuation};
+use valuations::{Frame, Table, Valuation};
 
 /// What the operators on the past of some guards remember of the steps up to the last one.
 #[derive(Drop)]
@@ -199,10 +200,29 @@ impl Tables {
         ensures satisfied { IfOk result (AreSatisfied self.now guard events.now v.now) }
         ensures known { IfOk result (IsKnownOfGuard self.now guard events.now v.now) }
     {
+        self.rows_under(alloc, guard, events, &Frame::Whole(v))
+    }
+
+    /// The same under values that stay where they are.
+    pub fn rows_under(
+        &self,
+        alloc: Global,
+        guard: u32,
+        events: &StepEvents<'_>,
+        v: &Frame<'_>,
+    ) -> Result<Table, NoMemory>
+        requires within { guard < length self.now.guards }
+        requires binds { BindsBound self.now.guards guard (bound_in v.now) }
+        ensures table { IfOk result IsTable }
+        ensures columns { IfOk result (HasOpenColumns self.now guard) }
+        ensures evaluated { IfOk result (AreEvaluated self.now guard events.now (bound_in v.now)) }
+        ensures satisfied { IfOk result (AreSatisfied self.now guard events.now (bound_in v.now)) }
+        ensures known { IfOk result (IsKnownOfGuard self.now guard events.now (bound_in v.now)) }
+    {
         present_is_satisfied();
         let placed = &self.guards[guard as usize];
         let past = self.behind(placed.start);
-        placed.guard.evaluate_at(alloc, events, &past, v)
+        placed.guard.evaluate_under(alloc, events, &past, v)
     }
 
     /// Whether the valuation satisfies the guard, all of whose free variables are bound, at the step.
@@ -237,11 +257,27 @@ impl Tables {
         ensures evaluated { IfOk result (IsEvaluated self.now guard events.now v.now) }
         ensures satisfied { IfOk result (IsSatisfied self.now guard events.now v.now) }
     {
+        self.holds_under(alloc, guard, events, &Frame::Whole(v))
+    }
+
+    /// The same under values that stay where they are; no table is made of the guard.
+    pub fn holds_under(
+        &self,
+        alloc: Global,
+        guard: u32,
+        events: &StepEvents<'_>,
+        v: &Frame<'_>,
+    ) -> Result<bool, NoMemory>
+        requires within { guard < length self.now.guards }
+        requires binds { BindsBound self.now.guards guard (bound_in v.now) }
+        requires test { IsTestOf self.now.guards guard }
+        ensures evaluated { IfOk result (IsEvaluated self.now guard events.now (bound_in v.now)) }
+        ensures satisfied { IfOk result (IsSatisfied self.now guard events.now (bound_in v.now)) }
+    {
         present_is_satisfied();
         let placed = &self.guards[guard as usize];
         let past = self.behind(placed.start);
-        let rows = placed.guard.evaluate_at(alloc, events, &past, v)?;
-        Ok(!rows.is_empty())
+        placed.guard.holds(alloc, events, &past, v)
     }
 
     // The operators behind the first ones.
