@@ -1,5 +1,5 @@
 -- Two rising lists of the same items are one, and so a guard has one list of rows.
-use Rattle.std.proofs.Common.{◌≡◌, List, [], ◌∷◌, Contains, refl, sym, ap, subst, ⊎_elim, ◌∙◌, All}
+use Rattle.std.proofs.Common.{◌≡◌, List, [], ◌∷◌, ◌++◌, Contains, refl, sym, ap, subst, ⊎_elim, ◌∙◌, All}
 use Rattle.std.specs.Prelude.{◌↔◌}
 use Rattle.std.specs.Cmp.{IsTotalOrder}
 use Rattle.std.specs.List.{AllByRecursion}
@@ -8,7 +8,8 @@ use Rattle.std.specs.Ordering.{ordering_reverse}
 use Rattle.std.specs.declared.cmp.Ordering.{Ordering}
 use Rattle.std.specs.declared.cmp.Ordering.TheVariants.{Less, Equal, Greater}
 use Rattle.std.proofs.lemmas.Map.Keys.{sorted_head, sorted_tail}
-use Rattle.std.proofs.lemmas.List.Elements.{All-contains}
+use Rattle.std.proofs.lemmas.List.Elements.{All-contains, Contains-append_right}
+use Rattle.enf_value.specs.Membership.{HasNoRepeats}
 use Rattle.std.proofs.Common.{length}
 use Rattle.enf_value.specs.declared.values.Value.{Value}
 use Rattle.valuations.specs.KeyLaws.{row_cmp_total}
@@ -57,6 +58,30 @@ module _ {X : Type 0} {R : X → X → Ordering} (order : IsTotalOrder R) where
       let first : x ≡ y = first_same x y xs ys rise too (into x (here x xs)) (from y (here y ys)) in
       let rest : xs ≡ ys = same_rising xs ys (sorted_tail R x xs rise) (sorted_tail R y ys too) (behind_too x y xs ys first rise into) (behind_too y x ys xs (sym first) too from) in
       ap (λ z. z ∷ xs) first ∙ ap (λ zs. y ∷ zs) rest
+
+  -- what rises has no repeats
+  pub rising_distinct : (xs : List X) → IsStrictlySortedBy R xs → HasNoRepeats xs
+  rising_distinct [] rise = tt
+  rising_distinct (x ∷ xs) rise = (
+    λ there. let less = below_all x x xs (sorted_head R x xs rise) there in not_both x x less less,
+    rising_distinct xs (sorted_tail R x xs rise),
+  )
+
+  -- of two lists that rise one behind the other, the second rises, and no item is in both
+  pub rising_behind : (xs ys : List X) → IsStrictlySortedBy R (xs ++ ys) → IsStrictlySortedBy R ys
+  rising_behind [] ys rise = rise
+  rising_behind (x ∷ xs) ys rise = rising_behind xs ys (sorted_tail R x (xs ++ ys) rise)
+
+  pub rising_apart : (xs ys : List X) → IsStrictlySortedBy R (xs ++ ys) → (z : X) → Contains ys z → Contains xs z → ⊥
+  rising_apart [] ys rise z behind there = absurd (none_in_nil z there)
+  rising_apart (x ∷ xs) ys rise z behind there =
+      ⊎_elim
+      (λ (same : x ≡ z).
+      let less = below_all x z (xs ++ ys) (sorted_head R x (xs ++ ys) rise) (Contains-append_right xs ys z behind) in
+      let again : R z z ≡ Less = subst (λ w. R w z ≡ Less) same less in
+      not_both z z again again)
+      (λ later. rising_apart xs ys (sorted_tail R x (xs ++ ys) rise) z behind later)
+      (first_or_later z x xs there)
 
 -- a guard has one list of rows
 pub rows_are_one : RowsAreOne

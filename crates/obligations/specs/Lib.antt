@@ -5,4 +5,7 @@ pub mod Pending
 pub mod Residuals
 pub mod Enough
 pub mod Traces
+pub mod Asked
+pub mod Waiting
+pub mod Adding
 pub mod Cases

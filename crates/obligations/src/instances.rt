@@ -1,4 +1,7 @@
 //! Nodes of plans that were begun.
+use enf_value::items::{Duplicate, Items};
+use enf_value::memory::NoMemory;
+use std::alloc::Global;
 use valuations::Valuation;
 
 /// An operator on the future that was begun: its rule and node, the values of the variables in scope there, the
@@ -11,4 +14,21 @@ pub struct Instance {
     pub origin: u64,
     pub low: u64,
     pub high: u64,
+}
+
+/// A list of instances.
+pub type Instances = Items<Instance>;
+
+impl Duplicate for Instance {
+    fn duplicate(&self, alloc: Global) -> Result<Instance, NoMemory> {
+        let valuation = self.valuation.duplicate(alloc)?;
+        Ok(Instance {
+            rule: self.rule,
+            node: self.node,
+            valuation,
+            origin: self.origin,
+            low: self.low,
+            high: self.high,
+        })
+    }
 }

@@ -1,11 +1,19 @@
-//! What plans owe at a step of a trace, and what they leave pending. It stands on `plan_terms`,
+//! What plans owe at a step of a trace, and what they leave pending. It stands on `past_state`, `plan_terms`,
 //! `monitorable_guard`, `valuations`, `trace_meaning`, `enf_formula` and `enf_value`.
 #![tactic(auto)]
 
+pub mod actions;
+pub mod begun;
 pub mod instances;
 pub mod laws;
 pub mod literals;
+pub mod missing;
+pub mod now;
+pub mod pending;
 pub mod worked_cases;
 
-pub use instances::Instance;
+pub use actions::Action;
+pub use instances::{Instance, Instances};
 pub use literals::{Literal, LiteralKind};
+pub use now::Now;
+pub use pending::Pending;

@@ -1,0 +1,76 @@
+-- Pending instances of plans, what it takes to ask them, and their deadlines.
+use Rattle.std.specs.Prelude.{◌≡◌, ℕ, ◌≤◌, Bool, true, List, [], ◌∷◌, Option, None, Some, Contains}
+use Rattle.std.specs.Coded.{Coded, coded_ℕ, coded_list, coded×, code_by}
+use Rattle.std.specs.List.{AllByRecursion}
+use Rattle.std.specs.Prelude.{refl}
+use Rattle.enf_value.specs.Valuations.{Valuation, no_values}
+use Rattle.enf_value.specs.declared.steps.Step.{Step}
+use Rattle.enf_value.specs.declared.terms.VarId.{VarId}
+use Rattle.enf_formula.specs.Formulas.{Formula}
+use Rattle.plan_terms.specs.Limits.{EndsInTime}
+use Rattle.plan_terms.specs.Nodes.{is_future, nodes}
+use Rattle.plan_terms.specs.Plans.{Plan}
+use Rattle.obligations.specs.Asked.{CanAsk, IsWanted}
+use Rattle.obligations.specs.Missing.{Missing}
+use Rattle.obligations.specs.Pending.{HasDeadline, MissingOf, node_of}
+use Rattle.obligations.specs.contracts.instances.Instance as stored
+use Rattle.obligations.specs.declared.instances.Instance.{Instance}
+use Rattle.obligations.specs.declared.literals.Literal.{Literal}
+use Rattle.obligations.specs.declared.now.Now.{Now}
+
+-- the first of the literals that a property gives, if any
+abbrev pub FirstOf : (List Literal → Type 0) → Option Literal → Type 0
+FirstOf P None = P []
+FirstOf P (Some first) = (rest : List Literal) × P (first ∷ rest)
+
+-- the first literal that a plan misses at the last position of a trace, and that a pending instance misses
+abbrev pub FirstMissing : List Step → Plan → Valuation → Option Literal → Type 0
+FirstMissing trace plan v = FirstOf (Missing trace plan v)
+
+abbrev pub FirstMissingOf : List Plan → List Step → Instance → (forced : Bool) → Option Literal → Type 0
+FirstMissingOf plans trace i forced = FirstOf (MissingOf plans trace i forced)
+
+-- the instance is of an operator on the future of one of the plans, which can be asked at a step with these guards under
+-- the instance's valuation, and whose windows end in time
+pub record CanAskOf (guards : List (Formula × List VarId)) (plans : List Plan) (i : Instance) : Type 0 where
+  pub node : Plan
+  pub found : node_of plans i ≡ Some node
+  pub future : is_future node ≡ true
+  pub can : CanAsk guards node i.valuation
+  pub ends : AllByRecursion EndsInTime (nodes node)
+
+-- the literal is wanted by the node of the instance
+pub record IsWantedOf (now : Now) (plans : List Plan) (i : Instance) (literal : Literal) : Type 0 where
+  pub node : Plan
+  pub found : node_of plans i ≡ Some node
+  pub wanted : IsWanted now node i.valuation literal
+
+-- each of the plans can be asked at a step with these guards, where nothing is bound, and its windows end in time
+abbrev pub CanAskRoot : List (Formula × List VarId) → Plan → Type 0
+CanAskRoot guards plan = CanAsk guards plan no_values × AllByRecursion EndsInTime (nodes plan)
+
+abbrev pub CanAskRoots : List (Formula × List VarId) → List Plan → Type 0
+CanAskRoots guards plans = AllByRecursion (CanAskRoot guards) plans
+
+-- a list of pending instances, and the deadlines among their windows' ends
+pub record PendingList : Type 0 where
+  pub instances : List Instance
+  pub deadlines : List ℕ
+
+-- stored as the pair of both
+abbrev pub pending_code : Coded PendingList
+pending_code =
+    code_by (List Instance × List ℕ) (coded× (coded_list stored.the_row.coded) (coded_list coded_ℕ))
+    (λ p. (p.instances, p.deadlines)) (λ p. record { instances = p.0; deadlines = p.1 }) (λ _. refl)
+
+-- the deadlines are those of the instances
+abbrev pub KeepsDeadlines : List Plan → PendingList → Type 0
+KeepsDeadlines plans pending = (deadline : ℕ)
+    → (Contains pending.deadlines deadline → (i : Instance) × Contains pending.instances i × HasDeadline plans i deadline)
+    × ((i : Instance) → Contains pending.instances i → HasDeadline plans i deadline
+    → Contains pending.deadlines deadline)
+
+-- the least of some numbers, if there are any
+abbrev pub IsLeastOf : List ℕ → Option ℕ → Type 0
+IsLeastOf numbers None = numbers ≡ []
+IsLeastOf numbers (Some least) = Contains numbers least × ((number : ℕ) → Contains numbers number → least ≤ number)

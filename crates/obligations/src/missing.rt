@@ -1,0 +1,81 @@
+//! What plans and pending instances miss at a step.
+ghost use Rattle.std.specs.Prelude.{IfOk, IfSome, List, map};
+ghost use Rattle.enf_value.specs.declared.steps.Step.{Step};
+ghost use Rattle.plan_terms.specs.Plans.{plan_of};
+ghost use Rattle.valuations.specs.Scopes.{bound_in};
+ghost use Rattle.obligations.specs.Asked.{CanAsk, IsNowOf, IsWanted, guards_at};
+ghost use Rattle.obligations.specs.Missing.{Missing};
+ghost use Rattle.obligations.specs.Pending.{MissingOf};
+ghost use Rattle.obligations.specs.Waiting.{CanAskOf, FirstMissing, FirstMissingOf, IsWantedOf};
+
+use crate::instances::Instance;
+use crate::literals::Literal;
+use crate::now::Now;
+use enf_value::memory::NoMemory;
+use plan_terms::Plan;
+use std::alloc::Global;
+use valuations::{Frame, Valuation};
+
+/// The first literal that the plan misses where it is begun at the step, if it misses any. No list is made, and no
+/// valuation is copied for a row.
+pub fn first_missing(
+    alloc: Global,
+    plan: &Plan,
+    v: &Frame<'_>,
+    now: &Now<'_>,
+) -> Result<Option<Literal>, NoMemory>
+    requires { CanAsk (guards_at now.now.tables.now) (plan_of plan.now) (bound_in v.now) }
+    ensures first { IfOk result (λ found. (trace : List Step) → IsNowOf now.now trace
+        → FirstMissing trace (plan_of plan.now) (bound_in v.now) found) }
+    ensures wanted { IfOk result (λ found. IfSome found
+        (IsWanted now.now (plan_of plan.now) (bound_in v.now))) }
+{
+    Err(NoMemory)
+}
+
+/// The literals that the plan misses where it is begun at the step.
+pub fn lack(
+    alloc: Global,
+    plan: &Plan,
+    v: &Valuation,
+    now: &Now<'_>,
+) -> Result<Vec<Literal>, NoMemory>
+    requires { CanAsk (guards_at now.now.tables.now) (plan_of plan.now) v.now }
+    ensures { IfOk result (λ literals. (trace : List Step) → IsNowOf now.now trace
+        → Missing trace (plan_of plan.now) v.now literals.items) }
+{
+    Err(NoMemory)
+}
+
+/// The first literal that a pending instance misses at the step, if it misses any. One that is forced cannot wait any
+/// longer.
+pub fn first_missing_of(
+    alloc: Global,
+    instance: &Instance,
+    plans: &[Plan],
+    now: &Now<'_>,
+    forced: bool,
+) -> Result<Option<Literal>, NoMemory>
+    requires { CanAskOf (guards_at now.now.tables.now) (map plan_of plans.now) instance.now }
+    ensures first { IfOk result (λ found. (trace : List Step) → IsNowOf now.now trace
+        → FirstMissingOf (map plan_of plans.now) trace instance.now forced found) }
+    ensures wanted { IfOk result (λ found. IfSome found
+        (IsWantedOf now.now (map plan_of plans.now) instance.now)) }
+{
+    Err(NoMemory)
+}
+
+/// The literals that a pending instance misses at the step.
+pub fn lack_pending(
+    alloc: Global,
+    instance: &Instance,
+    plans: &[Plan],
+    now: &Now<'_>,
+    forced: bool,
+) -> Result<Vec<Literal>, NoMemory>
+    requires { CanAskOf (guards_at now.now.tables.now) (map plan_of plans.now) instance.now }
+    ensures { IfOk result (λ literals. (trace : List Step) → IsNowOf now.now trace
+        → MissingOf (map plan_of plans.now) trace instance.now forced literals.items) }
+{
+    Err(NoMemory)
+}
