@@ -1,5 +1,5 @@
 -- What holds depends on the values of the free variables alone.
-use Rattle.std.proofs.Common.{◌≡◌, ◌<ℤ◌, ◌≤ℤ◌, ◌⊎◌, inl, inr, ⊎_elim, List, [], ◌∷◌, ◌++◌, length, drop, Contains, refl, sym, subst, ◌∙◌, arith}
+use Rattle.std.proofs.Common.{◌≡◌, ◌+◌, ◌<ℤ◌, ◌≤ℤ◌, ◌⊎◌, ◌↔◌, inl, inr, ⊎_elim, List, [], ◌∷◌, ◌++◌, length, take, drop, Contains, refl, sym, subst, ◌∙◌, arith, length-append, length-take, length-drop, take-append-drop}
 use Rattle.std.specs.FinMap as finite
 use Rattle.enf_value.specs.Valuations.{Valuation, value_at, value_of, values_of, onto_values, with_values}
 use Rattle.enf_value.specs.declared.events.Event.{Event}
@@ -41,6 +41,25 @@ with_same (y ∷ xs) (value ∷ values) v w x long either =
     (λ e. inr (value_at-other v y x value other ∙ e ∙ sym (value_at-other w y x value other)))
     either)
     (same_or_other y x))
+
+-- the values of some variables, and those of others
+with_both : (xs : List VarId) (front : List Value) (ys : List VarId) (back : List Value) (v : Valuation) → length front ≡ length xs → with_values (xs ++ ys) (front ++ back) v ≡ with_values ys back (with_values xs front v)
+with_both [] [] ys back v long = refl
+with_both [] (value ∷ front) ys back v long = absurd (omega (arith, long))
+with_both (x ∷ xs) [] ys back v long = absurd (omega (arith, long))
+with_both (x ∷ xs) (value ∷ front) ys back v long = with_both xs front ys back (finite.insert v x value) (omega (arith, long))
+
+pub nested_alike : (P : Valuation → Type 0) (xs ys : List VarId) (v : Valuation)
+    → ((values : List Value) → length values ≡ length (xs ++ ys) → P (with_values (xs ++ ys) values v))
+    ↔ ((front : List Value) → length front ≡ length xs → (back : List Value) → length back ≡ length ys → P (with_values ys back (with_values xs front v)))
+nested_alike P xs ys v = (
+  λ each front long back long_back. subst P (with_both xs front ys back v long) (each (front ++ back) (length-append front back ∙ (λ i. long i + long_back i) ∙ sym (length-append xs ys))),
+  λ each values long.
+      let front_long : length (take (length xs) values) ≡ length xs = omega (arith, length-take (length xs) values, length-append xs ys, long) in
+      let back_long : length (drop (length xs) values) ≡ length ys = omega (arith, length-drop (length xs) values, length-append xs ys, long) in
+      subst (λ l. P (with_values (xs ++ ys) l v)) (take-append-drop (length xs) values)
+      (subst P (sym (with_both xs (take (length xs) values) ys (drop (length xs) values) v front_long)) (each (take (length xs) values) front_long (drop (length xs) values) back_long)),
+)
 
 pub term_agrees : (v w : Valuation) (t : Term) → ((x : VarId) → t ≡ Var x → value_at v x ≡ value_at w x) → value_of v t ≡ value_of w t
 term_agrees v w (Var x) agree = agree x refl

@@ -1,5 +1,5 @@
 -- The valuations that answer a formula, from those that answer its parts.
-use Rattle.std.proofs.Common.{◌≡◌, ℕ, ◌+◌, Bool, true, false, not, ◌⊎◌, inl, inr, ⊎_elim, List, [], ◌∷◌, ◌++◌, length, map, take, drop, Option, None, Some, unwrap_or, pos, IsSome, IsTrue, Contains, ◌↔◌, refl, sym, ap, subst, ◌∙◌, arith, length-append, length-take, length-drop, take-append-drop}
+use Rattle.std.proofs.Common.{◌≡◌, ℕ, Bool, true, false, not, ◌⊎◌, inl, inr, ⊎_elim, List, [], ◌∷◌, ◌++◌, length, map, Option, None, Some, unwrap_or, pos, IsSome, IsTrue, Contains, ◌↔◌, refl, sym, ap, subst, ◌∙◌}
 use Rattle.std.proofs.lemmas.Bool.{false≢true}
 use Rattle.std.proofs.lemmas.List.{length-map}
 use Rattle.std.specs.FinMap as finite
@@ -27,7 +27,7 @@ use Rattle.monitorable_guard.specs.Asking.{FirstGivesUnder}
 use Rattle.monitorable_guard.specs.Evaluation.{FitOperators}
 use Rattle.monitorable_guard.specs.Present.{HoldsNow, FirstHas, outermost, behind}
 use Rattle.monitorable_guard.specs.Safety.{FreeWithin, FreeUnder, FreeAlike}
-use Rattle.monitorable_guard.proofs.AgreementLemmas.{now_agrees, has_agrees}
+use Rattle.monitorable_guard.proofs.AgreementLemmas.{now_agrees, has_agrees, nested_alike}
 use Rattle.monitorable_guard.proofs.AskLemmas.{BindsMore}
 use Rattle.monitorable_guard.proofs.RowsLemmas.{SomeOf}
 use Rattle.monitorable_guard.proofs.PresentLemmas.{bound_with}
@@ -379,20 +379,7 @@ module _ (events : List Event) where
 
     -- the values of some variables, and those of others
     pub nested_same : (p q r : ℕ) (ys : List VarId) → HoldsNow events tables v (Forall p (xs ++ ys) g) ↔ HoldsNow events tables v (Forall q xs (Forall r ys g))
-    nested_same p q r ys = (
-      λ each front long back long_back. subst (λ u. HoldsNow events tables u g) (with_both xs front ys back v long) (each (front ++ back) (length-append front back ∙ (λ i. long i + long_back i) ∙ sym (length-append xs ys))),
-      λ each values long.
-          let front_long : length (take (length xs) values) ≡ length xs = omega (arith, length-take (length xs) values, length-append xs ys, long) in
-          let back_long : length (drop (length xs) values) ≡ length ys = omega (arith, length-drop (length xs) values, length-append xs ys, long) in
-          subst (λ l. HoldsNow events tables (with_values (xs ++ ys) l v) g) (take-append-drop (length xs) values)
-          (subst (λ u. HoldsNow events tables u g) (sym (with_both xs (take (length xs) values) ys (drop (length xs) values) v front_long)) (each (take (length xs) values) front_long (drop (length xs) values) back_long)),
-    )
-      where
-        with_both : (xs : List VarId) (front : List Value) (ys : List VarId) (back : List Value) (v : Valuation) → length front ≡ length xs → with_values (xs ++ ys) (front ++ back) v ≡ with_values ys back (with_values xs front v)
-        with_both [] [] ys back v long = refl
-        with_both [] (value ∷ front) ys back v long = absurd (omega (arith, long))
-        with_both (x ∷ xs) [] ys back v long = absurd (omega (arith, long))
-        with_both (x ∷ xs) (value ∷ front) ys back v long = with_both xs front ys back (finite.insert v x value) (omega (arith, long))
+    nested_same p q r ys = nested_alike (λ u. HoldsNow events tables u g) xs ys v
 
   -- ---- operators on the past
 

@@ -25,6 +25,7 @@ use Rattle.monitorable_guard.specs.Present.{HoldsNow, FirstHas, outermost, behin
 use Rattle.monitorable_guard.specs.Safety.{Safe, BindsFresh, With}
 use Rattle.monitorable_guard.specs.Sources.{IsArgument, IsConstant, IsBoundValue}
 use Rattle.monitorable_guard.proofs.AgreementLemmas.{fit_front, fit_back}
+use Rattle.monitorable_guard.proofs.Decided.{Decided, contains_decided, decided_as, decided_either, stable_from}
 use Rattle.monitorable_guard.proofs.EvaluationLemmas.{not_bound}
 use Rattle.monitorable_guard.proofs.KnownValues.{From, from_stable, among_arguments, assigned, turned}
 use Rattle.monitorable_guard.proofs.SafetyLemmas.{below_within, historically_within}
@@ -94,21 +95,6 @@ module _ (S : Value → Type 0) (stable : (value : Value) → Classically (S val
     known_now tables v (Until place interval g h) B scope safe fresh fit in_scope free_scope tabled constant bound holds x free = absurd safe
 
 -- ---- whether a value is known is decided
-
-abbrev Decided : Type 0 → Type 0
-Decided P = P ⊎ (P → ⊥)
-
-decided_either : (P Q : Type 0) → Decided P → Decided Q → Decided (P ⊎ Q)
-decided_either P Q p q = ⊎_elim (λ yes. inl (inl yes)) (λ n. ⊎_elim (λ yes. inl (inr yes)) (λ m. inr (λ either. ⊎_elim n m either)) q) p
-
-decided_as : (P Q : Type 0) → (P → Q) → (Q → P) → Decided P → Decided Q
-decided_as P Q to from p = ⊎_elim (λ yes. inl (to yes)) (λ n. inr (λ q. n (from q))) p
-
-stable_from : (P : Type 0) → Decided P → Classically P → P
-stable_from P p c = ⊎_elim (λ yes. yes) (λ n. absurd (c n)) p
-
-contains_decided : (xs : List Value) (value : Value) → Decided (Contains xs value)
-contains_decided xs value = decided_as _ (Contains xs value) (λ some. subst (Contains xs) some.2 some.1) (λ there. (value, there, refl)) (some_or_not (λ x. x ≡ value) xs (λ x. same_value_or_not x value))
 
 term_decided : (t : Term) (value : Value) → Decided (t ≡ Const value)
 term_decided (Var x) value = inr (λ (e : Var x ≡ Const value). absurd (cc))

@@ -1,3 +1,7 @@
+pub mod Decided
+pub mod ListedValues
+pub mod DecidedLemmas
+pub mod RowLists
 pub mod KnownValues
 pub mod SafetyLemmas
 pub mod ScopeLemmas

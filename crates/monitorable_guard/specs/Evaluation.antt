@@ -8,7 +8,7 @@ use Rattle.enf_value.specs.declared.steps.Step.{Step}
 use Rattle.enf_value.specs.declared.terms.VarId.{VarId}
 use Rattle.enf_value.specs.declared.values.Value.{Value}
 use Rattle.enf_formula.specs.Formulas.{Formula}
-use Rattle.enf_formula.specs.FreeVariables.{IsFree}
+use Rattle.enf_formula.specs.FreeVariables.{AgreeOn as AgreeOnFree, IsFree}
 use Rattle.enf_formula.specs.Satisfaction.{Sat}
 use Rattle.valuations.specs.Just.{Binds}
 use Rattle.valuations.specs.Tables.{Relation, Has, AgreeOn}
@@ -66,3 +66,9 @@ EvaluatedIsSatisfied = (trace : List Step) (i : ℕ) (tables : List Relation) (f
     → AreOpen f bound t.columns
     → HoldsFor (step_at trace i).events tables f bound v t
     → (w : Valuation) → AgreeOn bound v w → Binds w t.columns → Has t w ↔ Sat trace i w f
+
+-- what holds by tables speaks of the values of the free variables alone
+abbrev pub FreeVariablesDecideNow : Type 0
+FreeVariablesDecideNow = (events : List Event) (tables : List Relation) (v w : Valuation) (f : Formula)
+    → FitOperators (outermost f) tables → AgreeOnFree f v w
+    → HoldsNow events tables v f ↔ HoldsNow events tables w f

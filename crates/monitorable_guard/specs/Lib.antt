@@ -9,5 +9,6 @@ pub mod Asking
 pub mod SafetyCases
 pub mod Matching
 pub mod Evaluation
+pub mod Rows
 pub mod Answers
 pub mod Events

@@ -1,11 +1,12 @@
 //! What safety is for: a law over the definitions, the contract of a function with an empty body.
-ghost use Rattle.monitorable_guard.specs.Evaluation.{EvaluatedIsSatisfied};
+ghost use Rattle.monitorable_guard.specs.Evaluation.{EvaluatedIsSatisfied, FreeVariablesDecideNow};
 ghost use Rattle.monitorable_guard.specs.Listed.{SafeWithFreeListed, SafeWithNoneListed};
 ghost use Rattle.monitorable_guard.specs.Present.{PresentIsSatisfied};
+ghost use Rattle.monitorable_guard.specs.Rows.{EvaluatedAreRows, SafeHasRows, SafeIsDecided};
 ghost use Rattle.monitorable_guard.specs.Safety.{HistoricallyAsksDenial};
 ghost use Rattle.monitorable_guard.specs.Sources.{SafeValuesAreKnown};
 
-use enf_formula::laws::is_classical;
+use enf_formula::laws::{dependence, is_classical};
 
 /// With the bound variables fixed, finitely many values of the others satisfy a safe formula: those of the events
 /// up to there, of its constants, and of the bound variables.
@@ -38,4 +39,25 @@ pub fn evaluated_is_satisfied()
     ensures { EvaluatedIsSatisfied }
 {
     present_is_satisfied();
+}
+
+/// What holds by the tables of a step depends on the values of the free variables alone.
+pub fn free_variables_decide_now()
+    ensures { FreeVariablesDecideNow }
+{}
+
+/// A safe formula is satisfied at a position or it is not, and finitely many rows of values of its variables satisfy
+/// it there: there is a list of them.
+pub fn safe_has_rows()
+    ensures decided { SafeIsDecided }
+    ensures rows { SafeHasRows }
+{
+    dependence();
+}
+
+/// Where the tables stand for a position of a trace, a guard's table has just the rows that satisfy it there.
+pub fn evaluated_are_rows()
+    ensures { EvaluatedAreRows }
+{
+    evaluated_is_satisfied();
 }
