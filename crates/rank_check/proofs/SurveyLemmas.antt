@@ -4,10 +4,10 @@ use Rattle.std.specs.List.{AllByRecursion, filter, flat_map}
 use Rattle.std.proofs.lemmas.Grind.{flat_map-append}
 use Rattle.std.proofs.lemmas.List.{append-nil, map-append, map_more}
 use Rattle.std.proofs.lemmas.List.Elements.{filter-append}
-use Rattle.plan_terms.specs.Nodes.{nodes}
+use Rattle.plan_terms.specs.Nodes.{has_deadline, nodes}
 use Rattle.plan_terms.specs.Plans.{Plan, Until, plan_of}
 use Rattle.plan_terms.specs.declared.plans.Plan.{Plan as Stored}
-use Rattle.rank_check.specs.Horizon.{greatest, least_with, rank_in, has_deadline, window_end, class_in}
+use Rattle.rank_check.specs.Horizon.{greatest, least_with, rank_in, window_end, class_in}
 use Rattle.plan_terms.specs.Changes.{cause_of}
 use Rattle.rank_check.specs.Survey.{IsSurvey}
 use Rattle.rank_check.specs.declared.horizon.Survey.{Survey}

@@ -1,9 +1,9 @@
 -- The horizon of a policy: to bound how long something is owed, where no further event triggers anything.
-use Rattle.std.specs.Prelude.{ℕ, ◌+◌, ◌-◌, ◌*◌, max, min, Bool, true, false, List, [], ◌∷◌, length, map, filter}
+use Rattle.std.specs.Prelude.{ℕ, ◌+◌, ◌-◌, ◌*◌, max, min, List, [], ◌∷◌, length, map, filter}
 use Rattle.std.specs.Prelude.{slice_index_or}
 use Rattle.std.specs.List.{flat_map}
 use Rattle.enf_value.specs.declared.events.NameId.{NameId}
-use Rattle.plan_terms.specs.Nodes.{nodes}
+use Rattle.plan_terms.specs.Nodes.{has_deadline, nodes}
 use Rattle.plan_terms.specs.Plans.{Plan, Eventually}
 use Rattle.plan_terms.specs.Plans.{Until, Next}
 use Rattle.plan_terms.specs.Changes.{caused_below}
@@ -22,13 +22,7 @@ least_with most (n ∷ ns) = min n (least_with most ns)
 abbrev pub size : Plan → ℕ
 size plan = length (nodes plan)
 
--- a node with a deadline: the end of its interval
-abbrev pub has_deadline : Plan → Bool
-has_deadline (Eventually node place low high body) = true
-has_deadline (Until node place low high left right) = true
-has_deadline (Next node place high body) = true
-has_deadline plan = false
-
+-- the end of the interval of a node with a deadline
 abbrev pub window_end : Plan → ℕ
 window_end (Eventually node place low high body) = high
 window_end (Until node place low high left right) = high

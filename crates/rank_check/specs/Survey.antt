@@ -1,9 +1,10 @@
 -- What one pass over nodes finds for the horizon.
 use Rattle.std.specs.Prelude.{◌≡◌, ℕ, List, length, map, filter}
 use Rattle.std.specs.List.{flat_map}
-use Rattle.plan_terms.specs.Plans.{Plan}
-use Rattle.rank_check.specs.Horizon.{greatest, least_with, rank_in, has_deadline, window_end, class_in}
 use Rattle.plan_terms.specs.Changes.{cause_of}
+use Rattle.plan_terms.specs.Nodes.{has_deadline}
+use Rattle.plan_terms.specs.Plans.{Plan}
+use Rattle.rank_check.specs.Horizon.{greatest, least_with, rank_in, window_end, class_in}
 use Rattle.rank_check.specs.declared.horizon.Survey.{Survey}
 
 -- how many nodes these are, the least rank of a name that one of them causes, and over those with deadlines the
