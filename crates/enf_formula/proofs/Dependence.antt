@@ -1,5 +1,5 @@
 -- On what the satisfaction of a formula depends.
-use Rattle.std.proofs.Common.{◌≡◌, ℕ, zero, suc, ◌+◌, ◌-◌, ◌≤◌, ◌<ℤ◌, ◌≤ℤ◌, Bool, true, false, cond, ◌&&◌, IsTrue, List, [], ◌∷◌, length, Option, Some, Contains, arith, refl, sym, ap, subst, ◌∙◌, inl, inr, true≢false, ⊎_elim}
+use Rattle.std.proofs.Common.{◌≡◌, ℕ, zero, suc, ◌+◌, ◌-◌, ◌<◌, ◌≤◌, ◌<ℤ◌, ◌≤ℤ◌, Bool, true, false, cond, ◌&&◌, IsTrue, List, [], ◌∷◌, length, Option, Some, Contains, arith, refl, sym, ap, subst, ◌∙◌, inl, inr, true≢false, ⊎_elim}
 use Rattle.std.specs.Cmp.{tied_itself}
 use Rattle.std.specs.FinMap as map
 use Rattle.std.specs.Ordering.{eq_by_cmp, is_eq}
@@ -59,17 +59,18 @@ bound_alike (y ∷ xs) (value ∷ values) v w x same agree =
     true≢false (sym (ap is_eq (tied_itself variable_cmp_total x)) ∙ ap (eq_by_cmp variable_cmp x) is ∙ differs)))
     ∙ sym (value_at-insert w y value x))
 
-held_since : (trace other : List Step) (i : ℕ) (interval : Interval) (F G F' G' : ℕ → Type 0) → AgreeUpTo i trace other → ((k : ℕ) → k ≤ i → F k → F' k) → ((j : ℕ) → j ≤ i → G j → G' j) → HeldSince trace i interval F G → HeldSince other i interval F' G'
-held_since trace other i interval F G F' G' agree left right held none =
+-- the steps up to a position are at the same times
+abbrev pub AtSameTimes : ℕ → List Step → List Step → Type 0
+AtSameTimes i trace other = (k : ℕ) → k ≤ i → (step_at trace k).time ≡ (step_at other k).time
+
+pub held_since : (trace other : List Step) (i : ℕ) (interval : Interval) (F G F' G' : ℕ → Type 0) → AtSameTimes i trace other → ((k : ℕ) → k ≤ i → F k → F' k) → ((j : ℕ) → j ≤ i → G j → G' j) → HeldSince trace i interval F G → HeldSince other i interval F' G'
+held_since trace other i interval F G F' G' times left right held none =
     held (λ some.
-    none (some.0, some.1, subst (IsIn interval) (λ n. (agree i (omega arith) n).time - (agree some.0 some.1 n).time) some.2, right some.0 some.1 some.3, λ k after upto. left k upto (some.4 k after upto)))
+    none (some.0, some.1, subst (IsIn interval) (λ n. times i (omega arith) n - times some.0 some.1 n) some.2, right some.0 some.1 some.3, λ k after upto. left k upto (some.4 k after upto)))
 
-holds_until : (trace : List Step) (i : ℕ) (interval : Interval) (F G F' G' : ℕ → Type 0) → ((k : ℕ) → F k → F' k) → ((j : ℕ) → G j → G' j) → HoldsUntil trace i interval F G → HoldsUntil trace i interval F' G'
-holds_until trace i interval F G F' G' left right held none =
-    held (λ some. none (some.0, some.1, some.2, some.3, right some.0 some.4, λ k from before. left k (some.5 k from before)))
-
-agree_itself : (trace : List Step) (i : ℕ) → AgreeUpTo i trace trace
-agree_itself trace i k upto = refl
+pub holds_until : (trace other : List Step) (i : ℕ) (interval : Interval) (F G F' G' : ℕ → Type 0) → length trace ≡ length other → ((k : ℕ) → (step_at trace k).time ≡ (step_at other k).time) → ((k : ℕ) → F k → F' k) → ((j : ℕ) → G j → G' j) → HoldsUntil trace i interval F G → HoldsUntil other i interval F' G'
+holds_until trace other i interval F G F' G' long times left right held none =
+    held (λ some. none (some.0, some.1, subst (λ n. some.0 < n) long some.2, subst (IsIn interval) (λ n. times some.0 n - times i n) some.3, right some.0 some.4, λ k from before. left k (some.5 k from before)))
 
 agree_back : (f : Formula) (v w : Valuation) → AgreeOn f v w → AgreeOn f w v
 agree_back f v w agree x free = sym (agree x free)
@@ -101,17 +102,17 @@ by_values trace i v w (Forall place xs f) agree s =
 by_values trace i v w (Prev place interval f) agree s = (s.0, s.1, by_values trace (i - 1) v w f agree s.2)
 by_values trace i v w (Next place interval f) agree s = (s.0, s.1, by_values trace (i + 1) v w f agree s.2)
 by_values trace i v w (Once place interval f) agree s =
-    held_since trace trace i interval Anywhere (λ j. Sat trace j v f) Anywhere (λ j. Sat trace j w f) (agree_itself trace i) (λ k upto h. h) (λ j upto h. by_values trace j v w f agree h) s
+    held_since trace trace i interval Anywhere (λ j. Sat trace j v f) Anywhere (λ j. Sat trace j w f) (λ k upto. refl) (λ k upto h. h) (λ j upto h. by_values trace j v w f agree h) s
 by_values trace i v w (Historically place interval f) agree s =
-    λ held. s (held_since trace trace i interval Anywhere (λ j. Sat trace j w f → ⊥) Anywhere (λ j. Sat trace j v f → ⊥) (agree_itself trace i) (λ k upto h. h) (λ j upto fails holds. fails (by_values trace j v w f agree holds)) held)
+    λ held. s (held_since trace trace i interval Anywhere (λ j. Sat trace j w f → ⊥) Anywhere (λ j. Sat trace j v f → ⊥) (λ k upto. refl) (λ k upto h. h) (λ j upto fails holds. fails (by_values trace j v w f agree holds)) held)
 by_values trace i v w (Since place interval f g) agree s =
-    held_since trace trace i interval (λ k. Sat trace k v f) (λ j. Sat trace j v g) (λ k. Sat trace k w f) (λ j. Sat trace j w g) (agree_itself trace i) (λ k upto h. by_values trace k v w f (λ x free. agree x (inl free)) h) (λ j upto h. by_values trace j v w g (λ x free. agree x (inr free)) h) s
+    held_since trace trace i interval (λ k. Sat trace k v f) (λ j. Sat trace j v g) (λ k. Sat trace k w f) (λ j. Sat trace j w g) (λ k upto. refl) (λ k upto h. by_values trace k v w f (λ x free. agree x (inl free)) h) (λ j upto h. by_values trace j v w g (λ x free. agree x (inr free)) h) s
 by_values trace i v w (Eventually place interval f) agree s =
-    holds_until trace i interval Anywhere (λ j. Sat trace j v f) Anywhere (λ j. Sat trace j w f) (λ k h. h) (λ j h. by_values trace j v w f agree h) s
+    holds_until trace trace i interval Anywhere (λ j. Sat trace j v f) Anywhere (λ j. Sat trace j w f) refl (λ k. refl) (λ k h. h) (λ j h. by_values trace j v w f agree h) s
 by_values trace i v w (Always place interval f) agree s =
-    λ held. s (holds_until trace i interval Anywhere (λ j. Sat trace j w f → ⊥) Anywhere (λ j. Sat trace j v f → ⊥) (λ k h. h) (λ j fails holds. fails (by_values trace j v w f agree holds)) held)
+    λ held. s (holds_until trace trace i interval Anywhere (λ j. Sat trace j w f → ⊥) Anywhere (λ j. Sat trace j v f → ⊥) refl (λ k. refl) (λ k h. h) (λ j fails holds. fails (by_values trace j v w f agree holds)) held)
 by_values trace i v w (Until place interval f g) agree s =
-    holds_until trace i interval (λ k. Sat trace k v f) (λ j. Sat trace j v g) (λ k. Sat trace k w f) (λ j. Sat trace j w g) (λ k h. by_values trace k v w f (λ x free. agree x (inl free)) h) (λ j h. by_values trace j v w g (λ x free. agree x (inr free)) h) s
+    holds_until trace trace i interval (λ k. Sat trace k v f) (λ j. Sat trace j v g) (λ k. Sat trace k w f) (λ j. Sat trace j w g) refl (λ k. refl) (λ k h. by_values trace k v w f (λ x free. agree x (inl free)) h) (λ j h. by_values trace j v w g (λ x free. agree x (inr free)) h) s
 
 pub free_variables_decide : FreeVariablesDecide
 free_variables_decide trace i v w f agree = (by_values trace i v w f agree, by_values trace i w v f (agree_back f v w agree))
@@ -125,6 +126,9 @@ agree_other i trace other agree k upto = sym (agree k upto)
 
 agree_below : (i j : ℕ) (trace other : List Step) → AgreeUpTo i trace other → j ≤ i → AgreeUpTo j trace other
 agree_below i j trace other agree below k upto = agree k (omega arith)
+
+same_times : (i : ℕ) (trace other : List Step) → AgreeUpTo i trace other → AtSameTimes i trace other
+same_times i trace other agree k upto = ap (λ s. s.time) (agree k upto)
 
 by_steps : (trace other : List Step) (i : ℕ) (v : Valuation) (f : Formula) → IsTrue (is_past f) → AgreeUpTo i trace other → Sat trace i v f → Sat other i v f
 by_steps trace other i v (True place) past agree s = tt
@@ -150,12 +154,12 @@ by_steps trace other i v (Prev place interval f) past agree s =
     (s.0, subst (IsIn interval) (λ n. (agree i (omega arith) n).time - (agree (i - 1) (omega arith) n).time) s.1, by_steps trace other (i - 1) v f past (agree_below i (i - 1) trace other agree (omega arith)) s.2)
 by_steps trace other i v (Next place interval f) past agree s = absurd (true≢false (sym past))
 by_steps trace other i v (Once place interval f) past agree s =
-    held_since trace other i interval Anywhere (λ j. Sat trace j v f) Anywhere (λ j. Sat other j v f) agree (λ k upto h. h) (λ j upto h. by_steps trace other j v f past (agree_below i j trace other agree upto) h) s
+    held_since trace other i interval Anywhere (λ j. Sat trace j v f) Anywhere (λ j. Sat other j v f) (same_times i trace other agree) (λ k upto h. h) (λ j upto h. by_steps trace other j v f past (agree_below i j trace other agree upto) h) s
 by_steps trace other i v (Historically place interval f) past agree s =
-    λ held. s (held_since other trace i interval Anywhere (λ j. Sat other j v f → ⊥) Anywhere (λ j. Sat trace j v f → ⊥) (agree_other i trace other agree) (λ k upto h. h) (λ j upto fails holds. fails (by_steps trace other j v f past (agree_below i j trace other agree upto) holds)) held)
+    λ held. s (held_since other trace i interval Anywhere (λ j. Sat other j v f → ⊥) Anywhere (λ j. Sat trace j v f → ⊥) (λ k upto. sym (same_times i trace other agree k upto)) (λ k upto h. h) (λ j upto fails holds. fails (by_steps trace other j v f past (agree_below i j trace other agree upto) holds)) held)
 by_steps trace other i v (Since place interval f g) past agree s =
     let p = both_true (is_past f) (is_past g) past in
-    held_since trace other i interval (λ k. Sat trace k v f) (λ j. Sat trace j v g) (λ k. Sat other k v f) (λ j. Sat other j v g) agree (λ k upto h. by_steps trace other k v f p.0 (agree_below i k trace other agree upto) h) (λ j upto h. by_steps trace other j v g p.1 (agree_below i j trace other agree upto) h) s
+    held_since trace other i interval (λ k. Sat trace k v f) (λ j. Sat trace j v g) (λ k. Sat other k v f) (λ j. Sat other j v g) (same_times i trace other agree) (λ k upto h. by_steps trace other k v f p.0 (agree_below i k trace other agree upto) h) (λ j upto h. by_steps trace other j v g p.1 (agree_below i j trace other agree upto) h) s
 by_steps trace other i v (Eventually place interval f) past agree s = absurd (true≢false (sym past))
 by_steps trace other i v (Always place interval f) past agree s = absurd (true≢false (sym past))
 by_steps trace other i v (Until place interval f g) past agree s = absurd (true≢false (sym past))

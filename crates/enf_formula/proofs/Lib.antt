@@ -1,3 +1,4 @@
 pub mod Stability
 pub mod Dependence
 pub mod Gathering
+pub mod NameLemmas

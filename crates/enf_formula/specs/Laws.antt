@@ -4,6 +4,7 @@ use Rattle.std.specs.Prelude.{ℕ, ◌↔◌, IsTrue, List}
 use Rattle.enf_value.specs.declared.steps.Step.{Step}
 use Rattle.enf_formula.specs.Formulas.{Formula}
 use Rattle.enf_formula.specs.FreeVariables.{AgreeOn}
+use Rattle.enf_formula.specs.Names.{AreSameOf, names_in}
 use Rattle.enf_formula.specs.Past.{AgreeUpTo, is_past}
 use Rattle.enf_formula.specs.Satisfaction.{Sat, Classically}
 use Rattle.enf_value.specs.Valuations.{Valuation}
@@ -25,3 +26,8 @@ FreeVariablesDecide = (trace : List Step) (i : ℕ) (v w : Valuation) (f : Formu
 abbrev pub PastDecides : Type 0
 PastDecides = (trace other : List Step) (i : ℕ) (v : Valuation) (f : Formula)
     → IsTrue (is_past f) → AgreeUpTo i trace other → Sat trace i v f ↔ Sat other i v f
+
+-- a formula speaks of the events of its names alone
+abbrev pub NamesDecide : Type 0
+NamesDecide = (trace other : List Step) (i : ℕ) (v : Valuation) (f : Formula)
+    → AreSameOf (names_in f) trace other → Sat trace i v f ↔ Sat other i v f

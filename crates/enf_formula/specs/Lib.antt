@@ -6,6 +6,7 @@ pub mod Cases
 pub mod FreeVariables
 pub mod Binding
 pub mod Laws
+pub mod Names
 pub mod Past
 pub mod Shape
 pub mod Scopes

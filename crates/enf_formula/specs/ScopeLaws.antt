@@ -1,6 +1,6 @@
 -- What is so of a formula whose variables are in scope and whose quantifiers bind new ones: its free variables are in
 -- scope, and no quantifier binds a variable that is in scope where it stands.
-use Rattle.std.proofs.Common.{◌≡◌, zero, suc, List, [], ◌∷◌, ◌++◌, Contains, inl, inr, ⊎_elim, ◌⊎◌, arith, sym, subst}
+use Rattle.std.proofs.Common.{◌≡◌, zero, suc, List, [], ◌∷◌, ◌++◌, Contains, inl, inr, ⊎_elim, ◌⊎◌, arith, subst}
 use Rattle.std.proofs.lemmas.List.Elements.{Contains-append_cases, Contains-append_left}
 use Rattle.std.proofs.lemmas.List.Elements.{Contains-append_right}
 use Rattle.std.proofs.lemmas.Map.Keys.{sorted_head, sorted_tail}

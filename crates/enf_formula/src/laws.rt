@@ -5,7 +5,7 @@ ghost use Rattle.enf_value.specs.declared.intervals.Interval.{Interval};
 ghost use Rattle.enf_value.specs.declared.terms.VarId.{VarId};
 ghost use Rattle.enf_formula.specs.Formulas as tree;
 ghost use Rattle.enf_formula.specs.Formulas.{Formula};
-ghost use Rattle.enf_formula.specs.Laws.{IsStable, IsSameAs, FreeVariablesDecide, PastDecides};
+ghost use Rattle.enf_formula.specs.Laws.{IsStable, IsSameAs, FreeVariablesDecide, NamesDecide, PastDecides};
 ghost use Rattle.enf_formula.specs.Satisfaction.{Sat};
 ghost use Rattle.enf_value.specs.Valuations.{Valuation};
 
@@ -41,9 +41,10 @@ pub fn abbreviations()
         (tree.Not p (tree.Eventually p interval (tree.Not p f))) }
 {}
 
-/// Satisfaction depends on the values of the free variables alone, and that of a formula that does
-/// not look ahead on the steps up to its position alone.
+/// Satisfaction depends on the values of the free variables alone, on the times of the steps and their events of the
+/// formula's names alone, and that of a formula that does not look ahead on the steps up to its position alone.
 pub fn dependence()
     ensures values { FreeVariablesDecide }
+    ensures names { NamesDecide }
     ensures steps { PastDecides }
 {}
