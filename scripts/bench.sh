@@ -1,6 +1,7 @@
 #!/usr/bin/env bash
 # Measures `enf gen`, and `enf enforce` on what it gives: the rate and the peak memory, and of `enforce` the instructions
-# for each byte where valgrind is installed, for logs of two sizes, under the empty policy and under one rule.
+# for each byte where valgrind is installed, for logs of two sizes, under the empty policy and under one rule. Then what a
+# record costs that has many events or wakes one of many rules.
 set -u
 cd "$(dirname "$0")/.." || exit 1
 . scripts/enf.sh
@@ -32,15 +33,32 @@ PYTHON
 
 cp examples/generated.sig "$work/signature"
 : > "$work/empty"
+: > "$work/none.log"
 cp examples/generated.policy "$work/raise"
 bin/enf gen 1 2000 > "$work/tiny.log"
+bin/enf gen 1 20000 > "$work/records.log"
 measure gen small /dev/null "$work/small.log" gen 1 100000
 measure gen large /dev/null "$work/large.log" gen 1 1000000
 
-# instructions POLICY LOG: how many instructions a run takes.
+# instructions POLICY LOG [SIGNATURE]: how many instructions a run takes.
 instructions() {
-    valgrind --tool=callgrind --callgrind-out-file=/dev/null bin/enf enforce "$work/signature" "$work/$1" \
+    valgrind --tool=callgrind --callgrind-out-file=/dev/null bin/enf enforce "$work/${3:-signature}" "$work/$1" \
         < "$work/$2.log" 2>&1 > /dev/null | sed -n 's/.*Collected : //p'
+}
+
+# for_records POLICY LOG [SIGNATURE]: how many of them the records of the log take.
+for_records() {
+    echo $(($(instructions "$@") - $(instructions "$1" none "${3:-signature}")))
+}
+
+# is_enforced POLICY [SIGNATURE]: whether the policy is enforced, which is said where it is not.
+is_enforced() {
+    bin/enf enforce "$work/${2:-signature}" "$work/$1" < /dev/null || return 1
+}
+
+# compare WHAT MORE FEW: how many times the one is as much as the other.
+compare() {
+    awk -v what="$1" -v more="$2" -v few="$3" 'BEGIN { printf "%s: %d, %.2f times %d\n", what, more, more / few, few }'
 }
 
 for policy in empty raise; do
@@ -54,3 +72,30 @@ for policy in empty raise; do
         echo "$policy: $(((more - few) / size)) instructions for each byte"
     fi
 done
+
+command -v valgrind > /dev/null || exit 0
+
+# A record of many events that each owe one, and one of half as many.
+echo 'rule r: forall u. request(u) -> delete(u);' > "$work/erase"
+for count in 1000 2000; do
+    echo "@1$(seq -f ' request("u%.0f")' -s '' "$count");" > "$work/$count.log"
+done
+is_enforced erase &&
+    compare 'instructions for a record of 2,000 requests' "$(for_records erase 2000)" "$(for_records erase 1000)"
+
+# Records that each wake one rule, of sixty-four and of that one alone.
+for rule in $(seq 0 63); do
+    echo "g$rule(text); c$rule(text) +;" >> "$work/many"
+    echo "rule r$rule: forall u. g$rule(u) -> c$rule(u);" >> "$work/sixty-four"
+done
+grep '^rule r7:' "$work/sixty-four" > "$work/alone"
+seq -f '@%.0f g7("u");' 1000 > "$work/woken.log"
+is_enforced sixty-four many &&
+    compare 'instructions for 1,000 records that wake one of 64 rules' \
+        "$(for_records sixty-four woken many)" "$(for_records alone woken many)"
+
+# The records of a generated log under a rule that asks the past.
+echo 'rule consent: forall u. use(u) -> once[0,*] consent(u);' > "$work/consent"
+is_enforced consent &&
+    echo "consent: $(($(instructions consent records) / 20000)) instructions for each record, all in all"
+exit 0
