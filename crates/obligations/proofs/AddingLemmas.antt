@@ -1,16 +1,32 @@
 -- What is put last by the parts of a plan is what its whole puts last.
 use Rattle.std.proofs.Common.{◌≡◌, ℕ, zero, suc, ◌+◌, ◌<◌, ◌≤◌, Bool, true, false, List, [], ◌∷◌, ◌++◌, length, take, Contains, Option, None, Some, MatchBool, refl, sym, ap, subst, arith, inl, inr, ⊎_elim, ◌⊎◌, ◌∙◌, append_assoc, get_or}
+use Rattle.std.specs.Prelude.{◌↔◌, IsTrue, IsFalse}
 use Rattle.std.specs.Option.{option_to_list}
+use Rattle.std.proofs.Common.{true≢false}
 use Rattle.std.proofs.lemmas.List.{append-nil}
 use Rattle.enf_value.specs.ListLaws.{here, later}
-use Rattle.enf_value.specs.Valuations.{Valuation}
+use Rattle.enf_value.specs.Valuations.{Valuation, values_of, with_values}
+use Rattle.enf_value.specs.declared.events.Event.{Event}
+use Rattle.enf_value.specs.declared.events.NameId.{NameId}
 use Rattle.enf_value.specs.declared.steps.Step.{Step}
+use Rattle.enf_value.specs.declared.terms.Term.{Term}
+use Rattle.enf_value.specs.declared.terms.VarId.{VarId}
 use Rattle.enf_value.specs.declared.values.Value.{Value}
-use Rattle.plan_terms.specs.Plans.{Plan}
+use Rattle.enf_formula.specs.Formulas.{Formula}
+use Rattle.enf_formula.specs.Scopes.{AreNew}
+use Rattle.monitorable_guard.specs.Evaluation.{AreOpen}
+use Rattle.monitorable_guard.specs.Safety.{FreeWithin}
+use Rattle.past_state.specs.Past.{AreEvaluated, HasOpenColumns, IsEvaluated}
+use Rattle.plan_terms.specs.Plans.{Plan, Cause, Suppress, Both, Either, TestOr, Guarded, Eventually, Always}
+use Rattle.plan_terms.specs.Plans.{Until, Next}
+use Rattle.valuations.specs.Just.{Binds}
+use Rattle.valuations.specs.Scopes.{filled}
+use Rattle.valuations.specs.Tables.{IsTable, Relation}
 use Rattle.obligations.specs.Adding.{Adds, TellsNothing}
-use Rattle.obligations.specs.Asked.{IsNowOf}
+use Rattle.obligations.specs.Asked.{CanAsk, CanAskIn, FitsScope, IsGuardAt, IsNowOf, guards_at}
 use Rattle.obligations.specs.Begun.{LacksNothing, LacksSome}
-use Rattle.obligations.specs.Missing.{Missing, HasSome, MissesEither, MissesUntil}
+use Rattle.obligations.specs.Missing.{LiteralUnless, Missing, HasSome, MissesEither, MissesUntil, OfEvent, cause, suppress}
+use Rattle.obligations.proofs.AskLemmas.{filled_is, row_fits, rows_are, same_columns, test_is, under_row}
 use Rattle.obligations.specs.Rows.{Gathers}
 use Rattle.obligations.specs.declared.literals.Literal.{Literal}
 use Rattle.obligations.specs.declared.now.Now.{Now}
@@ -29,8 +45,8 @@ module _ {X : Type 0} (now : Now) where
   pub adds_as : (P Q : List Step → List X → Type 0) (before after : List X)
       → ((trace : List Step) → IsNowOf now trace → (xs : List X) → P trace xs → Q trace xs)
       → Adds now P before after → Adds now Q before after
-  adds_as P Q before after as adds =
-      record { more = adds.more; grown = adds.grown; are = λ trace is. as trace is adds.more (adds.are trace is) }
+  adds_as P Q before after turn adds =
+      record { more = adds.more; grown = adds.grown; are = λ trace is. turn trace is adds.more (adds.are trace is) }
 
   -- one after another
   pub adds_both : (P Q R : List Step → List X → Type 0) (before between after : List X)
@@ -44,34 +60,39 @@ module _ {X : Type 0} (now : Now) where
 
 -- ---- what is gathered
 
-pub gathers_append : {X Y : Type 0} (P : X → List Y → Type 0) (as bs : List X) (xs ys : List Y) → Gathers P as xs
-    → Gathers P bs ys → Gathers P (as ++ bs) (xs ++ ys)
+pub gathers_append : {X Y : Type 0} (P : X → List Y → Type 0) (ps bs : List X) (xs ys : List Y) → Gathers P ps xs
+    → Gathers P bs ys → Gathers P (ps ++ bs) (xs ++ ys)
 gathers_append P [] bs xs ys first next = subst (λ l. Gathers P bs (l ++ ys)) (sym first) next
-gathers_append P (a ∷ as) bs xs ys (one, rest, is, others, are) next =
-    (one, rest ++ ys, is, gathers_append P as bs rest ys others next, ap (λ l. l ++ ys) are ∙ append_assoc one rest ys)
+gathers_append P (a ∷ ps) bs xs ys (one, rest, is, others, are) next =
+    (one, rest ++ ys, is, gathers_append P ps bs rest ys others next, ap (λ l. l ++ ys) are ∙ append_assoc one rest ys)
 
-pub gathers_one_more : {X Y : Type 0} (P : X → List Y → Type 0) (as : List X) (k : ℕ) (a : X) (xs ys : List Y)
-    → k < length as → a ≡ get_or as k a → Gathers P (take k as) xs → P a ys → Gathers P (take (k + 1) as) (xs ++ ys)
-gathers_one_more P [] k a xs ys within at first next = absurd (omega (arith, within))
-gathers_one_more P (b ∷ as) zero a xs ys within at first next =
+gathers_next : {X Y : Type 0} (P : X → List Y → Type 0) (ps : List X) (k : ℕ) (a : X) (xs ys : List Y)
+    → k < length ps → a ≡ get_or ps k a → Gathers P (take k ps) xs → P a ys → Gathers P (take (suc k) ps) (xs ++ ys)
+gathers_next P [] k a xs ys within at first next = absurd (omega (arith, within))
+gathers_next P (b ∷ ps) zero a xs ys within at first next =
     (ys, [], subst (λ c. P c ys) at next, refl, ap (λ l. l ++ ys) first ∙ sym (append-nil ys))
-gathers_one_more P (b ∷ as) (suc k) a xs ys within at (one, rest, is, others, are) next =
-    (one, rest ++ ys, is, gathers_one_more P as k a rest ys (omega (arith, within)) at others next, ap (λ l. l ++ ys) are ∙ append_assoc one rest ys)
+gathers_next P (b ∷ ps) (suc k) a xs ys within at (one, rest, is, others, are) next =
+    (one, rest ++ ys, is, gathers_next P ps k a rest ys (omega (arith, within)) at others next, ap (λ l. l ++ ys) are ∙ append_assoc one rest ys)
+
+pub gathers_one_more : {X Y : Type 0} (P : X → List Y → Type 0) (ps : List X) (k : ℕ) (a : X) (xs ys : List Y)
+    → k < length ps → a ≡ get_or ps k a → Gathers P (take k ps) xs → P a ys → Gathers P (take (k + 1) ps) (xs ++ ys)
+gathers_one_more P ps k a xs ys within at first next =
+    subst (λ n. Gathers P (take n ps) (xs ++ ys)) {x = suc k} {y = k + 1} (omega arith) (gathers_next P ps k a xs ys within at first next)
 
 -- where each item gives what it gives by another property
-pub gathers_as : {X Y : Type 0} (P Q : X → List Y → Type 0) (as : List X) (xs : List Y)
-    → ((a : X) → Contains as a → (ys : List Y) → P a ys → Q a ys) → Gathers P as xs → Gathers Q as xs
+pub gathers_as : {X Y : Type 0} (P Q : X → List Y → Type 0) (ps : List X) (xs : List Y)
+    → ((a : X) → Contains ps a → (ys : List Y) → P a ys → Q a ys) → Gathers P ps xs → Gathers Q ps xs
 gathers_as P Q [] xs as_well gathered = gathered
-gathers_as P Q (a ∷ as) xs as_well (one, rest, is, others, are) =
-    (one, rest, as_well a (here a as) one is, gathers_as P Q as rest (λ b there. as_well b (later b a as there)) others, are)
+gathers_as P Q (a ∷ ps) xs as_well (one, rest, is, others, are) =
+    (one, rest, as_well a (here a ps) one is, gathers_as P Q ps rest (λ b there. as_well b (later b a ps there)) others, are)
 
 -- where each item gives something
-pub gathers_exist : {X Y : Type 0} (P : X → List Y → Type 0) (as : List X)
-    → ((a : X) → Contains as a → (ys : List Y) × P a ys) → (xs : List Y) × Gathers P as xs
+pub gathers_exist : {X Y : Type 0} (P : X → List Y → Type 0) (ps : List X)
+    → ((a : X) → Contains ps a → (ys : List Y) × P a ys) → (xs : List Y) × Gathers P ps xs
 gathers_exist P [] each = ([], refl)
-gathers_exist P (a ∷ as) each =
-    let one = each a (here a as) in
-    let rest = gathers_exist P as (λ b there. each b (later b a as there)) in
+gathers_exist P (a ∷ ps) each =
+    let one = each a (here a ps) in
+    let rest = gathers_exist P ps (λ b there. each b (later b a ps there)) in
     (one.0 ++ rest.0, (one.0, rest.0, one.1, rest.1, refl))
 
 -- ---- sides
@@ -83,3 +104,127 @@ pub right_of_either : (left right : List Literal → Type 0) (literals : List Li
     → MissesEither left right literals
 right_of_either left right [] some missing = inr (inl (missing, refl))
 right_of_either left right (l ∷ ls) some missing = inr (inr (some, (l, ls, missing), missing))
+
+module _ (now : Now) (v : Valuation) where
+  abbrev Listed : Plan → List Literal → List Literal → Type 0
+  Listed plan before after = Adds now (λ trace. Missing trace plan v) before after
+
+  -- whether a list that was begun with nothing is still empty
+  pub tells : (plan : Plan) (nothing : Bool) (items : List Literal) → IsTrue nothing ↔ (items ≡ []) → Listed plan [] items
+      → TellsNothing now plan v nothing
+  tells plan true items empty adds trace is =
+      subst (Missing trace plan v) (sym adds.grown ∙ empty.0 refl) (adds.are trace is)
+  tells plan false [] empty adds trace is = absurd (true≢false (sym (empty.1 refl)))
+  tells plan false (l ∷ ls) empty adds trace is = (l, ls, subst (Missing trace plan v) (sym adds.grown) (adds.are trace is))
+
+  pub both_listed : (node : ℕ) (left right : Plan) (before between after : List Literal) → Listed left before between
+      → Listed right between after → Listed (Both node left right) before after
+  both_listed node left right before between after first next =
+      adds_both now (λ trace. Missing trace left v) (λ trace. Missing trace right v) (λ trace. Missing trace (Both node left right) v)
+      before between after (λ trace xs ys is too. (xs, ys, is, too, refl)) first next
+
+  pub either_nothing : (node : ℕ) (left right : Plan) (out : List Literal) → TellsNothing now left v true
+      → Listed (Either node left right) out out
+  either_nothing node left right out told =
+      adds_nothing now (λ trace. Missing trace (Either node left right) v) out (λ trace is. inl (told trace is, refl))
+
+  pub either_right : (node : ℕ) (left right : Plan) (before after : List Literal) → TellsNothing now left v false
+      → Listed right before after → Listed (Either node left right) before after
+  either_right node left right before after told adds =
+      adds_as now (λ trace. Missing trace right v) (λ trace. Missing trace (Either node left right) v) before after
+      (λ trace is xs missing. right_of_either (Missing trace left v) (Missing trace right v) xs (told trace is) missing) adds
+
+  pub until_nothing : (node place low high : ℕ) (left right : Plan) (out : List Literal) → low ≡ 0
+      → TellsNothing now right v true → Listed (Until node place low high left right) out out
+  until_nothing node place zero high left right out is_zero told =
+      adds_nothing now (λ trace. Missing trace (Until node place 0 high left right) v) out (λ trace is. inl (told trace is, refl))
+  until_nothing node place (suc low) high left right out is_zero told = absurd (omega (arith, is_zero))
+
+  pub until_left : (node place low high : ℕ) (left right : Plan) (before after : List Literal)
+      → (low ≡ 0 → TellsNothing now right v false) → Listed left before after
+      → Listed (Until node place low high left right) before after
+  until_left node place zero high left right before after told adds =
+      adds_as now (λ trace. Missing trace left v) (λ trace. Missing trace (Until node place 0 high left right) v) before after
+      (λ trace is xs missing. inr (told refl trace is, missing)) adds
+  until_left node place (suc low) high left right before after told adds =
+      adds_as now (λ trace. Missing trace left v) (λ trace. Missing trace (Until node place (suc low) high left right) v) before after
+      (λ trace is xs missing. missing) adds
+
+  pub always_nothing : (node place low high : ℕ) (body : Plan) (out : List Literal) → 0 < low
+      → Listed (Always node place low high body) out out
+  always_nothing node place zero high body out later = absurd (omega (arith, later))
+  always_nothing node place (suc low) high body out later =
+      adds_nothing now (λ trace. Missing trace (Always node place (suc low) high body) v) out (λ trace is. refl)
+
+  pub always_body : (node place low high : ℕ) (body : Plan) (before after : List Literal) → (0 < low → ⊥)
+      → Listed body before after → Listed (Always node place low high body) before after
+  always_body node place zero high body before after at_once adds =
+      adds_as now (λ trace. Missing trace body v) (λ trace. Missing trace (Always node place 0 high body) v) before after
+      (λ trace is xs missing. missing) adds
+  always_body node place (suc low) high body before after at_once adds = absurd (at_once (omega arith))
+
+  -- ---- tests and guards
+
+  module _ (n : ℕ) (f : Formula) (scope : List VarId) (at : IsGuardAt (guards_at now.tables.now) n f scope) (binds : Binds v scope) where
+    pub test_nothing : (node : ℕ) (body : Plan) (out : List Literal) → FreeWithin f (Contains scope) → (holds : Bool)
+        → IsEvaluated now.tables.now n now.ordered.now v holds → IsTrue holds → Listed (TestOr node n f body) out out
+    test_nothing node body out free holds told is_true =
+        adds_nothing now (λ trace. Missing trace (TestOr node n f body) v) out
+        (λ trace is. inl ((test_is now trace n f scope at free is v binds holds told).0 is_true, refl))
+
+    pub test_body : (node : ℕ) (body : Plan) (before after : List Literal) → FreeWithin f (Contains scope) → (holds : Bool)
+        → IsEvaluated now.tables.now n now.ordered.now v holds → IsFalse holds → Listed body before after
+        → Listed (TestOr node n f body) before after
+    test_body node body before after free holds told is_false adds =
+        adds_as now (λ trace. Missing trace body v) (λ trace. Missing trace (TestOr node n f body) v) before after
+        (λ trace is xs missing. inr (
+          (λ satisfied. true≢false (sym ((test_is now trace n f scope at free is v binds holds told).1 satisfied) ∙ is_false)),
+          missing,
+        )) adds
+
+  pub cause_listed : (node place : ℕ) (name : NameId) (terms : List Term) (found : Option Literal) (before after : List Literal)
+      → OfEvent name (values_of v terms) (λ e. LiteralUnless (Contains now.events.now e) (cause e node) (option_to_list found))
+      → after ≡ before ++ option_to_list found → Listed (Cause node place name terms) before after
+  cause_listed node place name terms found before after missing grown =
+      adds_these now (λ trace. Missing trace (Cause node place name terms) v) before after (option_to_list found) grown
+      (λ trace is. subst (λ (events : List Event). OfEvent name (values_of v terms) (λ e. LiteralUnless (Contains events e) (cause e node) (option_to_list found))) (sym is.events) missing)
+
+  pub suppress_listed : (node place : ℕ) (name : NameId) (terms : List Term) (found : Option Literal) (before after : List Literal)
+      → OfEvent name (values_of v terms) (λ e. LiteralUnless (Contains now.events.now e → ⊥) (suppress e node) (option_to_list found))
+      → after ≡ before ++ option_to_list found → Listed (Suppress node place name terms) before after
+  suppress_listed node place name terms found before after missing grown =
+      adds_these now (λ trace. Missing trace (Suppress node place name terms) v) before after (option_to_list found) grown
+      (λ trace is. subst (λ (events : List Event). OfEvent name (values_of v terms) (λ e. LiteralUnless (Contains events e → ⊥) (suppress e node) (option_to_list found))) (sym is.events) missing)
+
+-- under each row
+module _ (now : Now) (n : ℕ) (f : Formula) (scope xs : List VarId) (at : IsGuardAt (guards_at now.tables.now) n f scope)
+    (opening : AreOpen f scope xs) (new : AreNew scope xs) (v : Valuation) (fit : FitsScope scope v) (t : Relation)
+    (table : IsTable t) (columns : HasOpenColumns now.tables.now n t)
+    (evaluated : AreEvaluated now.tables.now n now.ordered.now v t) where
+  -- the values of a row of the table are those of the variables
+  pub row_is : (row : List Value) → Contains t.rows row → filled v t.columns row ≡ with_values xs row v
+  row_is row there =
+      ap (λ columns. filled v columns row) (same_columns now n f scope xs at opening new v fit t table columns evaluated)
+      ∙ filled_is scope xs new v fit row
+
+  pub body_can : (guards : List (Formula × List VarId)) (body : Plan) → CanAskIn guards body (scope ++ xs)
+      → (row : List Value) → Contains t.rows row → CanAsk guards body (filled v t.columns row)
+  body_can guards body can row there = record {
+    scope = scope ++ xs;
+    can = can;
+    fits = subst (FitsScope (scope ++ xs)) (sym (row_is row there))
+        (under_row scope xs new v fit row (row_fits now n f scope xs at opening new v fit t table columns evaluated row there));
+  }
+
+  pub rows_listed : (node : ℕ) (body : Plan) (before after : List Literal)
+      → Adds now (λ trace. Gathers (λ row. Missing trace body (filled v t.columns row)) t.rows) before after
+      → Adds now (λ trace. Missing trace (Guarded node xs n f body) v) before after
+  rows_listed node body before after adds =
+      adds_as now (λ trace. Gathers (λ row. Missing trace body (filled v t.columns row)) t.rows)
+      (λ trace. Missing trace (Guarded node xs n f body) v) before after
+      (λ trace is ls gathered. (
+        t.rows,
+        rows_are now n f scope xs at opening new v fit t table columns evaluated trace is,
+        gathers_as (λ row. Missing trace body (filled v t.columns row)) (λ row. Missing trace body (with_values xs row v)) t.rows ls
+            (λ row there ys missing. subst (λ w. Missing trace body w ys) (row_is row there) missing) gathered,
+      )) adds

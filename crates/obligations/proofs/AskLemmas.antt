@@ -73,7 +73,7 @@ leaf_binds scope terms v in_scope binds x there =
     binds x (AllByRecursion-contains (IsInScope scope) terms (Var x) in_scope there)
 
 some_value : (o : Option Value) (value : Value) → o ≡ Some value → IsSome o
-some_value o value e = subst IsSome (sym e) tt
+some_value o value e = subst IsSome (sym e) refl
 
 pub new_distinct : (scope xs : List VarId) → AreNew scope xs → HasNoRepeats xs
 new_distinct scope xs new = rising_distinct variable_cmp_total xs (rising_behind variable_cmp_total scope xs new)
@@ -110,7 +110,7 @@ module _ (scope xs : List VarId) (new : AreNew scope xs) (v : Valuation) (fit : 
 -- ---- the rows of a table
 
 module _ (now : Now) (n : ℕ) (f : Formula) (scope xs : List VarId) (at : IsGuardAt (guards_at now.tables.now) n f scope)
-    (open : AreOpen f scope xs) (new : AreNew scope xs) (v : Valuation) (fit : FitsScope scope v) (t : Relation)
+    (opening : AreOpen f scope xs) (new : AreNew scope xs) (v : Valuation) (fit : FitsScope scope v) (t : Relation)
     (table : IsTable t) (columns : HasOpenColumns now.tables.now n t)
     (evaluated : AreEvaluated now.tables.now n now.ordered.now v t) where
   abbrev g : PlacedGuard
@@ -130,9 +130,9 @@ module _ (now : Now) (n : ℕ) (f : Formula) (scope xs : List VarId) (at : IsGua
       (subst (λ b. AreOpen (formula_of g) b t.columns) bound_is (columns g found))
 
   pub same_columns : t.columns ≡ xs
-  same_columns = same_rising variable_cmp_total t.columns xs opens.rising open.rising
-      (λ z there. (open.exact z).1 ((opens.exact z).0 there))
-      (λ z there. (opens.exact z).1 ((open.exact z).0 there))
+  same_columns = same_rising variable_cmp_total t.columns xs opens.rising opening.rising
+      (λ z there. (opening.exact z).1 ((opens.exact z).0 there))
+      (λ z there. (opens.exact z).1 ((opening.exact z).0 there))
 
   same_table : t ≡ record { columns = xs; rows = t.rows }
   same_table = ap (λ c. record { columns = c; rows = t.rows }) same_columns
@@ -144,7 +144,7 @@ module _ (now : Now) (n : ℕ) (f : Formula) (scope xs : List VarId) (at : IsGua
   holds_for = subst (λ u. HoldsFor now.ordered.now (tables_of g now.tables.now) (formula_of g) scope v u) same_table
       (subst (λ b. HoldsFor now.ordered.now (tables_of g now.tables.now) (formula_of g) b v t) bound_is (evaluated g found))
 
-  -- each row of the table is as long as the variables
+  -- each row of the table is ps long ps the variables
   pub row_fits : (row : List Value) → Contains t.rows row → length row ≡ length xs
   row_fits row there = fits (record { columns = xs; rows = t.rows }) row is_table there
 
@@ -156,7 +156,7 @@ module _ (now : Now) (n : ℕ) (f : Formula) (scope xs : List VarId) (at : IsGua
     free_binds x free =
         ⊎_elim
         (λ old. (under_row scope xs new v fit row long).binds x (Contains-append_left scope xs x old))
-        (λ other. row_values scope xs new v fit row long x ((open.exact x).1 (free, other)))
+        (λ other. row_values scope xs new v fit row long x ((opening.exact x).1 (free, other)))
         (among_or_not scope x)
 
     on_trace : HoldsNow now.ordered.now (tables_of g now.tables.now) w (formula_of g) ↔ HoldsLast trace w (formula_of g)
@@ -187,6 +187,6 @@ test_is now trace n f scope at free is v binds holds evaluated =
     let (g, found, within, formula, bound) = the_guard now.tables.now n f scope at in
     let told = evaluated g found in
     let on_trace = is.guards n g found v (λ x of. binds x (free x (subst (IsFree x) formula of))) in (
-      λ yes. subst (HoldsLast trace v) formula (on_trace.0 (told.0 yes)),
+      λ is_true. subst (HoldsLast trace v) formula (on_trace.0 (told.0 is_true)),
       λ holds. told.1 (on_trace.1 (subst (HoldsLast trace v) (sym formula) holds)),
     )

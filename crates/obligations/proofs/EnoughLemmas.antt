@@ -22,9 +22,11 @@ use Rattle.plan_terms.specs.PlanFormula.{formula_for, from_to}
 use Rattle.plan_terms.specs.Plans.{Plan, Cause, Suppress, Both, Either, TestOr, Guarded, Eventually, Always}
 use Rattle.plan_terms.specs.Plans.{Until, Next}
 use Rattle.obligations.specs.Begun.{Begun, LacksNothing, LacksSome, Takes, Where, begun_now, has_future, time_now}
-use Rattle.obligations.specs.Enough.{IsNamed, LooksBack, StandsIn}
+use Rattle.plan_terms.specs.Guards.{GuardLooksBack}
+use Rattle.plan_terms.specs.Standing.{IsNamed, StandsIn}
 use Rattle.obligations.specs.Missing.{Missing, MissingIsOne, HasSome, IsAbsent, IsPresent, LiteralUnless, MissesEither, MissesUntil, OfEvent, cause, suppress}
-use Rattle.obligations.specs.Pending.{AtNode, BecomesAt, IsNowIn, MissesAt, is_deadline_node, node_of}
+use Rattle.obligations.specs.Pending.{AtNode, BecomesAt, IsNowIn, MissesAt, node_of}
+use Rattle.plan_terms.specs.Nodes.{has_deadline}
 use Rattle.obligations.specs.Residuals.{Residual, OwesAt, IsLeft}
 use Rattle.obligations.specs.Rows.{AreRowsOf, Gathers, RowsAreOne, last_position}
 use Rattle.obligations.proofs.LostLemmas.{cause_absent, no_cons, some_row, suppress_present}
@@ -223,19 +225,19 @@ module _ (past : PastDecides) (rows_are_one : RowsAreOne) (missing_is_one : Miss
       (λ later. on_left v l ls missing (met.5 now (omega arith) (omega (arith, later))))
       (now_or_behind met.0 met.1))
 
-  pub lost : (plan : Plan) → AllByRecursion LooksBack (nodes plan) → IsLost plan
+  pub lost : (plan : Plan) → AllByRecursion GuardLooksBack (nodes plan) → IsLost plan
   lost (Cause node place name terms) back v l ls missing holds =
       cause_absent trace name node (values_of v terms) l ls missing (subst (λ (s : Step). IsAmong s.events name (values_of v terms)) same_step holds)
   lost (Suppress node place name terms) back v l ls missing holds =
       suppress_present trace name node (values_of v terms) l ls missing (λ among. holds (subst (λ (s : Step). IsAmong s.events name (values_of v terms)) (sym same_step) among))
   lost (Both node left right) back v l ls (first, rest, misses, others, are) holds =
-      lost_both left right (lost left (all_left LooksBack (nodes left) (nodes right) back.1)) (lost right (all_right LooksBack (nodes left) (nodes right) back.1)) v l ls first rest misses others are holds.0 holds.1
+      lost_both left right (lost left (all_left GuardLooksBack (nodes left) (nodes right) back.1)) (lost right (all_right GuardLooksBack (nodes left) (nodes right) back.1)) v l ls first rest misses others are holds.0 holds.1
   lost (Either node left right) back v l ls missing holds =
       ⊎_elim
       (λ nothing. no_cons l ls nothing.1)
       (λ other. ⊎_elim
       (λ nothing. no_cons l ls nothing.1)
-      (λ lacks. holds (lost left (all_left LooksBack (nodes left) (nodes right) back.1) v lacks.0.0 lacks.0.1 lacks.0.2) (lost right (all_right LooksBack (nodes left) (nodes right) back.1) v lacks.1.0 lacks.1.1 lacks.1.2))
+      (λ lacks. holds (lost left (all_left GuardLooksBack (nodes left) (nodes right) back.1) v lacks.0.0 lacks.0.1 lacks.0.2) (lost right (all_right GuardLooksBack (nodes left) (nodes right) back.1) v lacks.1.0 lacks.1.1 lacks.1.2))
       other)
       missing
   lost (TestOr node guard test body) back v l ls missing holds =
@@ -254,7 +256,7 @@ module _ (past : PastDecides) (rows_are_one : RowsAreOne) (missing_is_one : Miss
       holds (λ never. never (now, omega arith, there, at_once 0 high refl, lost body back.1 v l ls missing, λ k from before. tt))
   lost (Always node place (suc low) high body) back v l ls missing holds = no_cons l ls missing
   lost (Until node place low high left right) back v l ls missing holds =
-      lost_until low high left right (lost left (all_left LooksBack (nodes left) (nodes right) back.1)) (lost right (all_right LooksBack (nodes left) (nodes right) back.1)) v l ls missing holds
+      lost_until low high left right (lost left (all_left GuardLooksBack (nodes left) (nodes right) back.1)) (lost right (all_right GuardLooksBack (nodes left) (nodes right) back.1)) v l ls missing holds
   lost (Next node place high body) back v l ls missing holds = no_cons l ls missing
 
   -- ---- what is met behind the present position
@@ -298,7 +300,7 @@ module _ (past : PastDecides) (rows_are_one : RowsAreOne) (missing_is_one : Miss
         ⊎_elim (λ nothing. absurd (both right v nothing.0 lacks)) (λ waits. waits.1) missing
     left_holds (suc low) left right v lacks missing = missing
 
-    pub enough : (plan : Plan) → AllByRecursion LooksBack (nodes plan) → AllByRecursion (IsNamed plans rule) (nodes plan)
+    pub enough : (plan : Plan) → AllByRecursion GuardLooksBack (nodes plan) → AllByRecursion (IsNamed plans rule) (nodes plan)
         → IsEnough plan
     enough (Cause node place name terms) back named v begun missing begins owed =
         subst (λ (s : Step). IsAmong s.events name (values_of v terms)) (sym same_step) (cause_present trace name node (values_of v terms) missing)
@@ -306,12 +308,12 @@ module _ (past : PastDecides) (rows_are_one : RowsAreOne) (missing_is_one : Miss
         suppress_absent trace name node (values_of v terms) missing (subst (λ (s : Step). IsAmong s.events name (values_of v terms)) same_step among)
     enough (Both node left right) back named v begun (first, rest, misses, others, lists) (begun1, begun2, begins, behinds, are) owed =
         let owed' : AllByRecursion Owed (begun1 ++ begun2) = subst (AllByRecursion Owed) are owed in (
-          enough left (all_left LooksBack (nodes left) (nodes right) back.1) (all_left (IsNamed plans rule) (nodes left) (nodes right) named.1) v begun1 (subst (Missing trace left v) (nil_left first rest lists) misses) begins (all_left Owed begun1 begun2 owed'),
-          enough right (all_right LooksBack (nodes left) (nodes right) back.1) (all_right (IsNamed plans rule) (nodes left) (nodes right) named.1) v begun2 (subst (Missing trace right v) (nil_right first rest lists) others) behinds (all_right Owed begun1 begun2 owed'),
+          enough left (all_left GuardLooksBack (nodes left) (nodes right) back.1) (all_left (IsNamed plans rule) (nodes left) (nodes right) named.1) v begun1 (subst (Missing trace left v) (nil_left first rest lists) misses) begins (all_left Owed begun1 begun2 owed'),
+          enough right (all_right GuardLooksBack (nodes left) (nodes right) back.1) (all_right (IsNamed plans rule) (nodes left) (nodes right) named.1) v begun2 (subst (Missing trace right v) (nil_right first rest lists) others) behinds (all_right Owed begun1 begun2 owed'),
         )
     enough (Either node left right) back named v begun missing begins owed =
-        let on_left : LacksNothing trace left v × Begun trace rule left v begun → Sat longer now v (formula_for left) = λ side. enough left (all_left LooksBack (nodes left) (nodes right) back.1) (all_left (IsNamed plans rule) (nodes left) (nodes right) named.1) v begun side.0 side.1 owed in
-        let on_right : LacksNothing trace right v × Begun trace rule right v begun → Sat longer now v (formula_for right) = λ side. enough right (all_right LooksBack (nodes left) (nodes right) back.1) (all_right (IsNamed plans rule) (nodes left) (nodes right) named.1) v begun side.0 side.1 owed in
+        let on_left : LacksNothing trace left v × Begun trace rule left v begun → Sat longer now v (formula_for left) = λ side. enough left (all_left GuardLooksBack (nodes left) (nodes right) back.1) (all_left (IsNamed plans rule) (nodes left) (nodes right) named.1) v begun side.0 side.1 owed in
+        let on_right : LacksNothing trace right v × Begun trace rule right v begun → Sat longer now v (formula_for right) = λ side. enough right (all_right GuardLooksBack (nodes left) (nodes right) back.1) (all_right (IsNamed plans rule) (nodes left) (nodes right) named.1) v begun side.0 side.1 owed in
         λ not_left not_right.
         ⊎_elim
         (λ side. not_right (on_right side))
@@ -354,16 +356,16 @@ module _ (past : PastDecides) (rows_are_one : RowsAreOne) (missing_is_one : Miss
         enough_always node place (suc low) high body named.0 v (only _ begun begins owed) (λ is. absurd (omega (arith, is)))
     enough (Until node place zero high left right) back named v begun missing begins owed =
         ⊎_elim
-        (λ met. λ never. never (now, omega arith, there, at_once 0 high refl, enough right (all_right LooksBack (nodes left) (nodes right) back.1) (all_right (IsNamed plans rule) (nodes left) (nodes right) named.1) v begun met.0 met.1 owed, λ k from before. absurd (omega (arith, from, before))))
+        (λ met. λ never. never (now, omega arith, there, at_once 0 high refl, enough right (all_right GuardLooksBack (nodes left) (nodes right) back.1) (all_right (IsNamed plans rule) (nodes left) (nodes right) named.1) v begun met.0 met.1 owed, λ k from before. absurd (omega (arith, from, before))))
         (λ waits.
         let owed' = subst (AllByRecursion Owed) waits.1.2 owed in
         enough_until node place zero high left right named.0 v owed'.0
-        (enough left (all_left LooksBack (nodes left) (nodes right) back.1) (all_left (IsNamed plans rule) (nodes left) (nodes right) named.1) v waits.1.0 (left_holds zero left right v waits.0 missing) waits.1.1 owed'.1))
+        (enough left (all_left GuardLooksBack (nodes left) (nodes right) back.1) (all_left (IsNamed plans rule) (nodes left) (nodes right) named.1) v waits.1.0 (left_holds zero left right v waits.0 missing) waits.1.1 owed'.1))
         begins
     enough (Until node place (suc low) high left right) back named v begun missing (behinds, begins, are) owed =
         let owed' = subst (AllByRecursion Owed) are owed in
         enough_until node place (suc low) high left right named.0 v owed'.0
-        (enough left (all_left LooksBack (nodes left) (nodes right) back.1) (all_left (IsNamed plans rule) (nodes left) (nodes right) named.1) v behinds missing begins owed'.1)
+        (enough left (all_left GuardLooksBack (nodes left) (nodes right) back.1) (all_left (IsNamed plans rule) (nodes left) (nodes right) named.1) v behinds missing begins owed'.1)
     enough (Next node place high body) back named v begun missing begins owed =
         enough_next node place high body named.0 v (only _ begun begins owed)
 
@@ -427,11 +429,11 @@ module _ (past : PastDecides) (rows_are_one : RowsAreOne) (missing_is_one : Miss
 
     module _ (i : Instance) (named_rule : i.rule ≡ rule) where
       abbrev Meets : Plan → Type 0
-      Meets node = (after : List Instance) → MissesAt trace node i false [] → (is_deadline_node node ≡ true → time_now trace ≤ i.high)
+      Meets node = (after : List Instance) → MissesAt trace node i false [] → (has_deadline node ≡ true → time_now trace ≤ i.high)
           → BecomesAt trace node i after → AllByRecursion Owed after → OwesAt longer now node i
 
       -- what the body of an instance's node begins
-      body_holds : (body : Plan) → AllByRecursion LooksBack (nodes body) → AllByRecursion (IsNamed plans rule) (nodes body)
+      body_holds : (body : Plan) → AllByRecursion GuardLooksBack (nodes body) → AllByRecursion (IsNamed plans rule) (nodes body)
           → (begun : List Instance) → LacksNothing trace body i.valuation → Begun trace i.rule body i.valuation begun
           → AllByRecursion Owed begun → Sat longer now i.valuation (formula_for body)
       body_holds body back named begun nothing begins owed =
@@ -439,7 +441,7 @@ module _ (past : PastDecides) (rows_are_one : RowsAreOne) (missing_is_one : Miss
 
       pub meets_eventually : (node place low high : ℕ) (body : Plan)
           → node_of plans i ≡ Some (Eventually node place low high body)
-          → AllByRecursion LooksBack (nodes body) → AllByRecursion (IsNamed plans rule) (nodes body)
+          → AllByRecursion GuardLooksBack (nodes body) → AllByRecursion (IsNamed plans rule) (nodes body)
           → Meets (Eventually node place low high body)
       meets_eventually node place low high body found back named after misses deadline becomes owed =
           ⊎_elim
@@ -448,7 +450,7 @@ module _ (past : PastDecides) (rows_are_one : RowsAreOne) (missing_is_one : Miss
           becomes
 
       pub meets_next : (node place high : ℕ) (body : Plan)
-          → AllByRecursion LooksBack (nodes body) → AllByRecursion (IsNamed plans rule) (nodes body)
+          → AllByRecursion GuardLooksBack (nodes body) → AllByRecursion (IsNamed plans rule) (nodes body)
           → Meets (Next node place high body)
       meets_next node place high body back named after misses deadline becomes owed =
           (there, (let in_time = deadline refl in omega (arith, same_time, in_time)), body_holds body back named after misses becomes owed)
@@ -460,7 +462,7 @@ module _ (past : PastDecides) (rows_are_one : RowsAreOne) (missing_is_one : Miss
 
       pub meets_always : (node place low high : ℕ) (body : Plan)
           → node_of plans i ≡ Some (Always node place low high body)
-          → AllByRecursion LooksBack (nodes body) → AllByRecursion (IsNamed plans rule) (nodes body)
+          → AllByRecursion GuardLooksBack (nodes body) → AllByRecursion (IsNamed plans rule) (nodes body)
           → Meets (Always node place low high body)
       meets_always node place low high body found back named after misses deadline becomes owed =
           ⊎_elim
@@ -483,8 +485,8 @@ module _ (past : PastDecides) (rows_are_one : RowsAreOne) (missing_is_one : Miss
 
       pub meets_until : (node place low high : ℕ) (left right : Plan)
           → node_of plans i ≡ Some (Until node place low high left right)
-          → AllByRecursion LooksBack (nodes left) → AllByRecursion (IsNamed plans rule) (nodes left)
-          → AllByRecursion LooksBack (nodes right) → AllByRecursion (IsNamed plans rule) (nodes right)
+          → AllByRecursion GuardLooksBack (nodes left) → AllByRecursion (IsNamed plans rule) (nodes left)
+          → AllByRecursion GuardLooksBack (nodes right) → AllByRecursion (IsNamed plans rule) (nodes right)
           → Meets (Until node place low high left right)
       meets_until node place low high left right found back_left named_left back_right named_right after misses deadline becomes owed =
           ⊎_elim

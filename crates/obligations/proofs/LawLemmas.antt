@@ -8,9 +8,11 @@ use Rattle.plan_terms.specs.Nodes.{nodes}
 use Rattle.plan_terms.specs.Plans.{Plan, Cause, Suppress, Both, Either, TestOr, Guarded, Eventually, Always}
 use Rattle.plan_terms.specs.Plans.{Until, Next}
 use Rattle.obligations.specs.Begun.{time_now}
-use Rattle.obligations.specs.Enough.{IsNamed, LooksBack, NothingMissedIsEnough, NothingMissedIsEnoughPending}
-use Rattle.obligations.specs.Enough.{SomethingMissedIsLost, StandsIn}
-use Rattle.obligations.specs.Pending.{AtNode, BecomesAt, MissesAt, NoneIsOver, is_deadline_node, node_of}
+use Rattle.plan_terms.specs.Guards.{GuardLooksBack}
+use Rattle.plan_terms.specs.Standing.{IsNamed, StandsIn}
+use Rattle.obligations.specs.Enough.{NothingMissedIsEnough, NothingMissedIsEnoughPending, SomethingMissedIsLost}
+use Rattle.obligations.specs.Pending.{AtNode, BecomesAt, MissesAt, NoneIsOver, node_of}
+use Rattle.plan_terms.specs.Nodes.{has_deadline}
 use Rattle.obligations.specs.Residuals.{OwesAt, Residual}
 use Rattle.obligations.specs.Rows.{last_position}
 use Rattle.obligations.specs.declared.instances.Instance.{Instance}
@@ -38,7 +40,7 @@ module _ (past : PastDecides) (plans : List Plan) (trace more : List Step) (i : 
   ordered = in_order (trace ++ more) (last_position trace) is_trace
 
   pending_at : (node : Plan) (after : List Instance) → node_of plans i ≡ Some node → StandsIn plans i.rule node
-      → MissesAt trace node i false [] → (is_deadline_node node ≡ true → time_now trace ≤ i.high)
+      → MissesAt trace node i false [] → (has_deadline node ≡ true → time_now trace ≤ i.high)
       → BecomesAt trace node i after → AllByRecursion (Residual plans (trace ++ more) (length trace)) after
       → OwesAt (trace ++ more) (last_position trace) node i
   pending_at (Cause node place name terms) after found stands misses in_time becomes owed = absurd misses
@@ -53,8 +55,8 @@ module _ (past : PastDecides) (plans : List Plan) (trace more : List Step) (i : 
       meets_always past rows_are_one (missing_is_one rows_are_one) plans i.rule trace more some ordered i refl node place low high body found stands.back.1 stands.named.1 after misses in_time becomes owed
   pending_at (Until node place low high left right) after found stands misses in_time becomes owed =
       meets_until past rows_are_one (missing_is_one rows_are_one) plans i.rule trace more some ordered i refl node place low high left right found
-      (all_left LooksBack (nodes left) (nodes right) stands.back.1) (all_left (IsNamed plans i.rule) (nodes left) (nodes right) stands.named.1)
-      (all_right LooksBack (nodes left) (nodes right) stands.back.1) (all_right (IsNamed plans i.rule) (nodes left) (nodes right) stands.named.1)
+      (all_left GuardLooksBack (nodes left) (nodes right) stands.back.1) (all_left (IsNamed plans i.rule) (nodes left) (nodes right) stands.named.1)
+      (all_right GuardLooksBack (nodes left) (nodes right) stands.back.1) (all_right (IsNamed plans i.rule) (nodes left) (nodes right) stands.named.1)
       after misses in_time becomes owed
   pending_at (Next node place high body) after found stands misses in_time becomes owed =
       meets_next past rows_are_one (missing_is_one rows_are_one) plans i.rule trace more some ordered i refl node place high body stands.back.1 stands.named.1 after misses in_time becomes owed
@@ -64,6 +66,6 @@ nothing_missed_is_enough_pending past plans node trace more i after found stands
     subst (λ (n : Option Plan). AtNode n (λ m. OwesAt (trace ++ more) (last_position trace) m i)) (sym found)
     (pending_at past plans trace more i is_trace some node after found stands
     (subst (λ (n : Option Plan). AtNode n (λ m. MissesAt trace m i false [])) found missing)
-    (λ is. in_time 0 i (omega arith) i.high (subst (λ (n : Option Plan). AtNode n (λ m. (is_deadline_node m ≡ true) × (i.high ≡ i.high))) (sym found) (is, refl)))
+    (λ is. in_time 0 i (omega arith) i.high (subst (λ (n : Option Plan). AtNode n (λ m. (has_deadline m ≡ true) × (i.high ≡ i.high))) (sym found) (is, refl)))
     (subst (λ (n : Option Plan). AtNode n (λ m. BecomesAt trace m i after)) found becomes)
     owed)

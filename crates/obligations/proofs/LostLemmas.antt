@@ -16,7 +16,7 @@ use Rattle.plan_terms.specs.PlanFormula.{formula_for, from_to}
 use Rattle.plan_terms.specs.Plans.{Plan, Cause, Suppress, Both, Either, TestOr, Guarded, Eventually, Always}
 use Rattle.plan_terms.specs.Plans.{Until, Next}
 use Rattle.enf_value.specs.ListLaws.{here, later}
-use Rattle.obligations.specs.Enough.{LooksBack}
+use Rattle.plan_terms.specs.Guards.{GuardLooksBack}
 use Rattle.obligations.specs.Missing.{Missing, HasSome, IsAbsent, IsPresent, LiteralUnless, OfEvent, cause, suppress}
 use Rattle.obligations.specs.Rows.{Gathers, last_position}
 use Rattle.obligations.specs.declared.literals.Literal.{Literal}

@@ -22,8 +22,9 @@ use Rattle.plan_terms.specs.Scopes.{scoped_at}
 use Rattle.trace_meaning.specs.Continuation.{last_time}
 use Rattle.trace_meaning.specs.Laws.{LastIsAtTheEnd}
 use Rattle.obligations.specs.Begun.{Begun, LacksNothing, has_future, time_now}
-use Rattle.obligations.specs.Enough.{IsNamed, LooksBack, StandsIn}
-use Rattle.obligations.specs.Pending.{After, AtNode, BecomesAt, BegunByRoots, Goes, HasDeadline, IsClean, IsCleanAt, MissingOf, NoneIsOver, PendsBehind, node_of, nodes_of}
+use Rattle.plan_terms.specs.Guards.{GuardLooksBack}
+use Rattle.plan_terms.specs.Standing.{IsNamed, StandsIn, nodes_of}
+use Rattle.obligations.specs.Pending.{After, AtNode, BecomesAt, BegunByRoots, Goes, HasDeadline, IsClean, IsCleanAt, MissingOf, NoneIsOver, PendsBehind, node_of}
 use Rattle.obligations.specs.Residuals.{Residual}
 use Rattle.obligations.specs.Rows.{Gathers, last_position}
 use Rattle.obligations.specs.Traces.{AllHold, CleanGrows, LooksAtNow, NothingIsPending, PendGrows, PendingIsEnough, PlansStand}
@@ -55,7 +56,7 @@ stands_found first plans stand i node is = by (slice_get plans i.rule) refl is
     by (Some plan) at found =
         let all : StandsIn plans i.rule plan = stand i.rule plan at in
         record {
-          back = below LooksBack first plan node i.node found all.back;
+          back = below GuardLooksBack first plan node i.node found all.back;
           named = below (IsNamed plans i.rule) first plan node i.node found all.named;
         }
 

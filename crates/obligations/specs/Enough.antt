@@ -1,44 +1,22 @@
 -- That nothing is missed at a step, and what is begun there is met behind it, is enough.
-use Rattle.std.specs.Prelude.{◌≡◌, ℕ, ◌<◌, false, List, ◌++◌, [], ◌∷◌, length, IsTrue, Some, slice_get}
-use Rattle.std.specs.List.{AllByRecursion, find}
+use Rattle.std.specs.Prelude.{◌≡◌, ℕ, ◌<◌, false, List, ◌++◌, [], ◌∷◌, length, Some}
+use Rattle.std.specs.List.{AllByRecursion}
 use Rattle.enf_value.specs.Data.{IsTrace}
 use Rattle.enf_value.specs.Valuations.{Valuation}
 use Rattle.enf_value.specs.declared.steps.Step.{Step}
-use Rattle.enf_formula.specs.Past.{is_past}
 use Rattle.enf_formula.specs.Satisfaction.{Sat}
-use Rattle.plan_terms.specs.Nodes.{nodes, has_number, number_of}
+use Rattle.plan_terms.specs.Guards.{GuardLooksBack}
+use Rattle.plan_terms.specs.Nodes.{nodes}
 use Rattle.plan_terms.specs.PlanFormula.{formula_for}
-use Rattle.plan_terms.specs.Plans.{Plan, Cause, Suppress, Both, Either, TestOr, Guarded, Eventually, Always}
-use Rattle.plan_terms.specs.Plans.{Until, Next}
+use Rattle.plan_terms.specs.Plans.{Plan}
+use Rattle.plan_terms.specs.Standing.{StandsIn}
 use Rattle.obligations.specs.Begun.{Begun, time_now}
 use Rattle.obligations.specs.Missing.{Missing}
-use Rattle.obligations.specs.Pending.{After, MissingOf, NoneIsOver, node_of, nodes_of}
+use Rattle.obligations.specs.Pending.{After, MissingOf, NoneIsOver, node_of}
 use Rattle.obligations.specs.Residuals.{Residual}
 use Rattle.obligations.specs.Rows.{last_position}
 use Rattle.obligations.specs.declared.instances.Instance.{Instance}
 use Rattle.obligations.specs.declared.literals.Literal.{Literal}
-
--- the guard or test of a node looks back alone
-abbrev pub LooksBack : Plan → Type 0
-LooksBack (Cause node place name terms) = Unit {0}
-LooksBack (Suppress node place name terms) = Unit {0}
-LooksBack (Both node left right) = Unit {0}
-LooksBack (Either node left right) = Unit {0}
-LooksBack (TestOr node guard test body) = IsTrue (is_past test)
-LooksBack (Guarded node xs guard test body) = IsTrue (is_past test)
-LooksBack (Eventually node place low high body) = Unit {0}
-LooksBack (Always node place low high body) = Unit {0}
-LooksBack (Until node place low high left right) = Unit {0}
-LooksBack (Next node place high body) = Unit {0}
-
--- the node is the one that its number names in the plan of a rule
-abbrev pub IsNamed : List Plan → (rule : ℕ) → Plan → Type 0
-IsNamed plans rule node = find (has_number (number_of node)) (nodes_of (slice_get plans rule)) ≡ Some node
-
--- the nodes of a plan that stands in that of a rule
-pub record StandsIn (plans : List Plan) (rule : ℕ) (plan : Plan) : Type 0 where
-  pub back : AllByRecursion LooksBack (nodes plan)
-  pub named : AllByRecursion (IsNamed plans rule) (nodes plan)
 
 -- where a plan misses nothing at the last position of a trace, each longer trace whose positions behind it meet what is
 -- begun there satisfies the plan's formula at that position
@@ -63,5 +41,5 @@ NothingMissedIsEnoughPending = (plans : List Plan) (node : Plan) (trace more : L
 -- where a plan misses something at the last position of a trace, no longer trace satisfies its formula at that position
 abbrev pub SomethingMissedIsLost : Type 0
 SomethingMissedIsLost = (plan : Plan) (trace more : List Step) (v : Valuation) (first : Literal) (rest : List Literal)
-    → AllByRecursion LooksBack (nodes plan) → 0 < length trace → Missing trace plan v (first ∷ rest)
+    → AllByRecursion GuardLooksBack (nodes plan) → 0 < length trace → Missing trace plan v (first ∷ rest)
     → Sat (trace ++ more) (last_position trace) v (formula_for plan) → ⊥

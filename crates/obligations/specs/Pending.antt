@@ -1,13 +1,13 @@
 -- What is pending behind a trace: what its steps began and left open.
 use Rattle.std.specs.Prelude.{◌≡◌, ℕ, zero, suc, ◌<◌, ◌≤◌, Bool, true, false, List, [], ◌∷◌, ◌++◌, ◌⊎◌, length, take}
-use Rattle.std.specs.Prelude.{Option, None, Some, All, slice_get}
-use Rattle.std.specs.List.{find}
+use Rattle.std.specs.Prelude.{Option, None, Some, All}
 use Rattle.enf_value.specs.Valuations.{Valuation, no_values}
 use Rattle.enf_value.specs.declared.steps.Step.{Step}
 use Rattle.trace_meaning.specs.Continuation.{last_time}
-use Rattle.plan_terms.specs.Nodes.{nodes, has_number}
+use Rattle.plan_terms.specs.Nodes.{has_deadline}
 use Rattle.plan_terms.specs.Plans.{Plan, Cause, Suppress, Both, Either, TestOr, Guarded, Eventually, Always}
 use Rattle.plan_terms.specs.Plans.{Until, Next}
+use Rattle.plan_terms.specs.Standing.{node_in}
 use Rattle.obligations.specs.Begun.{Begun, LacksNothing, LacksSome, Where, WithBehind, time_now}
 use Rattle.obligations.specs.Missing.{Missing}
 use Rattle.obligations.specs.Rows.{Gathers}
@@ -65,12 +65,8 @@ BecomesAt trace (TestOr node guard test body) i after = ⊥
 BecomesAt trace (Guarded node xs guard test body) i after = ⊥
 
 -- the node of an instance
-abbrev pub nodes_of : Option Plan → List Plan
-nodes_of None = []
-nodes_of (Some plan) = nodes plan
-
 abbrev pub node_of : List Plan → Instance → Option Plan
-node_of plans i = find (has_number i.node) (nodes_of (slice_get plans i.rule))
+node_of plans i = node_in plans i.rule i.node
 
 abbrev pub AtNode : Option Plan → (Plan → Type 0) → Type 0
 AtNode None P = ⊥
@@ -107,23 +103,10 @@ PendsBehind plans trace (suc steps) pending =
 abbrev pub Pend : List Plan → List Step → List Instance → Type 0
 Pend plans trace pending = PendsBehind plans trace (length trace) pending
 
--- the node has a deadline: the end of its window is the last time at which it can be met
-abbrev pub is_deadline_node : Plan → Bool
-is_deadline_node (Eventually node place low high body) = true
-is_deadline_node (Until node place low high left right) = true
-is_deadline_node (Next node place high body) = true
-is_deadline_node (Always node place low high body) = false
-is_deadline_node (Cause node place name terms) = false
-is_deadline_node (Suppress node place name terms) = false
-is_deadline_node (Both node left right) = false
-is_deadline_node (Either node left right) = false
-is_deadline_node (TestOr node guard test body) = false
-is_deadline_node (Guarded node xs guard test body) = false
-
 -- the instance is of a node with a deadline, which is this time
 abbrev pub HasDeadline : List Plan → Instance → ℕ → Type 0
 HasDeadline plans i deadline =
-    AtNode (node_of plans i) (λ node. (is_deadline_node node ≡ true) × (i.high ≡ deadline))
+    AtNode (node_of plans i) (λ node. (has_deadline node ≡ true) × (i.high ≡ deadline))
 
 -- no deadline of these is below a time
 abbrev pub NoneIsOver : List Plan → List Instance → (time : ℕ) → Type 0

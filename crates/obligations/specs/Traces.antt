@@ -8,7 +8,7 @@ use Rattle.enf_formula.specs.Satisfaction.{Sat}
 use Rattle.plan_terms.specs.Nodes.{is_future, nodes}
 use Rattle.plan_terms.specs.PlanFormula.{formula_for}
 use Rattle.plan_terms.specs.Plans.{Plan}
-use Rattle.obligations.specs.Enough.{StandsIn}
+use Rattle.plan_terms.specs.Standing.{StandsIn}
 use Rattle.obligations.specs.Pending.{Goes, IsClean, IsCleanAt, Pend}
 use Rattle.obligations.specs.Residuals.{Residual}
 use Rattle.obligations.specs.declared.instances.Instance.{Instance}

@@ -7,7 +7,7 @@ ghost use Rattle.plan_terms.specs.Nodes.{nodes};
 ghost use Rattle.plan_terms.specs.Plans.{Plan as Tree, plan_of};
 ghost use Rattle.obligations.specs.Asked.{CanAsk, IsNowOf, guards_at};
 ghost use Rattle.obligations.specs.Begun.{Begun};
-ghost use Rattle.obligations.specs.Enough.{StandsIn};
+ghost use Rattle.plan_terms.specs.Standing.{StandsIn};
 ghost use Rattle.obligations.specs.Waiting.{CanAskOf};
 ghost use Rattle.obligations.specs.declared.now.TheConstants.{MOST_TIME};
 

@@ -6,6 +6,8 @@ pub mod actions;
 pub mod begun;
 pub mod instances;
 pub mod laws;
+mod leaves;
+mod lists;
 pub mod literals;
 pub mod missing;
 pub mod now;

@@ -9,6 +9,7 @@ ghost use Rattle.obligations.specs.Pending.{MissingOf};
 ghost use Rattle.obligations.specs.Waiting.{CanAskOf, FirstMissing, FirstMissingOf, IsWantedOf};
 
 use crate::instances::Instance;
+use crate::lists::push_missing;
 use crate::literals::Literal;
 use crate::now::Now;
 use enf_value::memory::NoMemory;
@@ -44,7 +45,9 @@ pub fn lack(
     ensures { IfOk result (λ literals. (trace : List Step) → IsNowOf now.now trace
         → Missing trace (plan_of plan.now) v.now literals.items) }
 {
-    Err(NoMemory)
+    let mut literals = Vec::new(alloc);
+    push_missing(alloc, plan, &Frame::Whole(v), now, &mut literals)?;
+    Ok(literals)
 }
 
 /// The first literal that a pending instance misses at the step, if it misses any. One that is forced cannot wait any

@@ -1,0 +1,22 @@
+use Rattle.std.proofs.Common.{◌+◌, ◌*◌, length, take}
+use Rattle.enf_value.specs.declared.values.Value.{Value}
+use Rattle.plan_terms.specs.Nodes.{nodes}
+use Rattle.plan_terms.specs.Plans.{plan_of}
+use Rattle.valuations.specs.Scopes.{bound_in, filled}
+use Rattle.obligations.specs.Adding.{Adds}
+use Rattle.obligations.specs.Missing.{Missing}
+use Rattle.obligations.specs.Rows.{Gathers}
+use Rattle.obligations.proofs.lists.+listing.Given as goal
+
+abbrev pub decreases-push_missing : goal.decreases-push_missing
+decreases-push_missing l = 2 * length (nodes (plan_of l.plan.now))
+
+abbrev pub decreases-push_under : goal.decreases-push_under
+decreases-push_under l = 2 * length (nodes (plan_of l.body.now)) + 1
+
+abbrev pub decreases-misses_nothing : goal.decreases-misses_nothing
+decreases-misses_nothing l = 2 * length (nodes (plan_of l.plan.now)) + 1
+
+abbrev pub invariant-push_under-loop-row : goal.invariant-push_under-loop-row
+invariant-push_under-loop-row l =
+    Adds l.now (λ trace. Gathers (λ row. Missing trace (plan_of l.body) (filled (bound_in l.v) l.rows.columns row)) (take l.row-index l.rows.rows)) l.fn.out.items l.out.items

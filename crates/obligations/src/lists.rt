@@ -1,0 +1,144 @@
+//! The literals that plans miss at a step, one after another.
+ghost use Rattle.std.specs.Prelude.{◌≡◌, ◌↔◌, [], ◌++◌, IfOk, OnOk, IsTrue, List, Contains};
+ghost use Rattle.std.specs.Option.{option_to_list};
+ghost use Rattle.enf_value.specs.declared.values.Value.{Value as AnyValue};
+ghost use Rattle.plan_terms.specs.Plans.{plan_of};
+ghost use Rattle.valuations.specs.Scopes.{bound_in, filled};
+ghost use Rattle.obligations.specs.Adding.{Adds, TellsNothing};
+ghost use Rattle.obligations.specs.Asked.{CanAsk, guards_at};
+ghost use Rattle.obligations.specs.Missing.{Missing};
+ghost use Rattle.obligations.specs.Rows.{Gathers};
+
+use crate::leaves::{cause_missing, suppress_missing};
+use crate::literals::Literal;
+use crate::now::Now;
+use enf_value::memory::NoMemory;
+use plan_terms::Plan;
+use std::alloc::Global;
+use valuations::{Frame, Table};
+
+// Puts the literals last that the plan misses where it is begun at the step.
+#[cycle(listing)]
+pub fn push_missing<'a>(
+    alloc: Global,
+    plan: &Plan,
+    v: &'a Frame<'a>,
+    now: &Now<'_>,
+    out: &mut Vec<Literal>,
+) -> Result<(), NoMemory>
+    requires { CanAsk (guards_at now.now.tables.now) (plan_of plan.now) (bound_in v.now) }
+    ensures { OnOk result (Adds now.now (λ trace. Missing trace (plan_of plan.now) (bound_in v.now))
+        out.old.items out.new.items) }
+{
+    match plan {
+        Plan::Cause {
+            node,
+            name,
+            terms,
+            ..
+        } => push_found(
+            cause_missing(alloc, *node, *name, terms, &*v, now.events)?,
+            out,
+        ),
+        Plan::Suppress {
+            node,
+            name,
+            terms,
+            ..
+        } => push_found(
+            suppress_missing(alloc, *node, *name, terms, &*v, now.events)?,
+            out,
+        ),
+        Plan::Both { left, right, .. } => {
+            push_missing(alloc, left, &*v, now, out)?;
+            push_missing(alloc, right, &*v, now, out)
+        }
+        Plan::Either { left, right, .. } => {
+            if misses_nothing(alloc, left, &*v, now)? {
+                return Ok(());
+            }
+            push_missing(alloc, right, &*v, now, out)
+        }
+        Plan::TestOr { guard, body, .. } => {
+            if now.tables.holds_under(alloc, *guard, now.ordered, &*v)? {
+                return Ok(());
+            }
+            push_missing(alloc, body, &*v, now, out)
+        }
+        Plan::Guarded { guard, body, .. } => {
+            let rows = now.tables.rows_under(alloc, *guard, now.ordered, &*v)?;
+            push_under(alloc, body, &rows, &*v, now, out)
+        }
+        Plan::Always { low, body, .. } => {
+            if *low > 0 {
+                return Ok(());
+            }
+            push_missing(alloc, body, &*v, now, out)
+        }
+        Plan::Until {
+            low,
+            left,
+            right,
+            ..
+        } => {
+            if *low == 0 && misses_nothing(alloc, right, &*v, now)? {
+                return Ok(());
+            }
+            push_missing(alloc, left, &*v, now, out)
+        }
+        Plan::Eventually { .. } | Plan::Next { .. } => Ok(()),
+    }
+}
+
+// The same under each row of a table, one after another.
+#[cycle(listing)]
+fn push_under<'a>(
+    alloc: Global,
+    body: &Plan,
+    rows: &'a Table,
+    v: &'a Frame<'a>,
+    now: &Now<'_>,
+    out: &mut Vec<Literal>,
+) -> Result<(), NoMemory>
+    requires { (row : List AnyValue) → Contains rows.now.rows row → CanAsk (guards_at now.now.tables.now)
+        (plan_of body.now) (filled (bound_in v.now) rows.now.columns row) }
+    ensures { OnOk result (Adds now.now (λ trace. Gathers (λ row. Missing trace (plan_of body.now)
+        (filled (bound_in v.now) rows.now.columns row)) rows.now.rows) out.old.items out.new.items) }
+{
+    for row in rows.rows() {
+        let inner = Frame::Row(&*v, rows.columns().as_slice(), row.as_slice());
+        push_missing(alloc, body, &inner, now, out)?;
+    }
+    Ok(())
+}
+
+// Whether the plan misses nothing.
+#[cycle(listing)]
+pub fn misses_nothing<'a>(
+    alloc: Global,
+    plan: &Plan,
+    v: &'a Frame<'a>,
+    now: &Now<'_>,
+) -> Result<bool, NoMemory>
+    requires { CanAsk (guards_at now.now.tables.now) (plan_of plan.now) (bound_in v.now) }
+    ensures { IfOk result (TellsNothing now.now (plan_of plan.now) (bound_in v.now)) }
+{
+    let mut literals = Vec::new(alloc);
+    push_missing(alloc, plan, &*v, now, &mut literals)?;
+    Ok(is_empty(literals.as_slice()))
+}
+
+fn is_empty(literals: &[Literal]) -> bool
+    ensures { IsTrue result ↔ (literals.now ≡ []) }
+{
+    literals.is_empty()
+}
+
+fn push_found(found: Option<Literal>, out: &mut Vec<Literal>) -> Result<(), NoMemory>
+    ensures { OnOk result (out.new.items ≡ out.old.items ++ option_to_list found) }
+{
+    if let Some(literal) = found {
+        out.push(literal)?;
+    }
+    Ok(())
+}
