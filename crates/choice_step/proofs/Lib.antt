@@ -1,0 +1,4 @@
+pub mod ActionLemmas
+pub mod WantedLemmas
+pub mod ChoiceLemmas
+pub mod CaseLemmas

@@ -2,16 +2,17 @@
 use Rattle.std.specs.Prelude.{ℕ, Bool, false, true, List, [], ◌∷◌}
 use Rattle.enf_value.specs.Valuations.{no_values}
 use Rattle.enf_value.specs.declared.events.Event.{Event}
-use Rattle.enf_formula.specs.Cases.{event_p, event_q, formula_p, formula_q, name_p, name_q}
+use Rattle.enf_formula.specs.Cases.{event_p, event_q, formula_q, name_p, name_q}
+use Rattle.enf_formula.specs.Formulas.{Not}
 use Rattle.trace_meaning.specs.Records.{Record}
 use Rattle.trace_meaning.specs.declared.kinds.StepKind.TheVariants.{System, Inserted}
-use Rattle.plan_terms.specs.Plans.{Plan, Cause, Suppress, Guarded, Eventually}
+use Rattle.plan_terms.specs.Plans.{Plan, Cause, Suppress, TestOr, Eventually}
 use Rattle.obligations.specs.declared.instances.Instance.{Instance}
 use Rattle.obligations.specs.declared.literals.LiteralKind.{LiteralKind}
 use Rattle.obligations.specs.declared.literals.LiteralKind.TheVariants as kind
 use Rattle.choice_step.specs.Choice.{Decides}
 use Rattle.choice_step.specs.Follows.{ActedStep, Follows, FollowsDrain}
-use Rattle.choice_step.specs.declared.actions.Action.{Action}
+use Rattle.obligations.specs.declared.actions.Action.{Action}
 
 -- p() is to be there, and q() is not to be
 abbrev pub p_is_there : Plan
@@ -24,19 +25,44 @@ q_is_not = Suppress 0 0 name_q []
 abbrev pub Chooses : List Plan → (before : List Event) → List Action → (after : List Event) → Type 0
 Chooses plans before actions after = Decides plans [] [] false 5 before actions after
 
--- an action for the root of a rule at that step
-abbrev pub for_root : LiteralKind → Event → (rule : ℕ) → Action
-for_root kind event rule = record {
+-- an action for the root of a rule at that step, which a leaf of its plan wants
+abbrev pub for_leaf : LiteralKind → Event → (rule leaf : ℕ) → Action
+for_leaf kind event rule leaf = record {
   kind = kind;
   event = event;
   time = 5;
   position = 0;
   rule = rule;
   node = 0;
-  leaf = 0;
+  leaf = leaf;
   origin = 0;
   valuation = no_values;
 }
+
+-- the root is that leaf
+abbrev pub for_root : LiteralKind → Event → (rule : ℕ) → Action
+for_root kind event rule = for_leaf kind event rule 0
+
+-- a third event, and what wants q() and r()
+abbrev pub event_r : Event
+event_r = record { name = record { 0 = 2 }; args = [] }
+
+abbrev pub q_is_there : Plan
+q_is_there = Cause 0 0 name_q []
+
+abbrev pub r_is_there : Plan
+r_is_there = Cause 0 0 event_r.name []
+
+-- p() is to be there where q() is, and where q() is not
+abbrev pub p_with_q : Plan
+p_with_q = TestOr 0 0 (Not 0 formula_q) (Cause 1 0 name_p [])
+
+abbrev pub p_without_q : Plan
+p_without_q = TestOr 0 0 formula_q (Cause 1 0 name_p [])
+
+-- the rule that a later one's event wakes is asked again before the third
+abbrev pub ChoosesWoken : (actions : List Action) → (after : List Event) → Type 0
+ChoosesWoken actions after = Chooses (p_with_q ∷ q_is_there ∷ r_is_there ∷ []) [] actions after
 
 -- p() by time 5, which was begun before
 abbrev pub p_in_time : Plan
@@ -44,6 +70,13 @@ p_in_time = Eventually 0 0 0 5 (Cause 1 0 name_p [])
 
 abbrev pub due_at_5 : Instance
 due_at_5 = record { rule = 0; node = 0; valuation = no_values; origin = 0; low = 0; high = 5 }
+
+-- q() by time 5, under the second rule
+abbrev pub q_in_time : Plan
+q_in_time = Eventually 0 0 0 5 (Cause 1 0 name_q [])
+
+abbrev pub second_due_at_5 : Instance
+second_due_at_5 = record { rule = 1; node = 0; valuation = no_values; origin = 0; low = 0; high = 5 }
 
 -- a step at time 5 behind one without events at time 0, where that is pending
 abbrev pub ChoosesDue : (inserted : Bool) → (before : List Event) → List Action → (after : List Event) → Type 0
@@ -95,6 +128,28 @@ for_second_root = record {
   origin = 1;
   valuation = no_values;
 }
+
+-- two that are pending, and are forced at the same step
+abbrev pub ChoosesDueTwice : (actions : List Action) → (after : List Event) → Type 0
+ChoosesDueTwice actions after = Decides (p_in_time ∷ q_in_time ∷ [])
+    (record { time = 0; events = [] } ∷ []) (due_at_5 ∷ second_due_at_5 ∷ []) true 5 [] actions after
+
+abbrev pub for_second_due : Action
+for_second_due = record {
+  kind = kind.Cause;
+  event = event_q;
+  time = 5;
+  position = 1;
+  rule = 1;
+  node = 0;
+  leaf = 1;
+  origin = 0;
+  valuation = no_values;
+}
+
+-- a step of the system with q() behind the deadline, in which nothing is done
+abbrev pub q_at_7 : ActedStep
+q_at_7 = record { kind = System; step = record { time = 7; events = event_q ∷ [] }; actions = [] }
 
 -- the step that serves the deadline, a unit late
 abbrev pub served_at_6 : ActedStep

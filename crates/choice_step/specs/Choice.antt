@@ -1,8 +1,8 @@
 -- What the choice loop does at one step: as long as something is missing, it acts for the first that misses something.
-use Rattle.std.specs.Prelude.{◌≡◌, ◌==◌, ◌&&◌, ℕ, zero, suc, Bool, List, [], ◌∷◌, ◌++◌, ◌⊎◌, map}
+use Rattle.std.specs.Prelude.{◌≡◌, ◌==◌, ◌&&◌, ℕ, suc, Bool, List, [], ◌∷◌, ◌++◌, ◌⊎◌, map}
 use Rattle.std.specs.List.{AllByRecursion}
 use Rattle.enf_value.specs.Membership.{TakesOut}
-use Rattle.enf_value.specs.Valuations.{Valuation, no_values}
+use Rattle.enf_value.specs.Valuations.{no_values}
 use Rattle.enf_value.specs.declared.events.Event.{Event}
 use Rattle.enf_value.specs.declared.steps.Step.{Step}
 use Rattle.plan_terms.specs.Plans.{Plan}
@@ -14,7 +14,7 @@ use Rattle.obligations.specs.declared.instances.Instance.{Instance}
 use Rattle.obligations.specs.declared.literals.Literal.{Literal}
 use Rattle.obligations.specs.declared.literals.LiteralKind.{LiteralKind}
 use Rattle.obligations.specs.declared.literals.LiteralKind.TheVariants.{Cause, Suppress}
-use Rattle.choice_step.specs.declared.actions.Action.{Action}
+use Rattle.obligations.specs.declared.actions.Action.{Action}
 
 -- who is asked at a step: a pending instance, or the root of a rule
 pub data Asked : Type 0 where
@@ -50,30 +50,33 @@ IsFirst plans inserted trace (next ∷ others) asked literal =
     ((next ≡ asked) × (rest : List Literal) × Misses plans inserted trace next (literal ∷ rest))
     ⊎ (MissesNothing plans inserted trace next × IsFirst plans inserted trace others asked literal)
 
--- the action for one that is asked at the last position
-abbrev pub action_for : List Step → Asked → Literal → Action
-action_for trace (Waiting i) literal = record {
+-- the action for one that is asked at a step
+abbrev pub action_at : (time position : ℕ) → Asked → Literal → Action
+action_at time position (Waiting i) literal = record {
   kind = literal.kind;
   event = literal.event;
-  time = time_now trace;
-  position = last_position trace;
+  time = time;
+  position = position;
   rule = i.rule;
   node = i.node;
   leaf = literal.leaf;
   origin = i.origin;
   valuation = i.valuation;
 }
-action_for trace (Root rule plan) literal = record {
+action_at time position (Root rule plan) literal = record {
   kind = literal.kind;
   event = literal.event;
-  time = time_now trace;
-  position = last_position trace;
+  time = time;
+  position = position;
   rule = rule;
   node = 0;
   leaf = literal.leaf;
-  origin = last_position trace;
+  origin = position;
   valuation = no_values;
 }
+
+abbrev pub action_for : List Step → Asked → Literal → Action
+action_for trace = action_at (time_now trace) (last_position trace)
 
 -- an event that is caused goes last; one that is suppressed is taken out, and the rest keeps its order
 abbrev pub Applies : LiteralKind → Event → List Event → List Event → Type 0

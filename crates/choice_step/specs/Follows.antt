@@ -14,7 +14,7 @@ use Rattle.obligations.specs.declared.instances.Instance.{Instance}
 use Rattle.obligations.specs.declared.literals.LiteralKind.{LiteralKind}
 use Rattle.obligations.specs.declared.literals.LiteralKind.TheVariants.{Cause, Suppress}
 use Rattle.choice_step.specs.Choice.{Decides}
-use Rattle.choice_step.specs.declared.actions.Action.{Action}
+use Rattle.obligations.specs.declared.actions.Action.{Action}
 
 -- a step that goes out, with the actions that made it
 pub record ActedStep : Type 0 where

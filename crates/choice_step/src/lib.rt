@@ -1,8 +1,11 @@
 //! Which events are added and taken out at a step, so that nothing is missing there. It stands on `obligations`,
-//! `plan_terms`, `monitorable_guard`, `valuations`, `trace_meaning`, `enf_formula` and `enf_value`.
+//! `past_state`, `plan_terms`, `monitorable_guard`, `valuations`, `trace_meaning`, `enf_formula` and `enf_value`.
 #![tactic(auto)]
 
 pub mod actions;
+pub mod choosing;
+pub mod laws;
 pub mod worked_cases;
 
-pub use actions::Action;
+pub use actions::{Action, Actions};
+pub use choosing::{Choice, choose};

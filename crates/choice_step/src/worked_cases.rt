@@ -2,13 +2,15 @@
 ghost use Rattle.std.specs.Prelude.{[], ◌∷◌, true, false};
 ghost use Rattle.enf_formula.specs.Cases.{event_p, event_q};
 ghost use Rattle.obligations.specs.declared.literals.LiteralKind.TheVariants as kind;
-ghost use Rattle.choice_step.specs.Cases.{Chooses, ChoosesDue, ChoosesDueAndRoot, for_second_root, served_at_6};
-ghost use Rattle.choice_step.specs.Cases.{Drains, GoesFor, due_at_5, empty_at_0, for_due};
-ghost use Rattle.choice_step.specs.Cases.{for_root, p_in_time, p_is_there, q_is_not, served_at_5};
+ghost use Rattle.choice_step.specs.Cases.{Chooses, ChoosesDue, ChoosesDueAndRoot, ChoosesDueTwice, ChoosesWoken};
+ghost use Rattle.choice_step.specs.Cases.{Drains, GoesFor, due_at_5, empty_at_0, event_r, for_due, for_leaf, for_root};
+ghost use Rattle.choice_step.specs.Cases.{for_second_due, for_second_root, p_in_time, p_is_there, p_without_q};
+ghost use Rattle.choice_step.specs.Cases.{q_at_7, q_is_not, served_at_5, served_at_6};
 ghost use Rattle.choice_step.specs.Follows.{IsLeastDeadline};
 ghost use Rattle.trace_meaning.specs.Records.{StepRecord, Tick};
 
-use obligations::laws;
+use crate::laws::follows_is_one;
+use obligations::laws::pending_is_one;
 
 /// What is done at a step of the system.
 pub fn choices()
@@ -26,22 +28,60 @@ pub fn choices()
     ensures not_too_early { Chooses (p_is_there ∷ []) [] [] [] → ⊥ }
 {}
 
+/// What is done for one event that is wanted twice, and which events are left where one is taken out.
+pub fn choices_of_events()
+    ensures owed_twice { Chooses (p_is_there ∷ p_is_there ∷ []) [] (for_root kind.Cause event_p 0 ∷ []) (event_p ∷ []) }
+    ensures order_is_kept { Chooses (q_is_not ∷ []) (event_r ∷ event_q ∷ event_p ∷ [])
+        (for_root kind.Suppress event_q 0 ∷ []) (event_r ∷ event_p ∷ []) }
+    ensures no_neighbour_is_dropped { Chooses (q_is_not ∷ []) (event_r ∷ event_q ∷ event_p ∷ [])
+        (for_root kind.Suppress event_q 0 ∷ []) (event_r ∷ []) → ⊥ }
+    ensures test_falls { Chooses (q_is_not ∷ p_without_q ∷ []) (event_q ∷ [])
+        (for_root kind.Suppress event_q 0 ∷ for_leaf kind.Cause event_p 1 1 ∷ []) (event_p ∷ []) }
+{
+    follows_is_one();
+}
+
+/// An earlier rule that a later one wakes is asked again before all others.
+pub fn woken_choices()
+    ensures from_the_start { ChoosesWoken
+        (for_root kind.Cause event_q 1 ∷ for_leaf kind.Cause event_p 0 1 ∷ for_root kind.Cause event_r 2 ∷ [])
+        (event_q ∷ event_p ∷ event_r ∷ []) }
+    ensures not_behind_the_others { ChoosesWoken
+        (for_root kind.Cause event_q 1 ∷ for_root kind.Cause event_r 2 ∷ for_leaf kind.Cause event_p 0 1 ∷ [])
+        (event_q ∷ event_r ∷ event_p ∷ []) → ⊥ }
+    ensures not_left_asleep { ChoosesWoken (for_root kind.Cause event_q 1 ∷ for_root kind.Cause event_r 2 ∷ [])
+        (event_q ∷ event_r ∷ []) → ⊥ }
+{
+    follows_is_one();
+}
+
 /// What is done at an inserted step, and what a step of the system leaves to it.
 pub fn forced_choices()
     ensures forced { ChoosesDue true [] (for_due ∷ []) (event_p ∷ []) }
     ensures pending_before_roots { ChoosesDueAndRoot (for_due ∷ for_second_root ∷ []) (event_p ∷ event_q ∷ []) }
     ensures not_roots_first { ChoosesDueAndRoot (for_second_root ∷ for_due ∷ []) (event_q ∷ event_p ∷ []) → ⊥ }
     ensures not_at_a_system_step { ChoosesDue false [] [] [] }
-{}
+    ensures as_they_were_begun { ChoosesDueTwice (for_due ∷ for_second_due ∷ []) (event_p ∷ event_q ∷ []) }
+    ensures not_the_later_first { ChoosesDueTwice (for_second_due ∷ for_due ∷ []) (event_q ∷ event_p ∷ []) → ⊥ }
+{
+    follows_is_one();
+}
 
 /// Deadlines that pass, and such as do not.
 pub fn deadlines()
     ensures not_at_its_time { GoesFor (StepRecord empty_at_0.step ∷ Tick 5 ∷ []) (empty_at_0 ∷ []) }
+    ensures too_early { GoesFor (StepRecord empty_at_0.step ∷ Tick 5 ∷ []) (empty_at_0 ∷ served_at_5 ∷ []) → ⊥ }
     ensures behind_it { GoesFor (StepRecord empty_at_0.step ∷ Tick 6 ∷ []) (empty_at_0 ∷ served_at_5 ∷ []) }
+    ensures not_left_out { GoesFor (StepRecord empty_at_0.step ∷ Tick 6 ∷ []) (empty_at_0 ∷ []) → ⊥ }
+    ensures before_the_step { GoesFor (StepRecord empty_at_0.step ∷ StepRecord q_at_7.step ∷ [])
+        (empty_at_0 ∷ served_at_5 ∷ q_at_7 ∷ []) }
+    ensures not_behind_the_step { GoesFor (StepRecord empty_at_0.step ∷ StepRecord q_at_7.step ∷ [])
+        (empty_at_0 ∷ q_at_7 ∷ served_at_5 ∷ []) → ⊥ }
     ensures drained { Drains (served_at_5 ∷ []) }
     ensures nothing_left_out { Drains [] → ⊥ }
     ensures not_a_unit_late { Drains (served_at_6 ∷ []) → ⊥ }
     ensures not_later { IsLeastDeadline (p_in_time ∷ []) (due_at_5 ∷ []) 6 → ⊥ }
 {
-    laws::pending_is_one();
+    follows_is_one();
+    pending_is_one();
 }

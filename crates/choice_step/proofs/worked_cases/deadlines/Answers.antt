@@ -1,14 +1,14 @@
-use Rattle.std.proofs.Common.{rules, ◌≡◌, ℕ, zero, suc, ◌<◌, List, [], ◌∷◌, Contains, Option, Some, refl, sym, subst, inl, inr, lit<, lit≤, arith, ⊎_elim}
-use Rattle.enf_value.specs.declared.events.Event.{Event}
-use Rattle.enf_formula.specs.Cases.{event_p}
+use Rattle.std.proofs.Common.{rules, ◌≡◌, ℕ, zero, suc, List, [], ◌∷◌, Contains, Some, refl, sym, subst, ap, length, slice_index_or, inl, inr, lit<, lit≤, arith, ⊎_elim}
+use Rattle.enf_formula.specs.Cases.{event_p, event_q}
+use Rattle.trace_meaning.specs.Records.{Record, StepRecord, Tick}
 use Rattle.trace_meaning.specs.declared.kinds.StepKind.TheVariants.{System, Inserted}
 use Rattle.valuations.specs.Columns.{first_or_later, none_in_nil}
 use Rattle.obligations.specs.Missing.{cause}
 use Rattle.obligations.specs.Pending.{HasDeadline, NoneIsOver, Pend}
 use Rattle.obligations.specs.declared.instances.Instance.{Instance}
-use Rattle.choice_step.specs.Cases.{due_at_5, empty_at_0, for_due, p_in_time, served_at_5}
+use Rattle.choice_step.specs.Cases.{due_at_5, empty_at_0, p_in_time, q_at_7, served_at_5}
 use Rattle.choice_step.specs.Choice.{Waiting}
-use Rattle.choice_step.specs.Follows.{GoesOut, Inserts, IsLeastDeadline, NoneIsPassed, Answers}
+use Rattle.choice_step.specs.Follows.{GoesOut, Inserts, IsLeastDeadline}
 use Rattle.choice_step.specs.Follows.{ActedStep}
 use Rattle.choice_step.proofs.worked_cases.deadlines.Goals as goal
 
@@ -87,3 +87,39 @@ returns-clause-not_a_unit_late c (deadline, (pending, pend, least), passed, serv
     let at = at_5 least.instance deadline (subst (λ l. Contains l least.instance) same least.there) least.is in
     let time : 6 ≡ deadline = served.time_is in
     omega (arith, at, time)
+
+abbrev tick : ℕ → List Record
+tick time = StepRecord empty_at_0.step ∷ Tick time ∷ []
+
+abbrev then_q : List Record
+then_q = StepRecord empty_at_0.step ∷ StepRecord q_at_7.step ∷ []
+
+-- of two outputs of different lengths not both go out
+not_both : (records : List Record) (out others : List ActedStep) → (length out ≡ length others → ⊥)
+    → (out ≡ others) → ⊥
+not_both records out others apart same = apart (ap length same)
+
+pub returns-clause-too_early : goal.returns-clause-too_early
+returns-clause-too_early c served =
+    not_both (tick 5) (empty_at_0 ∷ []) (empty_at_0 ∷ served_at_5 ∷ []) (λ is. omega (arith, is))
+    (c.follows_is_one.ensures.records (p_in_time ∷ []) [] (tick 5) (empty_at_0 ∷ []) (empty_at_0 ∷ served_at_5 ∷ []) (tt, tt) (returns-clause-not_at_its_time c) served)
+
+pub returns-clause-not_left_out : goal.returns-clause-not_left_out
+returns-clause-not_left_out c left =
+    not_both (tick 6) (empty_at_0 ∷ served_at_5 ∷ []) (empty_at_0 ∷ []) (λ is. omega (arith, is))
+    (c.follows_is_one.ensures.records (p_in_time ∷ []) [] (tick 6) (empty_at_0 ∷ served_at_5 ∷ []) (empty_at_0 ∷ []) (tt, tt) (returns-clause-behind_it c) left)
+
+behind_7 : GoesOut (p_in_time ∷ []) (empty_at_0.step ∷ served_at_5.step ∷ []) System 7 (event_q ∷ []) q_at_7
+behind_7 = record { pending = []; pend = nothing_left; kind_is = refl; time_is = refl; decided = (refl, (search rules, tt)) }
+
+pub returns-clause-before_the_step : goal.returns-clause-before_the_step
+returns-clause-before_the_step c =
+    ([], empty_at_0 ∷ [], served_at_5 ∷ q_at_7 ∷ [], nothing_passes, (empty_at_0, first, refl), (served_at_5 ∷ [], q_at_7 ∷ [], [], (5, (due_at_5 ∷ [], due, least), lit< tt, served, ([], nothing_left, λ i deadline there is passed. none_in_nil i there)), (q_at_7, behind_7, refl), refl, refl), refl)
+
+pub returns-clause-not_behind_the_step : goal.returns-clause-not_behind_the_step
+returns-clause-not_behind_the_step c turned =
+    let same =
+    c.follows_is_one.ensures.records (p_in_time ∷ []) [] then_q (empty_at_0 ∷ served_at_5 ∷ q_at_7 ∷ []) (empty_at_0 ∷ q_at_7 ∷ served_at_5 ∷ []) (tt, ((none_in_nil event_q, tt), tt)) (returns-clause-before_the_step c) turned
+    in
+    let times : 5 ≡ 7 = ap (λ (l : List ActedStep). (slice_index_or l 1 empty_at_0).step.time) same in
+    omega (arith, times)

@@ -1,7 +1,8 @@
-use Rattle.std.proofs.Common.{rules, [], ◌∷◌, refl, inl, inr}
+use Rattle.std.proofs.Common.{rules, ◌≡◌, List, [], ◌∷◌, true, refl, ap, inl, inr, arith, slice_index_or}
 use Rattle.enf_formula.specs.Cases.{event_p, event_q, name_q}
 use Rattle.obligations.specs.Missing.{cause}
-use Rattle.choice_step.specs.Cases.{due_at_5}
+use Rattle.obligations.specs.declared.actions.Action.{Action}
+use Rattle.choice_step.specs.Cases.{due_at_5, for_due, for_second_due, p_in_time, q_in_time, second_due_at_5}
 use Rattle.choice_step.specs.Choice.{Root, Waiting}
 use Rattle.plan_terms.specs.Plans.{Cause}
 use Rattle.choice_step.proofs.worked_cases.forced_choices.Goals as goal
@@ -35,3 +36,31 @@ returns-clause-pending_before_roots c = (
     (refl, (search rules, (search rules, (search rules, tt)))),
   ),
 )
+
+pub returns-clause-as_they_were_begun : goal.returns-clause-as_they_were_begun
+returns-clause-as_they_were_begun c = (
+  Waiting due_at_5,
+  cause event_p 1,
+  event_p ∷ [],
+  inl (refl, [], search rules),
+  refl,
+  refl,
+  (
+    Waiting second_due_at_5,
+    cause event_q 1,
+    event_p ∷ event_q ∷ [],
+    inr (search rules, inl (refl, [], search rules)),
+    refl,
+    refl,
+    (refl, (search rules, (search rules, (search rules, (search rules, tt))))),
+  ),
+)
+
+pub returns-clause-not_the_later_first : goal.returns-clause-not_the_later_first
+returns-clause-not_the_later_first c turned =
+    let one =
+    c.follows_is_one.ensures.step (p_in_time ∷ q_in_time ∷ []) (record { time = 0; events = [] } ∷ []) (due_at_5 ∷ second_due_at_5 ∷ []) true 5 [] (for_due ∷ for_second_due ∷ []) (for_second_due ∷ for_due ∷ []) (event_p ∷ event_q ∷ []) (event_q ∷ event_p ∷ [])
+    tt (returns-clause-as_they_were_begun c) turned
+    in
+    let rules : 0 ≡ 1 = ap (λ (l : List Action). (slice_index_or l 0 for_due).rule) one.0 in
+    omega (arith, rules)

@@ -1,0 +1,57 @@
+-- The statements of laws on what is done at a step and on what goes out.
+use Rattle.std.specs.Prelude.{◌≡◌, ℕ, Bool, IsTrue, List, [], map, All}
+use Rattle.std.specs.List.{AllByRecursion}
+use Rattle.enf_value.specs.Membership.{HasNoRepeats}
+use Rattle.enf_value.specs.declared.events.Event.{Event}
+use Rattle.enf_value.specs.declared.events.NameId.{NameId}
+use Rattle.enf_value.specs.declared.steps.Step.{Step}
+use Rattle.trace_meaning.specs.Lawful.{IsCause, Leads}
+use Rattle.trace_meaning.specs.OutSteps.{event_of}
+use Rattle.trace_meaning.specs.Records.{Record, recorded}
+use Rattle.plan_terms.specs.Changes.{IsCaused, IsSuppressed, NothingClashes}
+use Rattle.plan_terms.specs.Plans.{Plan}
+use Rattle.obligations.specs.declared.instances.Instance.{Instance}
+use Rattle.choice_step.specs.Choice.{Decides}
+use Rattle.choice_step.specs.Choosing.{ActsFrom}
+use Rattle.choice_step.specs.Follows.{ActedStep, Follows, FollowsDrain, change_of}
+use Rattle.obligations.specs.declared.actions.Action.{Action}
+
+-- the rules leave no choice at a step without repeats
+abbrev pub DecidesIsOne : Type 0
+DecidesIsOne = (plans : List Plan) (trace : List Step) (pending : List Instance) (inserted : Bool) (time : ℕ)
+    (before : List Event) (actions others : List Action) (after rest : List Event) → HasNoRepeats before
+    → Decides plans trace pending inserted time before actions after
+    → Decides plans trace pending inserted time before others rest
+    → (actions ≡ others) × (after ≡ rest)
+
+-- the step records have no repeats
+abbrev pub AreDistinct : List Record → Type 0
+AreDistinct records = AllByRecursion (λ step. HasNoRepeats step.events) (recorded records)
+
+-- nor for the records of a log, nor where all that is pending is served
+abbrev pub FollowsIsOne : Type 0
+FollowsIsOne = (plans : List Plan) (trace : List Step) (records : List Record) (out others : List ActedStep)
+    → AreDistinct records → Follows plans trace records out → Follows plans trace records others → out ≡ others
+
+abbrev pub DrainIsOne : Type 0
+DrainIsOne = (plans : List Plan) (trace : List Step) (out others : List ActedStep)
+    → FollowsDrain plans trace out → FollowsDrain plans trace others → out ≡ others
+
+-- actions are lawful changes where the names that plans cause can be caused, and those that they suppress can be
+-- suppressed
+abbrev pub ActionsAreLawful : Type 0
+ActionsAreLawful = (plans : List Plan) (causable suppressible : NameId → Bool) (before : List Event)
+    (actions : List Action) (after : List Event) → ((name : NameId) → IsCaused plans name → IsTrue (causable name))
+    → ((name : NameId) → IsSuppressed plans name → IsTrue (suppressible name))
+    → ActsFrom plans before actions after → Leads causable suppressible (map change_of actions) before after
+
+-- where no name is both caused and suppressed, no event is acted on twice
+abbrev pub EventsAreActedOnOnce : Type 0
+EventsAreActedOnOnce = (plans : List Plan) (before : List Event) (actions : List Action) (after : List Event)
+    → NothingClashes plans → HasNoRepeats before → ActsFrom plans before actions after
+    → HasNoRepeats (map event_of (map change_of actions))
+
+-- and a step that begins without events has causes alone
+abbrev pub CausesAlone : Type 0
+CausesAlone = (plans : List Plan) (actions : List Action) (after : List Event) → NothingClashes plans
+    → ActsFrom plans [] actions after → All IsCause (map change_of actions)
