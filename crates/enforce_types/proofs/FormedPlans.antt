@@ -13,7 +13,7 @@ use Rattle.formula_reader.specs.Resolution.{Rule}
 use Rattle.formula_reader.specs.WellFormed.{IsWellFormedPolicy}
 use Rattle.plan_terms.specs.Changes.{NothingClashes}
 use Rattle.plan_terms.specs.Guards.{GuardsAreListed, GuardsAreSafe, IsFresh, IsSafeNode, LooksBack, OfGuard, all_guards, guards_in}
-use Rattle.plan_terms.specs.Limits.{EndsInTime, IsSmall}
+use Rattle.plan_terms.specs.Limits.{AllEndLater, EndsInTime, IsSmall}
 use Rattle.plan_terms.specs.Names.{LooksBelow}
 use Rattle.plan_terms.specs.Nodes.{IsNumbered, nodes}
 use Rattle.plan_terms.specs.Plans as plan
@@ -29,7 +29,7 @@ use Rattle.enforce_types.specs.PolicyPlans.{ArePlanned, HasPlan, formulas_of}
 use Rattle.enforce_types.proofs.GuardPlaces.{all_listed}
 use Rattle.enforce_types.proofs.MadeWell.{IsFine, IsSmallTest}
 use Rattle.enforce_types.proofs.NumberingLemmas.{safe_stays}
-use Rattle.enforce_types.proofs.PlanLimits.{IsFinePlan, caused_can, fine_all_nodes, planned_fine, suppressed_can}
+use Rattle.enforce_types.proofs.PlanLimits.{IsFinePlan, all_end_later, all_filled, caused_can, fine_all_nodes, planned_fine, suppressed_can}
 use Rattle.enforce_types.proofs.PlanSizes.{guards_are_nodes}
 use Rattle.enforce_types.proofs.PlanningLemmas.{guards_counted, rule_safe}
 use Rattle.enforce_types.proofs.PolicyLemmas.{in_order}
@@ -133,9 +133,13 @@ module _ (entries : List NameEntry) where
       small = small;
     }
 
+    pub plans_end_later : AllEndLater plans
+    plans_end_later = all_end_later entries plans fine.0
+
     pub plans_kept : KeepsToSignature entries plans guards
     plans_kept = record {
       caused = caused_can entries plans fine.0;
       suppressed = suppressed_can entries plans fine.0;
+      filled = all_filled entries plans fine.0;
       looked_for = of_guards (LooksBelow (length entries)) (λ p scope h. h.2);
     }

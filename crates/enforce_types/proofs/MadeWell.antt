@@ -15,7 +15,7 @@ use Rattle.enf_formula.specs.Shape.{place_of, size_of}
 use Rattle.formula_reader.specs.WellFormed.{IsPolicyFormula}
 use Rattle.monitorable_guard.specs.Safety.{FreeWithin}
 use Rattle.plan_terms.specs.Guards.{IsFresh, OfGuard}
-use Rattle.plan_terms.specs.Limits.{EndsInTime}
+use Rattle.plan_terms.specs.Limits.{EndsInTime, EndsLater}
 use Rattle.plan_terms.specs.Names.{LooksBelow}
 use Rattle.plan_terms.specs.Plans as plan
 use Rattle.plan_terms.specs.Plans.{Plan, Both, Either, TestOr, Guarded}
@@ -24,6 +24,7 @@ use Rattle.policy_syntax.specs.Limits.{EndsFit}
 use Rattle.signature.specs.declared.entries.NameEntry.{NameEntry}
 use Rattle.enforce_types.specs.Answers.{Answer, LeafWhere, Implication, Exclusion, Guards}
 use Rattle.enforce_types.specs.Elab.{Elab, Aim, Up, Down, UpForAll}
+use Rattle.enforce_types.specs.Marks.{FillsColumns}
 use Rattle.enforce_types.specs.Numbering.{guard_count, node_count, numbered}
 use Rattle.enforce_types.proofs.FormulaNames.{names_below}
 use Rattle.enforce_types.proofs.Making.{by_made, by_one, by_two, by_one_of_two, by_exclusion, by_implication, with_end, from_now, not_refused}
@@ -44,7 +45,7 @@ module _ (entries : List NameEntry) (c s : NameId → Bool) (most : ℕ) where
   -- what is asked of each node
   abbrev pub IsFine : Plan → List VarId → Type 0
   IsFine p scope = IsScopedNode p scope × OfGuard IsFresh p scope × OfGuard (LooksBelow (length entries)) p scope
-      × OfGuard IsSmallTest p scope × EndsInTime p × MayBeDone p
+      × OfGuard IsSmallTest p scope × EndsInTime p × MayBeDone p × FillsColumns entries p × EndsLater p
 
   abbrev pub AreFine : Plan → List VarId → Type 0
   AreFine p scope = AtEach IsFine p scope
@@ -72,16 +73,16 @@ module _ (entries : List NameEntry) (c s : NameId → Bool) (most : ℕ) where
   )
 
   fine_test : (g : Formula) (q : Plan) (scope : List VarId) → IsGoodTest g scope scope → AreFine q scope → AreFine (TestOr 0 0 g q) scope
-  fine_test g q scope good each = ((good.0, good.1, good.2, good.3, tt, tt), each)
+  fine_test g q scope good each = ((good.0, good.1, good.2, good.3, tt, tt, tt, tt), each)
 
   fine_guard : (g : Formula) (q : Plan) (scope xs : List VarId) → Rising (scope ++ xs) → IsGoodTest g scope (scope ++ xs) → AreFine q (scope ++ xs) → AreFine (Guarded 0 xs 0 g q) scope
-  fine_guard g q scope xs rising good each = (((rising, good.0), good.1, good.2, good.3, tt, tt), each)
+  fine_guard g q scope xs rising good each = (((rising, good.0), good.1, good.2, good.3, tt, tt, tt, tt), each)
 
   fine_either : (l r : Plan) (scope : List VarId) → AreFine l scope → AreFine r scope → AreFine (Either 0 l r) scope
-  fine_either l r scope a b = ((tt, tt, tt, tt, tt, tt), a, b)
+  fine_either l r scope a b = ((tt, tt, tt, tt, tt, tt, tt, tt), a, b)
 
   fine_both : (l r : Plan) (scope : List VarId) → AreFine l scope → AreFine r scope → AreFine (Both 0 l r) scope
-  fine_both l r scope a b = ((tt, tt, tt, tt, tt, tt), a, b)
+  fine_both l r scope a b = ((tt, tt, tt, tt, tt, tt, tt, tt), a, b)
 
   -- the operand of a test in scope
   test_of : (g : Formula) (scope : List VarId) (k : ℕ) → IsScoped g scope → IsPolicyFormula entries k g → size_of g ≤ most + 1 → IsGoodTest g scope scope
@@ -119,7 +120,7 @@ module _ (entries : List NameEntry) (c s : NameId → Bool) (most : ℕ) where
       (λ q a t none. subst (λ (W : List VarId). AreFine (TestOr 0 0 h q) W) (no_more scope xs none) (fine_test h q (scope ++ xs) (test_of h (scope ++ xs) k right.0 right.1.1 (omega (arith, right.2))) (downs (scope ++ xs) q a left)))
 
   pub made_fine : (aim : Aim) (f : Formula) (scope : List VarId) (p : Plan) → Elab c s aim f scope (Ok p) → IsGivenFor aim f scope → AreFine p scope
-  made_fine Up (Atom place name terms) scope p e h = fine_leaf (c name) place _ p scope e (λ may. (h.0, tt, tt, tt, tt, may))
+  made_fine Up (Atom place name terms) scope p e h = fine_leaf (c name) place _ p scope e (λ may. (h.0, tt, tt, tt, tt, may, h.1.1, tt))
   made_fine Up (Not place g) scope p e h = made_fine Down g scope p e (h.0, h.1, omega (arith, h.2), h.3)
   made_fine Up (And place g h) scope p e all =
       by_two (λ q. AreFine q scope) p _ _ _ e
@@ -134,18 +135,18 @@ module _ (entries : List NameEntry) (c s : NameId → Bool) (most : ℕ) where
   made_fine Up (Forall place xs g) scope p e h = made_fine (UpForAll place xs) g scope p e (h.0.1, (h.1.0 + length xs, h.1.1.1), omega (arith, h.2), h.0.0)
   made_fine Up (Eventually place interval g) scope p e h =
       let found = with_end place interval.high _ p e in
-      by_one (λ q. AreFine q scope) p _ _ found.2 (λ q a. ((tt, tt, tt, tt, ends interval.low found.0 interval.high found.1 h.1.1.0, tt), made_fine Up g scope q a (h.0, (h.1.0, h.1.1.1), omega (arith, h.2), h.3)))
+      by_one (λ q. AreFine q scope) p _ _ found.2 (λ q a. ((tt, tt, tt, tt, ends interval.low found.0 interval.high found.1 h.1.1.0, tt, tt, found.3), made_fine Up g scope q a (h.0, (h.1.0, h.1.1.1), omega (arith, h.2), h.3)))
   made_fine Up (Always place interval g) scope p e h =
       let found = with_end place interval.high _ p e in
-      by_one (λ q. AreFine q scope) p _ _ found.2 (λ q a. ((tt, tt, tt, tt, ends interval.low found.0 interval.high found.1 h.1.1.0, tt), made_fine Up g scope q a (h.0, (h.1.0, h.1.1.1), omega (arith, h.2), h.3)))
+      by_one (λ q. AreFine q scope) p _ _ found.2 (λ q a. ((tt, tt, tt, tt, ends interval.low found.0 interval.high found.1 h.1.1.0, tt, tt, found.3), made_fine Up g scope q a (h.0, (h.1.0, h.1.1.1), omega (arith, h.2), h.3)))
   made_fine Up (Until place interval g h) scope p e all =
       let found = with_end place interval.high _ p e in
       by_two (λ q. AreFine q scope) p _ _ _ found.2
-      (λ l r a b. ((tt, tt, tt, tt, ends interval.low found.0 interval.high found.1 all.1.1.0, tt), made_fine Up g scope l a (all.0.0, (all.1.0, all.1.1.1), omega (arith, all.2), all.3), made_fine Up h scope r b (all.0.1, (all.1.0, all.1.1.2), omega (arith, all.2), all.3)))
+      (λ l r a b. ((tt, tt, tt, tt, ends interval.low found.0 interval.high found.1 all.1.1.0, tt, tt, found.3), made_fine Up g scope l a (all.0.0, (all.1.0, all.1.1.1), omega (arith, all.2), all.3), made_fine Up h scope r b (all.0.1, (all.1.0, all.1.1.2), omega (arith, all.2), all.3)))
   made_fine Up (Next place interval g) scope p e h =
       let found = from_now place interval.low interval.high _ p e in
-      by_one (λ q. AreFine q scope) p _ _ found.3 (λ q a. ((tt, tt, tt, tt, (ends interval.low found.0 interval.high found.2 h.1.1.0).1, tt), made_fine Up g scope q a (h.0, (h.1.0, h.1.1.1), omega (arith, h.2), h.3)))
-  made_fine Down (Atom place name terms) scope p e h = fine_leaf (s name) place _ p scope e (λ may. (h.0, tt, tt, tt, tt, may))
+      by_one (λ q. AreFine q scope) p _ _ found.3 (λ q a. ((tt, tt, tt, tt, (ends interval.low found.0 interval.high found.2 h.1.1.0).1, tt, tt, found.4), made_fine Up g scope q a (h.0, (h.1.0, h.1.1.1), omega (arith, h.2), h.3)))
+  made_fine Down (Atom place name terms) scope p e h = fine_leaf (s name) place _ p scope e (λ may. (h.0, tt, tt, tt, tt, may, h.1.1, tt))
   made_fine Down (Not place g) scope p e h = made_fine Up g scope p e (h.0, h.1, omega (arith, h.2), h.3)
   made_fine Down (And place g h) scope p e all =
       by_one_of_two (λ q. AreFine q scope) p scope _ _ _ _ e
@@ -161,10 +162,10 @@ module _ (entries : List NameEntry) (c s : NameId → Bool) (most : ℕ) where
   made_fine Down (Exists place xs g) scope p e h = fine_exclusion place scope xs g p e (h.0.1, (h.1.0 + length xs, h.1.1.1), omega (arith, h.2), h.0.0) (λ W q a k. made_fine Down g W q a k)
   made_fine Down (Eventually place interval g) scope p e h =
       let found = with_end place interval.high _ p e in
-      by_one (λ q. AreFine q scope) p _ _ found.2 (λ q a. ((tt, tt, tt, tt, ends interval.low found.0 interval.high found.1 h.1.1.0, tt), made_fine Down g scope q a (h.0, (h.1.0, h.1.1.1), omega (arith, h.2), h.3)))
+      by_one (λ q. AreFine q scope) p _ _ found.2 (λ q a. ((tt, tt, tt, tt, ends interval.low found.0 interval.high found.1 h.1.1.0, tt, tt, found.3), made_fine Down g scope q a (h.0, (h.1.0, h.1.1.1), omega (arith, h.2), h.3)))
   made_fine Down (Always place interval g) scope p e h =
       let found = with_end place interval.high _ p e in
-      by_one (λ q. AreFine q scope) p _ _ found.2 (λ q a. ((tt, tt, tt, tt, ends interval.low found.0 interval.high found.1 h.1.1.0, tt), made_fine Down g scope q a (h.0, (h.1.0, h.1.1.1), omega (arith, h.2), h.3)))
+      by_one (λ q. AreFine q scope) p _ _ found.2 (λ q a. ((tt, tt, tt, tt, ends interval.low found.0 interval.high found.1 h.1.1.0, tt, tt, found.3), made_fine Down g scope q a (h.0, (h.1.0, h.1.1.1), omega (arith, h.2), h.3)))
   made_fine (UpForAll first xs) (Forall place ys g) scope p e h =
       made_fine (UpForAll first (xs ++ ys)) g scope p e (subst (λ (W : List VarId). IsGiven g W) (append_assoc scope xs ys) (h.0.1, (h.1.0 + length ys, h.1.1.1), omega (arith, h.2), h.0.0))
   made_fine (UpForAll first xs) (Implies place g h) scope p e all = fine_implication first place scope xs g h p e all (λ W q a k. made_fine Down g W q a k) (λ W q b k. made_fine Up h W q b k)

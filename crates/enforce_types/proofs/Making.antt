@@ -1,5 +1,5 @@
 -- What holds of a plan that a rule makes, where it holds of each plan that the rule can make.
-use Rattle.std.proofs.Common.{◌≡◌, ℕ, zero, suc, Bool, true, false, List, [], ◌++◌, Option, None, Some, Ok, Err, Contains, refl, subst}
+use Rattle.std.proofs.Common.{◌≡◌, ◌<◌, arith, ℕ, zero, suc, Bool, true, false, List, [], ◌++◌, Option, None, Some, Ok, Err, Contains, refl, subst}
 use Rattle.enf_value.specs.declared.terms.VarId.{VarId}
 use Rattle.enf_formula.specs.Formulas.{Formula, And, Not}
 use Rattle.enf_formula.specs.Shape.{place_of}
@@ -14,13 +14,13 @@ made_is p q e = cc
 pub not_refused : (p : Plan) (r : Refusal) → ◌≡◌ {A = Answer} (Ok p) (Err r) → ⊥
 not_refused p r e = cc
 
-pub with_end : (place : ℕ) (high : Option ℕ) (within : ℕ → Answer → Type 0) (p : Plan) → WithEnd place high within (Ok p) → (n : ℕ) × (high ≡ Some n) × within n (Ok p)
+pub with_end : (place : ℕ) (high : Option ℕ) (within : ℕ → Answer → Type 0) (p : Plan) → WithEnd place high within (Ok p) → (n : ℕ) × (high ≡ Some n) × within n (Ok p) × (0 < n)
 with_end place None within p refused = absurd (not_refused p _ refused)
 with_end place (Some zero) within p refused = absurd (not_refused p _ refused)
-with_end place (Some (suc n)) within p holds = (suc n, refl, holds)
+with_end place (Some (suc n)) within p holds = (suc n, refl, holds, omega arith)
 
-pub from_now : (place low : ℕ) (high : Option ℕ) (within : ℕ → Answer → Type 0) (p : Plan) → FromNow place low high within (Ok p) → (n : ℕ) × (low ≡ 0) × (high ≡ Some n) × within n (Ok p)
-from_now place zero high within p holds = let found = with_end place high within p holds in (found.0, refl, found.1, found.2)
+pub from_now : (place low : ℕ) (high : Option ℕ) (within : ℕ → Answer → Type 0) (p : Plan) → FromNow place low high within (Ok p) → (n : ℕ) × (low ≡ 0) × (high ≡ Some n) × within n (Ok p) × (0 < n)
+from_now place zero high within p holds = let found = with_end place high within p holds in (found.0, refl, found.1, found.2, found.3)
 from_now place (suc low) high within p refused = absurd (not_refused p _ refused)
 
 module _ (P : Plan → Type 0) (p : Plan) where

@@ -11,7 +11,7 @@ use Rattle.enf_formula.specs.Shape.{size_of}
 use Rattle.formula_reader.specs.Resolution.{Rule}
 use Rattle.formula_reader.specs.WellFormed.{IsWellFormedPolicy, IsWellFormedRule}
 use Rattle.plan_terms.specs.Changes.{IsCaused, IsSuppressed, cause_of, caused_below, suppress_of, suppressed_below}
-use Rattle.plan_terms.specs.Limits.{EndsInTime, IsSmall}
+use Rattle.plan_terms.specs.Limits.{AllEndLater, EndsInTime, EndsLater, IsSmall}
 use Rattle.plan_terms.specs.Names.{AreBelow}
 use Rattle.plan_terms.specs.Nodes.{nodes}
 use Rattle.plan_terms.specs.Plans as plan
@@ -22,7 +22,7 @@ use Rattle.rank_check.specs.Limits.{ArePlansWithinLimits, AreTriggersBelow}
 use Rattle.rank_check.specs.Roles.{AreNamesBelow}
 use Rattle.signature.specs.declared.entries.NameEntry.{NameEntry}
 use Rattle.enforce_types.specs.Elab.{Up}
-use Rattle.enforce_types.specs.Marks.{is_causable, is_suppressible}
+use Rattle.enforce_types.specs.Marks.{FillsColumns, is_causable, is_suppressible}
 use Rattle.enforce_types.specs.Numbering.{node_count, guard_count, numbered, all_numbered}
 use Rattle.enforce_types.specs.PolicyPlans.{ArePlanned, HasPlan, formulas_of}
 use Rattle.enforce_types.proofs.FormulaNames.{marked_within, triggers_below}
@@ -125,6 +125,12 @@ module _ (entries : List NameEntry) where
   suppressed_can plans fine name there =
       AllByRecursion-contains CanSuppress (flat_map suppressed_below plans) name
       (all_named CanSuppress suppress_of plans (fine_all_nodes (λ node. AllByRecursion CanSuppress (suppress_of node)) (λ p scope h. suppresses_done p h.5) plans fine)) there
+
+  pub all_filled : (plans : List Plan) → AllByRecursion IsFinePlan plans → AllByRecursion (FillsColumns entries) (flat_map nodes plans)
+  all_filled plans fine = of_all_nodes (FillsColumns entries) plans (fine_all_nodes (FillsColumns entries) (λ p scope h. h.6) plans fine)
+
+  pub all_end_later : (plans : List Plan) → AllByRecursion IsFinePlan plans → AllEndLater plans
+  all_end_later plans fine = of_all_nodes EndsLater plans (fine_all_nodes EndsLater (λ p scope h. h.7) plans fine)
 
   names_below : (plans : List Plan) → AllByRecursion IsFinePlan plans → AreNamesBelow (length entries) plans
   names_below plans fine name (inl there) = marked_within (λ entry. entry.causable) entries name.0 (caused_can plans fine name there)

@@ -13,21 +13,21 @@ use Rattle.plan_terms.specs.Nodes.{IsNumbered}
 use Rattle.plan_terms.specs.Plans.{plan_of}
 use Rattle.plan_terms.specs.declared.plans.Plan.{Plan as StoredPlan}
 use Rattle.rank_check.specs.Limits.{ArePlansWithinLimits}
-use Rattle.rank_check.specs.Refusals.{RefusesPlans}
+use Rattle.rank_check.specs.Ranked.{AreRanked, Ranked}
+use Rattle.rank_check.specs.Refusals.{AreAccepted, RefusesPlans}
 use Rattle.rank_check.specs.declared.answers.RankRefusal.{RankRefusal}
 use Rattle.rank_check.specs.declared.answers.RankRefusal.TheVariants as plans
 use Rattle.signature.specs.declared.entries.NameEntry.{NameEntry}
 use Rattle.enforce_types.specs.Accepted.{RefusesPolicy, of_plans}
 use Rattle.monitorable_guard.specs.Guards.{BoundFormula}
-use Rattle.plan_terms.specs.Changes.{NothingClashes}
 use Rattle.plan_terms.specs.Guards.{IsFresh, guard_of, guards_of}
-use Rattle.plan_terms.specs.WellFormed.{AreWellFormed}
 use Rattle.enforce_types.specs.PolicyLaws.{KeepsToSignature}
 use Rattle.enforce_types.specs.PolicyPlans.{ArePlanned, formulas_of}
+use Rattle.enforce_types.specs.Typed.{WorkTogether}
 use Rattle.enforce_types.specs.declared.planning.RulePlans.{RulePlans}
 use Rattle.enforce_types.specs.declared.refusals.Refusal.{Refusal}
 use Rattle.enforce_types.specs.declared.refusals.TypeRefusal.{TypeRefusal}
-use Rattle.enforce_types.proofs.FormedPlans.{plans_formed, plans_kept}
+use Rattle.enforce_types.proofs.FormedPlans.{plans_end_later, plans_formed, plans_kept}
 use Rattle.enforce_types.proofs.PlanLimits.{plans_within}
 use Rattle.enforce_types.proofs.PolicyLemmas.{in_order}
 
@@ -66,10 +66,16 @@ module _ (entries : List NameEntry) where
     planned_pure : ArePlanned entries (formulas_of (map rule_of rules)) (map plan_of made.plans.items) (guards_of made.guards.items)
     planned_pure = subst (λ (fs : List Formula). ArePlanned entries fs (map plan_of made.plans.items) (guards_of made.guards.items)) (same_formulas rules) (planned_of rules seen r made see is h)
 
-    pub formed : IsWellFormedPolicy entries (map rule_of rules) → NothingClashes (map plan_of lent) → AreWellFormed (map plan_of made.plans.items) (guards_of made.guards.items)
-    formed policy roles =
-        plans_formed entries (map rule_of rules) (map plan_of made.plans.items) (guards_of made.guards.items) policy planned_pure
-        (subst (λ (ps : List StoredPlan). NothingClashes (map plan_of ps)) lends roles)
+    pub together : (ranked : Ranked) → IsWellFormedPolicy entries (map rule_of rules) → AreAccepted (map plan_of lent) → AreRanked (map plan_of lent) ranked
+        → WorkTogether (record { plans = map plan_of made.plans.items; guards = guards_of made.guards.items; ranked = ranked })
+    together ranked policy accepted are =
+        let together : AreAccepted (map plan_of made.plans.items) = subst (λ (ps : List StoredPlan). AreAccepted (map plan_of ps)) lends accepted in
+        record {
+          formed = plans_formed entries (map rule_of rules) (map plan_of made.plans.items) (guards_of made.guards.items) policy planned_pure together.roles;
+          later = plans_end_later entries (map rule_of rules) (map plan_of made.plans.items) (guards_of made.guards.items) policy planned_pure;
+          accepted = together;
+          ranked = subst (λ (ps : List StoredPlan). AreRanked (map plan_of ps) ranked) lends are;
+        }
 
     pub kept : IsWellFormedPolicy entries (map rule_of rules) → KeepsToSignature entries (map plan_of made.plans.items) (guards_of made.guards.items)
     kept policy = plans_kept entries (map rule_of rules) (map plan_of made.plans.items) (guards_of made.guards.items) policy planned_pure

@@ -1,5 +1,5 @@
 -- Small formulas and their plans, on which the rules can be checked by eye.
-use Rattle.std.specs.Prelude.{ℕ, nat_eq, Bool, [], ◌∷◌, Ok, Err}
+use Rattle.std.specs.Prelude.{ℕ, nat_eq, Bool, true, false, List, [], ◌∷◌, Ok, Err, codes}
 use Rattle.enf_value.specs.declared.events.NameId.{NameId}
 use Rattle.enf_value.specs.declared.terms.Term.TheVariants.{Var}
 use Rattle.enf_value.specs.declared.terms.VarId.{VarId}
@@ -8,6 +8,8 @@ use Rattle.enf_formula.specs.Formulas as tree
 use Rattle.enf_formula.specs.Formulas.{Formula}
 use Rattle.plan_terms.specs.Plans as plan
 use Rattle.plan_terms.specs.Plans.{Plan}
+use Rattle.signature.specs.declared.entries.NameEntry.{NameEntry}
+use Rattle.signature.specs.declared.entries.Sort.TheVariants as sort
 use Rattle.enforce_types.specs.Answers.{Answer}
 use Rattle.enforce_types.specs.declared.refusals.Refusal.TheVariants.{Unguarded, NotEnforceable}
 use Rattle.enforce_types.specs.Elab.{Elab, Up, Down}
@@ -83,3 +85,9 @@ once_q = tree.Once 20 (from_on 0) (q_at 21)
 -- within 5
 abbrev pub soon : ℕ → Formula → Formula
 soon place f = tree.Eventually place (within 0 5) f
+
+-- p(text) -; q(text) +;
+abbrev pub p_and_q : List NameEntry
+p_and_q =
+    record { text = codes "p"; sorts = sort.Text ∷ []; causable = false; suppressible = true }
+    ∷ record { text = codes "q"; sorts = sort.Text ∷ []; causable = true; suppressible = false } ∷ []

@@ -11,13 +11,14 @@ use Rattle.formula_reader.specs.WellFormed.{IsWellFormedPolicy}
 use Rattle.plan_terms.specs.Changes.{IsCaused, IsSuppressed, NothingClashes}
 use Rattle.plan_terms.specs.Guards.{CanBeEvaluated, GuardsAreListed}
 use Rattle.plan_terms.specs.Names.{LooksBelow}
-use Rattle.plan_terms.specs.Nodes.{IsNumbered}
+use Rattle.plan_terms.specs.Limits.{AllEndLater}
+use Rattle.plan_terms.specs.Nodes.{IsNumbered, nodes}
 use Rattle.plan_terms.specs.PlanFormula.{formula_for}
 use Rattle.plan_terms.specs.Plans.{Plan}
 use Rattle.plan_terms.specs.WellFormed.{AreWellFormed}
 use Rattle.rank_check.specs.Limits.{ArePlansWithinLimits}
 use Rattle.signature.specs.declared.entries.NameEntry.{NameEntry}
-use Rattle.enforce_types.specs.Marks.{is_causable, is_suppressible}
+use Rattle.enforce_types.specs.Marks.{FillsColumns, is_causable, is_suppressible}
 use Rattle.enforce_types.specs.Numbering.{guard_numbers}
 use Rattle.enforce_types.specs.PolicyPlans.{ArePlanned, IsFirstRefusal, formulas_of}
 use Rattle.enforce_types.specs.declared.refusals.Refusal.{Refusal}
@@ -82,12 +83,19 @@ PlansAreWellFormed = (entries : List NameEntry) (rules : List Rule) (plans : Lis
     (guards : List (Formula × List VarId)) → IsWellFormedPolicy entries rules
     → ArePlanned entries (formulas_of rules) plans guards → NothingClashes plans → AreWellFormed plans guards
 
--- what is caused can be caused under the signature, what is suppressed can be suppressed, and the names that guards
--- look for are its names
+-- and no interval of theirs ends at once
+abbrev pub PlansEndLater : Type 0
+PlansEndLater = (entries : List NameEntry) (rules : List Rule) (plans : List Plan)
+    (guards : List (Formula × List VarId)) → IsWellFormedPolicy entries rules
+    → ArePlanned entries (formulas_of rules) plans guards → AllEndLater plans
+
+-- what is caused can be caused under the signature, and what is suppressed can be suppressed, with as many terms as the
+-- name has columns; and the names that guards look for are its names
 pub record KeepsToSignature (entries : List NameEntry) (plans : List Plan)
     (guards : List (Formula × List VarId)) : Type 0 where
   pub caused : (name : NameId) → IsCaused plans name → IsTrue (is_causable entries name)
   pub suppressed : (name : NameId) → IsSuppressed plans name → IsTrue (is_suppressible entries name)
+  pub filled : AllByRecursion (FillsColumns entries) (flat_map nodes plans)
   pub looked_for : AllByRecursion (LooksBelow (length entries)) guards
 
 abbrev pub PlansKeepToSignature : Type 0

@@ -6,7 +6,7 @@ ghost use Rattle.enforce_types.specs.Numbering.{NumbersMeanNothing, NumberingKee
 ghost use Rattle.enforce_types.specs.PolicyLaws.{PolicyKeepsMeaning, PolicyIsNumbered, PolicyGuardsAreSafe};
 ghost use Rattle.enforce_types.specs.PolicyLaws.{IsAnswered, NotBoth, OnePlans, OneRefusal};
 ghost use Rattle.enforce_types.specs.PolicyLaws.{GuardsAreAtNumbers, PlansAreWellFormed, PlansAreWithinLimits};
-ghost use Rattle.enforce_types.specs.PolicyLaws.{PlansKeepToSignature};
+ghost use Rattle.enforce_types.specs.PolicyLaws.{PlansEndLater, PlansKeepToSignature};
 ghost use Rattle.enforce_types.specs.Accepted.{AcceptedIsNotRefused, AcceptedOrRefused, RefusedOnce};
 
 use enf_formula::laws::is_classical;
@@ -65,10 +65,11 @@ pub fn plans_are_within_limits()
     ensures { PlansAreWithinLimits }
 {}
 
-/// The plans of a policy that was read are well-formed with their guards, where no name is both caused and suppressed,
-/// and change events as the signature permits.
+/// The plans of a policy that was read are well-formed with their guards, where no name is both caused and suppressed.
+/// None of their intervals ends at once, and they change events as the signature permits.
 pub fn plans_are_well_formed()
     ensures formed { PlansAreWellFormed }
+    ensures later { PlansEndLater }
     ensures kept { PlansKeepToSignature }
 {}
 

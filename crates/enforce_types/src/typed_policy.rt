@@ -6,8 +6,10 @@ ghost use Rattle.enforce_types.specs.Typed.{typed_of};
 ghost use Rattle.formula_reader.specs.Resolution.{formulas, rules_of};
 ghost use Rattle.formula_reader.specs.WellFormed.{IsWellFormedPolicy};
 ghost use Rattle.plan_terms.specs.Guards.{IsFresh, guard_of};
+ghost use Rattle.plan_terms.specs.Limits.{AllEndLater};
 ghost use Rattle.plan_terms.specs.WellFormed.{AreWellFormed};
-ghost use Rattle.rank_check.specs.Ranked.{role_in};
+ghost use Rattle.rank_check.specs.Ranked.{AreRanked, role_in};
+ghost use Rattle.rank_check.specs.Refusals.{AreAccepted};
 
 use crate::planning::{RulePlans, plan_rules};
 use crate::refusals::TypeRefusal;
@@ -28,12 +30,8 @@ pub struct TypedPolicy {
 }
 
 impl Model for TypedPolicy {
-    ghost use Rattle.std.specs.Prelude.{map};
-    ghost use Rattle.enforce_types.specs.Typed.{StoredTyped};
+    ghost use Rattle.enforce_types.specs.Typed.{StoredTyped, WorkTogether, typed_of};
     ghost use Rattle.monitorable_guard.specs.Guards.{bound_formula_code};
-    ghost use Rattle.plan_terms.specs.Guards.{guards_of};
-    ghost use Rattle.plan_terms.specs.Plans.{plan_of};
-    ghost use Rattle.plan_terms.specs.WellFormed.{AreWellFormed};
     ghost use Rattle.plan_terms.specs.contracts.plans.Plan as plan;
     ghost use Rattle.std.specs.Coded.{codes};
 
@@ -43,7 +41,11 @@ impl Model for TypedPolicy {
 
     ghost view = { λ t. record { plans = t.made.plans.items; guards = t.made.guards.items; ranked = t.ranks } };
 
-    ghost invariant = { λ t. AreWellFormed (map plan_of t.made.plans.items) (guards_of t.made.guards.items) };
+    ghost invariant = { λ t. WorkTogether (typed_of (record {
+      plans = t.made.plans.items;
+      guards = t.made.guards.items;
+      ranked = t.ranks;
+    })) };
 }
 
 impl TypedPolicy {
@@ -56,7 +58,8 @@ impl TypedPolicy {
         // So is each policy that was read under the signature.
         requires { IsWellFormedPolicy signature.now (rules_of policy.now) }
         ensures typed { IfOk result (λ made. IsTyped signature.now (formulas policy.now.rules) (typed_of made)) }
-        // The names that it causes can be caused, and those that it suppresses can be suppressed.
+        // The names that it causes can be caused, and those that it suppresses can be suppressed, with terms for their
+        // columns.
         ensures kept { IfOk result
             (λ made. KeepsToSignature signature.now (typed_of made).plans (typed_of made).guards) }
         ensures refused { IfErr result (RefusesPolicy signature.now (formulas policy.now.rules)) }
@@ -66,10 +69,14 @@ impl TypedPolicy {
         Ok(TypedPolicy { made, ranks })
     }
 
-    /// The plans, in rule order: what they and the guards are, whatever the signature.
+    /// The plans, in rule order: what they and the guards are, whatever the signature, and that the ranks, the roles,
+    /// the horizon and the transparent mark are theirs.
     pub fn plans(&self) -> &[Plan]
         ensures plans { result.now ≡ self.now.plans }
         ensures formed { AreWellFormed (typed_of self.now).plans (typed_of self.now).guards }
+        ensures later { AllEndLater (typed_of self.now).plans }
+        ensures accepted { AreAccepted (typed_of self.now).plans }
+        ensures ranked { AreRanked (typed_of self.now).plans (typed_of self.now).ranked }
     {
         &self.made.plans
     }

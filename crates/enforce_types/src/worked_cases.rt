@@ -1,16 +1,17 @@
 //! Worked cases of plans and refusals, each a clause of a function with an empty body. In them q can be caused and p
 //! suppressed.
 ghost use Rattle.std.specs.Prelude.{◌≡◌, [], ◌∷◌};
-ghost use Rattle.enf_formula.specs.Cases.{x, within, from_on};
+ghost use Rattle.enf_formula.specs.Cases.{x, name_p, name_q, within, from_on};
 ghost use Rattle.enf_formula.specs.Formulas as tree;
 ghost use Rattle.enf_value.specs.declared.terms.Term.TheVariants.{Var};
+ghost use Rattle.plan_terms.specs.Cases.{cause_q_x_y, each_soon, guards_soon};
 ghost use Rattle.plan_terms.specs.Plans as plan;
 ghost use Rattle.enforce_types.specs.Cases.{MadeTrue, MadeFalse, TrueBy, FalseBy, not_enforceable, unguarded, y};
 ghost use Rattle.enforce_types.specs.Cases.{p_at, q_at, p_x_at, q_x_at, p_x_y_at, once_p, once_q, soon};
-ghost use Rattle.enforce_types.specs.Cases.{suppress_p, suppress_p_x, cause_q, cause_q_x};
+ghost use Rattle.enforce_types.specs.Cases.{p_and_q, suppress_p, suppress_p_x, cause_q, cause_q_x};
 ghost use Rattle.plan_terms.specs.Guards.{GuardsAreListed, guards_in};
 ghost use Rattle.enforce_types.specs.Numbering.{numbered, all_numbered};
-ghost use Rattle.enf_formula.specs.Cases.{name_q};
+ghost use Rattle.enforce_types.specs.PolicyLaws.{KeepsToSignature};
 
 /// Formulas that are made true.
 pub fn made_true()
@@ -110,4 +111,15 @@ pub fn numbers()
         ≡ (p_x_at 2, []) ∷ (once_p, x ∷ []) ∷ [] }
     ensures listed { GuardsAreListed ((p_x_at 2, []) ∷ (once_p, x ∷ []) ∷ [])
         (numbered 0 0 (plan.Guarded 0 (x ∷ []) 0 (p_x_at 2) (plan.TestOr 0 0 once_p (cause_q 3)))) [] }
+{}
+
+/// Plans that keep to a signature: what they change may be changed so, with a term for each column, and their guards
+/// look for its names.
+pub fn keeping_to_signature()
+    ensures kept { KeepsToSignature p_and_q (each_soon ∷ []) guards_soon }
+    ensures not_causable { KeepsToSignature p_and_q (plan.Cause 0 1 name_p (Var x ∷ []) ∷ []) [] → ⊥ }
+    ensures not_suppressible { KeepsToSignature p_and_q (plan.Suppress 0 1 name_q (Var x ∷ []) ∷ []) [] → ⊥ }
+    ensures no_term { KeepsToSignature p_and_q (cause_q 1 ∷ []) [] → ⊥ }
+    ensures two_terms { KeepsToSignature p_and_q (cause_q_x_y ∷ []) [] → ⊥ }
+    ensures no_name { KeepsToSignature [] [] guards_soon → ⊥ }
 {}

@@ -7,4 +7,4 @@ use Rattle.enforce_types.proofs.typed_policy.TypedPolicy.guards.Goals as goal
 
 pub returns-clause-fresh : goal.returns-clause-fresh
 returns-clause-fresh c =
-    subst (λ (t : StoredTyped). All (λ guard. IsFresh (guard_of guard)) t.guards) c.self.view_is (all_fresh _ c.self.invariant.fresh)
+    subst (λ (t : StoredTyped). All (λ guard. IsFresh (guard_of guard)) t.guards) c.self.view_is (all_fresh _ c.self.invariant.formed.fresh)

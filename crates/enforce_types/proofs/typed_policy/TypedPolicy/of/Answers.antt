@@ -1,4 +1,4 @@
-use Rattle.enforce_types.proofs.TypingLemmas.{fits, formed, kept, numbered, refused, small_rules}
+use Rattle.enforce_types.proofs.TypingLemmas.{fits, kept, numbered, refused, small_rules, together}
 use Rattle.enforce_types.proofs.typed_policy.TypedPolicy.of.Goals as goal
 
 pub check-requires-clause-fit : goal.check-requires-clause-fit
@@ -19,7 +19,7 @@ plan_rules-requires-clause-few_nodes c = small_rules c.args.signature.now _ _ c.
 
 pub invariant_of-result : goal.invariant_of-result
 invariant_of-result c =
-    formed c.args.signature.now _ _ _ c.in_ok-made.made c.as_slice.ensures c.in_ok-made.was c.in_ok-plan_rules.ensures.planned _ c.deref.ensures.value c.requires c.in_ok-ranks.ensures.accepted.roles
+    together c.args.signature.now _ _ _ c.in_ok-made.made c.as_slice.ensures c.in_ok-made.was c.in_ok-plan_rules.ensures.planned _ c.deref.ensures.value _ c.requires c.in_ok-ranks.ensures.accepted c.in_ok-ranks.ensures.ranked
 
 pub returns-clause-kept : goal.returns-clause-kept
 returns-clause-kept c =
