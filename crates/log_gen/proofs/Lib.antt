@@ -1,4 +1,5 @@
 pub mod Sample
+pub mod SamplePolicy
 pub mod Puts
 pub mod Bounds
 pub mod Texts

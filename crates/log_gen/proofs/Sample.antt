@@ -16,7 +16,7 @@ use Rattle.signature.specs.Grammar.{IsEntry, IsSignature, names}
 use Rattle.log_gen.specs.Samples.{sample_entries}
 
 -- whether no text stands twice
-are_distinct : List (List ℕ) → Bool
+unfoldable pub are_distinct : List (List ℕ) → Bool
 are_distinct [] = true
 are_distinct (text ∷ texts) = not (list_any (pointwise nat_eq text) texts) && are_distinct texts
 
@@ -29,7 +29,7 @@ not_true : (b : Bool) → not b ≡ true → b ≡ false
 not_true true e = absurd (cc)
 not_true false e = refl
 
-distinct-HasNoRepeats : (texts : List (List ℕ)) → are_distinct texts ≡ true → HasNoRepeats texts
+pub distinct-HasNoRepeats : (texts : List (List ℕ)) → are_distinct texts ≡ true → HasNoRepeats texts
 unfolding are_distinct
 distinct-HasNoRepeats [] e = tt
 distinct-HasNoRepeats (text ∷ texts) e =

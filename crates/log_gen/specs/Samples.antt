@@ -1,5 +1,9 @@
 -- The sample signature and the sample policy.
-use Rattle.std.specs.Prelude.{ℕ, Bool, true, false, List, [], ◌∷◌, ◌++◌, codes}
+use Rattle.std.specs.Prelude.{ℕ, Bool, true, false, List, [], ◌∷◌, ◌++◌, None, Some, codes}
+use Rattle.enf_formula.specs.Formulas.{Formula, Atom, Eventually, Forall, Implies, Not, Once, Until}
+use Rattle.enf_value.specs.declared.terms.Term.TheVariants.{Var}
+use Rattle.enf_value.specs.declared.terms.VarId.{VarId}
+use Rattle.formula_reader.specs.Resolution.{Rule}
 use Rattle.signature.specs.declared.entries.NameEntry.{NameEntry}
 use Rattle.signature.specs.declared.entries.Sort.TheVariants.{Text}
 
@@ -33,3 +37,28 @@ policy_text =
     line (codes "rule consent: forall u. use(u) -> once[0,*] consent(u);")
     ++ line (codes "rule erase: forall u. request(u) -> eventually[0,30] delete(u);")
     ++ line (codes "rule hold: forall u. lock(u) -> (not use(u)) until[0,10] unlock(u);")
+
+-- the one variable of each rule of the sample policy
+abbrev pub u : VarId
+u = record { 0 = 0 }
+
+-- an event with that variable, by its name's number
+abbrev pub of_u : (place name : ℕ) → Formula
+of_u place name = Atom place (record { 0 = name }) (Var u ∷ [])
+
+-- a rule `forall u. g -> h`
+abbrev pub for_all_u : (place : ℕ) → (name : List ℕ) → (quantifier arrow : ℕ) → (g h : Formula) → Rule
+for_all_u place name quantifier arrow g h = record {
+  name = name;
+  formula = Forall quantifier (u ∷ []) (Implies arrow g h);
+  vars = codes "u" ∷ [];
+  place = place;
+}
+
+-- the rules of the sample policy under the sample signature, with their places in the text
+abbrev pub sample_rules : List Rule
+sample_rules =
+    for_all_u 0 (codes "consent") 14 31 (of_u 24 2) (Once 34 (record { low = 0; high = None }) (of_u 44 1))
+    ∷ for_all_u 56 (codes "erase") 68 89 (of_u 78 0) (Eventually 92 (record { low = 0; high = Some 30 }) (of_u 109 3))
+    ∷ for_all_u 120 (codes "hold") 131 149 (of_u 141 5)
+    (Until 165 (record { low = 0; high = Some 10 }) (Not 153 (of_u 157 2)) (of_u 177 4)) ∷ []

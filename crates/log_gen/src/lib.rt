@@ -1,5 +1,6 @@
 //! Generated logs, under a sample signature and a sample policy, for tries and measurements: the same start gives
-//! the same log. It stands on log_stream, which has the canonical line of a step.
+//! the same log. It stands on log_stream, which has the canonical line of a step, and on formula_reader, which says
+//! how a policy is read.
 #![tactic(auto)]
 
 mod draws;

@@ -1,6 +1,7 @@
 //! A signature and a policy to go with generated logs.
 ghost use Rattle.std.specs.Prelude.{◌≡◌, Ok};
-ghost use Rattle.log_gen.specs.Samples.{policy_text, sample_entries, signature_text};
+ghost use Rattle.formula_reader.specs.Reading.{IsTextAnswer};
+ghost use Rattle.log_gen.specs.Samples.{policy_text, sample_entries, sample_rules, signature_text};
 ghost use Rattle.signature.specs.Refusals.{IsAnswer};
 
 /// The text of the sample signature.
@@ -14,7 +15,8 @@ pub fn sample_signature() -> &'static [u8]
 
 /// The text of the sample policy.
 pub fn sample_policy() -> &'static [u8]
-    ensures { result.now ≡ policy_text }
+    ensures text { result.now ≡ policy_text }
+    ensures read { IsTextAnswer sample_entries policy_text (Ok sample_rules) }
 {
     b"rule consent: forall u. use(u) -> once[0,*] consent(u);\n\
       rule erase: forall u. request(u) -> eventually[0,30] delete(u);\n\
