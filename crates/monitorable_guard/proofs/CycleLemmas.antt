@@ -8,7 +8,7 @@ use Rattle.std.proofs.lemmas.List.{drop-drop, take_more}
 use Rattle.std.proofs.lemmas.List.Elements.{Contains-append_left, Contains-append_right, Contains-push_cases}
 use Rattle.std.proofs.lemmas.Map.Keys.{Less-from_sorted}
 use Rattle.enf_value.specs.Membership.{HasNoRepeats}
-use Rattle.enf_value.specs.Valuations.{Valuation, no_values, value_of, variable_cmp, variable_cmp_total}
+use Rattle.enf_value.specs.Valuations.{Valuation, no_values, value_at, value_of, variable_cmp, variable_cmp_total}
 use Rattle.enf_value.specs.declared.events.Event.{Event}
 use Rattle.enf_value.specs.declared.terms.Term.{Term}
 use Rattle.enf_value.specs.declared.terms.Term.TheVariants.{Var, Const}
@@ -17,6 +17,9 @@ use Rattle.enf_value.specs.declared.values.Value.{Value}
 use Rattle.enf_formula.specs.Formulas.{Formula, Equal, Implies}
 use Rattle.enf_formula.specs.Formulas.{Forall}
 use Rattle.valuations.specs.Columns.{here, none_in_nil}
+use Rattle.valuations.specs.RowLaws.{fits}
+use Rattle.valuations.specs.ScopeLaws.{some_or_none}
+use Rattle.valuations.specs.Scopes.{filled}
 use Rattle.valuations.specs.Tables.{Relation, IsTable, Has}
 use Rattle.valuations.specs.Tables as tabled
 use Rattle.monitorable_guard.specs.Answers.{AddsRows, AmongRows, Answers, AreInScope, AreOpenUnder, CanAsk, Fit, HasAnswers, IsAnswer, IsBoundBy}
@@ -24,7 +27,7 @@ use Rattle.monitorable_guard.specs.Evaluation.{FitOperators}
 use Rattle.monitorable_guard.specs.Present.{HoldsNow, outermost, behind}
 use Rattle.monitorable_guard.specs.Safety.{Safe, FreeWithin, Assigns}
 use Rattle.monitorable_guard.proofs.AskLemmas.{ask_nested}
-use Rattle.monitorable_guard.proofs.EvaluationLemmas.{closed_to, closed_from, nested_same}
+use Rattle.monitorable_guard.proofs.EvaluationLemmas.{bound_from, closed_to, closed_from, filled_binds, filled_binds_only, nested_same, not_bound}
 use Rattle.monitorable_guard.proofs.RowsLemmas.{adds_as}
 use Rattle.monitorable_guard.proofs.ScopeLemmas.{all_from}
 
@@ -223,3 +226,26 @@ pub each_more : {X : Type 0} (P : X → Type 0) (xs : List X) (i : ℕ) (x : X) 
 each_more P xs i x within at before here y there =
     ⊎_elim (λ front. before y front) (λ same. subst P (at ∙ same) here)
     (Contains-push_cases (take i xs) (get_or xs i x) y (subst (λ l. Contains l y) (take_more xs i x within) there))
+
+-- ---- where each free variable has a value
+
+pub closed_where_none : (v : Valuation) (f : Formula) (columns : List VarId) → AreOpenUnder v f columns → columns ≡ [] → FreeWithin f (IsBoundBy v)
+closed_where_none v f columns opens none x free = ⊎_elim
+    (λ some. bound_from v x some.0 some.1)
+    (λ absent. absurd (none_in_nil x (subst (λ l. Contains l x) none ((opens.exact x).1 (free, λ bound. not_bound v x absent bound)))))
+    (some_or_none (value_at v x))
+
+pub none_where_closed : (v : Valuation) (f : Formula) (columns : List VarId) → AreOpenUnder v f columns → FreeWithin f (IsBoundBy v) → columns ≡ []
+none_where_closed v f [] opens within = refl
+none_where_closed v f (y ∷ ys) opens within = let got = (opens.exact y).0 (here y ys) in absurd (got.1 (within y got.0))
+
+-- as many values of the columns bind the same variables
+pub known_alike : (b : Bool) (f : Formula) (v : Valuation) (columns : List VarId) (row other : List Value) → length row ≡ length columns → length other ≡ length columns → IsTrue b ↔ FreeWithin f (IsBoundBy (filled v columns row)) → IsTrue b ↔ FreeWithin f (IsBoundBy (filled v columns other))
+known_alike b f v columns row other long other_long known = (
+  λ t x free. filled_binds v columns other x other_long (filled_binds_only v columns row x (known.0 t x free)),
+  λ within. known.1 (λ x free. filled_binds v columns row x long (filled_binds_only v columns other x (within x free))),
+)
+
+pub ok_alike : {E : Type 0} (f : Formula) (v : Valuation) (t : Relation) (row : List Value) → IsTable t → Contains t.rows row → (r : Result Bool E) → IfOk r (λ b. IsTrue b ↔ FreeWithin f (IsBoundBy (filled v t.columns row))) → IfOk r (λ b. (other : List Value) → Contains t.rows other → IsTrue b ↔ FreeWithin f (IsBoundBy (filled v t.columns other)))
+ok_alike f v t row table there (Ok b) known = λ other too. known_alike b f v t.columns row other (fits t row table there) (fits t other table too) known
+ok_alike f v t row table there (Err e) known = tt

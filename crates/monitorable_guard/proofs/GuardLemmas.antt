@@ -37,6 +37,15 @@ module _ (f : Formula) (bound : List VarId) (v scope : Valuation) (part : IsPart
   pub closed : FreeWithin f (Contains bound) → FreeWithin f (IsBoundBy scope)
   closed within x free = (scope_bound x).0 (within x free)
 
+  pub opens_under : (columns : List VarId) → AreOpen f bound columns → AreOpenUnder scope f columns
+  opens_under columns opens = record {
+    rising = opens.rising;
+    exact = λ x. (
+      λ there. let got = (opens.exact x).0 there in (got.0, λ has. got.1 ((scope_bound x).1 has)),
+      λ both. (opens.exact x).1 (both.0, λ is_bound. both.1 ((scope_bound x).0 is_bound)),
+    );
+  }
+
   are_open : (columns : List VarId) → AreOpenUnder scope f columns → AreOpen f bound columns
   are_open columns opens = record {
     rising = opens.rising;

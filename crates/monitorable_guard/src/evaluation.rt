@@ -14,13 +14,13 @@ ghost use Rattle.monitorable_guard.specs.Safety.{FreeWithin};
 
 use crate::atoms::{gather_equal, gather_events, is_at_most, is_equal, is_less};
 use crate::events::StepEvents;
-use crate::operators::{is_closed, open_variables, operators};
+use crate::operators::{is_closed, is_closed_under, open_variables, operators};
 use crate::past::Past;
 use crate::pushing::{push_if, push_rows};
 use enf_formula::Formula;
 use enf_value::memory::NoMemory;
 use enf_value::rows::Row;
-use enf_value::terms::VarId;
+use enf_value::terms::{VarId, Vars};
 use std::alloc::Global;
 use valuations::{Frame, Table};
 
@@ -33,7 +33,7 @@ pub struct Present<'e, 's, 'p, P> {
 
 // The table of the valuations that go on from the scope and under which the formula holds.
 #[cycle(evaluation)]
-pub fn rows<'a, P: Past>(
+fn rows<'a, P: Past>(
     alloc: Global,
     present: &Present<'_, '_, '_, P>,
     formula: &Formula,
@@ -48,14 +48,37 @@ pub fn rows<'a, P: Past>(
         (drop first (P.tables present.now.past.now)) (bound_in scope.now) (tree_of formula.now)) }
 {
     let columns = open_variables(alloc, formula, scope)?;
+    rows_over(alloc, present, formula, first, scope, columns)
+}
+
+// The same where it is known which free variables have no value.
+#[cycle(evaluation)]
+pub fn rows_over<'a, P: Past>(
+    alloc: Global,
+    present: &Present<'_, '_, '_, P>,
+    formula: &Formula,
+    first: usize,
+    scope: &'a Frame<'a>,
+    columns: Vars,
+) -> Result<Table, NoMemory>
+    requires few { length (P.tables present.now.past.now) < 2 ^ 64 }
+    requires ask { CanAsk (bound_in scope.now) (drop first (P.tables present.now.past.now)) (tree_of formula.now) }
+    requires open { AreOpenUnder (bound_in scope.now) (tree_of formula.now) columns }
+    ensures table { IfOk result IsTable }
+    ensures columns { IfOk result (λ t. AreOpenUnder (bound_in scope.now) (tree_of formula.now) t.columns) }
+    ensures rows { IfOk result (HasAnswers present.now.events.now
+        (drop first (P.tables present.now.past.now)) (bound_in scope.now) (tree_of formula.now)) }
+{
     let mut found = Vec::new(alloc);
-    gather(
+    let closed = columns.is_empty();
+    gather_known(
         alloc,
         present,
         formula,
         first,
         scope,
         columns.as_slice(),
+        closed,
         &mut found,
     )?;
     Table::from_rows(columns, found)
@@ -79,7 +102,31 @@ fn gather<'a, P: Past>(
         (IsAnswer present.now.events.now (drop first (P.tables present.now.past.now)) (bound_in scope.now)
         (tree_of formula.now) columns.now)) }
 {
-    if is_closed(alloc, formula, scope)? {
+    let closed = is_closed(alloc, formula, scope)?;
+    gather_known(alloc, present, formula, first, scope, columns, closed, out)
+}
+
+// The same where it is known whether each free variable has a value.
+#[cycle(evaluation)]
+fn gather_known<'a, P: Past>(
+    alloc: Global,
+    present: &Present<'_, '_, '_, P>,
+    formula: &Formula,
+    first: usize,
+    scope: &'a Frame<'a>,
+    columns: &[VarId],
+    closed: bool,
+    out: &mut Vec<Row>,
+) -> Result<(), NoMemory>
+    requires few { length (P.tables present.now.past.now) < 2 ^ 64 }
+    requires ask { CanAsk (bound_in scope.now) (drop first (P.tables present.now.past.now)) (tree_of formula.now) }
+    requires within { AreInScope columns.now (bound_in scope.now) (tree_of formula.now) }
+    requires known { IsTrue closed ↔ FreeWithin (tree_of formula.now) (IsBoundBy (bound_in scope.now)) }
+    ensures { OnOk result (AddsRows columns.now out.old.items out.new.items
+        (IsAnswer present.now.events.now (drop first (P.tables present.now.past.now)) (bound_in scope.now)
+        (tree_of formula.now) columns.now)) }
+{
+    if closed {
         let test = holds(alloc, present, formula, first, scope)?;
         push_if(alloc, test, scope, columns, out)
     } else {
@@ -173,9 +220,10 @@ fn gather_under<'a, P: Past>(
         × IsAnswer present.now.events.now (drop first (P.tables present.now.past.now))
         (filled (bound_in scope.now) table.now.columns row) (tree_of formula.now) columns.now w)) }
 {
+    let closed = is_closed_under(alloc, formula, table, &*scope)?;
     for row in table.rows() {
         let inner = Frame::Row(&*scope, table.columns().as_slice(), row.as_slice());
-        gather(alloc, present, formula, first, &inner, columns, out)?;
+        gather_known(alloc, present, formula, first, &inner, columns, closed, out)?;
     }
     Ok(())
 }

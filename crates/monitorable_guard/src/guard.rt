@@ -10,9 +10,9 @@ ghost use Rattle.monitorable_guard.specs.Present.{HoldsNow};
 ghost use Rattle.monitorable_guard.specs.Refusals.{RefusesGuard};
 
 use crate::conditions::{fits, is_fresh};
-use crate::evaluation::{Present, holds, rows};
+use crate::evaluation::{Present, holds, rows_over};
 use crate::events::StepEvents;
-use crate::operators::are_bound;
+use crate::operators::{are_bound, open_beside};
 use crate::past::{Past, PastTables};
 use crate::safety::is_safe;
 use crate::scopes::{is_free_within, with_free};
@@ -49,11 +49,14 @@ impl From<NoMemory> for GuardRefusal {
 pub struct Guard {
     formula: Formula,
     bound: Vars,
+    // the free variables that are not bound: the columns of each evaluation
+    columns: Vars,
 }
 
 impl Model for Guard {
     ghost use Rattle.std.specs.Prelude.{Contains};
     ghost use Rattle.enf_formula.specs.Formulas.{tree_of};
+    ghost use Rattle.monitorable_guard.specs.Evaluation.{AreOpen};
     ghost use Rattle.monitorable_guard.specs.Guards.{BoundFormula, bound_formula_code};
     ghost use Rattle.monitorable_guard.specs.Safety.{Safe};
 
@@ -63,7 +66,8 @@ impl Model for Guard {
 
     ghost view = { λ g. record { formula = g.formula; bound = g.bound } };
 
-    ghost invariant = { λ g. Safe (tree_of g.formula) (Contains g.bound) };
+    ghost invariant = { λ g. Safe (tree_of g.formula) (Contains g.bound)
+        × AreOpen (tree_of g.formula) g.bound g.columns };
 }
 
 impl Guard {
@@ -74,8 +78,13 @@ impl Guard {
         ensures refused { IfErr result (RefusesGuard (tree_of formula) bound.now) }
     {
         if is_safe(alloc, &formula, bound.as_slice())? {
+            let columns = open_beside(alloc, &formula, bound.as_slice())?;
             let bound = bound.duplicate(alloc)?;
-            Ok(Guard { formula, bound })
+            Ok(Guard {
+                formula,
+                bound,
+                columns,
+            })
         } else {
             Err(GuardRefusal::Unguarded {
                 place: formula.place(),
@@ -97,6 +106,13 @@ impl Guard {
         ensures safe { Safe (tree_of self.now.formula) (Contains self.now.bound) }
     {
         &self.bound
+    }
+
+    /// The free variables that are not bound, in rising variable number: the columns of each evaluation.
+    pub fn columns(&self) -> &Vars
+        ensures { AreOpen (tree_of self.now.formula) self.now.bound result.now }
+    {
+        &self.columns
     }
 
     /// Whether no quantifier of the formula binds a variable that is bound or free in it.
@@ -191,7 +207,8 @@ impl Guard {
         let _tables = past.count();
         let scope = Frame::Part(v, self.bound().as_slice());
         let present = Present { events, past };
-        rows(alloc, &present, self.formula(), 0, &scope)
+        let columns = self.columns().duplicate(alloc)?;
+        rows_over(alloc, &present, self.formula(), 0, &scope, columns)
     }
 
     /// Whether the formula holds at a step, where all its free variables are bound. No table is made of it, and memory

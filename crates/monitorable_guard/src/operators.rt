@@ -1,18 +1,21 @@
 //! The outermost operators on the past, and the variables that are open.
-ghost use Rattle.std.specs.Prelude.{◌≡◌, ◌<◌, ◌^◌, ◌↔◌, IfOk, IsTrue, Contains, filter, is_none, length};
+ghost use Rattle.std.specs.Prelude.{◌≡◌, ◌<◌, ◌^◌, ◌↔◌, IfOk, IsTrue, Contains, filter, is_none, length, List};
 ghost use Rattle.enf_value.specs.Valuations.{value_at};
 ghost use Rattle.enf_formula.specs.Formulas.{tree_of};
 ghost use Rattle.enf_value.specs.declared.terms.VarId.{VarId as Variable};
 ghost use Rattle.monitorable_guard.specs.Answers.{AreOpenUnder, IsBoundBy};
+ghost use Rattle.monitorable_guard.specs.Evaluation.{AreOpen};
 ghost use Rattle.monitorable_guard.specs.Present.{outermost};
 ghost use Rattle.monitorable_guard.specs.Safety.{FreeWithin};
-ghost use Rattle.valuations.specs.Scopes.{bound_in};
+ghost use Rattle.enf_value.specs.declared.values.Value.{Value as AnyValue};
+ghost use Rattle.valuations.specs.Scopes.{bound_in, filled};
+ghost use Rattle.valuations.specs.Tables.{IsTable};
 
 use enf_formula::Formula;
 use enf_value::memory::NoMemory;
 use enf_value::terms::{VarId, Vars};
 use std::alloc::Global;
-use valuations::{Frame, Lookup};
+use valuations::{Frame, Lookup, Table};
 
 // How many outermost operators on the past there are.
 pub fn operators(formula: &Formula) -> usize
@@ -83,4 +86,37 @@ pub fn are_bound<V: Lookup>(variables: &[VarId], v: &V) -> bool
         }
     }
     true
+}
+
+// Whether each free variable has a value under a row of the table: the same under each of its rows.
+pub fn is_closed_under(
+    alloc: Global,
+    formula: &Formula,
+    table: &Table,
+    scope: &Frame<'_>,
+) -> Result<bool, NoMemory>
+    requires { IsTable table.now }
+    ensures { IfOk result (λ closed. (row : List AnyValue) → Contains table.now.rows row → IsTrue closed
+        ↔ FreeWithin (tree_of formula.now)
+        (IsBoundBy (filled (bound_in scope.now) table.now.columns row))) }
+{
+    let Some(first) = table.rows().first() else {
+        return Ok(true);
+    };
+    let inner = Frame::Row(scope, table.columns().as_slice(), first.as_slice());
+    is_closed(alloc, formula, &inner)
+}
+
+// The free variables that are not bound, in rising order.
+pub fn open_beside(alloc: Global, formula: &Formula, bound: &[VarId]) -> Result<Vars, NoMemory>
+    ensures { IfOk result (AreOpen (tree_of formula.now) bound.now) }
+{
+    let free = formula.free_vars(alloc)?;
+    let mut found = Vec::new(alloc);
+    for variable in free.as_slice() {
+        if !bound.contains(variable) {
+            found.push(*variable)?;
+        }
+    }
+    Ok(Vars::from_vec(found))
 }

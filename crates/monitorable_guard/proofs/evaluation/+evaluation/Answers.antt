@@ -12,7 +12,7 @@ use Rattle.monitorable_guard.specs.Safety.{FreeWithin}
 use Rattle.valuations.specs.Columns.{none_in_nil}
 use Rattle.valuations.specs.Scopes.{bound_in, filled}
 use Rattle.monitorable_guard.proofs.AskLemmas.{ask_not, ask_and_left, ask_and_right, ask_or_left, ask_or_right, ask_implies_left, ask_implies_right, ask_exists, ask_none, ask_range, ask_nested, and_anywhere, or_anywhere, binds_itself}
-use Rattle.monitorable_guard.proofs.CycleLemmas.{rising_distinct, open_scope, added_fit, ok_answers, ok_open, some_answer, fit_places, closed_scope, adds_test, one_side, ok_decides, ok_either, ok_forall, ok_nested, ok_each, ok_map, ok_both, ok_second, ok_where, not_decides, none_equal, fits_from, fit_place, fit_first, each_more}
+use Rattle.monitorable_guard.proofs.CycleLemmas.{closed_where_none, none_where_closed, rising_distinct, open_scope, added_fit, ok_answers, ok_open, some_answer, fit_places, closed_scope, adds_test, one_side, ok_decides, ok_either, ok_forall, ok_nested, ok_each, ok_map, ok_both, ok_second, ok_where, not_decides, none_equal, fits_from, fit_place, fit_first, each_more}
 use Rattle.monitorable_guard.proofs.EvaluationLemmas.{atom_to, atom_from, equal_to, equal_from, exists_to, exists_from, exists_decided, none_decided, past_to, past_from}
 use Rattle.monitorable_guard.proofs.KindLemmas.{closed_kind, below_kind}
 use Rattle.monitorable_guard.proofs.PastLemmas.{told_fit, told_holds, given_columns}
@@ -22,19 +22,22 @@ use Rattle.monitorable_guard.proofs.evaluation.+evaluation.Goals as goal
 
 -- ---- gather
 
-pub gather-holds-requires : goal.gather-holds-requires
-gather-holds-requires g t c = λ κs lives. (search rules, (search rules, (c.requires.few, (c.requires.ask, c.in_ok-is_closed.ensures.0 c.if-branch.true))))
+pub gather-gather_known-requires : goal.gather-gather_known-requires
+gather-gather_known-requires g t c = λ κs lives. (search rules, (search rules, (c.requires.few, (c.requires.ask, (c.requires.within, c.in_ok-closed.ensures)))))
 
-pub gather-push_if-requires : goal.gather-push_if-requires
-gather-push_if-requires g t c = closed_scope c.args.present.now.events.now (drop c.args.first (g.P.Past.tables c.args.present.now.past.now)) (bound_in c.args.scope.now) (tree_of c.args.formula.now) c.args.columns.now (c.in_ok-is_closed.ensures.0 c.if-branch.true) c.requires.within
+pub gather_known-holds-requires : goal.gather_known-holds-requires
+gather_known-holds-requires g t c = λ κs lives. (search rules, (search rules, (c.requires.few, (c.requires.ask, c.requires.known.0 c.if-closed.true))))
 
-pub gather-gather_open-requires : goal.gather-gather_open-requires
-gather-gather_open-requires g t c = λ κs lives. (search rules, (search rules, (c.requires.few, (c.requires.ask, (c.requires.within, λ closed. absurd (false≢true (sym c.if-branch.false ∙ c.in_ok-is_closed.ensures.1 closed)))))))
+pub gather_known-push_if-requires : goal.gather_known-push_if-requires
+gather_known-push_if-requires g t c = closed_scope c.args.present.now.events.now (drop c.args.first (g.P.Past.tables c.args.present.now.past.now)) (bound_in c.args.scope.now) (tree_of c.args.formula.now) c.args.columns.now (c.requires.known.0 c.if-closed.true) c.requires.within
 
-pub gather-returns-in_ok-test : goal.gather-returns-in_ok-test
-gather-returns-in_ok-test g t c =
+pub gather_known-gather_open-requires : goal.gather_known-gather_open-requires
+gather_known-gather_open-requires g t c = λ κs lives. (search rules, (search rules, (c.requires.few, (c.requires.ask, (c.requires.within, λ closed. absurd (false≢true (sym c.if-closed.false ∙ c.requires.known.1 closed)))))))
+
+pub gather_known-returns-in_ok-test : goal.gather_known-returns-in_ok-test
+gather_known-returns-in_ok-test g t c =
     on_ok c.push_if.result _ _
-    (adds_test c.args.present.now.events.now (drop c.args.first (g.P.Past.tables c.args.present.now.past.now)) (bound_in c.args.scope.now) (tree_of c.args.formula.now) c.args.columns.now _ _ c.in_ok-test.test c.requires.ask.tabled (c.in_ok-is_closed.ensures.0 c.if-branch.true) c.requires.within c.in_ok-test.ensures)
+    (adds_test c.args.present.now.events.now (drop c.args.first (g.P.Past.tables c.args.present.now.past.now)) (bound_in c.args.scope.now) (tree_of c.args.formula.now) c.args.columns.now _ _ c.in_ok-test.test c.requires.ask.tabled (c.requires.known.0 c.if-closed.true) c.requires.within c.in_ok-test.ensures)
     c.push_if.ensures
 
 -- ---- gather_both
@@ -137,25 +140,25 @@ gather_either-returns g t c =
 
 -- ---- rows
 
-pub rows-gather-requires : goal.rows-gather-requires
-rows-gather-requires g t c =
-    λ κs lives. (search rules, (search rules, (c.requires.few, (c.requires.ask, subst (λ l. AreInScope l (bound_in c.args.scope.now) (tree_of c.args.formula.now)) (sym c.as_slice.ensures) (open_scope c.args.present.now.events.now (drop c.args.first (g.P.Past.tables c.args.present.now.past.now)) (bound_in c.args.scope.now) (tree_of c.args.formula.now) c.in_ok-columns.columns c.in_ok-columns.ensures)))))
+pub rows_over-gather_known-requires : goal.rows_over-gather_known-requires
+rows_over-gather_known-requires g t c =
+    λ κs lives. (search rules, (search rules, (c.requires.few, (c.requires.ask, (subst (λ l. AreInScope l (bound_in c.args.scope.now) (tree_of c.args.formula.now)) (sym c.as_slice.ensures) (open_scope c.args.present.now.events.now (drop c.args.first (g.P.Past.tables c.args.present.now.past.now)) (bound_in c.args.scope.now) (tree_of c.args.formula.now) c.args.columns c.requires.open), (λ t. closed_where_none (bound_in c.args.scope.now) (tree_of c.args.formula.now) c.args.columns c.requires.open (c.is_empty-closed.ensures.0 t), λ within. c.is_empty-closed.ensures.1 (none_where_closed (bound_in c.args.scope.now) (tree_of c.args.formula.now) c.args.columns c.requires.open within)))))))
 
-pub rows-from_rows-requires-clause-distinct : goal.rows-from_rows-requires-clause-distinct
-rows-from_rows-requires-clause-distinct g t c =
-    rising_distinct c.in_ok-columns.columns c.in_ok-columns.ensures.rising
+pub rows_over-from_rows-requires-clause-distinct : goal.rows_over-from_rows-requires-clause-distinct
+rows_over-from_rows-requires-clause-distinct g t c =
+    rising_distinct c.args.columns c.requires.open.rising
 
-pub rows-from_rows-requires-clause-fits : goal.rows-from_rows-requires-clause-fits
-rows-from_rows-requires-clause-fits g t c =
-    added_fit c.args.present.now.events.now (drop c.args.first (g.P.Past.tables c.args.present.now.past.now)) (bound_in c.args.scope.now) (tree_of c.args.formula.now) c.in_ok-columns.columns c.gather.new.out.items (subst (λ before. AddsRows c.in_ok-columns.columns before c.gather.new.out.items (IsAnswer c.args.present.now.events.now (drop c.args.first (g.P.Past.tables c.args.present.now.past.now)) (bound_in c.args.scope.now) (tree_of c.args.formula.now) c.in_ok-columns.columns)) c.new-found.ensures.items (subst (λ l. AddsRows l c.new-found.result.items c.gather.new.out.items (IsAnswer c.args.present.now.events.now (drop c.args.first (g.P.Past.tables c.args.present.now.past.now)) (bound_in c.args.scope.now) (tree_of c.args.formula.now) l)) c.as_slice.ensures c.in_ok-gather.ensures))
+pub rows_over-from_rows-requires-clause-fits : goal.rows_over-from_rows-requires-clause-fits
+rows_over-from_rows-requires-clause-fits g t c =
+    added_fit c.args.present.now.events.now (drop c.args.first (g.P.Past.tables c.args.present.now.past.now)) (bound_in c.args.scope.now) (tree_of c.args.formula.now) c.args.columns c.gather_known.new.out.items (subst (λ before. AddsRows c.args.columns before c.gather_known.new.out.items (IsAnswer c.args.present.now.events.now (drop c.args.first (g.P.Past.tables c.args.present.now.past.now)) (bound_in c.args.scope.now) (tree_of c.args.formula.now) c.args.columns)) c.new-found.ensures.items (subst (λ l. AddsRows l c.new-found.result.items c.gather_known.new.out.items (IsAnswer c.args.present.now.events.now (drop c.args.first (g.P.Past.tables c.args.present.now.past.now)) (bound_in c.args.scope.now) (tree_of c.args.formula.now) l)) c.as_slice.ensures c.in_ok-gather_known.ensures))
 
-pub rows-returns-clause-columns : goal.rows-returns-clause-columns
-rows-returns-clause-columns g t c =
-    ok_open c.args.present.now.events.now (drop c.args.first (g.P.Past.tables c.args.present.now.past.now)) (bound_in c.args.scope.now) (tree_of c.args.formula.now) c.in_ok-columns.columns c.from_rows.result c.in_ok-columns.ensures c.from_rows.ensures.columns
+pub rows_over-returns-clause-columns : goal.rows_over-returns-clause-columns
+rows_over-returns-clause-columns g t c =
+    ok_open c.args.present.now.events.now (drop c.args.first (g.P.Past.tables c.args.present.now.past.now)) (bound_in c.args.scope.now) (tree_of c.args.formula.now) c.args.columns c.from_rows.result c.requires.open c.from_rows.ensures.columns
 
-pub rows-returns-clause-rows : goal.rows-returns-clause-rows
-rows-returns-clause-rows g t c =
-    ok_answers c.args.present.now.events.now (drop c.args.first (g.P.Past.tables c.args.present.now.past.now)) (bound_in c.args.scope.now) (tree_of c.args.formula.now) c.in_ok-columns.columns c.gather.new.out.items (subst (λ before. AddsRows c.in_ok-columns.columns before c.gather.new.out.items (IsAnswer c.args.present.now.events.now (drop c.args.first (g.P.Past.tables c.args.present.now.past.now)) (bound_in c.args.scope.now) (tree_of c.args.formula.now) c.in_ok-columns.columns)) c.new-found.ensures.items (subst (λ l. AddsRows l c.new-found.result.items c.gather.new.out.items (IsAnswer c.args.present.now.events.now (drop c.args.first (g.P.Past.tables c.args.present.now.past.now)) (bound_in c.args.scope.now) (tree_of c.args.formula.now) l)) c.as_slice.ensures c.in_ok-gather.ensures)) c.from_rows.result c.from_rows.ensures.columns c.from_rows.ensures.rows
+pub rows_over-returns-clause-rows : goal.rows_over-returns-clause-rows
+rows_over-returns-clause-rows g t c =
+    ok_answers c.args.present.now.events.now (drop c.args.first (g.P.Past.tables c.args.present.now.past.now)) (bound_in c.args.scope.now) (tree_of c.args.formula.now) c.args.columns c.gather_known.new.out.items (subst (λ before. AddsRows c.args.columns before c.gather_known.new.out.items (IsAnswer c.args.present.now.events.now (drop c.args.first (g.P.Past.tables c.args.present.now.past.now)) (bound_in c.args.scope.now) (tree_of c.args.formula.now) c.args.columns)) c.new-found.ensures.items (subst (λ l. AddsRows l c.new-found.result.items c.gather_known.new.out.items (IsAnswer c.args.present.now.events.now (drop c.args.first (g.P.Past.tables c.args.present.now.past.now)) (bound_in c.args.scope.now) (tree_of c.args.formula.now) l)) c.as_slice.ensures c.in_ok-gather_known.ensures)) c.from_rows.result c.from_rows.ensures.columns c.from_rows.ensures.rows
 
 -- ---- has_answer
 
@@ -479,13 +482,13 @@ holds_for_each-returns g t c =
 
 -- ---- the loops
 
-pub gather_under-gather-requires : goal.gather_under-gather-requires
-gather_under-gather-requires g t c =
+pub gather_under-gather_known-requires : goal.gather_under-gather_known-requires
+gather_under-gather_known-requires g t c =
     let row = c.row-item.result in
     let all : c.rows-row-items.result.now ≡ c.args.table.now.rows = c.rows-row-items.ensures.rows in
     let there : Contains c.args.table.now.rows row = subst (λ l. Contains l row) all (c.loop-row.row-index, c.loop-row-test.true, sym c.row-item.is) in
     let inner : filled (bound_in c.args.scope.now) c.as_slice.result.now c.as_slice-in-loop-row.result.now ≡ filled (bound_in c.args.scope.now) c.args.table.now.columns row = (λ i. filled (bound_in c.args.scope.now) ((c.as_slice.ensures ∙ c.columns.ensures.columns) i) (c.as_slice-in-loop-row.ensures i)) in
-    λ κs lives. (search rules, (search rules, (c.requires.few, (subst (λ v. CanAsk v (drop c.args.first (g.P.Past.tables c.args.present.now.past.now)) (tree_of c.args.formula.now)) (sym inner) (c.requires.ask row there), subst (λ v. AreInScope c.args.columns.now v (tree_of c.args.formula.now)) (sym inner) (c.requires.within row there)))))
+    λ κs lives. (search rules, (search rules, (c.requires.few, (subst (λ v. CanAsk v (drop c.args.first (g.P.Past.tables c.args.present.now.past.now)) (tree_of c.args.formula.now)) (sym inner) (c.requires.ask row there), (subst (λ v. AreInScope c.args.columns.now v (tree_of c.args.formula.now)) (sym inner) (c.requires.within row there), subst (λ v. IsTrue c.in_ok-closed.closed ↔ FreeWithin (tree_of c.args.formula.now) (IsBoundBy v)) (sym inner) (c.in_ok-closed.ensures row there))))))
 
 pub gather_under-loop-row-preserved : goal.gather_under-loop-row-preserved
 gather_under-loop-row-preserved g t c =
@@ -495,8 +498,8 @@ gather_under-loop-row-preserved g t c =
     let inner : filled (bound_in c.args.scope.now) c.as_slice.result.now c.as_slice-in-loop-row.result.now ≡ filled (bound_in c.args.scope.now) c.args.table.now.columns row = (λ i. filled (bound_in c.args.scope.now) ((c.as_slice.ensures ∙ c.columns.ensures.columns) i) (c.as_slice-in-loop-row.ensures i)) in
     let at : row ≡ get_or c.args.table.now.rows c.loop-row.row-index row = subst (λ l. row ≡ get_or l c.loop-row.row-index row) all c.row-item.is in
     adds_more c.args.columns.now c.args.table.now.rows (λ r w. IsAnswer c.args.present.now.events.now (drop c.args.first (g.P.Past.tables c.args.present.now.past.now)) (filled (bound_in c.args.scope.now) c.args.table.now.columns r) (tree_of c.args.formula.now) c.args.columns.now w) c.loop-row.row-index row _ _ _ (subst (λ (l : List (List Value)). c.loop-row.row-index < length l) all c.loop-row-test.true) c.loop-row.invariant
-    (subst (λ (r : List Value). AddsRows c.args.columns.now c.loop-row.out.items c.gather.new.out.items (IsAnswer c.args.present.now.events.now (drop c.args.first (g.P.Past.tables c.args.present.now.past.now)) (filled (bound_in c.args.scope.now) c.args.table.now.columns r) (tree_of c.args.formula.now) c.args.columns.now)) at
-    (subst (λ (v : Valuation). AddsRows c.args.columns.now c.loop-row.out.items c.gather.new.out.items (IsAnswer c.args.present.now.events.now (drop c.args.first (g.P.Past.tables c.args.present.now.past.now)) v (tree_of c.args.formula.now) c.args.columns.now)) inner c.in_ok-gather.ensures))
+    (subst (λ (r : List Value). AddsRows c.args.columns.now c.loop-row.out.items c.gather_known.new.out.items (IsAnswer c.args.present.now.events.now (drop c.args.first (g.P.Past.tables c.args.present.now.past.now)) (filled (bound_in c.args.scope.now) c.args.table.now.columns r) (tree_of c.args.formula.now) c.args.columns.now)) at
+    (subst (λ (v : Valuation). AddsRows c.args.columns.now c.loop-row.out.items c.gather_known.new.out.items (IsAnswer c.args.present.now.events.now (drop c.args.first (g.P.Past.tables c.args.present.now.past.now)) v (tree_of c.args.formula.now) c.args.columns.now)) inner c.in_ok-gather_known.ensures))
 
 pub gather_under-returns : goal.gather_under-returns
 gather_under-returns g t c =

@@ -14,14 +14,20 @@ decreases-holds g l = 8 * size_of (tree_of l.formula.now) + 0
 abbrev pub decreases-gather_open : goal.decreases-gather_open
 decreases-gather_open g l = 8 * size_of (tree_of l.formula.now) + 1
 
+abbrev pub decreases-gather_known : goal.decreases-gather_known
+decreases-gather_known g l = 8 * size_of (tree_of l.formula.now) + 2
+
 abbrev pub decreases-gather : goal.decreases-gather
-decreases-gather g l = 8 * size_of (tree_of l.formula.now) + 2
+decreases-gather g l = 8 * size_of (tree_of l.formula.now) + 3
+
+abbrev pub decreases-rows_over : goal.decreases-rows_over
+decreases-rows_over g l = 8 * size_of (tree_of l.formula.now) + 3
 
 abbrev pub decreases-rows : goal.decreases-rows
-decreases-rows g l = 8 * size_of (tree_of l.formula.now) + 3
+decreases-rows g l = 8 * size_of (tree_of l.formula.now) + 4
 
 abbrev pub decreases-has_answer : goal.decreases-has_answer
-decreases-has_answer g l = 8 * size_of (tree_of l.formula.now) + 3
+decreases-has_answer g l = 8 * size_of (tree_of l.formula.now) + 4
 
 abbrev pub decreases-holds_for_all : goal.decreases-holds_for_all
 decreases-holds_for_all g l = 8 * size_of (tree_of l.body.now) + 6
