@@ -9,7 +9,7 @@ use Rattle.enforcer_core.specs.declared.enforcer.CauseRule.{CauseRule}
 use Rattle.formula_reader.specs.Resolution.{rule_of}
 use Rattle.formula_reader.specs.declared.policies.Rule.{Rule}
 use Rattle.signature.specs.declared.entries.NameEntry.{NameEntry}
-use Rattle.enforce_types.specs.Given.{is_causable}
+use Rattle.enforce_types.specs.Marks.{is_causable}
 use Rattle.enf_cli.specs.Policies.{CanBeBuilt, HasUnbuilt, formulas}
 
 -- one formula more, and the rule that is built from it

@@ -41,8 +41,9 @@ module _ {Gate : Type 0} (call : Call Gate) (x : CalmContents) (files : call.bef
         by (inr b) = none_more call.before.gate.read_faults call.after.gate.read_faults before after b.failed
 
   -- no write fault comes
-  pub no_write_fault : call.before.gate.write_faults ≡ 0 → call.after.gate.write_faults ≡ 0 → Outcome call statuses.WriteFault → ⊥
-  no_write_fault before after o = by o.cut
+  pub no_write_fault : call.before.gate.write_faults ≡ 0 → call.after.gate.write_faults ≡ 0 → call.before.report.write_faults ≡ 0 → call.after.report.write_faults ≡ 0 → Outcome call statuses.WriteFault → ⊥
+  no_write_fault before after said-before said-after (inr o) = none_more call.before.report.write_faults call.after.report.write_faults said-before said-after o.report.writes
+  no_write_fault before after said-before said-after (inl o) = by o.cut
     where
       by : IsCut call cuts.WriteFault → ⊥
       by (inl (inl failed)) = none_more call.before.gate.write_faults call.after.gate.write_faults before after failed.cut.2

@@ -1,5 +1,5 @@
 -- Where each status must come: what holds at the other statuses leaves no room for it.
-use Rattle.std.proofs.Common.{All, ◌≡◌, ℕ, ◌-◌, ◌<◌, ◌≤◌, List, [], ◌∷◌, ◌++◌, Option, Some, None, Result, Err, Ok, length, take, drop, codes, refl, sym, ap, subst, ◌∙◌, inl, inr, arith, length-take}
+use Rattle.std.proofs.Common.{All, ◌≡◌, ◌≢◌, ℕ, ◌-◌, ◌<◌, ◌≤◌, List, [], ◌∷◌, ◌++◌, Option, Some, None, Result, Err, Ok, length, take, drop, codes, refl, sym, ap, subst, ◌∙◌, inl, inr, arith, length-take}
 use Rattle.std.specs.Prelude.{◌⊎◌}
 use Rattle.std.proofs.lemmas.List.{append-nil, take-append-drop}
 use Rattle.enf_io.specs.Contents.{Contents}
@@ -8,7 +8,6 @@ use Rattle.enf_io.specs.FileCalls.{FileView}
 use Rattle.enf_io.specs.Since.{Grew, GrewWhereTold, OfCalls}
 use Rattle.enf_io.specs.SinceLaws.{left-since}
 use Rattle.enf_io.specs.Streams.{Stream}
-use Rattle.enf_formula.specs.Formulas.{Formula}
 use Rattle.enforce_types.specs.Accepted.{AcceptedIsNotRefused, RefusesPolicy}
 use Rattle.enforce_types.specs.declared.refusals.TypeRefusal.{TypeRefusal}
 use Rattle.enforce_types.specs.declared.refusals.TypeRefusal.TheVariants as types
@@ -20,7 +19,6 @@ use Rattle.log_stream.specs.LogLaws.{BeginsWith-append, Refuses-append, Spells-a
 use Rattle.log_stream.specs.Logs.{BeginsWith, HasRecord, IsLog, IsPending, Refuses as RefusesText, Spells, behind_blanks, record_bytes, record_length}
 use Rattle.log_stream.specs.declared.items.LogItem.{LogItem}
 use Rattle.log_stream.specs.declared.items.LogMode.{LogMode}
-use Rattle.log_stream.specs.declared.items.LogMode.TheVariants.{Input}
 use Rattle.log_stream.specs.declared.items.LogRefusal.{LogRefusal}
 use Rattle.log_stream.specs.declared.items.LogRefusal.TheVariants as log
 use Rattle.signature.specs.Laws.{OneAnswer, same_answer}
@@ -35,7 +33,7 @@ use Rattle.enf_cli.specs.Exchanges.{Exchanged, IsExchange}
 use Rattle.enf_cli.specs.Files.{AreHeld, AreUnder, HoldsSignature, IsRefusedPolicy, IsRefusedSignature}
 use Rattle.enf_cli.specs.Limits.{most_log_bytes}
 use Rattle.enf_cli.specs.Logs.{IsFalling, IsRefusedAs, RunsLog}
-use Rattle.enf_cli.specs.Owed.{anew}
+use Rattle.enf_cli.specs.Owed.{Setting, anew}
 use Rattle.enf_cli.specs.Outcomes.{Asks, AsksToEnforce, ChecksPolicy, GeneratesLog, IsDone, IsFinished, Outcome, Refuses, RefusesPolicyFile, RefusesRecord, RefusesSignatureFile, RefusesWords}
 use Rattle.enf_cli.specs.Policies.{CanBeBuilt, HasUnbuilt, ReadsPolicy, SpellsPolicy, SpellsRefused, formulas}
 use Rattle.enf_cli.specs.Signatures.{SpellsSignature}
@@ -224,17 +222,17 @@ module _ (one : OneAnswer) (one_text : OneTextAnswer) (accepted : AcceptedIsNotR
     refused_policy_not_asked t others policy a = policy_not_refused t.entries t.why t.bytes policy (one_policy call t.entries t.asks t.bytes t.told others policy a).1 t.refused
 
     -- nor is one to be enforced that cannot be built
-    unbuilt_not_asked : (t : AsksUnbuilt call) (others : List NameEntry) (policy : List Rule) → AsksToEnforce call others policy → ⊥
-    unbuilt_not_asked t others policy a =
+    unbuilt_not_asked : (t : AsksUnbuilt call) (s : Setting) → AsksToEnforce call s → ⊥
+    unbuilt_not_asked t s a =
         let named = policy_named call t.entries t.policy (inl t.asks) in
-        let other = one_policy call t.entries named.asks named.bytes named.told others policy (asks_named call others policy (inl a.asks)) in
-        let same = same_policy t.entries named.bytes policy t.policy other.1.reads named.is_policy.reads in
-        built_or_not others t.entries policy t.policy (sym other.0) same a.can_be_built t.unbuilt
+        let other = one_policy call t.entries named.asks named.bytes named.told s.entries a.policy (asks_named call s.entries a.policy (inl a.asks)) in
+        let same = same_policy t.entries named.bytes a.policy t.policy other.1.reads named.is_policy.reads in
+        built_or_not s.entries t.entries a.policy t.policy (sym other.0) same a.can_be_built t.unbuilt
 
-    not_asked : AsksRefused call → (entries : List NameEntry) (policy : List Rule) → AsksToEnforce call entries policy → ⊥
-    not_asked (inl t) entries policy a = refused_signature_not_asked t entries policy (asks_named call entries policy (inl a.asks))
-    not_asked (inr (inl t)) entries policy a = refused_policy_not_asked t entries policy (asks_named call entries policy (inl a.asks))
-    not_asked (inr (inr t)) entries policy a = unbuilt_not_asked t entries policy a
+    not_asked : AsksRefused call → (s : Setting) → AsksToEnforce call s → ⊥
+    not_asked (inl t) s a = refused_signature_not_asked t s.entries a.policy (asks_named call s.entries a.policy (inl a.asks))
+    not_asked (inr (inl t)) s a = refused_policy_not_asked t s.entries a.policy (asks_named call s.entries a.policy (inl a.asks))
+    not_asked (inr (inr t)) s a = unbuilt_not_asked t s a
 
     not_checked : AsksRefused call → (entries : List NameEntry) (policy : List Rule) → Asks IsCheck call entries policy → ⊥
     not_checked (inl t) entries policy a = refused_signature_not_asked t entries policy (asks_named call entries policy (inr a))
@@ -271,29 +269,31 @@ module _ (one : OneAnswer) (one_text : OneTextAnswer) (accepted : AcceptedIsNotR
             policy_not_refused entries why t.bytes policy t.is_policy (subst (IsRefusedPolicy entries why) all here)
     no_refusal_of_files entries policy t (inr (inr r)) = r
 
-    enforced_not_refused : (entries : List NameEntry) (policy : List Rule) → AsksTold call entries policy → FilesRefused → ⊥
-    enforced_not_refused entries policy t o =
-        let named = policy_named call entries policy (inl t.asks) in
-        let m = (no_refusal_of_files entries policy named o).meets in
-        let other = one_policy call entries named.asks named.bytes named.told m.entries m.policy (asks_named call m.entries m.policy (inl m.asks)) in
-        let same = same_policy entries named.bytes policy m.policy named.is_policy.reads other.1.reads in
-        built_or_not entries m.entries policy m.policy other.0 same t.can_be_built m.unbuilt
+    enforced_not_refused : (s : Setting) → AsksTold call s → FilesRefused → ⊥
+    enforced_not_refused s t o =
+        let named = policy_named call s.entries t.policy (inl t.asks) in
+        let m = (no_refusal_of_files s.entries t.policy named o).meets in
+        let other = one_policy call s.entries named.asks named.bytes named.told m.entries m.policy (asks_named call m.entries m.policy (inl m.asks)) in
+        let same = same_policy s.entries named.bytes t.policy m.policy named.is_policy.reads other.1.reads in
+        built_or_not s.entries m.entries t.policy m.policy other.0 same t.can_be_built m.unbuilt
 
     checked_not_refused : AsksToCheck call → FilesRefused → ⊥
     checked_not_refused (entries, policy, t) o =
         let m = (no_refusal_of_files entries policy (policy_named call entries policy (inr t)) o).meets in
         enforce_or_check call.words m.asks.signature_file m.asks.policy_file t.asks.signature_file t.asks.policy_file m.asks.form t.asks.form
 
-  module _ {Gate : Type 0} (call : Call Gate) (entries : List NameEntry) (policy : List Rule) (t : AsksTold call entries policy) where
-    -- what is asked for has these entries
-    asked_same : (others : List NameEntry) (policy' : List Rule) → AsksToEnforce call others policy' → entries ≡ others
-    asked_same others policy' a =
-        let named = policy_named call entries policy (inl t.asks) in
-        (one_policy call entries named.asks named.bytes named.told others policy' (asks_named call others policy' (inl a.asks))).0
+  module _ {Gate : Type 0} (call : Call Gate) (s : Setting) (t : AsksTold call s) where
+    -- what is asked for is this setting
+    one_setting : (other : Setting) → AsksToEnforce call other → s ≡ other
+    one_setting other a =
+        let named = policy_named call s.entries t.policy (inl t.asks) in
+        let same = one_policy call s.entries named.asks named.bytes named.told other.entries a.policy (asks_named call other.entries a.policy (inl a.asks)) in
+        let policies = same_policy s.entries named.bytes t.policy a.policy named.is_policy.reads same.1.reads in
+        t.is_setting ∙ (λ i. anew (same.0 i) (formulas (policies i))) ∙ sym a.is_setting
 
-    -- the log is run under the entries that are told
-    ran_told : (others : List NameEntry) (policy' : List Rule) (verdict : Verdict) → AsksToEnforce call others policy' → RunsLog (anew others (formulas policy')) verdict call.before.gate call.after.gate → RunsLog (anew entries (formulas policy')) verdict call.before.gate call.after.gate
-    ran_told others policy' verdict asks ran = subst (λ (es : List NameEntry). RunsLog (anew es (formulas policy')) verdict call.before.gate call.after.gate) (sym (asked_same others policy' asks)) ran
+    -- the log is run in the setting that is told
+    ran_told : (other : Setting) (verdict : Verdict) → AsksToEnforce call other → RunsLog other verdict call.before.gate call.after.gate → RunsLog s verdict call.before.gate call.after.gate
+    ran_told other verdict asks ran = subst (λ (o : Setting). RunsLog o verdict call.before.gate call.after.gate) (sym (one_setting other asks)) ran
 
   -- ---- a log is read in one way
 
@@ -310,92 +310,88 @@ module _ (one : OneAnswer) (one_text : OneTextAnswer) (accepted : AcceptedIsNotR
   ok_not_err x refusal e = cc
 
   module _ (law : OneRecordAnswer) where
-    -- a record at the front is one alone
-    begins_same : (entries : List NameEntry) (bytes : List ℕ) (x y : LogItem) (r s : List ℕ) → BeginsWith entries Input bytes x r → BeginsWith entries Input bytes y s → (x ≡ y) × (r ≡ s)
-    begins_same entries bytes x y r s (n, whole, answer, is) (m, whole', answer', is') =
-        let same : n ≡ m = same_number n m (sym whole ∙ whole') in
-        let other = subst (λ (k : ℕ). IsAnswer entries Input (take k (behind_blanks bytes)) (Ok y)) (sym same) answer' in
-        (same_item x y (law entries Input (take n (behind_blanks bytes)) (Ok x) (Ok y) answer other), is ∙ ap (λ (k : ℕ). drop k (behind_blanks bytes)) same ∙ sym is')
+    module _ (mode : LogMode) where
+      -- a record at the front is one alone
+      begins_same : (entries : List NameEntry) (bytes : List ℕ) (x y : LogItem) (r s : List ℕ) → BeginsWith entries mode bytes x r → BeginsWith entries mode bytes y s → (x ≡ y) × (r ≡ s)
+      begins_same entries bytes x y r s (n, whole, answer, is) (m, whole', answer', is') =
+          let same : n ≡ m = same_number n m (sym whole ∙ whole') in
+          let other = subst (λ (k : ℕ). IsAnswer entries mode (take k (behind_blanks bytes)) (Ok y)) (sym same) answer' in
+          (same_item x y (law entries mode (take n (behind_blanks bytes)) (Ok x) (Ok y) answer other), is ∙ ap (λ (k : ℕ). drop k (behind_blanks bytes)) same ∙ sym is')
 
-    by_answer : (entries : List NameEntry) (bytes : List ℕ) (x : LogItem) (r : List ℕ) (refusal : LogRefusal) → BeginsWith entries Input bytes x r → (n : ℕ) → HasRecord bytes n → IsAnswer entries Input (record_bytes bytes n) (Err refusal) → ⊥
-    by_answer entries bytes x r refusal (m, whole, answer, is) n whole' answer' =
-        let same : m ≡ n = same_number m n (sym whole ∙ whole') in
-        let mine = subst (λ (k : ℕ). IsAnswer entries Input (take k (behind_blanks bytes)) (Ok x)) same answer in
-        ok_not_err x refusal (law entries Input (take n (behind_blanks bytes)) (Ok x) (Err refusal) mine answer')
+      by_answer : (entries : List NameEntry) (bytes : List ℕ) (x : LogItem) (r : List ℕ) (refusal : LogRefusal) → BeginsWith entries mode bytes x r → (n : ℕ) → HasRecord bytes n → IsAnswer entries mode (record_bytes bytes n) (Err refusal) → ⊥
+      by_answer entries bytes x r refusal (m, whole, answer, is) n whole' answer' =
+          let same : m ≡ n = same_number m n (sym whole ∙ whole') in
+          let mine = subst (λ (k : ℕ). IsAnswer entries mode (take k (behind_blanks bytes)) (Ok x)) same answer in
+          ok_not_err x refusal (law entries mode (take n (behind_blanks bytes)) (Ok x) (Err refusal) mine answer')
 
-    -- and it is not refused
-    begins_not_refused : (entries : List NameEntry) (bytes : List ℕ) (x : LogItem) (r : List ℕ) (refusal : LogRefusal) → BeginsWith entries Input bytes x r → RefusesText entries Input bytes refusal → ⊥
-    begins_not_refused entries bytes x r log.TooLong begins refused = none_some begins.0 (sym refused.0 ∙ begins.1)
-    begins_not_refused entries bytes x r log.Truncated begins refused = refused
-    begins_not_refused entries bytes x r log.NoMemory begins refused = refused
-    begins_not_refused entries bytes x r (log.BadRecord place) begins refused = by_answer entries bytes x r (log.BadRecord place) begins refused.0 refused.1 refused.2
-    begins_not_refused entries bytes x r (log.UnknownName place) begins refused = by_answer entries bytes x r (log.UnknownName place) begins refused.0 refused.1 refused.2
-    begins_not_refused entries bytes x r (log.Arity place) begins refused = by_answer entries bytes x r (log.Arity place) begins refused.0 refused.1 refused.2
-    begins_not_refused entries bytes x r (log.SortClash place) begins refused = by_answer entries bytes x r (log.SortClash place) begins refused.0 refused.1 refused.2
-    begins_not_refused entries bytes x r log.TimeTooLarge begins refused = by_answer entries bytes x r log.TimeTooLarge begins refused.0 refused.1 refused.2
+      -- and it is not refused
+      begins_not_refused : (entries : List NameEntry) (bytes : List ℕ) (x : LogItem) (r : List ℕ) (refusal : LogRefusal) → BeginsWith entries mode bytes x r → RefusesText entries mode bytes refusal → ⊥
+      begins_not_refused entries bytes x r log.TooLong begins refused = none_some begins.0 (sym refused.0 ∙ begins.1)
+      begins_not_refused entries bytes x r log.Truncated begins refused = refused
+      begins_not_refused entries bytes x r log.NoMemory begins refused = refused
+      begins_not_refused entries bytes x r (log.BadRecord place) begins refused = by_answer entries bytes x r (log.BadRecord place) begins refused.0 refused.1 refused.2
+      begins_not_refused entries bytes x r (log.UnknownName place) begins refused = by_answer entries bytes x r (log.UnknownName place) begins refused.0 refused.1 refused.2
+      begins_not_refused entries bytes x r (log.Arity place) begins refused = by_answer entries bytes x r (log.Arity place) begins refused.0 refused.1 refused.2
+      begins_not_refused entries bytes x r (log.SortClash place) begins refused = by_answer entries bytes x r (log.SortClash place) begins refused.0 refused.1 refused.2
+      begins_not_refused entries bytes x r log.TimeTooLarge begins refused = by_answer entries bytes x r log.TimeTooLarge begins refused.0 refused.1 refused.2
 
-    -- no record at the front has a time that is not below the clock
-    abbrev Stops : List NameEntry → ℕ → List ℕ → Type 0
-    Stops entries clock rest = (item : LogItem) (more : List ℕ) → BeginsWith entries Input rest item more → time_of (record_of item) < clock
+      -- no record at the front has a time that is not below the clock
+      abbrev Stops : List NameEntry → ℕ → List ℕ → Type 0
+      Stops entries clock rest = (item : LogItem) (more : List ℕ) → BeginsWith entries mode rest item more → time_of (record_of item) < clock
 
-    refused_stops : (entries : List NameEntry) (clock : ℕ) (rest : List ℕ) (refusal : LogRefusal) → RefusesText entries Input rest refusal → Stops entries clock rest
-    refused_stops entries clock rest refusal refused item more begins = absurd (begins_not_refused entries rest item more refusal begins refused)
+      refused_stops : (entries : List NameEntry) (clock : ℕ) (rest : List ℕ) (refusal : LogRefusal) → RefusesText entries mode rest refusal → Stops entries clock rest
+      refused_stops entries clock rest refusal refused item more begins = absurd (begins_not_refused entries rest item more refusal begins refused)
 
-    pending_stops : (entries : List NameEntry) (clock : ℕ) (rest : List ℕ) → IsPending rest → Stops entries clock rest
-    pending_stops entries clock rest pending item more begins = absurd (none_some begins.0 (sym pending.0 ∙ begins.1))
+      pending_stops : (entries : List NameEntry) (clock : ℕ) (rest : List ℕ) → IsPending rest → Stops entries clock rest
+      pending_stops entries clock rest pending item more begins = absurd (none_some begins.0 (sym pending.0 ∙ begins.1))
 
-    blank_stops : (entries : List NameEntry) (clock : ℕ) (rest : List ℕ) → behind_blanks rest ≡ [] → Stops entries clock rest
-    blank_stops entries clock rest blank item more begins = absurd (none_some begins.0 (sym (ap record_length blank) ∙ begins.1))
+      blank_stops : (entries : List NameEntry) (clock : ℕ) (rest : List ℕ) → behind_blanks rest ≡ [] → Stops entries clock rest
+      blank_stops entries clock rest blank item more begins = absurd (none_some begins.0 (sym (ap record_length blank) ∙ begins.1))
 
-    falling_stops : (entries : List NameEntry) (clock : ℕ) (rest : List ℕ) (given : ℕ) → IsFalling entries Input clock rest given → Stops entries clock rest
-    falling_stops entries clock rest given falling item more begins =
-        let same = begins_same entries rest falling.item item falling.more more falling.begins begins in
-        omega (arith, falling.below, ap (λ (x : LogItem). time_of (record_of x)) same.0)
+      falling_stops : (entries : List NameEntry) (clock : ℕ) (rest : List ℕ) (given : ℕ) → IsFalling entries mode clock rest given → Stops entries clock rest
+      falling_stops entries clock rest given falling item more begins =
+          let same = begins_same entries rest falling.item item falling.more more falling.begins begins in
+          omega (arith, falling.below, ap (λ (x : LogItem). time_of (record_of x)) same.0)
 
-    blank_not_refused : (entries : List NameEntry) (rest : List ℕ) (refusal : LogRefusal) → behind_blanks rest ≡ [] → RefusesText entries Input rest refusal → ⊥
-    blank_not_refused entries rest log.TooLong blank h = omega (arith, h.1, ap length blank)
-    blank_not_refused entries rest log.Truncated blank h = h
-    blank_not_refused entries rest log.NoMemory blank h = h
-    blank_not_refused entries rest (log.BadRecord place) blank h = none_some h.0 (sym (ap record_length blank) ∙ h.1)
-    blank_not_refused entries rest (log.UnknownName place) blank h = none_some h.0 (sym (ap record_length blank) ∙ h.1)
-    blank_not_refused entries rest (log.Arity place) blank h = none_some h.0 (sym (ap record_length blank) ∙ h.1)
-    blank_not_refused entries rest (log.SortClash place) blank h = none_some h.0 (sym (ap record_length blank) ∙ h.1)
-    blank_not_refused entries rest log.TimeTooLarge blank h = none_some h.0 (sym (ap record_length blank) ∙ h.1)
+      blank_not_refused : (entries : List NameEntry) (rest : List ℕ) (refusal : LogRefusal) → behind_blanks rest ≡ [] → RefusesText entries mode rest refusal → ⊥
+      blank_not_refused entries rest log.TooLong blank h = omega (arith, h.1, ap length blank)
+      blank_not_refused entries rest log.Truncated blank h = h
+      blank_not_refused entries rest log.NoMemory blank h = h
+      blank_not_refused entries rest (log.BadRecord place) blank h = none_some h.0 (sym (ap record_length blank) ∙ h.1)
+      blank_not_refused entries rest (log.UnknownName place) blank h = none_some h.0 (sym (ap record_length blank) ∙ h.1)
+      blank_not_refused entries rest (log.Arity place) blank h = none_some h.0 (sym (ap record_length blank) ∙ h.1)
+      blank_not_refused entries rest (log.SortClash place) blank h = none_some h.0 (sym (ap record_length blank) ∙ h.1)
+      blank_not_refused entries rest log.TimeTooLarge blank h = none_some h.0 (sym (ap record_length blank) ∙ h.1)
 
-    -- where a record is refused, records stop
-    refusal_stops : (entries : List NameEntry) (clock count : ℕ) (rest : List ℕ) (after : Stream) (why : RecordRefusal) → IsRefusedAs entries Input clock count rest after why → Stops entries clock rest
-    refusal_stops entries clock count rest after (records.Bad place) h = refused_stops entries clock rest (log.BadRecord place) h
-    refusal_stops entries clock count rest after (records.UnknownName place) h = refused_stops entries clock rest (log.UnknownName place) h
-    refusal_stops entries clock count rest after (records.Arity place) h = refused_stops entries clock rest (log.Arity place) h
-    refusal_stops entries clock count rest after (records.Sort place) h = refused_stops entries clock rest (log.SortClash place) h
-    refusal_stops entries clock count rest after records.TooLong h = refused_stops entries clock rest log.TooLong h
-    refusal_stops entries clock count rest after records.TimeTooLarge h = refused_stops entries clock rest log.TimeTooLarge h
-    refusal_stops entries clock count rest after records.Truncated h = pending_stops entries clock rest h.0.0
-    refusal_stops entries clock count rest after (records.Falling given at) h = falling_stops entries clock rest given h.1
-    refusal_stops entries clock count rest after records.InputLimit h = pending_stops entries clock rest h.0
+      -- where a record is refused, records stop
+      refusal_stops : (entries : List NameEntry) (clock count : ℕ) (rest : List ℕ) (after : Stream) (why : RecordRefusal) → IsRefusedAs entries mode clock count rest after why → Stops entries clock rest
+      refusal_stops entries clock count rest after (records.Log why) (inl h) = refused_stops entries clock rest why h
+      refusal_stops entries clock count rest after (records.Log why) (inr (is, truncated, met)) = pending_stops entries clock rest truncated.0
+      refusal_stops entries clock count rest after (records.Falling given at) h = falling_stops entries clock rest given h.1
+      refusal_stops entries clock count rest after records.InputLimit h = pending_stops entries clock rest h.0
 
-    -- blanks in front count for nothing
-    begins_blanks : (entries : List NameEntry) (text other : List ℕ) (item : LogItem) (rest : List ℕ) → behind_blanks text ≡ behind_blanks other → BeginsWith entries Input text item rest → BeginsWith entries Input other item rest
-    begins_blanks entries text other item rest same begins =
-        let P : List ℕ → Type 0 = λ l. (n : ℕ) × (record_length l ≡ Some n) × IsAnswer entries Input (take n l) (Ok item) × (rest ≡ drop n l) in
-        subst P same begins
+      -- blanks in front count for nothing
+      begins_blanks : (entries : List NameEntry) (text other : List ℕ) (item : LogItem) (rest : List ℕ) → behind_blanks text ≡ behind_blanks other → BeginsWith entries mode text item rest → BeginsWith entries mode other item rest
+      begins_blanks entries text other item rest same begins =
+          let P : List ℕ → Type 0 = λ l. (n : ℕ) × (record_length l ≡ Some n) × IsAnswer entries mode (take n l) (Ok item) × (rest ≡ drop n l) in
+          subst P same begins
 
-    -- up to where records stop, those that are accepted are the same
-    read_same : (entries : List NameEntry) (clock : ℕ) (bytes : List ℕ) (xs : List LogItem) (r : List ℕ) (ys : List LogItem) (s : List ℕ) → Stops entries (clock_after clock (records_of xs)) r → Stops entries (clock_after clock (records_of ys)) s
-        → Spells entries Input bytes xs r → NeverFall clock (records_of xs) → Spells entries Input bytes ys s → NeverFall clock (records_of ys) → (xs ≡ ys) × (behind_blanks r ≡ behind_blanks s)
-    read_same entries clock bytes [] r [] s r-stops s-stops p m q n = (refl, p ∙ sym q)
-    read_same entries clock bytes [] r (y ∷ ys) s r-stops s-stops p m q n =
-        let below = r-stops y q.0 (begins_blanks entries bytes r y q.0 (sym p) q.1) in
-        absurd (omega (arith, below, n.0))
-    read_same entries clock bytes (x ∷ xs) r [] s r-stops s-stops p m q n =
-        let below = s-stops x p.0 (begins_blanks entries bytes s x p.0 (sym q) p.1) in
-        absurd (omega (arith, below, m.0))
-    read_same entries clock bytes (x ∷ xs) r (y ∷ ys) s r-stops s-stops p m q n =
-        let same = begins_same entries bytes x y p.0 q.0 p.1 q.1 in
-        let time : time_of (record_of y) ≡ time_of (record_of x) = ap (λ (z : LogItem). time_of (record_of z)) (sym same.0) in
-        let stops = subst (λ (k : ℕ). Stops entries (clock_after k (records_of ys)) s) time s-stops in
-        let others = read_same entries (time_of (record_of x)) p.0 xs r ys s r-stops stops p.2 m.1 (subst (λ (b : List ℕ). Spells entries Input b ys s) (sym same.1) q.2) (subst (λ (k : ℕ). NeverFall k (records_of ys)) time n.1) in
-        (rw (same.0, others.0) refl, others.1)
+      -- up to where records stop, those that are accepted are the same
+      read_same : (entries : List NameEntry) (clock : ℕ) (bytes : List ℕ) (xs : List LogItem) (r : List ℕ) (ys : List LogItem) (s : List ℕ) → Stops entries (clock_after clock (records_of xs)) r → Stops entries (clock_after clock (records_of ys)) s
+          → Spells entries mode bytes xs r → NeverFall clock (records_of xs) → Spells entries mode bytes ys s → NeverFall clock (records_of ys) → (xs ≡ ys) × (behind_blanks r ≡ behind_blanks s)
+      read_same entries clock bytes [] r [] s r-stops s-stops p m q n = (refl, p ∙ sym q)
+      read_same entries clock bytes [] r (y ∷ ys) s r-stops s-stops p m q n =
+          let below = r-stops y q.0 (begins_blanks entries bytes r y q.0 (sym p) q.1) in
+          absurd (omega (arith, below, n.0))
+      read_same entries clock bytes (x ∷ xs) r [] s r-stops s-stops p m q n =
+          let below = s-stops x p.0 (begins_blanks entries bytes s x p.0 (sym q) p.1) in
+          absurd (omega (arith, below, m.0))
+      read_same entries clock bytes (x ∷ xs) r (y ∷ ys) s r-stops s-stops p m q n =
+          let same = begins_same entries bytes x y p.0 q.0 p.1 q.1 in
+          let time : time_of (record_of y) ≡ time_of (record_of x) = ap (λ (z : LogItem). time_of (record_of z)) (sym same.0) in
+          let stops = subst (λ (k : ℕ). Stops entries (clock_after k (records_of ys)) s) time s-stops in
+          let others = read_same entries (time_of (record_of x)) p.0 xs r ys s r-stops stops p.2 m.1 (subst (λ (b : List ℕ). Spells entries mode b ys s) (sym same.1) q.2) (subst (λ (k : ℕ). NeverFall k (records_of ys)) time n.1) in
+          (rw (same.0, others.0) refl, others.1)
 
     -- ---- what was taken
 
@@ -427,87 +423,81 @@ module _ (one : OneAnswer) (one_text : OneTextAnswer) (accepted : AcceptedIsNotR
 
     -- a run that is done meets no refusal
     done_meets_none : {Gate : Type 0} (call : Call Gate) → IsDone call → MeetsRefusal call → ⊥
-    done_meets_none call d m = by m.why m.refused (read_same m.entries 0 bytes m.read m.rest d.ran.answers.read d.ran.rest (refusal_stops m.entries (clock_after 0 (records_of m.read)) (length bytes) m.rest call.after.gate m.why m.refused)
-        (blank_stops m.entries (clock_after 0 (records_of d.ran.answers.read)) d.ran.rest d.ran.ends.0) m.accepts.spelled m.accepts.rising mine d.ran.answers.accepts.rising)
+    done_meets_none call d m = by m.why m.refused (read_same s.mode s.entries s.start.clock bytes m.read m.rest ran.answers.read ran.rest
+        (refusal_stops s.mode s.entries (clock_after s.start.clock (records_of m.read)) (length bytes) m.rest call.after.gate m.why m.refused)
+        (blank_stops s.mode s.entries (clock_after s.start.clock (records_of ran.answers.read)) ran.rest ran.ends.0) m.accepts.spelled m.accepts.rising mine ran.answers.accepts.rising)
       where
+        s : Setting
+        s = m.setting
+
+        ran : RunsLog s verdicts.Accepted call.before.gate call.after.gate
+        ran = ran_told call s m.asks d.setting verdicts.Accepted d.asks d.ran
+
         bytes : List ℕ
         bytes = taken_between m.x m.y
 
-        taken : d.ran.taken ≡ taken_between m.x m.y
-        taken = taken_at (UpToDate (anew d.entries (formulas d.policy))) d.ran.taken d.ran.given call.before.gate.told call.after.gate.told m.x m.y m.told m.told' d.ran.exchanged
+        taken : ran.taken ≡ taken_between m.x m.y
+        taken = taken_at (UpToDate s) ran.taken ran.given call.before.gate.told call.after.gate.told m.x m.y m.told m.told' ran.exchanged
 
-        mine : Spells m.entries Input (taken_between m.x m.y) d.ran.answers.read d.ran.rest
-        mine = subst (λ (b : List ℕ). Spells m.entries Input b d.ran.answers.read d.ran.rest) taken (subst (λ (es : List NameEntry). Spells es Input d.ran.taken d.ran.answers.read d.ran.rest) (sym (asked_same call m.entries m.policy m.asks d.entries d.policy d.asks)) d.ran.answers.accepts.spelled)
+        mine : Spells s.entries s.mode (taken_between m.x m.y) ran.answers.read ran.rest
+        mine = subst (λ (b : List ℕ). Spells s.entries s.mode b ran.answers.read ran.rest) taken ran.answers.accepts.spelled
 
-        blank : (m.read ≡ d.ran.answers.read) × (behind_blanks m.rest ≡ behind_blanks d.ran.rest) → behind_blanks m.rest ≡ []
-        blank same = same.1 ∙ d.ran.ends.0
+        blank : (m.read ≡ ran.answers.read) × (behind_blanks m.rest ≡ behind_blanks ran.rest) → behind_blanks m.rest ≡ []
+        blank same = same.1 ∙ ran.ends.0
 
-        no_record : behind_blanks m.rest ≡ [] → (n : ℕ) → HasRecord m.rest n → ⊥
-        no_record empty n whole = none_some n (sym (ap record_length empty) ∙ whole)
+        by : (why : RecordRefusal) → IsRefusedAs s.entries s.mode (clock_after s.start.clock (records_of m.read)) (length (taken_between m.x m.y)) m.rest call.after.gate why
+            → (m.read ≡ ran.answers.read) × (behind_blanks m.rest ≡ behind_blanks ran.rest) → ⊥
+        by (records.Log why) (inl h) same = blank_not_refused s.mode s.entries m.rest why (blank same) h
+        by (records.Log why) (inr (is, truncated, met)) same = omega (arith, truncated.1, ap length (blank same))
+        by (records.Falling given at) h same = none_some h.1.begins.0 (sym (ap record_length (blank same)) ∙ h.1.begins.1)
+        by records.InputLimit h same = omega (arith, h.1, ran.ends.1.0, ap length taken)
 
-        by : (why : RecordRefusal) → IsRefusedAs m.entries Input (clock_after 0 (records_of m.read)) (length (taken_between m.x m.y)) m.rest call.after.gate why → (m.read ≡ d.ran.answers.read) × (behind_blanks m.rest ≡ behind_blanks d.ran.rest) → ⊥
-        by (records.Bad place) h same = no_record (blank same) h.0 h.1
-        by (records.UnknownName place) h same = no_record (blank same) h.0 h.1
-        by (records.Arity place) h same = no_record (blank same) h.0 h.1
-        by (records.Sort place) h same = no_record (blank same) h.0 h.1
-        by records.TooLong h same = omega (arith, h.1, ap length (blank same))
-        by records.TimeTooLarge h same = no_record (blank same) h.0 h.1
-        by records.Truncated h same = omega (arith, h.0.1, ap length (blank same))
-        by (records.Falling given at) h same = no_record (blank same) h.1.begins.0 h.1.begins.1
-        by records.InputLimit h same = omega (arith, h.1, d.ran.ends.1.0, ap length taken)
-
-    module _ {Gate : Type 0} (call : Call Gate) (entries : List NameEntry) (policy : List Formula) (why : RecordRefusal)
-        (ran : RunsLog (anew entries policy) (verdicts.Refused why) call.before.gate call.after.gate) (x : Exchange) (told : call.before.gate.told ≡ Some x) where
+    module _ {Gate : Type 0} (call : Call Gate) (s : Setting) (why : RecordRefusal) (ran : RunsLog s (verdicts.Refused why) call.before.gate call.after.gate)
+        (x : Exchange) (told : call.before.gate.told ≡ Some x) where
       -- a refusal behind the bytes taken is one behind a whole log, whose records end there
-      module _ (read : List LogItem) (is_log : IsLog entries Input (left x) read None) (rising : NeverFall 0 (records_of read)) (y : Exchange) (told' : call.after.gate.told ≡ Some y) (grew : Grew x y) where
-        more : List ℕ
+      module _ (read : List LogItem) (is_log : IsLog s.entries s.mode (left x) read None) (rising : NeverFall s.start.clock (records_of read)) (y : Exchange) (told' : call.after.gate.told ≡ Some y) (grew : Grew x y) where
+        abbrev more : List ℕ
         more = drop (y.taken - x.taken) (left x)
 
-        whole : ran.taken ++ drop (y.taken - x.taken) (left x) ≡ left x
-        whole =
-            ap (λ (t : List ℕ). t ++ drop (y.taken - x.taken) (left x)) (taken_at (UpToDate (anew entries policy)) ran.taken ran.given call.before.gate.told call.after.gate.told x y told told' ran.exchanged)
-            ∙ take-append-drop (y.taken - x.taken) (left x)
+        abbrev clock : ℕ
+        clock = clock_after s.start.clock (records_of ran.answers.read)
+
+        taken : ran.taken ≡ taken_between x y
+        taken = taken_at (UpToDate s) ran.taken ran.given call.before.gate.told call.after.gate.told x y told told' ran.exchanged
+
+        whole : ran.taken ++ more ≡ left x
+        whole = ap (λ (t : List ℕ). t ++ more) taken ∙ take-append-drop (y.taken - x.taken) (left x)
 
         -- what is left of it is all of it
-        nothing_more : (rest : List ℕ) → Stops entries (clock_after 0 (records_of ran.answers.read)) rest → Spells entries Input (left x) ran.answers.read rest → behind_blanks rest ≡ []
+        nothing_more : (rest : List ℕ) → Stops s.mode s.entries clock rest → Spells s.entries s.mode (left x) ran.answers.read rest → behind_blanks rest ≡ []
         nothing_more rest stops spelled =
-            (read_same entries 0 (left x) ran.answers.read rest read is_log.0 stops (blank_stops entries (clock_after 0 (records_of read)) is_log.0 is_log.2) spelled ran.answers.accepts.rising is_log.1 rising).1 ∙ is_log.2
+            (read_same s.mode s.entries s.start.clock (left x) ran.answers.read rest read is_log.0 stops
+            (blank_stops s.mode s.entries (clock_after s.start.clock (records_of read)) is_log.0 is_log.2) spelled ran.answers.accepts.rising is_log.1 rising).1 ∙ is_log.2
 
-        longer : Spells entries Input (left x) ran.answers.read (ran.rest ++ drop (y.taken - x.taken) (left x))
+        longer : Spells s.entries s.mode (left x) ran.answers.read (ran.rest ++ more)
         longer =
-            subst (λ (b : List ℕ). Spells entries Input b ran.answers.read (ran.rest ++ drop (y.taken - x.taken) (left x))) whole
-            (Spells-append entries Input ran.taken ran.answers.read ran.rest (drop (y.taken - x.taken) (left x)) ran.answers.accepts.spelled)
-
-        not_refused : (refusal : LogRefusal) → RefusesText entries Input ran.rest refusal → ⊥
-        not_refused refusal h =
-            let r = Refuses-append entries Input ran.rest (drop (y.taken - x.taken) (left x)) refusal h in
-            blank_not_refused entries (ran.rest ++ drop (y.taken - x.taken) (left x)) refusal (nothing_more (ran.rest ++ drop (y.taken - x.taken) (left x)) (refused_stops entries (clock_after 0 (records_of ran.answers.read)) (ran.rest ++ drop (y.taken - x.taken) (left x)) refusal r) longer) r
+            subst (λ (b : List ℕ). Spells s.entries s.mode b ran.answers.read (ran.rest ++ more)) whole
+            (Spells-append s.entries s.mode ran.taken ran.answers.read ran.rest more ran.answers.accepts.spelled)
 
         not_acceptable : length (left x) < most_log_bytes → ⊥
         not_acceptable below = by why ran.ends.0
           where
-            by : (why : RecordRefusal) → IsRefusedAs entries Input (clock_after 0 (records_of ran.answers.read)) (length ran.taken) ran.rest call.after.gate why → ⊥
-            by (records.Bad place) h = not_refused (log.BadRecord place) h
-            by (records.UnknownName place) h = not_refused (log.UnknownName place) h
-            by (records.Arity place) h = not_refused (log.Arity place) h
-            by (records.Sort place) h = not_refused (log.SortClash place) h
-            by records.TooLong h = not_refused log.TooLong h
-            by records.TimeTooLarge h = not_refused log.TimeTooLarge h
-            by records.Truncated h =
-                let ended = subst IsAtEnd told' h.1.1 in
-                let all = taken_at (UpToDate (anew entries policy)) ran.taken ran.given call.before.gate.told call.after.gate.told x y told told' ran.exchanged ∙ all_between x y grew ended in
-                let spelled = subst (λ (b : List ℕ). Spells entries Input b ran.answers.read ran.rest) all ran.answers.accepts.spelled in
-                omega (arith, h.0.1, ap length (nothing_more ran.rest (pending_stops entries (clock_after 0 (records_of ran.answers.read)) ran.rest h.0.0) spelled))
+            by : (why : RecordRefusal) → IsRefusedAs s.entries s.mode clock (length ran.taken) ran.rest call.after.gate why → ⊥
+            by (records.Log refusal) (inl h) =
+                let r = Refuses-append s.entries s.mode ran.rest more refusal h in
+                blank_not_refused s.mode s.entries (ran.rest ++ more) refusal (nothing_more (ran.rest ++ more) (refused_stops s.mode s.entries clock (ran.rest ++ more) refusal r) longer) r
+            by (records.Log refusal) (inr (is, truncated, met)) =
+                let all = taken ∙ all_between x y grew (subst IsAtEnd told' met.1) in
+                let spelled = subst (λ (b : List ℕ). Spells s.entries s.mode b ran.answers.read ran.rest) all ran.answers.accepts.spelled in
+                omega (arith, truncated.1, ap length (nothing_more ran.rest (pending_stops s.mode s.entries clock ran.rest truncated.0) spelled))
             by (records.Falling given at) h =
                 let f = h.1 in
-                let begins = BeginsWith-append entries Input ran.rest f.item f.more (drop (y.taken - x.taken) (left x)) f.begins in
-                let still : IsFalling entries Input (clock_after 0 (records_of ran.answers.read)) (ran.rest ++ drop (y.taken - x.taken) (left x)) given =
-                record { item = f.item; more = f.more ++ drop (y.taken - x.taken) (left x); begins = begins; time = f.time; below = f.below } in
-                let blank = nothing_more (ran.rest ++ drop (y.taken - x.taken) (left x)) (falling_stops entries (clock_after 0 (records_of ran.answers.read)) (ran.rest ++ drop (y.taken - x.taken) (left x)) given still) longer in
+                let begins = BeginsWith-append s.entries s.mode ran.rest f.item f.more more f.begins in
+                let still : IsFalling s.entries s.mode clock (ran.rest ++ more) given =
+                record { item = f.item; more = f.more ++ more; begins = begins; time = f.time; below = f.below } in
+                let blank = nothing_more (ran.rest ++ more) (falling_stops s.mode s.entries clock (ran.rest ++ more) given still) longer in
                 none_some begins.0 (sym (ap record_length blank) ∙ begins.1)
-            by records.InputLimit h =
-                let all = taken_at (UpToDate (anew entries policy)) ran.taken ran.given call.before.gate.told call.after.gate.told x y told told' ran.exchanged in
-                omega (arith, h.1, ap length all, between_le x y, below)
+            by records.InputLimit h = omega (arith, h.1, ap length taken, between_le x y, below)
 
     -- ---- where each status must come
 
@@ -517,19 +507,20 @@ module _ (one : OneAnswer) (one_text : OneTextAnswer) (accepted : AcceptedIsNotR
       no_read_fault files gate (inl (name, moved)) = moved (ap (λ (v : FileView). v.read_faults name) files)
       no_read_fault files gate (inr moved) = moved gate
 
-      dues_done : IsDone call → Dues call statuses.Done
-      dues_done o =
+      dues_done : IsDone call → call.after.report.write_faults ≡ call.before.report.write_faults → Dues call statuses.Done
+      dues_done o same =
           record {
             done = λ due. inl refl;
             words = λ due. absurd (due.enforce o.asks.asks.signature_file o.asks.asks.policy_file o.asks.asks.form);
-            files = λ due. absurd (not_asked call due o.entries o.policy o.asks);
+            files = λ due. absurd (not_asked call due o.setting o.asks);
             refused_record = λ due. absurd (done_meets_none call o due);
             read_fault = λ due. absurd (no_read_fault o.files o.ran.ends.2 due);
             write_fault = λ due. absurd (due o.ran.writes);
+            report_fault = λ moved. absurd (moved same);
           }
 
-      dues_generated : GeneratesLog call → Dues call statuses.Done
-      dues_generated o =
+      dues_generated : GeneratesLog call → call.after.report.write_faults ≡ call.before.report.write_faults → Dues call statuses.Done
+      dues_generated o same =
           record {
             done = λ due. inl refl;
             words = λ due. absurd (due.generate o.log.start o.log.steps o.log.form);
@@ -537,10 +528,11 @@ module _ (one : OneAnswer) (one_text : OneTextAnswer) (accepted : AcceptedIsNotR
             refused_record = λ due. absurd (files_or_generate call.words due.asks.asks.asks.signature_file due.asks.asks.asks.policy_file o.log.start o.log.steps (inl due.asks.asks.asks.form) o.log.form);
             read_fault = λ due. absurd (no_read_fault o.log.files o.log.reads due);
             write_fault = λ due. absurd (due o.writes);
+            report_fault = λ moved. absurd (moved same);
           }
 
-      dues_checked : ChecksPolicy call → Dues call statuses.Done
-      dues_checked o =
+      dues_checked : ChecksPolicy call → call.after.report.write_faults ≡ call.before.report.write_faults → Dues call statuses.Done
+      dues_checked o same =
           let a = o.policy.asks in
           record {
             done = λ due. inl refl;
@@ -549,6 +541,7 @@ module _ (one : OneAnswer) (one_text : OneTextAnswer) (accepted : AcceptedIsNotR
             refused_record = λ due. absurd (enforce_or_check call.words due.asks.asks.asks.signature_file due.asks.asks.asks.policy_file a.signature_file a.policy_file due.asks.asks.asks.form a.form);
             read_fault = λ due. absurd (no_read_fault o.policy.files o.policy.reads due);
             write_fault = λ due. absurd (due o.writes);
+            report_fault = λ moved. absurd (moved same);
           }
 
       words_not_done : RefusesWords call → IsAcceptable call ⊎ (AsksToGenerate call ⊎ AsksToCheck call) → ⊥
@@ -565,6 +558,7 @@ module _ (one : OneAnswer) (one_text : OneTextAnswer) (accepted : AcceptedIsNotR
             refused_record = λ due. absurd (o.words.enforce due.asks.asks.asks.signature_file due.asks.asks.asks.policy_file due.asks.asks.asks.form);
             read_fault = λ due. absurd (no_read_fault o.files (ap (λ (s : Stream). s.read_faults) o.gate.1) due);
             write_fault = λ due. absurd (due (ap (λ (s : Stream). s.write_faults) o.gate.1));
+            report_fault = λ moved is. cc;
           }
 
       refused_gate : FilesRefused call → LeavesGate call
@@ -584,7 +578,7 @@ module _ (one : OneAnswer) (one_text : OneTextAnswer) (accepted : AcceptedIsNotR
       refused_named (inr (inr r)) = (r.meets.asks.signature_file, r.meets.asks.policy_file, inl r.meets.asks.form)
 
       refused_not_done : FilesRefused call → IsAcceptable call ⊎ (AsksToGenerate call ⊎ AsksToCheck call) → ⊥
-      refused_not_done o (inl due) = enforced_not_refused call due.entries due.policy due.asks o
+      refused_not_done o (inl due) = enforced_not_refused call due.setting due.asks o
       refused_not_done o (inr (inl due)) = let n = refused_named o in files_or_generate call.words n.0 n.1 due.0 due.1 n.2 due.2
       refused_not_done o (inr (inr due)) = checked_not_refused call due o
 
@@ -594,9 +588,10 @@ module _ (one : OneAnswer) (one_text : OneTextAnswer) (accepted : AcceptedIsNotR
             done = λ due. absurd (refused_not_done o due);
             words = λ due. absurd (let n = refused_named o in some_form call.words n.0 n.1 n.2 due);
             files = λ due. inl refl;
-            refused_record = λ due. absurd (enforced_not_refused call due.entries due.policy due.asks o);
+            refused_record = λ due. absurd (enforced_not_refused call due.setting due.asks o);
             read_fault = λ due. absurd (no_read_fault (refused_files o) (ap (λ (s : Stream). s.read_faults) (refused_gate o).1) due);
             write_fault = λ due. absurd (due (ap (λ (s : Stream). s.write_faults) (refused_gate o).1));
+            report_fault = λ moved is. cc;
           }
 
       module _ (number : ℕ) (why : RecordRefusal) (o : RefusesRecord call number why) where
@@ -604,36 +599,37 @@ module _ (one : OneAnswer) (one_text : OneTextAnswer) (accepted : AcceptedIsNotR
         record_not_done (inr (inl due)) = files_or_generate call.words o.asks.asks.signature_file o.asks.asks.policy_file due.0 due.1 (inl o.asks.asks.form) due.2
         record_not_done (inr (inr due)) = enforce_or_check call.words o.asks.asks.signature_file o.asks.asks.policy_file due.2.asks.signature_file due.2.asks.policy_file o.asks.asks.form due.2.asks.form
         record_not_done (inl due) =
-            let ran = ran_told call due.entries due.policy due.asks o.entries o.policy (verdicts.Refused why) o.asks o.ran in
+            let ran = ran_told call due.setting due.asks o.setting (verdicts.Refused why) o.asks o.ran in
             let y = tells_still call.before.gate.told call.after.gate.told due.gate due.told ran.exchanged.grew in
-            not_acceptable call due.entries (formulas o.policy) why ran due.gate due.told due.read due.log due.rising y.0 y.1 y.2 due.below
+            not_acceptable call due.setting why ran due.gate due.told due.read due.log due.rising y.0 y.1 y.2 due.below
 
         dues_record : Dues call statuses.Record
         dues_record =
             record {
               done = λ due. absurd (record_not_done due);
               words = λ due. absurd (due.enforce o.asks.asks.signature_file o.asks.asks.policy_file o.asks.asks.form);
-              files = λ due. absurd (not_asked call due o.entries o.policy o.asks);
+              files = λ due. absurd (not_asked call due o.setting o.asks);
               refused_record = λ due. inl refl;
               read_fault = λ due. absurd (no_read_fault o.files o.ran.ends.1 due);
               write_fault = λ due. absurd (due o.ran.writes);
+              report_fault = λ moved is. cc;
             }
 
-      dues_broken : (result : Status) → BreaksOff result → Dues call result
-      dues_broken result b =
-          record { done = λ due. inr b; words = λ due. inr b; files = λ due. inr b; refused_record = λ due. inr b; read_fault = λ due. inr b; write_fault = λ due. inr b }
+      dues_broken : (result : Status) → BreaksOff result → result ≢ statuses.Done → Dues call result
+      dues_broken result b undone =
+          record { done = λ due. inr b; words = λ due. inr b; files = λ due. inr b; refused_record = λ due. inr b; read_fault = λ due. inr b; write_fault = λ due. inr b; report_fault = λ moved. undone }
 
       -- what holds at a status leaves no room for another that is due
       pub dues_of : (result : Status) → Outcome call result → Dues call result
       dues_of statuses.Done o = by o.finished
         where
           by : IsFinished call → Dues call statuses.Done
-          by (inl (inl done)) = dues_done done
-          by (inl (inr generated)) = dues_generated generated
-          by (inr checked) = dues_checked checked
+          by (inl (inl done)) = dues_done done o.report.writes
+          by (inl (inr generated)) = dues_generated generated o.report.writes
+          by (inr checked) = dues_checked checked o.report.writes
       dues_of statuses.Words o = dues_words o.meets
       dues_of statuses.Files o = dues_files o
       dues_of statuses.Record o = dues_record o.0 o.1 o.2.meets
-      dues_of statuses.ReadFault o = dues_broken statuses.ReadFault (inl refl)
-      dues_of statuses.WriteFault o = dues_broken statuses.WriteFault (inr (inl refl))
-      dues_of statuses.NoMemory o = dues_broken statuses.NoMemory (inr (inr refl))
+      dues_of statuses.ReadFault o = dues_broken statuses.ReadFault (inl refl) (λ is. cc)
+      dues_of statuses.WriteFault o = dues_broken statuses.WriteFault (inr (inl refl)) (λ is. cc)
+      dues_of statuses.NoMemory o = dues_broken statuses.NoMemory (inr (inr refl)) (λ is. cc)

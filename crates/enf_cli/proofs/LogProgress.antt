@@ -28,7 +28,7 @@ use Rattle.trace_meaning.specs.Laws.{FrontIsGood, SatisfyingIsGood}
 use Rattle.trace_meaning.specs.OutSteps.{OutStep, trace_of}
 use Rattle.trace_meaning.specs.Records.{Record, clock_after}
 use Rattle.enf_cli.specs.Accepted.{Accepts, UpToDate, record_of, records_of}
-use Rattle.enforce_types.specs.Given.{is_causable, is_suppressible}
+use Rattle.enforce_types.specs.Marks.{is_causable, is_suppressible}
 use Rattle.enf_cli.specs.Endings.{GaveLines, write_faults_behind}
 use Rattle.enf_cli.specs.Exchanges.{Exchanged, IsBegun}
 use Rattle.enf_cli.specs.Limits.{most_log_bytes}
@@ -56,13 +56,8 @@ end_gave bytes told told' gave ended = subst IsAtEnd (sym gave) (by told ended)
 -- so the log has ended as it had
 module _ (entries : List NameEntry) (clock count : ℕ) (rest : List ℕ) (before b c : Stream) (bytes : List ℕ) (gave : Gave bytes b.told c.told) (reads : c.read_faults ≡ b.read_faults) where
   refused_gave : (why : RecordRefusal) → IsRefusedAs entries Input clock count rest b why → IsRefusedAs entries Input clock count rest c why
-  refused_gave (records.Bad place) h = h
-  refused_gave (records.UnknownName place) h = h
-  refused_gave (records.Arity place) h = h
-  refused_gave (records.Sort place) h = h
-  refused_gave records.TooLong h = h
-  refused_gave records.TimeTooLarge h = h
-  refused_gave records.Truncated h = (h.0, (h.1.0, end_gave bytes b.told c.told gave h.1.1))
+  refused_gave (records.Log why) (inl h) = inl h
+  refused_gave (records.Log why) (inr (is, truncated, met)) = inr (is, truncated, (met.0, end_gave bytes b.told c.told gave met.1))
   refused_gave (records.Falling given at) h = h
   refused_gave records.InputLimit h = h
 

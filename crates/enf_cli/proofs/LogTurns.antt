@@ -1,5 +1,5 @@
 -- One turn more of the run of a log, and how it ends.
-use Rattle.std.proofs.Common.{◌≡◌, ℕ, ◌+◌, ◌*◌, ◌-◌, ◌<◌, ◌≤◌, List, [], ◌++◌, length, length-append, None, inl, inr, sym, ap, subst, ◌∙◌, Option, Err, IsTrue, arith}
+use Rattle.std.proofs.Common.{◌≡◌, ℕ, ◌+◌, ◌*◌, ◌-◌, ◌<◌, ◌≤◌, List, [], ◌++◌, length, length-append, None, inl, inr, refl, sym, ap, subst, ◌∙◌, Option, Err, IsTrue, arith}
 use Rattle.std.specs.List.{All}
 use Rattle.enf_io.specs.Counts.{one_more}
 use Rattle.enf_io.specs.Exchange.{Exchange}
@@ -11,16 +11,18 @@ use Rattle.enf_value.specs.declared.steps.Step.{Step}
 use Rattle.enf_formula.specs.Formulas.{Formula}
 use Rattle.log_stream.specs.Lines.{text_of}
 use Rattle.log_stream.specs.LogLaws.{end_stays}
-use Rattle.log_stream.specs.Logs.{HasRecord, IsPending, behind_blanks}
+use Rattle.log_stream.specs.Logs.{HasRecord, IsPending, Refuses, behind_blanks}
 use Rattle.log_stream.specs.declared.scanning.Scan.TheVariants.{Outside}
 use Rattle.log_stream.specs.Readers.{Reader}
 use Rattle.log_stream.specs.declared.items.LogMode.TheVariants.{Input}
+use Rattle.log_stream.specs.declared.items.LogRefusal.{LogRefusal}
+use Rattle.log_stream.specs.declared.items.LogRefusal.TheVariants as log
 use Rattle.signature.specs.Grammar.{names as names_of}
 use Rattle.signature.specs.declared.entries.NameEntry.{NameEntry}
-use Rattle.trace_meaning.specs.Records.{clock_after, time_of}
-use Rattle.enf_cli.specs.Accepted.{UpToDate, record_of, records_of}
+use Rattle.trace_meaning.specs.Records.{clock_after}
+use Rattle.enf_cli.specs.Accepted.{UpToDate, records_of}
 use Rattle.enf_cli.specs.Endings.{write_faults_behind}
-use Rattle.enforce_types.specs.Given.{is_causable}
+use Rattle.enforce_types.specs.Marks.{is_causable}
 use Rattle.enf_cli.specs.Exchanges.{Exchanged, IsBegun}
 use Rattle.enf_cli.specs.Limits.{most_log_bytes}
 use Rattle.enf_cli.specs.Logs.{CutsRun, EndsAs, IsRefusedAs, MetEnd}
@@ -44,16 +46,20 @@ record_some rest n whole =
     omega (arith, end.1, end.2, behind_le rest)
 
 -- and where one is refused
+read_some : (entries : List NameEntry) (rest : List ℕ) (why : LogRefusal) → Refuses entries Input rest why → 0 < length rest
+read_some entries rest (log.BadRecord place) r = record_some rest r.0 r.1
+read_some entries rest (log.UnknownName place) r = record_some rest r.0 r.1
+read_some entries rest (log.Arity place) r = record_some rest r.0 r.1
+read_some entries rest (log.SortClash place) r = record_some rest r.0 r.1
+read_some entries rest log.TooLong r = omega (arith, r.1, behind_le rest)
+read_some entries rest log.TimeTooLarge r = record_some rest r.0 r.1
+read_some entries rest log.Truncated r = absurd r
+read_some entries rest log.NoMemory r = absurd r
+
 refused_some : (entries : List NameEntry) (rest : List ℕ) (clock : ℕ) (why : RecordRefusal) → RefusesNext entries rest clock why → 0 < length rest
-refused_some entries rest clock (records.Bad place) r = record_some rest r.0 r.1
-refused_some entries rest clock (records.UnknownName place) r = record_some rest r.0 r.1
-refused_some entries rest clock (records.Arity place) r = record_some rest r.0 r.1
-refused_some entries rest clock (records.Sort place) r = record_some rest r.0 r.1
-refused_some entries rest clock records.TooLong r = omega (arith, r.1, behind_le rest)
-refused_some entries rest clock records.TimeTooLarge r = record_some rest r.0 r.1
-refused_some entries rest clock records.Truncated r = record_some rest r.begins.0 r.begins.1
-refused_some entries rest clock (records.Falling given at) r = record_some rest r.begins.0 r.begins.1
-refused_some entries rest clock records.InputLimit r = record_some rest r.begins.0 r.begins.1
+refused_some entries rest clock (records.Log why) r = read_some entries rest why r
+refused_some entries rest clock (records.Falling given at) r = record_some rest r.1.begins.0 r.1.begins.1
+refused_some entries rest clock records.InputLimit r = absurd r
 
 module _ (entries : List NameEntry) (policy : List Formula) (first : Enforcing) (trace : List Step) (laws : Laws) (may : All (λ rule. IsTrue (is_causable entries rule.cause)) first.rules) (built : AreBuilt policy first.rules) where
   module _ (before : Stream) (old : Enforcement) (taken : List ℕ) (b c : Stream) (h : Progress entries policy first trace before taken old.reader.rest old.accepted old.enforcer b) (count : old.taken ≡ length taken)
@@ -94,27 +100,22 @@ module _ (entries : List NameEntry) (policy : List Formula) (first : Enforcing) 
     some_taken : (why : RecordRefusal) → RefusesNext entries old.reader.rest old.enforcer.clock why → 0 < length taken
     some_taken why r = omega (arith, room, count, refused_some entries old.reader.rest old.enforcer.clock why r)
 
-    ends_refused : (why : RecordRefusal) → EndsByRefusal entries old b c why → EndedSo (verdicts.Refused why)
-    ends_refused (records.Bad place) e = refused (records.Bad place) e.0 e.1 (some_taken (records.Bad place) e.0)
-    ends_refused (records.UnknownName place) e = refused (records.UnknownName place) e.0 e.1 (some_taken (records.UnknownName place) e.0)
-    ends_refused (records.Arity place) e = refused (records.Arity place) e.0 e.1 (some_taken (records.Arity place) e.0)
-    ends_refused (records.Sort place) e = refused (records.Sort place) e.0 e.1 (some_taken (records.Sort place) e.0)
-    ends_refused records.TooLong e = refused records.TooLong e.0 e.1 (some_taken records.TooLong e.0)
-    ends_refused records.TimeTooLarge e = refused records.TimeTooLarge e.0 e.1 (some_taken records.TimeTooLarge e.0)
-    ends_refused records.Truncated e = ended_read (verdicts.Refused records.Truncated) e.1 ((e.0, met_end e.1), e.1.reads ∙ h.reads)
-    ends_refused (records.Falling given' at) e =
-        let f = e.0 in
-        let at_is : at ≡ old.enforcer.clock = clock_is given' at f.is in
-        let given_is : given' ≡ time_of (record_of f.item) = time_is given' at f.is in
+    -- the refusal of the record at the front is that of the rest
+    as_refused : (why : RecordRefusal) → RefusesNext entries old.reader.rest old.enforcer.clock why → IsRefusedAs entries Input (clock_after first.clock (records_of h.so_far.read)) (length taken) old.reader.rest c why
+    as_refused (records.Log why) r = inl r
+    as_refused (records.Falling given' at) r =
+        let f = r.1 in
         let clock = h.so_far.course.clock in
-        refused (records.Falling given' at) (at_is ∙ clock, record { item = f.item; more = f.more; begins = f.begins; time = given_is; below = omega (arith, f.below, clock) }) e.1 (some_taken (records.Falling given' at) f)
-      where
-        clock_is : (x y : ℕ) {t k : ℕ} → ◌≡◌ {A = RecordRefusal} (records.Falling x y) (records.Falling t k) → y ≡ k
-        clock_is x y e = cc
+        (r.0 ∙ clock, record { item = f.item; more = f.more; begins = f.begins; time = f.time; below = omega (arith, f.below, clock) })
+    as_refused records.InputLimit r = absurd r
 
-        time_is : (x y : ℕ) {t k : ℕ} → ◌≡◌ {A = RecordRefusal} (records.Falling x y) (records.Falling t k) → x ≡ t
-        time_is x y e = cc
-    ends_refused records.InputLimit e = refused records.InputLimit (e.0, sym count ∙ e.1) e.2 (omega (arith, count, e.1))
+    ends_refused : (why : RecordRefusal) → EndsByRefusal entries old b c why → EndedSo (verdicts.Refused why)
+    ends_refused why (inl (r, left)) = refused why (as_refused why r) left (some_taken why r)
+    ends_refused why (inr (inl (is, truncated, m))) =
+        subst (λ (w : RecordRefusal). EndedSo (verdicts.Refused w)) (sym is)
+        (ended_read (verdicts.Refused (records.Log log.Truncated)) m (inr (refl, truncated, met_end m), m.reads ∙ h.reads))
+    ends_refused why (inr (inr (is, pending, all, left))) =
+        subst (λ (w : RecordRefusal). EndedSo (verdicts.Refused w)) (sym is) (refused records.InputLimit (pending, sym count ∙ all) left (omega (arith, count, all)))
 
     -- a turn ended the log
     pub ends_log : (verdict : Verdict) → EndsTurn entries old b c verdict → EndedSo verdict

@@ -16,7 +16,7 @@ use Rattle.enf_cli.specs.Policies.{CanBeBuilt, formulas}
 use Rattle.enf_cli.specs.Files.{EndsFile, HoldsPolicy, HoldsRefusedPolicy, HoldsRefusedSignature, HoldsSignature}
 use Rattle.enf_cli.specs.Logs.{CutsRun, RunsLog, conclusion_of}
 use Rattle.enf_cli.specs.Owed.{Setting, anew, setting_of}
-use Rattle.enf_cli.specs.Outcomes.{Asks, AsksToEnforce, ChecksPolicy, IsDone, IsFinished, Meets, Outcome, Performs, Refuses, steps_cut, steps_done, steps_met}
+use Rattle.enf_cli.specs.Outcomes.{Asks, AsksToEnforce, ChecksPolicy, IsDone, IsFinished, Meets, Outcome, Performs, Refuses, steps_done, steps_met, whole_cut}
 use Rattle.enf_cli.specs.Refusals.{status_of}
 use Rattle.enf_cli.specs.Reports.{EndsWith, WritesText}
 use Rattle.enforce_types.specs.Accepted.{IsTyped}
@@ -72,34 +72,39 @@ module _ {Gate : Type 0} (call : Call Gate) (signature_file policy_file : List �
 module _ {Gate : Type 0} (call : Call Gate) (signature_file policy_file : List ℕ) (form : IsEnforce call.words signature_file policy_file) (entries : List NameEntry) (policy : List Rule)
     (holds_signature : HoldsSignature call.before.files.contents signature_file entries) (holds_policy : HoldsPolicy call.before.files.contents policy_file entries policy)
     (can_be_built : All (CanBeBuilt entries) (formulas policy)) (same : LeavesFiles call) where
-  abbrev asks : AsksToEnforce call entries policy
+  abbrev here : Setting
+  here = anew entries (formulas policy)
+
+  abbrev asks : AsksToEnforce call here
   asks =
       record {
+        policy = policy;
         asks = record { signature_file = signature_file; policy_file = policy_file; form = form; holds_signature = holds_signature; holds_policy = holds_policy };
         can_be_built = can_be_built;
+        is_setting = refl;
       }
 
   -- the run of the log was cut
-  pub log_ends : (cut : Cut) → CutsRun (anew entries (formulas policy)) call.before.gate call.after.gate cut → Performs call (Err (endings.Cut cut))
-  log_ends cuts.WriteFault h = inl (inl (record { entries = entries; policy = policy; asks = asks; cut = h; files = same }))
-  log_ends cuts.NoMemory h = inl (inr (record { entries = entries; policy = policy; asks = asks; cut = h; files = same }))
+  pub log_ends : (cut : Cut) → CutsRun here call.before.gate call.after.gate cut → Performs call (Err (endings.Cut cut))
+  log_ends cuts.WriteFault h = inl (inl (record { setting = here; asks = asks; cut = h; files = same }))
+  log_ends cuts.NoMemory h = inl (inr (record { setting = here; asks = asks; cut = h; files = same }))
 
   -- the judgement of the log is a refusal
-  pub log_refused : (accepted : ℕ) (verdict : Verdict) (ran : RunsLog (anew entries (formulas policy)) verdict call.before.gate call.after.gate) (why : Refusal)
+  pub log_refused : (accepted : ℕ) (verdict : Verdict) (ran : RunsLog here verdict call.before.gate call.after.gate) (why : Refusal)
       → accepted ≡ length ran.answers.read → Err why ≡ conclusion_of accepted verdict → Meets call why
   log_refused accepted verdicts.Accepted ran why count h = cc
   log_refused accepted verdicts.Fault ran why count h =
       let is : why ≡ refusals.ReadFault = cc in
-      subst (Meets call) (sym is) (inr (record { entries = entries; policy = policy; asks = asks; ran = ran; failed = ran.ends.1; files = same }))
+      subst (Meets call) (sym is) (inr (record { setting = here; asks = asks; ran = ran; failed = ran.ends.1; files = same }))
   log_refused accepted (verdicts.Refused refusal) ran why count h =
       let is : why ≡ refusals.Record (accepted + 1) refusal = cc in
-      subst (Meets call) (sym is) (record { entries = entries; policy = policy; asks = asks; ran = ran; number_is = ap (λ n. n + 1) count; files = same })
+      subst (Meets call) (sym is) (record { setting = here; asks = asks; ran = ran; number_is = ap (λ n. n + 1) count; files = same })
 
   -- the judgement of the log is that all is accepted
-  pub log_done : (accepted : ℕ) (verdict : Verdict) (ran : RunsLog (anew entries (formulas policy)) verdict call.before.gate call.after.gate) → Ok tt ≡ conclusion_of accepted verdict → IsDone call
+  pub log_done : (accepted : ℕ) (verdict : Verdict) (ran : RunsLog here verdict call.before.gate call.after.gate) → Ok tt ≡ conclusion_of accepted verdict → IsDone call
   log_done accepted verdicts.Fault ran h = cc
   log_done accepted (verdicts.Refused refusal) ran h = cc
-  log_done accepted verdicts.Accepted ran h = record { entries = entries; policy = policy; asks = asks; ran = ran; files = same }
+  log_done accepted verdicts.Accepted ran h = record { setting = here; asks = asks; ran = ran; files = same }
 
 module _ {Gate : Type 0} (call : Call Gate) (signature_file policy_file : List ℕ) (form : IsCheck call.words signature_file policy_file) (entries : List NameEntry) (policy : List Rule)
     (holds_signature : HoldsSignature call.before.files.contents signature_file entries) (holds_policy : HoldsPolicy call.before.files.contents policy_file entries policy)
@@ -143,7 +148,7 @@ no_actions : (steps : List OutStep) (report : Stream) → SaysActions steps repo
 no_actions steps report = record { gave = gave_none report.told; writes = refl; reads = refl }
 
 part_of_none : (steps : List OutStep) (report : Stream) → SaysActionsInPart steps report report
-part_of_none steps report = record { front = []; behind = []; split = refl; gains = no_actions steps report }
+part_of_none steps report = record { front = []; missing = []; is_front = record { split = refl; of_last = []; begins = refl }; gains = no_actions steps report }
 
 -- a run that is done has left the report as it was
 pub done_whole : {Gate : Type 0} (call : Call Gate) → call.after.report ≡ call.before.report → IsFinished call → Outcome call statuses.Done
@@ -157,6 +162,6 @@ outcome_of call (endings.Refused why) status p (inl (is, line)) =
 outcome_of call (endings.Refused why) status p (inr (is, line)) =
     subst (Outcome call) (sym is) (inr (record { why = why; meets = p; report = record { between = call.before.report; first = no_actions (steps_met call why p) call.before.report; last = line } }))
 outcome_of call (endings.Cut cuts.WriteFault) status p (is, same) =
-    subst (Outcome call) (sym is) (record { cut = p; report = subst (SaysActionsInPart (steps_cut call cuts.WriteFault p) call.before.report) (sym same) (part_of_none (steps_cut call cuts.WriteFault p) call.before.report) })
+    subst (Outcome call) (sym is) (inl (record { cut = p; report = subst (SaysActions (whole_cut call cuts.WriteFault p) call.before.report) (sym same) (no_actions (whole_cut call cuts.WriteFault p) call.before.report) }))
 outcome_of call (endings.Cut cuts.NoMemory) status p (is, line) =
-    subst (Outcome call) (sym is) (inl (record { cut = p; report = record { between = call.before.report; first = part_of_none (steps_cut call cuts.NoMemory p) call.before.report; last = line } }))
+    subst (Outcome call) (sym is) (inl (record { cut = p; report = record { between = call.before.report; first = part_of_none (whole_cut call cuts.NoMemory p) call.before.report; last = line } }))

@@ -1,5 +1,5 @@
 -- What one turn of the run of a log does, from what its calls do.
-use Rattle.std.proofs.Common.{◌≡◌, ℕ, ◌+◌, ◌-◌, ◌<◌, List, [], length, refl, sym, ap, subst, ◌∙◌, inl, inr, Option, None, Some, Ok, Err, arith}
+use Rattle.std.proofs.Common.{◌≡◌, ◌≢◌, ℕ, ◌+◌, ◌-◌, ◌<◌, List, [], length, refl, sym, ap, subst, ◌∙◌, inl, inr, Option, None, Some, Ok, Err, arith}
 use Rattle.std.specs.Prelude.{◌⊎◌}
 use Rattle.std.specs.declared.alloc.Global.{Global}
 use Rattle.std.specs.declared.vec.Vec.{Vec}
@@ -18,7 +18,7 @@ use Rattle.log_stream.specs.declared.items.LogRefusal.TheVariants as log
 use Rattle.signature.specs.declared.entries.NameEntry.{NameEntry}
 use Rattle.enf_cli.specs.Accepted.{record_of}
 use Rattle.enf_cli.specs.Limits.{most_log_bytes}
-use Rattle.enf_cli.specs.Progress.{CutsItem, CutsNext, EndsTurn, JudgesEnd, LeavesItem, MeetsEnd, Moment, RefusesNext, TakesBytes, TakesMore, TakesPiece, ReadsPiece, WaitsForMore, front, reads_on, refusal_for}
+use Rattle.enf_cli.specs.Progress.{CutsItem, CutsNext, EndsTurn, JudgesEnd, LeavesItem, MeetsEnd, Moment, RefusesNext, TakesBytes, TakesMore, TakesPiece, ReadsPiece, WaitsForMore, front, reads_on}
 use Rattle.enf_cli.specs.declared.endings.Cut.{Cut}
 use Rattle.enf_cli.specs.declared.endings.Cut.TheVariants as cuts
 use Rattle.enf_cli.specs.declared.log.Enforcement.{Enforcement}
@@ -51,21 +51,21 @@ module _ (entries : List NameEntry) (before after : Reader) (going : before ≡ 
   first_cause refusal (inr first) =
       subst (λ (es : List NameEntry). Refuses es Input before.rest refusal) same_entries (subst (λ (m : LogMode). Refuses before.entries m before.rest refusal) same_mode first.1)
 
-  pub reads_refused : (clock : ℕ) (refusal : LogRefusal) (why : RecordRefusal) → refusal_for refusal ≡ Some why → ReadsNext before (Err refusal) after → RefusesNext entries before.rest clock why
-  reads_refused clock (log.BadRecord place) why is h = let same : why ≡ records.Bad place = cc in subst (RefusesNext entries before.rest clock) (sym same) (first_cause (log.BadRecord place) h)
-  reads_refused clock (log.UnknownName place) why is h = let same : why ≡ records.UnknownName place = cc in subst (RefusesNext entries before.rest clock) (sym same) (first_cause (log.UnknownName place) h)
-  reads_refused clock (log.Arity place) why is h = let same : why ≡ records.Arity place = cc in subst (RefusesNext entries before.rest clock) (sym same) (first_cause (log.Arity place) h)
-  reads_refused clock (log.SortClash place) why is h = let same : why ≡ records.Sort place = cc in subst (RefusesNext entries before.rest clock) (sym same) (first_cause (log.SortClash place) h)
-  reads_refused clock log.TooLong why is h = let same : why ≡ records.TooLong = cc in subst (RefusesNext entries before.rest clock) (sym same) (first_cause log.TooLong h)
-  reads_refused clock log.TimeTooLarge why is h = let same : why ≡ records.TimeTooLarge = cc in subst (RefusesNext entries before.rest clock) (sym same) (first_cause log.TimeTooLarge h)
-  reads_refused clock log.Truncated why is h = absurd (first_cause log.Truncated h)
-  reads_refused clock log.NoMemory why is h = cc
+  pub reads_refused : (refusal : LogRefusal) → refusal ≢ log.NoMemory → ReadsNext before (Err refusal) after → Refuses entries Input before.rest refusal
+  reads_refused (log.BadRecord place) some h = first_cause (log.BadRecord place) h
+  reads_refused (log.UnknownName place) some h = first_cause (log.UnknownName place) h
+  reads_refused (log.Arity place) some h = first_cause (log.Arity place) h
+  reads_refused (log.SortClash place) some h = first_cause (log.SortClash place) h
+  reads_refused log.TooLong some h = first_cause log.TooLong h
+  reads_refused log.TimeTooLarge some h = first_cause log.TimeTooLarge h
+  reads_refused log.Truncated some h = first_cause log.Truncated h
+  reads_refused log.NoMemory some h = absurd (some refl)
 
 -- a record whose time is below the clock is refused
 pub falls : (entries : List NameEntry) (rest more : List ℕ) (item : LogItem) (why : RecordRefusal) (from to : Moment) → BeginsWith entries Input rest item more
     → LeavesItem (record_of item) why from to → RefusesNext entries rest from.enforcer.clock why × (to.enforcer ≡ from.enforcer) × (to.told ≡ from.told)
 falls entries rest more item why from to begins l =
-    (subst (RefusesNext entries rest from.enforcer.clock) (sym l.falls) (record { item = item; more = more; begins = begins; is = refl; below = l.below }), l.enforcer, l.given)
+    (subst (RefusesNext entries rest from.enforcer.clock) (sym l.falls) (refl, record { item = item; more = more; begins = begins; time = refl; below = l.below }), l.enforcer, l.given)
 
 -- what cut the answer of a record cut that of the front
 pub cuts_next : (entries : List NameEntry) (rest more : List ℕ) (item : LogItem) (from : Moment) (told : Option Exchange) (cut : Cut) → BeginsWith entries Input rest item more
@@ -125,6 +125,6 @@ module _ (entries : List NameEntry) (old : Enforcement) (middle reader : Reader)
       again : behind_blanks (behind_blanks old.reader.rest) ≡ behind_blanks old.reader.rest
       again = Spells-blanks entries Input old.reader.rest [] old.reader.rest refl
 
-      by : ((verdict ≡ verdicts.Accepted) × (behind_blanks reader.rest ≡ [])) ⊎ ((verdict ≡ verdicts.Refused records.Truncated) × IsTruncated reader.rest) → EndsTurn entries old a c verdict
+      by : ((verdict ≡ verdicts.Accepted) × (behind_blanks reader.rest ≡ [])) ⊎ ((verdict ≡ verdicts.Refused (records.Log log.Truncated)) × IsTruncated reader.rest) → EndsTurn entries old a c verdict
       by (inl (same, blank)) = subst (EndsTurn entries old a c) (sym same) (sym again ∙ ap behind_blanks (sym rest_is) ∙ blank, meets)
-      by (inr (same, truncated)) = subst (EndsTurn entries old a c) (sym same) ((waits.pending, subst (λ (l : List ℕ). 0 < length l) (ap behind_blanks rest_is ∙ again) truncated.1), meets)
+      by (inr (same, truncated)) = subst (EndsTurn entries old a c) (sym same) (inr (inl (refl, (waits.pending, subst (λ (l : List ℕ). 0 < length l) (ap behind_blanks rest_is ∙ again) truncated.1), meets)))

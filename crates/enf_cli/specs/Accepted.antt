@@ -5,7 +5,6 @@ use Rattle.log_stream.specs.Logs.{IsPending, Spells}
 use Rattle.log_stream.specs.declared.items.LogItem.{LogItem}
 use Rattle.log_stream.specs.declared.items.LogItem.TheVariants as items
 use Rattle.log_stream.specs.declared.items.LogMode.{LogMode}
-use Rattle.log_stream.specs.declared.items.LogMode.TheVariants.{Input}
 use Rattle.signature.specs.Grammar.{names as names_of}
 use Rattle.signature.specs.declared.entries.NameEntry.{NameEntry}
 use Rattle.trace_meaning.specs.OutSteps.{OutStep}
@@ -30,7 +29,7 @@ pub record Accepts (entries : List NameEntry) (mode : LogMode) (clock : ℕ) (by
 pub record Gives (IsOwed : List Record → List OutStep → Type 0) (s : Setting)
     (taken given rest : List ℕ) : Type 0 where
   pub read : List LogItem
-  pub accepts : Accepts s.entries Input s.start.clock taken read rest
+  pub accepts : Accepts s.entries s.mode s.start.clock taken read rest
   pub out : List OutStep
   pub text : given ≡ text_of (names_of s.entries) out
   pub owed : IsOwed (records_of read) out

@@ -6,13 +6,13 @@ use Rattle.formula_reader.specs.Resolution.{Rule}
 use Rattle.signature.specs.declared.entries.NameEntry.{NameEntry}
 use Rattle.log_stream.specs.Logs.{IsLog}
 use Rattle.log_stream.specs.declared.items.LogItem.{LogItem}
-use Rattle.log_stream.specs.declared.items.LogMode.TheVariants.{Input}
 use Rattle.trace_meaning.specs.Records.{NeverFall, clock_after}
 use Rattle.enf_cli.specs.Accepted.{Accepts, records_of}
 use Rattle.enf_cli.specs.Calls.{Call}
 use Rattle.enf_cli.specs.Limits.{most_log_bytes}
 use Rattle.enf_cli.specs.Files.{IsRefusedPolicy, IsRefusedSignature}
 use Rattle.enf_cli.specs.Logs.{IsRefusedAs}
+use Rattle.enf_cli.specs.Owed.{Setting, anew}
 use Rattle.enf_cli.specs.Policies.{CanBeBuilt, HasUnbuilt, SpellsPolicy, formulas}
 use Rattle.enf_cli.specs.Signatures.{SpellsSignature}
 use Rattle.enf_cli.specs.Words.{IsCheck, IsEnforce, IsGenerate, MatchNoForm, NamesFiles}
@@ -45,10 +45,13 @@ pub record AsksPolicy {Gate : Type 0} (IsForm : List (List ℕ) → List ℕ →
   pub told : TellBytes call.before.files.contents asks.policy_file bytes
   pub is_policy : SpellsPolicy entries bytes policy
 
--- the words ask to enforce, under a signature and a policy that files tell, and each rule can be built
-pub record AsksTold {Gate : Type 0} (call : Call Gate) (entries : List NameEntry) (policy : List Rule) : Type 0 where
-  pub asks : AsksPolicy IsEnforce call entries policy
-  pub can_be_built : All (CanBeBuilt entries) (formulas policy)
+-- the words ask to enforce, under a signature and a policy that files tell and of which each rule can be built, so that
+-- the log is enforced in this setting
+pub record AsksTold {Gate : Type 0} (call : Call Gate) (s : Setting) : Type 0 where
+  pub policy : List Rule
+  pub asks : AsksPolicy IsEnforce call s.entries policy
+  pub can_be_built : All (CanBeBuilt s.entries) (formulas policy)
+  pub is_setting : s ≡ anew s.entries (formulas policy)
 
 -- the words name a signature that files tell and that is refused
 pub record AsksRefusedSignature {Gate : Type 0} (call : Call Gate) : Type 0 where
@@ -86,14 +89,13 @@ taken_between x y = take (y.taken - x.taken) (left x)
 
 -- the gate tells, and the words, the files and its whole input are such as can be enforced
 pub record IsAcceptable {Gate : Type 0} (call : Call Gate) : Type 0 where
-  pub entries : List NameEntry
-  pub policy : List Rule
-  pub asks : AsksTold call entries policy
+  pub setting : Setting
+  pub asks : AsksTold call setting
   pub gate : Exchange
   pub told : call.before.gate.told ≡ Some gate
   pub read : List LogItem
-  pub log : IsLog entries Input (left gate) read None
-  pub rising : NeverFall 0 (records_of read)
+  pub log : IsLog setting.entries setting.mode (left gate) read None
+  pub rising : NeverFall setting.start.clock (records_of read)
   pub below : length (left gate) < most_log_bytes
 
 -- the words ask to generate a log
@@ -106,19 +108,18 @@ AsksToCheck call = (entries : List NameEntry) × (policy : List Rule) × AsksPol
 
 -- the accepted records of the bytes taken are followed by a refusal
 pub record MeetsRefusal {Gate : Type 0} (call : Call Gate) : Type 0 where
-  pub entries : List NameEntry
-  pub policy : List Rule
-  pub asks : AsksTold call entries policy
+  pub setting : Setting
+  pub asks : AsksTold call setting
   pub x : Exchange
   pub told : call.before.gate.told ≡ Some x
   pub y : Exchange
   pub told' : call.after.gate.told ≡ Some y
   pub read : List LogItem
   pub rest : List ℕ
-  pub accepts : Accepts entries Input 0 (taken_between x y) read rest
+  pub accepts : Accepts setting.entries setting.mode setting.start.clock (taken_between x y) read rest
   pub why : RecordRefusal
-  pub refused :
-      IsRefusedAs entries Input (clock_after 0 (records_of read)) (length (taken_between x y)) rest call.after.gate why
+  pub refused : IsRefusedAs setting.entries setting.mode (clock_after setting.start.clock (records_of read))
+      (length (taken_between x y)) rest call.after.gate why
 
 -- a read of a file failed, or one of the gate
 abbrev pub MeetsReadFault : {Gate : Type 0} → Call Gate → Type 0
@@ -134,7 +135,7 @@ BreaksOff status = (status ≡ statuses.ReadFault) ⊎ ((status ≡ statuses.Wri
 abbrev pub Comes : Status → Status → Type 0
 Comes status result = (result ≡ status) ⊎ BreaksOff result
 
--- where each status must come; want of memory may come anywhere
+-- where each status must come; want of memory may come anywhere. Where a write to the report fails a run is not done
 pub record Dues {Gate : Type 0} (call : Call Gate) (result : Status) : Type 0 where
   pub done : IsAcceptable call ⊎ (AsksToGenerate call ⊎ AsksToCheck call) → Comes statuses.Done result
   pub words : MatchNoForm call.words → Comes statuses.Words result
@@ -142,3 +143,4 @@ pub record Dues {Gate : Type 0} (call : Call Gate) (result : Status) : Type 0 wh
   pub refused_record : MeetsRefusal call → Comes statuses.Record result
   pub read_fault : MeetsReadFault call → Comes statuses.ReadFault result
   pub write_fault : call.after.gate.write_faults ≢ call.before.gate.write_faults → Comes statuses.WriteFault result
+  pub report_fault : call.after.report.write_faults ≢ call.before.report.write_faults → result ≢ statuses.Done

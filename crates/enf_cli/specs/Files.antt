@@ -1,5 +1,6 @@
 -- The files that the words name: what they hold, what is refused of it, and reads of them that give nothing.
-use Rattle.std.specs.Prelude.{◌≡◌, ℕ, ◌+◌, ◌<◌, ◌≤◌, List, [], length, drop, take_while, Option, None, Some, IfSome, Err}
+use Rattle.std.specs.Prelude.{◌≡◌, ℕ, ◌+◌, ◌<◌, ◌≤◌, List, [], length, drop}
+use Rattle.std.specs.Prelude.{take_while, Option, None, Some, IfSome, Err}
 use Rattle.enf_io.specs.Contents.{Contents, Missing, Holds}
 use Rattle.enf_io.specs.FileCalls.{FileView, ReadsFile}
 use Rattle.enf_io.specs.declared.devices.IoRefusal.{IoRefusal}

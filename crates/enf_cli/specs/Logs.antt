@@ -7,7 +7,6 @@ use Rattle.log_stream.specs.Lines.{line_of, text_of}
 use Rattle.log_stream.specs.Logs.{BeginsWith, IsPending, IsTruncated, Refuses, behind_blanks}
 use Rattle.log_stream.specs.declared.items.LogItem.{LogItem}
 use Rattle.log_stream.specs.declared.items.LogMode.{LogMode}
-use Rattle.log_stream.specs.declared.items.LogMode.TheVariants.{Input}
 use Rattle.log_stream.specs.declared.items.LogRefusal.TheVariants as log
 use Rattle.signature.specs.Grammar.{names as names_of}
 use Rattle.signature.specs.declared.entries.NameEntry.{NameEntry}
@@ -42,18 +41,11 @@ pub record IsFalling (entries : List NameEntry) (mode : LogMode) (clock : ℕ) (
 abbrev pub MetEnd : ℕ → Stream → Type 0
 MetEnd count after = (count < most_log_bytes) × IsAtEnd after.told
 
--- why the rest behind the accepted records is refused, after so many bytes were taken, at this clock
+-- why the rest behind the accepted records is refused, after so many bytes were taken, at this clock: by its reader, or
+-- at the end of the input, or since its time is below the clock, or since no more bytes may be taken
 abbrev pub IsRefusedAs : List NameEntry → LogMode → ℕ → ℕ → List ℕ → Stream → RecordRefusal → Type 0
-IsRefusedAs entries mode clock count rest after (records.Bad place) =
-    Refuses entries mode rest (log.BadRecord place)
-IsRefusedAs entries mode clock count rest after (records.UnknownName place) =
-    Refuses entries mode rest (log.UnknownName place)
-IsRefusedAs entries mode clock count rest after (records.Arity place) = Refuses entries mode rest (log.Arity place)
-IsRefusedAs entries mode clock count rest after (records.Sort place) =
-    Refuses entries mode rest (log.SortClash place)
-IsRefusedAs entries mode clock count rest after records.TooLong = Refuses entries mode rest log.TooLong
-IsRefusedAs entries mode clock count rest after records.TimeTooLarge = Refuses entries mode rest log.TimeTooLarge
-IsRefusedAs entries mode clock count rest after records.Truncated = IsTruncated rest × MetEnd count after
+IsRefusedAs entries mode clock count rest after (records.Log why) =
+    Refuses entries mode rest why ⊎ ((why ≡ log.Truncated) × IsTruncated rest × MetEnd count after)
 IsRefusedAs entries mode clock count rest after (records.Falling given at) =
     (at ≡ clock) × IsFalling entries mode clock rest given
 IsRefusedAs entries mode clock count rest after records.InputLimit = IsPending rest × (count ≡ most_log_bytes)
@@ -74,7 +66,7 @@ pub record RunsLog (s : Setting) (verdict : Verdict) (before after : Stream) : T
   pub exchanged : Exchanged (UpToDate s) taken given before.told after.told
   pub rest : List ℕ
   pub answers : GivesInAll s taken given rest
-  pub ends : EndsAs s.entries Input (clock_after s.start.clock (records_of answers.read)) (length taken) rest
+  pub ends : EndsAs s.entries s.mode (clock_after s.start.clock (records_of answers.read)) (length taken) rest
       before after verdict
   pub writes : after.write_faults ≡ before.write_faults
 
@@ -91,7 +83,7 @@ IsCutLine names (next ∷ behind) front = IsPart front (line_of names next)
 -- the log ended behind these accepted records
 abbrev pub HasEnded : Setting → List LogItem → ℕ → List ℕ → Stream → Stream → Type 0
 HasEnded s read count rest before after = (verdict : Verdict)
-    × EndsAs s.entries Input (clock_after s.start.clock (records_of read)) count rest before after verdict
+    × EndsAs s.entries s.mode (clock_after s.start.clock (records_of read)) count rest before after verdict
 
 -- within the log no read failed, and the steps are owed so far; behind its end they may be owed in all
 abbrev pub IsOwedWhere : Setting → List LogItem → ℕ → List ℕ → Stream → Stream → List OutStep → Type 0
@@ -108,7 +100,7 @@ pub record RunsShort (s : Setting) (before after : Stream) : Type 0 where
   pub exchanged : Exchanged (UpToDate s) taken given before.told after.told
   pub read : List LogItem
   pub rest : List ℕ
-  pub accepts : Accepts s.entries Input s.start.clock taken read rest
+  pub accepts : Accepts s.entries s.mode s.start.clock taken read rest
   pub out : List OutStep
   pub owed : IsOwedWhere s read (length taken) rest before after out
   pub whole : List OutStep

@@ -9,14 +9,15 @@ use Rattle.formula_reader.specs.Resolution.{Rule}
 use Rattle.signature.specs.declared.entries.NameEntry.{NameEntry}
 use Rattle.trace_meaning.specs.OutSteps.{OutStep}
 use Rattle.log_gen.specs.Generated.{generated_text}
-use Rattle.enf_cli.specs.Actions.{SaysActions, SaysActionsInPart, SaysThen}
+use Rattle.enf_cli.specs.Actions.{FailsWithinActions, SaysActions, SaysActionsInPart, SaysThen}
 use Rattle.enf_cli.specs.Calls.{Call, LeavesFiles, LeavesGate}
 use Rattle.enf_cli.specs.Checking.{check_text}
+use Rattle.enf_cli.specs.Exchanges.{IsBegun}
 use Rattle.enf_cli.specs.Files.{FailsToRead, HoldsPolicy, HoldsRefusedPolicy, HoldsRefusedSignature, HoldsSignature}
 use Rattle.enf_cli.specs.Generating.{AddsPartOrNothing}
 use Rattle.enf_cli.specs.Policies.{CanBeBuilt, HasUnbuilt, formulas}
-use Rattle.enf_cli.specs.Logs.{CutsRun, RunsLog}
-use Rattle.enf_cli.specs.Owed.{anew}
+use Rattle.enf_cli.specs.Logs.{CutsRun, RunsLog, RunsShort}
+use Rattle.enf_cli.specs.Owed.{Setting, anew}
 use Rattle.enf_cli.specs.Refusals.{text_of_refusal}
 use Rattle.enf_cli.specs.Reports.{AddsPart, IsReported, IsReportedInPart, SaysNoMemory}
 use Rattle.enf_cli.specs.Words.{IsCheck, IsEnforce, IsGenerate, MatchNoForm, NamesFiles}
@@ -42,11 +43,12 @@ pub record Asks {Gate : Type 0} (IsForm : List (List ℕ) → List ℕ → List 
   pub holds_signature : HoldsSignature call.before.files.contents signature_file entries
   pub holds_policy : HoldsPolicy call.before.files.contents policy_file entries policy
 
--- the words ask to enforce this policy, and each of its rules can be built
-pub record AsksToEnforce {Gate : Type 0} (call : Call Gate) (entries : List NameEntry) (policy : List Rule) : Type 0
-  where
-    pub asks : Asks IsEnforce call entries policy
-    pub can_be_built : All (CanBeBuilt entries) (formulas policy)
+-- the words ask to enforce a policy of which each rule can be built, so that the log is enforced in this setting
+pub record AsksToEnforce {Gate : Type 0} (call : Call Gate) (s : Setting) : Type 0 where
+  pub policy : List Rule
+  pub asks : Asks IsEnforce call s.entries policy
+  pub can_be_built : All (CanBeBuilt s.entries) (formulas policy)
+  pub is_setting : s ≡ anew s.entries (formulas policy)
 
 -- the words match no form, and nothing was touched
 pub record RefusesWords {Gate : Type 0} (call : Call Gate) : Type 0 where
@@ -85,10 +87,9 @@ pub record RefusesUnbuilt {Gate : Type 0} (call : Call Gate) : Type 0 where
 
 -- the record of this number is refused, behind those that were enforced
 pub record RefusesRecord {Gate : Type 0} (call : Call Gate) (number : ℕ) (why : RecordRefusal) : Type 0 where
-  pub entries : List NameEntry
-  pub policy : List Rule
-  pub asks : AsksToEnforce call entries policy
-  pub ran : RunsLog (anew entries (formulas policy)) (verdicts.Refused why) call.before.gate call.after.gate
+  pub setting : Setting
+  pub asks : AsksToEnforce call setting
+  pub ran : RunsLog setting (verdicts.Refused why) call.before.gate call.after.gate
   pub number_is : number ≡ length ran.answers.read + 1
   pub files : LeavesFiles call
 
@@ -104,10 +105,9 @@ pub record MissesFile {Gate : Type 0} (call : Call Gate) : Type 0 where
 
 -- a read of the log failed, behind the records that were enforced
 pub record BreaksOffLog {Gate : Type 0} (call : Call Gate) : Type 0 where
-  pub entries : List NameEntry
-  pub policy : List Rule
-  pub asks : AsksToEnforce call entries policy
-  pub ran : RunsLog (anew entries (formulas policy)) verdicts.Fault call.before.gate call.after.gate
+  pub setting : Setting
+  pub asks : AsksToEnforce call setting
+  pub ran : RunsLog setting verdicts.Fault call.before.gate call.after.gate
   pub failed : call.after.gate.read_faults ≡ one_more call.before.gate.read_faults
   pub files : LeavesFiles call
 
@@ -123,18 +123,16 @@ Meets call refusals.ReadFault = MissesFile call ⊎ BreaksOffLog call
 -- the run is done: the whole log was taken, nothing is left behind its accepted records, and what was given is what is
 -- owed to them in all
 pub record IsDone {Gate : Type 0} (call : Call Gate) : Type 0 where
-  pub entries : List NameEntry
-  pub policy : List Rule
-  pub asks : AsksToEnforce call entries policy
-  pub ran : RunsLog (anew entries (formulas policy)) verdicts.Accepted call.before.gate call.after.gate
+  pub setting : Setting
+  pub asks : AsksToEnforce call setting
+  pub ran : RunsLog setting verdicts.Accepted call.before.gate call.after.gate
   pub files : LeavesFiles call
 
 -- a write to the gate failed, behind a front of what the log lets out
 pub record FailsToWrite {Gate : Type 0} (call : Call Gate) : Type 0 where
-  pub entries : List NameEntry
-  pub policy : List Rule
-  pub asks : AsksToEnforce call entries policy
-  pub cut : CutsRun (anew entries (formulas policy)) call.before.gate call.after.gate cuts.WriteFault
+  pub setting : Setting
+  pub asks : AsksToEnforce call setting
+  pub cut : CutsRun setting call.before.gate call.after.gate cuts.WriteFault
   pub files : LeavesFiles call
 
 -- memory ran out before the log was begun, or before anything was said of a policy
@@ -147,10 +145,9 @@ pub record RunsOutBefore {Gate : Type 0} (call : Call Gate) : Type 0 where
 
 -- memory ran out within the log, behind a front of what it lets out
 pub record RunsOutWithin {Gate : Type 0} (call : Call Gate) : Type 0 where
-  pub entries : List NameEntry
-  pub policy : List Rule
-  pub asks : AsksToEnforce call entries policy
-  pub cut : CutsRun (anew entries (formulas policy)) call.before.gate call.after.gate cuts.NoMemory
+  pub setting : Setting
+  pub asks : AsksToEnforce call setting
+  pub cut : CutsRun setting call.before.gate call.after.gate cuts.NoMemory
   pub files : LeavesFiles call
 
 -- the words ask to generate a log, and what was given to the gate is so of its text; nothing was taken from the gate,
@@ -223,7 +220,7 @@ Performs call (Ok done) = IsFinished call
 Performs call (Err (endings.Refused why)) = Meets call why
 Performs call (Err (endings.Cut cut)) = IsCut call cut
 
--- the steps that went out where a run is done, where it is refused, and where it is cut
+-- the steps that went out where a run is done, and where it is refused
 abbrev pub steps_done : {Gate : Type 0} (call : Call Gate) → IsFinished call → List OutStep
 steps_done call (inl (inl done)) = done.ran.answers.out
 steps_done call (inl (inr generated)) = []
@@ -238,13 +235,14 @@ steps_met call (refusals.Signature why) met = []
 steps_met call (refusals.Policy why) met = []
 steps_met call refusals.NotBuilt met = []
 
-abbrev pub steps_cut : {Gate : Type 0} (call : Call Gate) (cut : Cut) → IsCut call cut → List OutStep
-steps_cut call cuts.WriteFault (inl (inl failed)) = failed.cut.0.0.out
-steps_cut call cuts.WriteFault (inl (inr generated)) = []
-steps_cut call cuts.WriteFault (inr checked) = []
-steps_cut call cuts.NoMemory (inl (inl before)) = []
-steps_cut call cuts.NoMemory (inl (inr within)) = within.cut.0.out
-steps_cut call cuts.NoMemory (inr other) = []
+-- and those whose lines are whole on the gate where it is cut
+abbrev pub whole_cut : {Gate : Type 0} (call : Call Gate) (cut : Cut) → IsCut call cut → List OutStep
+whole_cut call cuts.WriteFault (inl (inl failed)) = failed.cut.0.0.whole
+whole_cut call cuts.WriteFault (inl (inr generated)) = []
+whole_cut call cuts.WriteFault (inr checked) = []
+whole_cut call cuts.NoMemory (inl (inl before)) = []
+whole_cut call cuts.NoMemory (inl (inr within)) = within.cut.0.whole
+whole_cut call cuts.NoMemory (inr other) = []
 
 -- a run ends with a refusal: the report gained the lines of the actions, and the line that says the refusal
 pub record Refuses {Gate : Type 0} (call : Call Gate) (why : Refusal) : Type 0 where
@@ -259,11 +257,11 @@ pub record RunsOutInLine {Gate : Type 0} (call : Call Gate) : Type 0 where
   pub report : SaysThen (SaysActions (steps_met call why meets)) (IsReportedInPart (text_of_refusal why))
       call.before.report call.after.report
 
--- a run ends for want of memory: the report gained a front of the lines of the actions, and as much of the line that
--- says the want as it took
+-- a run ends for want of memory: of the actions of the last step whose line is whole on the gate, lines may be missing
+-- on the report, or one may be cut; then comes as much of the line that says the want as it took
 pub record RunsOut {Gate : Type 0} (call : Call Gate) : Type 0 where
   pub cut : IsCut call cuts.NoMemory
-  pub report : SaysThen (SaysActionsInPart (steps_cut call cuts.NoMemory cut)) SaysNoMemory
+  pub report : SaysThen (SaysActionsInPart (whole_cut call cuts.NoMemory cut)) SaysNoMemory
       call.before.report call.after.report
 
 -- a run is done: the report gained the lines of the actions
@@ -271,10 +269,26 @@ pub record IsDoneWhole {Gate : Type 0} (call : Call Gate) : Type 0 where
   pub finished : IsFinished call
   pub report : SaysActions (steps_done call finished) call.before.report call.after.report
 
--- a run ends with a write that failed: the report gained a front of the lines of the actions
-pub record FailsInWriting {Gate : Type 0} (call : Call Gate) : Type 0 where
+-- a write to the gate failed: the report gained the lines of the actions of all steps whose lines are whole there
+pub record FailsAtGate {Gate : Type 0} (call : Call Gate) : Type 0 where
   pub cut : IsCut call cuts.WriteFault
-  pub report : SaysActionsInPart (steps_cut call cuts.WriteFault cut) call.before.report call.after.report
+  pub report : SaysActions (whole_cut call cuts.WriteFault cut) call.before.report call.after.report
+
+-- a write to the report failed: within the lines of the actions of the last step whose line is whole on the gate,
+-- behind which nothing was given
+pub record FailsAtReport {Gate : Type 0} (call : Call Gate) : Type 0 where
+  pub setting : Setting
+  pub asks : AsksToEnforce call setting
+  pub short : RunsShort setting call.before.gate call.after.gate
+  pub whole : short.cut ≡ []
+  pub begun : IsBegun call.before.gate.told call.after.gate.told
+  pub writes : call.after.gate.write_faults ≡ call.before.gate.write_faults
+  pub report : FailsWithinActions short.whole call.before.report call.after.report
+  pub files : LeavesFiles call
+
+-- a run ends with a write that failed
+abbrev pub FailsInWriting : {Gate : Type 0} → Call Gate → Type 0
+FailsInWriting call = FailsAtGate call ⊎ FailsAtReport call
 
 -- what holds at each status
 abbrev pub Outcome : {Gate : Type 0} → Call Gate → Status → Type 0

@@ -2,29 +2,32 @@
 use Rattle.std.specs.Prelude.{List}
 use Rattle.enf_formula.specs.Formulas.{Formula}
 use Rattle.enf_value.specs.declared.steps.Step.{Step}
-use Rattle.enforce_types.specs.Given.{is_causable, is_suppressible}
+use Rattle.enforce_types.specs.Marks.{is_causable, is_suppressible}
 use Rattle.enforcer_core.specs.Enforcers.{Enforcing, start_of}
 use Rattle.enforcer_core.specs.Follows.{FollowsPolicy, FollowsToEnd}
+use Rattle.log_stream.specs.declared.items.LogMode.{LogMode}
+use Rattle.log_stream.specs.declared.items.LogMode.TheVariants.{Input}
 use Rattle.signature.specs.declared.entries.NameEntry.{NameEntry}
 use Rattle.trace_meaning.specs.Enforced.{Enforced, KeepsUp}
 use Rattle.trace_meaning.specs.OutSteps.{OutStep}
 use Rattle.trace_meaning.specs.Records.{Record}
 use Rattle.trace_meaning.specs.Start.{Start, from_nothing}
 
--- under which names and which policy a log is enforced, and from where
+-- under which names and which policy a log is enforced, as what it is read, and from where
 pub record Setting : Type 0 where
   pub entries : List NameEntry
   pub policy : List Formula
+  pub mode : LogMode
   pub start : Start
 
 -- from where nothing had gone out
 abbrev pub anew : List NameEntry → List Formula → Setting
-anew entries policy = record { entries = entries; policy = policy; start = from_nothing }
+anew entries policy = record { entries = entries; policy = policy; mode = Input; start = from_nothing }
 
 -- from where an enforcer stands for a trace
 abbrev pub setting_of : List NameEntry → List Formula → Enforcing → List Step → Setting
 setting_of entries policy enforcer trace =
-    record { entries = entries; policy = policy; start = start_of enforcer trace }
+    record { entries = entries; policy = policy; mode = Input; start = start_of enforcer trace }
 
 -- these steps are owed to the records so far: they keep up with them, and the policy decides just these
 pub record IsOwedSoFar (s : Setting) (records : List Record) (out : List OutStep) : Type 0 where

@@ -3,7 +3,7 @@ use Rattle.std.specs.Prelude.{ℕ, ◌≤◌, IsTrue, List, length, map, Contain
 use Rattle.enf_formula.specs.Formulas.{Formula}
 use Rattle.enf_value.specs.declared.limits.TheConstants.{MOST_FILE_BYTES}
 use Rattle.enforce_types.specs.Accepted.{IsAccepted, RefusesPolicy}
-use Rattle.enforce_types.specs.Given.{is_causable}
+use Rattle.enforce_types.specs.Marks.{is_causable}
 use Rattle.enforce_types.specs.declared.refusals.TypeRefusal.{TypeRefusal}
 use Rattle.enforcer_core.specs.Rules.{IsBuilt}
 use Rattle.enforcer_core.specs.declared.enforcer.CauseRule.{CauseRule}

@@ -14,14 +14,14 @@ use Rattle.log_stream.specs.Logs.{BeginsWith, IsPending, IsTruncated, Refuses, b
 use Rattle.log_stream.specs.Readers.{Reader, fed}
 use Rattle.log_stream.specs.declared.items.LogItem.{LogItem}
 use Rattle.log_stream.specs.declared.items.LogMode.TheVariants.{Input}
-use Rattle.log_stream.specs.declared.items.LogRefusal.{LogRefusal}
-use Rattle.log_stream.specs.declared.items.LogRefusal.TheVariants as log
+use Rattle.log_stream.specs.declared.items.LogRefusal.TheVariants as refusals
 use Rattle.signature.specs.Grammar.{names as names_of}
 use Rattle.signature.specs.declared.entries.NameEntry.{NameEntry}
 use Rattle.trace_meaning.specs.Records.{Record, time_of}
 use Rattle.enf_cli.specs.Accepted.{record_of}
 use Rattle.enf_cli.specs.Limits.{most_log_bytes, most_read_bytes}
 use Rattle.enf_cli.specs.Endings.{GaveLines}
+use Rattle.enf_cli.specs.Logs.{IsFalling}
 use Rattle.enf_cli.specs.declared.endings.Cut.{Cut}
 use Rattle.enf_cli.specs.declared.endings.Cut.TheVariants as cuts
 use Rattle.enf_cli.specs.declared.log.Enforcement.{Enforcement}
@@ -121,22 +121,11 @@ pub record WaitsForMore (entries : List NameEntry) (from to : Front) : Type 0 wh
   pub enforcer : to.now.enforcer ≡ from.now.enforcer
   pub given : to.now.told ≡ from.now.told
 
--- why the record at the front is refused: by the grammar, or since its time is below the clock
-pub record Falls (entries : List NameEntry) (rest : List ℕ) (clock : ℕ) (why : RecordRefusal) : Type 0 where
-  pub item : LogItem
-  pub more : List ℕ
-  pub begins : BeginsWith entries Input rest item more
-  pub is : why ≡ records.Falling (time_of (record_of item)) clock
-  pub below : time_of (record_of item) < clock
-
+-- why the record at the front is refused: by its reader, or since its time is below the clock
 abbrev pub RefusesNext : List NameEntry → List ℕ → ℕ → RecordRefusal → Type 0
-RefusesNext entries rest clock (records.Bad place) = Refuses entries Input rest (log.BadRecord place)
-RefusesNext entries rest clock (records.UnknownName place) = Refuses entries Input rest (log.UnknownName place)
-RefusesNext entries rest clock (records.Arity place) = Refuses entries Input rest (log.Arity place)
-RefusesNext entries rest clock (records.Sort place) = Refuses entries Input rest (log.SortClash place)
-RefusesNext entries rest clock records.TooLong = Refuses entries Input rest log.TooLong
-RefusesNext entries rest clock records.TimeTooLarge = Refuses entries Input rest log.TimeTooLarge
-RefusesNext entries rest clock why = Falls entries rest clock why
+RefusesNext entries rest clock (records.Log why) = Refuses entries Input rest why
+RefusesNext entries rest clock (records.Falling given at) = (at ≡ clock) × IsFalling entries Input clock rest given
+RefusesNext entries rest clock records.InputLimit = ⊥
 
 abbrev pub AnswersNext : List NameEntry → Next → Front → Front → Type 0
 AnswersNext entries nexts.Taken from to = TakesNext entries from to
@@ -187,22 +176,11 @@ LosesPiece left before after =
     ((after.told ≡ before.told) ⊎ ((bytes : List ℕ) × TakesBytes left bytes before.told after.told))
     × (after.read_faults ≡ before.read_faults)
 
--- what a refusal of the log's reader says; for want of memory nothing
-abbrev pub refusal_for : LogRefusal → Option RecordRefusal
-refusal_for (log.BadRecord place) = Some (records.Bad place)
-refusal_for (log.UnknownName place) = Some (records.UnknownName place)
-refusal_for (log.Arity place) = Some (records.Arity place)
-refusal_for (log.SortClash place) = Some (records.Sort place)
-refusal_for log.TooLong = Some records.TooLong
-refusal_for log.TimeTooLarge = Some records.TimeTooLarge
-refusal_for log.Truncated = Some records.Truncated
-refusal_for log.NoMemory = None
-
 -- what the end of the log makes of a rest that has no whole record
 abbrev pub JudgesEnd : List ℕ → Verdict → Type 0
 JudgesEnd rest verdict =
     ((verdict ≡ verdicts.Accepted) × (behind_blanks rest ≡ []))
-    ⊎ ((verdict ≡ verdicts.Refused records.Truncated) × IsTruncated rest)
+    ⊎ ((verdict ≡ verdicts.Refused (records.Log refusals.Truncated)) × IsTruncated rest)
 
 -- a record was enforced
 pub record EnforcesOne (entries : List NameEntry) (log log' : Enforcement) (before after : Stream) : Type 0 where
@@ -235,12 +213,13 @@ pub record MeetsEnd (log : Enforcement) (before after : Stream) : Type 0 where
 abbrev pub IsLeft : Stream → Stream → Type 0
 IsLeft before after = (after.told ≡ before.told) × (after.read_faults ≡ before.read_faults)
 
+-- a turn ended by this refusal: of the record at the front, of one that the input ends within, or of any more bytes
 abbrev pub EndsByRefusal : List NameEntry → Enforcement → Stream → Stream → RecordRefusal → Type 0
-EndsByRefusal entries log before after records.Truncated = IsTruncated log.reader.rest × MeetsEnd log before after
-EndsByRefusal entries log before after records.InputLimit =
-    IsPending log.reader.rest × (log.taken ≡ most_log_bytes) × IsLeft before after
 EndsByRefusal entries log before after why =
-    RefusesNext entries log.reader.rest log.enforcer.clock why × IsLeft before after
+    (RefusesNext entries log.reader.rest log.enforcer.clock why × IsLeft before after)
+    ⊎ (((why ≡ records.Log refusals.Truncated) × IsTruncated log.reader.rest × MeetsEnd log before after)
+    ⊎ ((why ≡ records.InputLimit) × IsPending log.reader.rest × (log.taken ≡ most_log_bytes)
+    × IsLeft before after))
 
 abbrev pub EndsTurn : List NameEntry → Enforcement → Stream → Stream → Verdict → Type 0
 EndsTurn entries log before after verdicts.Accepted =

@@ -2,7 +2,7 @@
 ghost use Rattle.std.specs.Prelude.{IfNone, IfOk, IfSome, IsTrue, All, Contains, map};
 ghost use Rattle.enforcer_core.specs.Rules.{AreBuilt, IsBuilt};
 ghost use Rattle.formula_reader.specs.Resolution.{rule_of};
-ghost use Rattle.enforce_types.specs.Given.{is_causable};
+ghost use Rattle.enforce_types.specs.Marks.{is_causable};
 ghost use Rattle.enf_cli.specs.Policies.{CanBeBuilt, HasUnbuilt, formulas};
 
 use enf_value::NoMemory;

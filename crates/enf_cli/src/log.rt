@@ -1,6 +1,7 @@
 //! The log: it is taken from the gate piece by piece, and all records that a piece completes are
 //! enforced, and their lines given, before the next read.
-ghost use Rattle.std.specs.Prelude.{◌≡◌, ◌<◌, ◌≤◌, ◌^◌, IfOk, IfErr, IsTrue, List, [], All, OnOk, OnErr, None, Some, false, length};
+ghost use Rattle.std.specs.Prelude.{◌≡◌, ◌≢◌, ◌<◌, ◌≤◌, ◌^◌, IfOk, IfErr, IsTrue, List, [], All, OnOk, OnErr};
+ghost use Rattle.std.specs.Prelude.{None, false, length};
 ghost use Rattle.enf_formula.specs.Formulas.{Formula as Tree};
 ghost use Rattle.enf_value.specs.declared.steps.Step.{Step};
 ghost use Rattle.enforcer_core.specs.Rules.{AreBuilt};
@@ -9,12 +10,14 @@ ghost use Rattle.enf_cli.specs.Owed.{setting_of};
 ghost use Rattle.enf_cli.specs.Limits.{most_log_bytes, most_read_bytes};
 ghost use Rattle.enf_cli.specs.Accepted.{record_of};
 ghost use Rattle.enf_cli.specs.Endings.{write_faults_behind};
-ghost use Rattle.enforce_types.specs.Given.{is_causable};
+ghost use Rattle.enforce_types.specs.Marks.{is_causable};
 ghost use Rattle.enf_cli.specs.Logs.{CutsRun, RanAsJudged};
 ghost use Rattle.enf_cli.specs.Progress.{AnswersItem, AnswersNext, AnswersTurn, CutsDrain, CutsItem, CutsNext};
 ghost use Rattle.enf_cli.specs.Progress.{CutsTurn, GivesDrain, IsNew, JudgesEnd, LosesPiece, ReadsPiece, reads_on};
-ghost use Rattle.enf_cli.specs.Progress.{front, moment, refusal_for};
+ghost use Rattle.enf_cli.specs.Progress.{front, moment};
+ghost use Rattle.enf_cli.specs.declared.refusals.RecordRefusal.TheVariants.{Log};
 ghost use Rattle.log_stream.specs.Logs.{IsPending};
+ghost use Rattle.log_stream.specs.declared.items.LogRefusal.TheVariants.{NoMemory as OutOfMemory};
 ghost use Rattle.trace_meaning.specs.Records.{most_time, time_of};
 ghost use Rattle.trace_meaning.specs.declared.kinds.StepKind.TheVariants.{System};
 
@@ -235,7 +238,7 @@ fn judge_end(reader: &mut LogReader) -> Verdict
 {
     match reader.end() {
         Ok(()) => Verdict::Accepted,
-        Err(_refusal) => Verdict::Refused(RecordRefusal::Truncated),
+        Err(refusal) => Verdict::Refused(RecordRefusal::Log(refusal)),
     }
 }
 
@@ -302,18 +305,12 @@ fn enforce_item<S: Sink>(
     }
 }
 
-// What a refusal of the log's reader says. It answers Truncated at the end alone.
+// What a refusal of the log's reader says of a record; want of memory says nothing of it.
 fn refusal_of(refusal: LogRefusal) -> Result<RecordRefusal, NoMemory>
-    ensures { IfOk result (λ why. refusal_for refusal ≡ Some why) }
+    ensures { IfOk result (λ why. (why ≡ Log refusal) × (refusal ≢ OutOfMemory)) }
 {
     match refusal {
-        LogRefusal::BadRecord { place } => Ok(RecordRefusal::Bad { place }),
-        LogRefusal::UnknownName { place } => Ok(RecordRefusal::UnknownName { place }),
-        LogRefusal::Arity { place } => Ok(RecordRefusal::Arity { place }),
-        LogRefusal::SortClash { place } => Ok(RecordRefusal::Sort { place }),
-        LogRefusal::TooLong => Ok(RecordRefusal::TooLong),
-        LogRefusal::TimeTooLarge => Ok(RecordRefusal::TimeTooLarge),
-        LogRefusal::Truncated => Ok(RecordRefusal::Truncated),
         LogRefusal::NoMemory => Err(NoMemory),
+        _ => Ok(RecordRefusal::Log(refusal)),
     }
 }

@@ -1,8 +1,9 @@
-//! Why a run is refused, the line that says so on the report, and the status that the run ends with. A refusal of a library
-//! is kept as the library gives it. No line takes memory.
+//! Why a run is refused, the line that says so on the report, and the status that the run ends with. A refusal of a
+//! library is kept as the library gives it. No line takes memory.
 ghost use Rattle.std.specs.Prelude.{◌≡◌, ◌++◌, codes, decimal};
-ghost use Rattle.enf_cli.specs.Refusals.{code_of, status_of, text_of_policy_refusal, text_of_reading, text_of_refusal};
-ghost use Rattle.enf_cli.specs.Refusals.{text_of_signature, text_of_signature_refusal, text_of_typing};
+ghost use Rattle.enf_cli.specs.Refusals.{code_of, status_of, text_of_log_refusal, text_of_policy_refusal};
+ghost use Rattle.enf_cli.specs.Refusals.{text_of_reading, text_of_refusal, text_of_signature};
+ghost use Rattle.enf_cli.specs.Refusals.{text_of_signature_refusal, text_of_typing};
 ghost use Rattle.enf_cli.specs.declared.refusals.Refusal.TheVariants as refusal;
 ghost use Rattle.enf_cli.specs.Reports.{WritesText};
 
@@ -11,9 +12,12 @@ use crate::reporting::{write_at, write_pieces};
 use enf_io::devices::Sink;
 use enforce_types::TypeRefusal;
 use itoa::Buffer;
+use log_stream::LogRefusal;
 
 const USAGE: &[u8] =
-    b"usage: enf enforce SIG POLICY [--resume FILE] [--save FILE] | check SIG POLICY | audit SIG POLICY | gen START N | drill START N\n";
+    b"usage: enf enforce SIG POLICY [--resume FILE] [--save FILE] | check SIG POLICY";
+
+const MORE_USAGE: &[u8] = b" | audit SIG POLICY | gen START N | drill START N\n";
 
 /// How a run ended: 0 done, 1 the words match no form, 2 the signature or the policy is refused,
 /// 3 a record is refused, 4 a read fault, 5 a write fault, 6 no memory.
@@ -156,18 +160,14 @@ fn write_typing<R: Sink>(why: TypeRefusal, name: &[u8], report: &mut R) -> Resul
     }
 }
 
-/// Why a record is refused. A place is a byte offset within the record, counted from 0.
+/// Why a record is refused.
 #[derive(Clone, Copy, Debug)]
 pub enum RecordRefusal {
-    Bad { place: u32 },
-    UnknownName { place: u32 },
-    Arity { place: u32 },
-    Sort { place: u32 },
-    TooLong,
-    TimeTooLarge,
-    Truncated,
+    /// By the reader of logs; a place is a byte offset within the record, counted from 0.
+    Log(LogRefusal),
     /// The given time is below the clock.
     Falling { given: u64, clock: u64 },
+    /// As many bytes were taken as a log may have.
     InputLimit,
 }
 
@@ -176,17 +176,28 @@ fn write_record_refusal<R: Sink>(number: u64, why: RecordRefusal, report: &mut R
         (R.seen report.old) (R.seen report.new) }
 {
     match why {
-        RecordRefusal::Bad { place } => write_record(number, b"bad at ", place, report),
-        RecordRefusal::UnknownName { place } => {
-            write_record(number, b"unknown name at ", place, report)
-        }
-        RecordRefusal::Arity { place } => write_record(number, b"arity at ", place, report),
-        RecordRefusal::Sort { place } => write_record(number, b"sort at ", place, report),
-        RecordRefusal::TooLong => write_whole_record(number, b"too long", report),
-        RecordRefusal::TimeTooLarge => write_whole_record(number, b"time too large", report),
-        RecordRefusal::Truncated => write_whole_record(number, b"truncated", report),
+        RecordRefusal::Log(why) => write_log_refusal(number, why, report),
         RecordRefusal::Falling { given, clock } => write_falling(number, given, clock, report),
         RecordRefusal::InputLimit => write_whole_record(number, b"input limit", report),
+    }
+}
+
+fn write_log_refusal<R: Sink>(number: u64, why: LogRefusal, report: &mut R) -> Result<(), Cut>
+    ensures { WritesText
+        (codes "record " ++ decimal number ++ codes ": " ++ text_of_log_refusal why ++ codes "\n") result
+        (R.seen report.old) (R.seen report.new) }
+{
+    match why {
+        LogRefusal::BadRecord { place } => write_record(number, b"bad at ", place, report),
+        LogRefusal::UnknownName { place } => {
+            write_record(number, b"unknown name at ", place, report)
+        }
+        LogRefusal::Arity { place } => write_record(number, b"arity at ", place, report),
+        LogRefusal::SortClash { place } => write_record(number, b"sort at ", place, report),
+        LogRefusal::TooLong => write_whole_record(number, b"too long", report),
+        LogRefusal::TimeTooLarge => write_whole_record(number, b"time too large", report),
+        LogRefusal::Truncated => write_whole_record(number, b"truncated", report),
+        LogRefusal::NoMemory => write_whole_record(number, b"no memory", report),
     }
 }
 
@@ -261,7 +272,7 @@ impl Refusal {
             (R.seen report.old) (R.seen report.new) }
     {
         match self {
-            Refusal::Words => write_pieces(&[USAGE], report),
+            Refusal::Words => write_pieces(&[USAGE, MORE_USAGE], report),
             Refusal::Signature(why) => why.write(report),
             Refusal::Policy(why) => why.write(report),
             Refusal::NotBuilt => write_pieces(&[b"policy: not built\n"], report),

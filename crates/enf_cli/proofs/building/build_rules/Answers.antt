@@ -1,6 +1,6 @@
 use Rattle.std.proofs.Common.{IsTrue}
 use Rattle.std.proofs.lemmas.List.Elements.{All-push}
-use Rattle.enforce_types.specs.Given.{is_causable}
+use Rattle.enforce_types.specs.Marks.{is_causable}
 use Rattle.enf_cli.proofs.BuildingLemmas.{built_more, unbuilt_at}
 use Rattle.enf_cli.proofs.building.build_rules.Goals as goal
 

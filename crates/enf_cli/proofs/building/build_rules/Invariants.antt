@@ -2,7 +2,7 @@ use Rattle.std.proofs.Common.{IsTrue, map, take}
 use Rattle.std.specs.List.{All}
 use Rattle.enforcer_core.specs.Rules.{AreBuilt}
 use Rattle.formula_reader.specs.Resolution.{rule_of}
-use Rattle.enforce_types.specs.Given.{is_causable}
+use Rattle.enforce_types.specs.Marks.{is_causable}
 use Rattle.enf_cli.specs.Policies.{formulas}
 use Rattle.enf_cli.proofs.building.build_rules.Given as goal
 

@@ -1,5 +1,6 @@
-use Rattle.std.proofs.Common.{refl}
+use Rattle.std.proofs.Common.{refl, subst, sym}
 use Rattle.std.proofs.lemmas.Result.{err_from_is_err_and}
+use Rattle.enf_cli.specs.Progress.{RefusesNext}
 use Rattle.enf_cli.proofs.LogLemmas.{item_time}
 use Rattle.enf_cli.proofs.TurnLemmas.{cuts_next, falls, reads_item, reads_refused}
 use Rattle.enf_cli.proofs.log.enforce_next.Goals as goal
@@ -27,4 +28,5 @@ returns-in-Some-clause-next g c =
 
 pub returns-in_ok-refusal_of-in-Err-clause-next : goal.returns-in_ok-refusal_of-in-Err-clause-next
 returns-in_ok-refusal_of-in-Err-clause-next g c =
-    (reads_refused c.args.signature.now c.args.reader.now c.next_record.new.self c.requires c.args.enforcer.now.clock c.in-Err.refusal c.in_ok-refusal_of-in-Err.field-0 c.in_ok-refusal_of-in-Err.ensures c.in-Err.ensures, refl, refl)
+    let why = c.in_ok-refusal_of-in-Err.ensures in
+    (subst (RefusesNext c.args.signature.now c.args.reader.now.rest c.args.enforcer.now.clock) (sym why.0) (reads_refused c.args.signature.now c.args.reader.now c.next_record.new.self c.requires c.in-Err.refusal why.1 c.in-Err.ensures), refl, refl)

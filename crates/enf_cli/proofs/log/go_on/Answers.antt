@@ -22,3 +22,8 @@ returns-in-Ended-clause-turn g c =
     let waits = rw c.in-Pending.is at c.in_ok-enforce_next.ensures.next in
     let t = rw c.in-Ended.is at c.in_ok-count-in-Pending.ensures.turn in
     (refl, waits.enforcer, ends_turn c.args.signature.now c.args.log.now _ c.take_piece.new.reader _ (g.G.Sink.seen c.args.gate.now) (g.G.Sink.seen c.enforce_next.new.sink) (g.G.Sink.seen c.take_piece.new.gate) waits c.in_ok-enforce_next.ensures.reads c.judge_end.result t c.judge_end.ensures)
+
+pub returns-in-Refused-clause-turn : goal.returns-in-Refused-clause-turn
+returns-in-Refused-clause-turn g c =
+    let refused = rw c.in-Refused.is at c.in_ok-enforce_next.ensures.next in
+    (refl, refused.1, inl (refused.0, (refused.2, c.in_ok-enforce_next.ensures.reads)))
