@@ -18,6 +18,7 @@ pub mod MemoryLemmas
 pub mod RunLemmas
 pub mod OrderLemmas
 pub mod CommitLemmas
+pub mod SameNames
 pub mod PastLemmas
 pub mod BuildingLemmas
 pub mod KeepingLemmas

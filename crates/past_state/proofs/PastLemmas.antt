@@ -4,11 +4,14 @@ use Rattle.std.specs.Prelude.{Bool, IsSome, slice_get}
 use Rattle.enf_value.specs.declared.terms.VarId.{VarId}
 use Rattle.std.proofs.lemmas.Option.{same_Some, none-some}
 use Rattle.std.proofs.lemmas.Bool.{and_parts}
-use Rattle.std.proofs.lemmas.List.{reverse-append}
+use Rattle.std.proofs.lemmas.List.{reverse-append, reverse-reverse}
 use Rattle.std.proofs.lemmas.List.Elements.{All-append, All-nil, All-cons, All-head, All-tail}
 use Rattle.enf_value.specs.declared.events.Event.{Event}
+use Rattle.enf_value.specs.declared.events.NameId.{NameId}
 use Rattle.enf_value.specs.declared.steps.Step.{Step}
 use Rattle.enf_formula.specs.Formulas.{Formula, True, False, Atom, Equal, Less, AtMost, Not, And, Or, Implies, Exists, Forall, Prev, Next, Once, Historically, Since, Eventually, Always, Until}
+use Rattle.enf_formula.specs.Laws.{NamesDecide}
+use Rattle.enf_formula.specs.Names.{AreSameOf, HaveSameOf}
 use Rattle.enf_formula.specs.Past.{is_past}
 use Rattle.enf_formula.specs.Satisfaction.{Sat}
 use Rattle.enf_value.specs.Valuations.{Valuation}
@@ -20,8 +23,9 @@ use Rattle.valuations.specs.Just.{Binds}
 use Rattle.valuations.specs.Tables.{Relation, Has, AgreeOn}
 use Rattle.trace_meaning.specs.Continuation.{last_time}
 use Rattle.past_state.specs.Memories.{given_by}
+use Rattle.past_state.specs.Names.{names_of, operator_names}
 use Rattle.past_state.specs.Operators.{operators, all_operators, all_outermost}
-use Rattle.past_state.specs.Past.{Past, PastTables, IsPast, IsSound, TablesStand, TablesWillStand, GuardsWillHold, AreOf, RunStands, CommitStands, AreEvaluated, AreSatisfied, ArePastTables, HasOpenColumns, BeginAt, BindsBound, IsEvaluated, IsGuard, IsSatisfied, IsTestOf, formulas, formula_of, tables_of}
+use Rattle.past_state.specs.Past.{Past, PastTables, IsPast, IsSound, TablesStand, TablesStay, TablesWillStand, GuardsWillHold, AreMadeOf, AreOf, AreOfBut, PastCommitted, PastStands, RunStands, CommitStands, AreEvaluated, AreSatisfied, ArePastTables, HasOpenColumns, BeginAt, BindsBound, IsEvaluated, IsGuard, IsSatisfied, IsTestOf, formulas, formula_of, past_names, tables_of}
 use Rattle.past_state.specs.Runs.{AllStand, AreInsideOut, AreOrdered, AllFit, Runs, outer_onto, AllCommitted, AreSameKinds}
 use Rattle.past_state.specs.declared.guards.PlacedGuard.{PlacedGuard}
 use Rattle.past_state.specs.declared.memories.StepTables.{StepTables}
@@ -31,6 +35,7 @@ use Rattle.past_state.proofs.OrderLemmas.{all_go}
 use Rattle.past_state.proofs.RunLemmas.{fit_run, stand_run, committed_run, still_all_for}
 use Rattle.past_state.proofs.HeldLemmas.{new_at}
 use Rattle.past_state.proofs.RowLemmas.{iff_then}
+use Rattle.past_state.proofs.SameNames.{Within, all_same, all_within, names_within, operators_named, outer_within, same_with, stand_same}
 
 pub inside_out : (fs : List Formula) → AreInsideOut [] (reverse (all_operators fs))
 inside_out fs = subst (AreInsideOut []) (append-nil (reverse (all_operators fs))) ((all_go fs []).ordered [] tt)
@@ -77,25 +82,83 @@ all_past : (guards : List PlacedGuard) → All IsSound guards → All ahead (all
 all_past [] sound = All-nil ahead
 all_past (g ∷ guards) sound = All-append ahead (operators (formula_of g)) (all_operators (formulas guards)) (operators_past (formula_of g) (All-head IsSound g guards sound).0) (all_past guards (All-tail IsSound g guards sound))
 
-pub run_stands : Laws → RunStands
-run_stands laws past time events tables is are trace step same_time same_events later stands =
+-- the tables that are made at a step, and what is kept with it committed
+made_stands : Laws → (past : Past) (tables : PastTables) (trace : List Step) (step : Step) → IsPast past → AreMadeOf past step.time step.events tables → last_time trace ≤ step.time → PastStands trace past
+    → TablesStand trace step tables
+made_stands laws past tables trace step is made later stands =
     let fs = reverse (all_operators (formulas past.guards)) in
-    let runs : Runs step.events step.time [] past.operators tables.steps tables.stack =
-    subst (λ e. Runs e step.time [] past.operators tables.steps tables.stack) (sym same_events) (subst (λ t. Runs events t [] past.operators tables.steps tables.stack) (sym same_time) are.1) in
-    subst (λ gs. StandFor (trace ++ step ∷ []) (length trace) (all_outermost (formulas gs)) tables.stack) (sym are.0)
+    subst (λ gs. StandFor (trace ++ step ∷ []) (length trace) (all_outermost (formulas gs)) tables.stack) (sym made.0)
     (subst (λ l. StandFor (trace ++ step ∷ []) (length trace) l tables.stack) (outer_are (formulas past.guards))
-    (stand_run laws trace step (subst (λ t. last_time trace ≤ t) (sym same_time) later) [] [] fs past.operators tables.steps tables.stack is.kept
-    (all_reverse ahead (all_operators (formulas past.guards)) (all_past past.guards is.sound)) (inside_out (formulas past.guards)) stands tt runs))
+    (stand_run laws trace step later [] [] fs past.operators tables.steps tables.stack is.kept
+    (all_reverse ahead (all_operators (formulas past.guards)) (all_past past.guards is.sound)) (inside_out (formulas past.guards)) stands tt made.1))
 
-pub commit_stands : Laws → CommitStands
-commit_stands laws past time events tables after is committed trace step same_time same_events later stands are =
+made_commits : Laws → (past : Past) (tables : PastTables) (after : Past) (trace : List Step) (step : Step) → IsPast past → AreMadeOf past step.time step.events tables → PastCommitted past step.time tables.steps after
+    → last_time trace ≤ step.time → PastStands trace past → PastStands (trace ++ step ∷ []) after
+made_commits laws past tables after trace step is made committed later stands =
     let fs = reverse (all_operators (formulas past.guards)) in
-    let runs : Runs step.events step.time [] past.operators tables.steps tables.stack =
-    subst (λ e. Runs e step.time [] past.operators tables.steps tables.stack) (sym same_events) (subst (λ t. Runs events t [] past.operators tables.steps tables.stack) (sym same_time) are.1) in
     subst (λ gs. AllStand (trace ++ step ∷ []) (reverse (all_operators (formulas gs))) after.operators) (sym committed.0)
-    (committed_run laws trace step (subst (λ t. last_time trace ≤ t) (sym same_time) later) [] [] fs past.operators tables.steps tables.stack after.operators is.kept
-    (all_reverse ahead (all_operators (formulas past.guards)) (all_past past.guards is.sound)) (inside_out (formulas past.guards)) stands tt runs
-    (subst (λ t. AllCommitted t past.operators tables.steps after.operators) (sym same_time) committed.1))
+    (committed_run laws trace step later [] [] fs past.operators tables.steps tables.stack after.operators is.kept
+    (all_reverse ahead (all_operators (formulas past.guards)) (all_past past.guards is.sound)) (inside_out (formulas past.guards)) stands tt made.1 committed.1)
+
+-- the names of the operators
+turned_within : (names : List NameId) (fs : List Formula) → All (Within names) (all_operators fs) → All (Within names) (reverse (all_operators fs))
+turned_within names fs within = all_reverse (Within names) (all_operators fs) within
+
+outermost_within : (names : List NameId) (fs : List Formula) → All (Within names) (all_operators fs) → All (Within names) (all_outermost fs)
+outermost_within names fs within =
+    subst (All (Within names)) (outer_are fs) (outer_within names [] (reverse (all_operators fs)) (All-nil (Within names)) (turned_within names fs within))
+
+own_within : (guards : List PlacedGuard) → All (Within (past_names guards)) (all_operators (formulas guards))
+own_within guards = all_within (past_names guards) (all_operators (formulas guards)) (λ name there. there)
+
+pub operators_names : (past : Past) → IsPast past → (name : NameId) → Contains (operator_names past.operators) name ↔ Contains (past_names past.guards) name
+operators_names past is name =
+    let l = all_operators (formulas past.guards) in
+    let same = operators_named (reverse l) past.operators is.kept in (
+      λ there. names_within (past_names past.guards) (reverse l) (turned_within (past_names past.guards) (formulas past.guards) (own_within past.guards)) name (subst (λ ns. Contains ns name) same there),
+      λ there. subst (λ ns. Contains ns name) (sym same)
+          (names_within (names_of (reverse l)) l (subst (All (Within (names_of (reverse l)))) (reverse-reverse l) (all_reverse (Within (names_of (reverse l))) (reverse l) (all_within (names_of (reverse l)) (reverse l) (λ n h. h)))) name there),
+    )
+
+-- a step with the events at which the tables were made
+abbrev made_step : ℕ → List Event → Step
+made_step time events = record { time = time; events = events }
+
+pub run_stands : NamesDecide → Laws → RunStands
+run_stands decide laws past time events tables is are trace step same_time same_events later stands =
+    let names = past_names past.guards in
+    let made = made_step time are.0 in
+    let alike : AreSameOf names (trace ++ made ∷ []) (trace ++ step ∷ []) = same_with names trace made step (sym same_time) (subst (HaveSameOf names are.0) (sym same_events) are.1) in
+    subst (λ gs. StandFor (trace ++ step ∷ []) (length trace) (all_outermost (formulas gs)) tables.stack) (sym are.2.0)
+    (stand_same names decide (trace ++ made ∷ []) (trace ++ step ∷ []) alike (length trace) (all_outermost (formulas past.guards)) tables.stack
+    (outermost_within names (formulas past.guards) (own_within past.guards))
+    (subst (λ gs. StandFor (trace ++ made ∷ []) (length trace) (all_outermost (formulas gs)) tables.stack) are.2.0 (made_stands laws past tables trace made is are.2 later stands)))
+
+pub commit_stands : NamesDecide → Laws → CommitStands
+commit_stands decide laws past time events tables after is committed trace step same_time same_events later stands are =
+    let names = past_names past.guards in
+    let made = made_step time are.0 in
+    let alike : AreSameOf names (trace ++ made ∷ []) (trace ++ step ∷ []) = same_with names trace made step (sym same_time) (subst (HaveSameOf names are.0) (sym same_events) are.1) in
+    subst (λ gs. AllStand (trace ++ step ∷ []) (reverse (all_operators (formulas gs))) after.operators) (sym committed.0)
+    (all_same names decide (trace ++ made ∷ []) (trace ++ step ∷ []) alike (reverse (all_operators (formulas past.guards))) after.operators
+    (turned_within names (formulas past.guards) (own_within past.guards))
+    (subst (λ gs. AllStand (trace ++ made ∷ []) (reverse (all_operators (formulas gs))) after.operators) committed.0
+    (made_commits laws past tables after trace made is are.2 committed later stands)))
+
+-- ---- tables whose operators do not look for what changed
+
+pub tables_stay : TablesStay
+tables_stay past time events others tables alike are = (are.0, then_same, are.2)
+  where
+    then_same : HaveSameOf (past_names past.guards) are.0 others
+    then_same event named = (λ there. (alike event named).0 ((are.1 event named).0 there), λ there. (are.1 event named).1 ((alike event named).1 there))
+
+pub just_made : (past : Past) (time : ℕ) (events : List Event) (tables : PastTables) → AreMadeOf past time events tables → AreOf past time events tables
+just_made past time events tables made = (events, λ event named. (λ h. h, λ h. h), made)
+
+pub but_unread : (past : Past) (time : ℕ) (name : NameId) (events : List Event) (tables : PastTables) → (Contains (past_names past.guards) name → ⊥) → AreOfBut past time name events tables → AreOf past time events tables
+but_unread past time name events tables unread but =
+    tables_stay past time but.0 events tables (λ event named. but.1 event (λ is. unread (subst (Contains (past_names past.guards)) is named))) but.2
 
 pub still_past : (past : Past) (after : List OperatorState) → IsPast past → AreSameKinds past.operators after → IsPast (record past { operators = after })
 still_past past after is same =
@@ -103,13 +166,13 @@ still_past past after is same =
 
 -- ---- what the tables of a step are
 
-pub tables_are : (past : Past) (time : ℕ) (events : List Event) (tables : PastTables) → IsPast past → AreOf past time events tables → ArePastTables tables
-tables_are past time events tables is are = record {
-  sound = subst (All IsSound) (sym are.0) is.sound;
-  begin = subst (BeginAt 0) (sym are.0) is.begin;
-  fit = subst (λ gs. FitOperators (all_outermost (formulas gs)) tables.stack) (sym are.0)
+pub tables_are : (past : Past) (time : ℕ) (events : List Event) (tables : PastTables) → IsPast past → AreMadeOf past time events tables → ArePastTables tables
+tables_are past time events tables is made = record {
+  sound = subst (All IsSound) (sym made.0) is.sound;
+  begin = subst (BeginAt 0) (sym made.0) is.begin;
+  fit = subst (λ gs. FitOperators (all_outermost (formulas gs)) tables.stack) (sym made.0)
       (subst (λ l. FitOperators l tables.stack) (outer_are (formulas past.guards))
-      (fit_run events time [] [] (reverse (all_operators (formulas past.guards))) past.operators tables.steps tables.stack is.kept (inside_out (formulas past.guards)) tt are.1));
+      (fit_run events time [] [] (reverse (all_operators (formulas past.guards))) past.operators tables.steps tables.stack is.kept (inside_out (formulas past.guards)) tt made.1));
 }
 
 pub fits_run : (events : List Event) (time : ℕ) (stack : List Relation) (operators : List OperatorState) (steps : List StepTables) (final : List Relation) → Runs events time stack operators steps final → AllFit operators steps

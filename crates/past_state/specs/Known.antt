@@ -1,5 +1,5 @@
 -- Where the values in the tables of a step come from, whatever was committed before.
-use Rattle.std.specs.Prelude.{◌⊎◌, ℕ, List, Contains}
+use Rattle.std.specs.Prelude.{◌≡◌, ◌⊎◌, ℕ, List, Contains}
 use Rattle.enf_value.specs.Valuations.{Valuation}
 use Rattle.enf_value.specs.declared.events.Event.{Event}
 use Rattle.enf_value.specs.declared.values.Value.{Value}
@@ -7,7 +7,7 @@ use Rattle.enf_formula.specs.Formulas.{Formula}
 use Rattle.monitorable_guard.specs.Evaluation.{IsTabled, HasKnownValues}
 use Rattle.monitorable_guard.specs.Sources.{IsArgument, IsConstant}
 use Rattle.valuations.specs.Tables.{Relation}
-use Rattle.past_state.specs.Past.{Past, PastTables, AreOf, IsPast, IsGuard, formulas, formula_of, tables_of}
+use Rattle.past_state.specs.Past.{Past, PastTables, AreMadeOf, IsPast, IsGuard, formulas, formula_of, tables_of}
 use Rattle.past_state.specs.Saved.{StoresAt}
 use Rattle.past_state.specs.declared.guards.PlacedGuard.{PlacedGuard}
 use Rattle.past_state.specs.declared.kept.KeptRow.{KeptRow}
@@ -31,7 +31,11 @@ abbrev pub IsKnownOfGuard : PastTables → ℕ → List Event → Valuation → 
 IsKnownOfGuard tables number events v t = (g : PlacedGuard) → IsGuard tables.guards number g
     → HasKnownValues events (tables_of g tables) (formula_of g) g.guard.bound v t
 
--- so it is with the tables of each step
+-- so it is with the tables that are made at a step
 abbrev pub TablesAreKnown : Type 0
 TablesAreKnown = (past : Past) (time : ℕ) (events : List Event) (tables : PastTables) → IsPast past
-    → AreOf past time events tables → AreKnown past events tables
+    → AreMadeOf past time events tables → AreKnown past events tables
+
+-- they are the ones that were there, or such
+abbrev pub AreThoseOrKnown : Past → List Event → PastTables → PastTables → Type 0
+AreThoseOrKnown past events before tables = (tables ≡ before) ⊎ AreKnown past events tables

@@ -20,6 +20,7 @@ pub mod Keeping
 pub mod Known
 pub mod Laws
 pub mod Memories
+pub mod Names
 pub mod Sources
 pub mod Asking
 pub mod Lefts

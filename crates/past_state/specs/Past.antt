@@ -3,10 +3,12 @@ use Rattle.std.specs.Prelude.{◌≡◌, ◌↔◌, ◌⊎◌, ℕ, ◌+◌, ◌
 use Rattle.std.specs.Prelude.{Bool, Contains, IsSome, Some, slice_get}
 use Rattle.enf_value.specs.Valuations.{Valuation, value_at}
 use Rattle.enf_value.specs.declared.events.Event.{Event}
+use Rattle.enf_value.specs.declared.events.NameId.{NameId}
 use Rattle.enf_value.specs.declared.steps.Step.{Step}
 use Rattle.enf_value.specs.declared.terms.VarId.{VarId}
 use Rattle.enf_formula.specs.Formulas.{Formula, tree_of}
 use Rattle.enf_formula.specs.FreeVariables.{IsFree}
+use Rattle.enf_formula.specs.Names.{HaveSameOf}
 use Rattle.enf_formula.specs.Past.{is_past}
 use Rattle.enf_formula.specs.Satisfaction.{Sat}
 use Rattle.monitorable_guard.specs.Evaluation.{AreOpen, FitOperators, HoldsFor}
@@ -15,6 +17,7 @@ use Rattle.monitorable_guard.specs.Safety.{BindsFresh}
 use Rattle.trace_meaning.specs.Continuation.{last_time}
 use Rattle.valuations.specs.Just.{Binds}
 use Rattle.valuations.specs.Tables.{Relation, Has, AgreeOn}
+use Rattle.past_state.specs.Names.{DifferIn, names_of}
 use Rattle.past_state.specs.Operators.{all_operators, all_outermost}
 use Rattle.past_state.specs.Runs.{AreFor, AllStand, Runs, AllCommitted}
 use Rattle.past_state.specs.declared.guards.PlacedGuard.{PlacedGuard}
@@ -63,10 +66,31 @@ abbrev pub TablesStand : List Step → Step → PastTables → Type 0
 TablesStand trace step tables =
     StandFor (trace ++ step ∷ []) (length trace) (all_outermost (formulas tables.guards)) tables.stack
 
--- they are those of a step at this time with these events
-abbrev pub AreOf : Past → ℕ → List Event → PastTables → Type 0
-AreOf past time events tables = (tables.guards ≡ past.guards)
+-- the names that the operators on the past in the guards look for
+abbrev pub past_names : List PlacedGuard → List NameId
+past_names guards = names_of (all_operators (formulas guards))
+
+-- they were made at this time by evaluation at these events
+abbrev pub AreMadeOf : Past → ℕ → List Event → PastTables → Type 0
+AreMadeOf past time events tables = (tables.guards ≡ past.guards)
     × Runs events time [] past.operators tables.steps tables.stack
+
+-- they are those of a step at this time with these events: made at such as have the same events of the names that the
+-- operators look for
+abbrev pub AreOf : Past → ℕ → List Event → PastTables → Type 0
+AreOf past time events tables = (made : List Event) × HaveSameOf (past_names past.guards) made events
+    × AreMadeOf past time made tables
+
+-- of a step whose events are these but for those of the name
+abbrev pub AreOfBut : Past → ℕ → NameId → List Event → PastTables → Type 0
+AreOfBut past time name events tables = (others : List Event) × DifferIn name others events
+    × AreOf past time others tables
+
+-- they go on to be those of the step where its events of other names change
+abbrev pub TablesStay : Type 0
+TablesStay = (past : Past) (time : ℕ) (events others : List Event) (tables : PastTables)
+    → HaveSameOf (past_names past.guards) events others → AreOf past time events tables
+    → AreOf past time others tables
 
 -- the guards stay, and the step is committed to the operators
 abbrev pub PastCommitted : Past → ℕ → List StepTables → Past → Type 0
@@ -105,8 +129,8 @@ IsGuard guards number g = slice_get guards number ≡ Some g
 abbrev pub tables_of : PlacedGuard → PastTables → List Relation
 tables_of g tables = drop g.start tables.stack
 
--- for each trace for which the past stands, and a step with these events at this time that is not earlier: a guard holds
--- by its tables, under a valuation of its free variables, where it is satisfied at the step
+-- for each trace for which the past stands, and a step with these events at this time that is not earlier: a guard
+-- holds by its tables, under a valuation of its free variables, where it is satisfied at the step
 abbrev pub GuardsWillHold : Past → ℕ → List Event → PastTables → Type 0
 GuardsWillHold past time events tables = (trace : List Step) (step : Step) → step.time ≡ time
     → step.events ≡ events → last_time trace ≤ time → PastStands trace past → (number : ℕ) (g : PlacedGuard)

@@ -3,7 +3,7 @@ ghost use Rattle.past_state.specs.Counts.{NoMoreThanNodes};
 ghost use Rattle.past_state.specs.Known.{TablesAreKnown};
 ghost use Rattle.past_state.specs.Laws.{SinceAnswers, SinceGoesOn, OnceAnswers, OnceGoesOn, HistoricallyIsDenied};
 ghost use Rattle.past_state.specs.Laws.{PrevAnswers, PrevGoesOn};
-ghost use Rattle.past_state.specs.Past.{RunStands, CommitStands};
+ghost use Rattle.past_state.specs.Past.{RunStands, CommitStands, TablesStay};
 ghost use Rattle.past_state.specs.Restoring.{KeptAreWithinBounds};
 
 use enf_formula::laws::{dependence, is_classical};
@@ -50,14 +50,20 @@ pub fn steps_stand()
     ensures tables { RunStands }
     ensures committed { CommitStands }
 {
+    dependence();
     since();
     once();
     prev();
     present_is_satisfied();
 }
 
-/// Whatever was committed before: each value of the tables at a step is one of its events, of the constants of the
-/// guards, or of a row that is kept.
+/// The tables of a step stay so where its events change of names alone that no operator on the past looks for.
+pub fn tables_stay()
+    ensures { TablesStay }
+{}
+
+/// Whatever was committed before: each value of the tables that are made at a step is one of its events, of the
+/// constants of the guards, or of a row that is kept.
 pub fn tables_are_known()
     ensures { TablesAreKnown }
 {}

@@ -17,9 +17,10 @@ use enf_value::items::Duplicate;
 use enf_value::memory::NoMemory;
 use enf_value::rows::Row;
 use enf_value::terms::VarId;
+use monitorable_guard::laws::free_variables_decide_now;
 use monitorable_guard::{Past, StepEvents};
 use std::alloc::Global;
-use valuations::{Table, Valuation};
+use valuations::{Frame, Table, Valuation};
 
 // The rows under which a guard with no variable bound holds.
 pub fn all_rows<P: Past>(
@@ -71,20 +72,6 @@ pub fn surviving_rows<P: Past>(
     Table::from_rows(columns.duplicate(alloc)?, surviving)
 }
 
-// The valuation that a row stands for.
-fn row_valuation(alloc: Global, columns: &[VarId], row: &Row) -> Result<Valuation, NoMemory>
-    requires distinct { HasNoRepeats columns.now }
-    requires fits { length row.now ≡ length columns.now }
-    ensures { IfOk result (λ v. v ≡ valuation_of columns.now row.now) }
-{
-    let mut v = Valuation::empty(alloc);
-    let values = row.as_slice();
-    for (place, column) in columns.iter().enumerate() {
-        v.bind(*column, values[place].duplicate(alloc)?)?;
-    }
-    Ok(v)
-}
-
 // Whether the guard holds under the row.
 fn holds_under<P: Past>(
     alloc: Global,
@@ -104,7 +91,9 @@ fn holds_under<P: Past>(
     ensures { IfOk result (λ holds. (w : Bound) → AgreeOn columns.now (valuation_of columns.now row.now) w
         → IsTrue holds ↔ HoldsNow events.now (P.tables past.now) w (tree_of guard.now.formula)) }
 {
-    let v = row_valuation(alloc, columns, row)?;
-    let rows = guard.guard().evaluate_at(alloc, events, past, &v)?;
-    Ok(!rows.is_empty())
+    free_variables_decide_now();
+    let none = Valuation::empty(alloc);
+    let whole = Frame::Whole(&none);
+    let scope = Frame::Row(&whole, columns, row.as_slice());
+    guard.guard().holds(alloc, events, past, &scope)
 }

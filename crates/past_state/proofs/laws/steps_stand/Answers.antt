@@ -2,7 +2,7 @@ use Rattle.past_state.proofs.PastLemmas.{run_stands, commit_stands}
 use Rattle.past_state.proofs.laws.steps_stand.Goals as goal
 
 pub returns-clause-tables : goal.returns-clause-tables
-returns-clause-tables c = run_stands (record {
+returns-clause-tables c = run_stands c.dependence.ensures.names (record {
   present = c.present_is_satisfied.ensures;
   since_answers = c.since.ensures.answers;
   since_goes_on = c.since.ensures.goes_on;
@@ -14,7 +14,7 @@ returns-clause-tables c = run_stands (record {
 })
 
 pub returns-clause-committed : goal.returns-clause-committed
-returns-clause-committed c = commit_stands (record {
+returns-clause-committed c = commit_stands c.dependence.ensures.names (record {
   present = c.present_is_satisfied.ensures;
   since_answers = c.since.ensures.answers;
   since_goes_on = c.since.ensures.goes_on;
