@@ -17,6 +17,5 @@ pub mod Respelled
 pub mod Rising
 pub mod RoundTrip
 pub mod LeastInRules
-pub mod Kept
 pub mod Scoped
 pub mod WellFormed

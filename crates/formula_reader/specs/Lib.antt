@@ -12,5 +12,4 @@ pub mod Written
 pub mod Places
 pub mod Reading
 pub mod RoundTrip
-pub mod Within
 pub mod WellFormed

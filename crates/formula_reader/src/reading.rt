@@ -2,9 +2,8 @@
 ghost use Rattle.std.specs.Prelude.{◌≤◌, IfOk, List, Result, length};
 ghost use Rattle.formula_reader.specs.Answers.{Gives, answer_of};
 ghost use Rattle.formula_reader.specs.Reading.{GivesTextAnswer, IsTextAnswer};
-ghost use Rattle.formula_reader.specs.Resolution.{Rule as PureRule, formulas, rules_of};
+ghost use Rattle.formula_reader.specs.Resolution.{Rule as PureRule, rules_of};
 ghost use Rattle.formula_reader.specs.WellFormed.{IsWellFormedPolicy};
-ghost use Rattle.formula_reader.specs.Within.{AreWithinLimits};
 ghost use Rattle.formula_reader.specs.declared.policies.PolicyRefusal.{PolicyRefusal as RefusalOfPolicy};
 
 use crate::laws::read_is_well_formed;
@@ -30,8 +29,6 @@ pub fn read_policy(
         → Gives (answer_of result) answer }
     // The rules are those of a policy: closed, and within the limits.
     ensures policy { IfOk result (λ policy. IsWellFormedPolicy signature.now (rules_of policy)) }
-    // The formulas keep to the limits and to the names of the signature.
-    ensures within { IfOk result (λ policy. AreWithinLimits signature.now (formulas policy.rules)) }
 {
     read_is_well_formed();
     let syntax = read_syntax(alloc, bytes)?;

@@ -1,5 +1,4 @@
 use Rattle.formula_reader.specs.Answers.{answer_of}
-use Rattle.formula_reader.proofs.Kept.{read_within}
 use Rattle.formula_reader.proofs.TextAnswers.{refusal_passed, text_good_of, text_gives}
 use Rattle.formula_reader.proofs.reading.read_policy.Goals as goal
 
@@ -9,9 +8,6 @@ returns-in_err-syntax-clause-answer c =
 
 pub returns-clause-answer : goal.returns-clause-answer
 returns-clause-answer c = text_gives _ _ _ (answer_of c.resolve.result) c.in_ok-syntax.ensures.answer c.resolve.ensures.answer
-
-pub returns-clause-within : goal.returns-clause-within
-returns-clause-within c = read_within _ _ _ c.resolve.result c.in_ok-syntax.ensures.answer c.resolve.ensures.answer
 
 pub returns-clause-policy : goal.returns-clause-policy
 returns-clause-policy c = text_good_of c.read_is_well_formed.ensures _ _ _ c.resolve.result c.in_ok-syntax.ensures.answer c.resolve.ensures.answer
