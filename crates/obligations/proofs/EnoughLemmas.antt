@@ -33,11 +33,11 @@ use Rattle.obligations.proofs.LostLemmas.{cause_absent, no_cons, some_row, suppr
 use Rattle.obligations.specs.declared.instances.Instance.{Instance}
 use Rattle.obligations.specs.declared.literals.Literal.{Literal}
 
-nil_left : {X : Type 0} (xs ys : List X) → [] ≡ xs ++ ys → xs ≡ []
+pub nil_left : {X : Type 0} (xs ys : List X) → [] ≡ xs ++ ys → xs ≡ []
 nil_left [] ys same = refl
 nil_left (x ∷ xs) ys same = let n : 0 ≡ length (x ∷ (xs ++ ys)) = ap length same in absurd (omega arith)
 
-nil_right : {X : Type 0} (xs ys : List X) → [] ≡ xs ++ ys → ys ≡ []
+pub nil_right : {X : Type 0} (xs ys : List X) → [] ≡ xs ++ ys → ys ≡ []
 nil_right [] ys same = sym same
 nil_right (x ∷ xs) ys same = let n : 0 ≡ length (x ∷ (xs ++ ys)) = ap length same in absurd (omega arith)
 

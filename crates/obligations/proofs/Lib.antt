@@ -4,5 +4,9 @@ pub mod EnoughLemmas
 pub mod OneLemmas
 pub mod AskLemmas
 pub mod AddingLemmas
+pub mod ExistLemmas
+pub mod WantedLemmas
+pub mod FirstLemmas
 pub mod LawLemmas
 pub mod TraceLemmas
+pub mod NowLemmas

@@ -174,7 +174,7 @@ module _ (trace : List Step) (rule : ℕ) where
   none_at_rows body none v xs (row ∷ rows) begun (begun1, begun2, begins, behind, are) =
       are ∙ ap (λ (l : List Instance). l ++ begun2) (none (with_values xs row v) begun1 begins) ∙ none_at_rows body none v xs rows begun2 behind
 
-  none_begun : (plan : Plan) → LooksAtNow plan → (v : Valuation) (begun : List Instance) → Begun trace rule plan v begun
+  pub none_begun : (plan : Plan) → LooksAtNow plan → (v : Valuation) (begun : List Instance) → Begun trace rule plan v begun
       → begun ≡ []
   none_begun (Cause node place name terms) all v begun begins = begins
   none_begun (Suppress node place name terms) all v begun begins = begins

@@ -8,4 +8,5 @@ pub mod Traces
 pub mod Asked
 pub mod Waiting
 pub mod Adding
+pub mod Existing
 pub mod Cases

@@ -6,10 +6,13 @@ use Rattle.std.specs.Prelude.{refl}
 use Rattle.enf_value.specs.Valuations.{Valuation, no_values}
 use Rattle.enf_value.specs.declared.steps.Step.{Step}
 use Rattle.enf_value.specs.declared.terms.VarId.{VarId}
+use Rattle.enf_value.specs.declared.values.Value.{Value}
 use Rattle.enf_formula.specs.Formulas.{Formula}
 use Rattle.plan_terms.specs.Limits.{EndsInTime}
 use Rattle.plan_terms.specs.Nodes.{is_future, nodes}
 use Rattle.plan_terms.specs.Plans.{Plan}
+use Rattle.valuations.specs.Scopes.{filled}
+use Rattle.valuations.specs.Tables.{Relation}
 use Rattle.obligations.specs.Asked.{CanAsk, IsWanted}
 use Rattle.obligations.specs.Missing.{Missing}
 use Rattle.obligations.specs.Pending.{HasDeadline, MissingOf, node_of}
@@ -44,6 +47,12 @@ pub record IsWantedOf (now : Now) (plans : List Plan) (i : Instance) (literal : 
   pub node : Plan
   pub found : node_of plans i ≡ Some node
   pub wanted : IsWanted now node i.valuation literal
+
+-- it is wanted by a plan under one of the rows, which have the values of the columns that v does not bind
+pub record IsWantedUnder (now : Now) (plan : Plan) (v : Valuation) (rows : Relation) (literal : Literal) : Type 0 where
+  pub row : List Value
+  pub there : Contains rows.rows row
+  pub wanted : IsWanted now plan (filled v rows.columns row) literal
 
 -- each of the plans can be asked at a step with these guards, where nothing is bound, and its windows end in time
 abbrev pub CanAskRoot : List (Formula × List VarId) → Plan → Type 0

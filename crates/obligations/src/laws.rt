@@ -1,11 +1,13 @@
 //! Laws of what plans miss and begin, each the contract of a function that does nothing.
 ghost use Rattle.obligations.specs.Enough.{NothingMissedIsEnough, NothingMissedIsEnoughPending, SomethingMissedIsLost};
+ghost use Rattle.obligations.specs.Existing.{BegunExists, MissingExists, NothingGoesOn};
 ghost use Rattle.obligations.specs.Missing.{MissingIsOne};
 ghost use Rattle.obligations.specs.Pending.{AfterIsOne, BegunIsOne, MissingOfIsOne, PendIsOne};
 ghost use Rattle.obligations.specs.Rows.{RowsAreOne};
 ghost use Rattle.obligations.specs.Traces.{CleanGrows, NothingIsPending, PendGrows, PendingIsEnough};
 
 use enf_formula::laws;
+use monitorable_guard::laws::safe_has_rows;
 use plan_terms::laws::nodes_have_scopes;
 use trace_meaning::laws::last_time_of_trace;
 
@@ -54,3 +56,18 @@ pub fn traces_grow()
     ensures pending { PendGrows }
     ensures clean { CleanGrows }
 {}
+
+/// What a plan that can be asked misses at a step, and what it begins, is a list.
+pub fn missing_exists()
+    ensures missing { MissingExists }
+    ensures begun { BegunExists }
+{
+    safe_has_rows();
+}
+
+/// Plans that do not look ahead leave nothing pending behind a step.
+pub fn nothing_goes_on()
+    ensures { NothingGoesOn }
+{
+    missing_exists();
+}

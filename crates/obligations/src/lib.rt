@@ -4,6 +4,7 @@
 
 pub mod actions;
 pub mod begun;
+mod finding;
 pub mod instances;
 pub mod laws;
 mod leaves;

@@ -8,6 +8,7 @@ ghost use Rattle.obligations.specs.Missing.{Missing};
 ghost use Rattle.obligations.specs.Pending.{MissingOf};
 ghost use Rattle.obligations.specs.Waiting.{CanAskOf, FirstMissing, FirstMissingOf, IsWantedOf};
 
+use crate::finding::find_missing;
 use crate::instances::Instance;
 use crate::lists::push_missing;
 use crate::literals::Literal;
@@ -31,7 +32,7 @@ pub fn first_missing(
     ensures wanted { IfOk result (λ found. IfSome found
         (IsWanted now.now (plan_of plan.now) (bound_in v.now))) }
 {
-    Err(NoMemory)
+    find_missing(alloc, plan, v, now)
 }
 
 /// The literals that the plan misses where it is begun at the step.

@@ -1,15 +1,16 @@
 //! Lists of pending instances.
-ghost use Rattle.std.specs.Prelude.{◌≡◌, ◌<◌, ◌≤◌, ◌^◌, IfOk, OnOk, List, [], length, map};
+ghost use Rattle.std.specs.Prelude.{◌≡◌, ◌≤◌, ◌^◌, IfOk, IsTrue, OnOk, List, [], length, map};
 ghost use Rattle.std.specs.List.{AllByRecursion};
 ghost use Rattle.enf_value.specs.declared.steps.Step.{Step};
 ghost use Rattle.plan_terms.specs.Plans.{plan_of};
 ghost use Rattle.obligations.specs.Asked.{IsNowOf, guards_at};
 ghost use Rattle.obligations.specs.Pending.{Goes};
-ghost use Rattle.obligations.specs.Traces.{PlansStand};
+ghost use Rattle.obligations.specs.Traces.{LooksAtNow, PlansStand};
 ghost use Rattle.obligations.specs.Waiting.{CanAskOf, CanAskRoots, IsLeastOf, KeepsDeadlines};
 ghost use Rattle.obligations.specs.declared.now.TheConstants.{MOST_TIME};
 
 use crate::instances::{Instance, Instances};
+use crate::laws::nothing_goes_on;
 use crate::now::Now;
 use enf_value::items::Duplicate;
 use enf_value::memory::NoMemory;
@@ -89,6 +90,23 @@ impl Pending {
         ensures instances { OnOk result (AllByRecursion
             (CanAskOf (guards_at now.now.tables.now) (map plan_of plans.now)) self.new.instances) }
     {
-        Err(NoMemory)
+        if !self.instances.is_empty() || !look_at_now(plans) {
+            return Err(NoMemory);
+        }
+        nothing_goes_on();
+        self.deadlines.clear();
+        Ok(())
     }
+}
+
+// Whether no node of the plans looks ahead.
+fn look_at_now(plans: &[Plan]) -> bool
+    ensures { IsTrue result → AllByRecursion LooksAtNow (map plan_of plans.now) }
+{
+    for plan in plans {
+        if plan.has_future() {
+            return false;
+        }
+    }
+    true
 }

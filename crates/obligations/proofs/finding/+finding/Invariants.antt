@@ -1,0 +1,20 @@
+use Rattle.std.proofs.Common.{◌+◌, ◌*◌, length, take, []}
+use Rattle.std.proofs.Common.{List}
+use Rattle.enf_value.specs.declared.steps.Step.{Step}
+use Rattle.plan_terms.specs.Nodes.{nodes}
+use Rattle.plan_terms.specs.Plans.{plan_of}
+use Rattle.valuations.specs.Scopes.{bound_in, filled}
+use Rattle.obligations.specs.Asked.{IsNowOf}
+use Rattle.obligations.specs.Missing.{Missing}
+use Rattle.obligations.specs.Rows.{Gathers}
+use Rattle.obligations.proofs.finding.+finding.Given as goal
+
+abbrev pub decreases-find_missing : goal.decreases-find_missing
+decreases-find_missing l = 2 * length (nodes (plan_of l.plan.now))
+
+abbrev pub decreases-find_under : goal.decreases-find_under
+decreases-find_under l = 2 * length (nodes (plan_of l.body.now)) + 1
+
+abbrev pub invariant-find_under-loop-row : goal.invariant-find_under-loop-row
+invariant-find_under-loop-row l = (trace : List Step) → IsNowOf l.now trace
+    → Gathers (λ row. Missing trace (plan_of l.body) (filled (bound_in l.v) l.rows.columns row)) (take l.row-index l.rows.rows) []

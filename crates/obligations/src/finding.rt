@@ -1,0 +1,118 @@
+//! The first literal that a plan misses at a step.
+ghost use Rattle.std.specs.Prelude.{IfOk, IfSome, List, Contains};
+ghost use Rattle.enf_value.specs.declared.steps.Step.{Step};
+ghost use Rattle.enf_value.specs.declared.values.Value.{Value as AnyValue};
+ghost use Rattle.plan_terms.specs.Plans.{plan_of};
+ghost use Rattle.valuations.specs.Scopes.{bound_in, filled};
+ghost use Rattle.obligations.specs.Asked.{CanAsk, IsNowOf, IsWanted, guards_at};
+ghost use Rattle.obligations.specs.Missing.{Missing};
+ghost use Rattle.obligations.specs.Rows.{Gathers};
+ghost use Rattle.obligations.specs.Waiting.{FirstMissing, FirstOf, IsWantedUnder};
+
+use crate::laws::missing_exists;
+use crate::leaves::{cause_missing, suppress_missing};
+use crate::lists::misses_nothing;
+use crate::literals::Literal;
+use crate::now::Now;
+use enf_value::memory::NoMemory;
+use plan_terms::Plan;
+use std::alloc::Global;
+use valuations::{Frame, Table};
+
+// The first literal that the plan misses where it is begun at the step, if it misses any.
+#[cycle(finding)]
+pub fn find_missing<'a>(
+    alloc: Global,
+    plan: &Plan,
+    v: &'a Frame<'a>,
+    now: &Now<'_>,
+) -> Result<Option<Literal>, NoMemory>
+    requires { CanAsk (guards_at now.now.tables.now) (plan_of plan.now) (bound_in v.now) }
+    ensures first { IfOk result (λ found. (trace : List Step) → IsNowOf now.now trace
+        → FirstMissing trace (plan_of plan.now) (bound_in v.now) found) }
+    ensures wanted { IfOk result (λ found. IfSome found
+        (IsWanted now.now (plan_of plan.now) (bound_in v.now))) }
+{
+    match plan {
+        Plan::Cause {
+            node,
+            name,
+            terms,
+            ..
+        } => cause_missing(alloc, *node, *name, terms, &*v, now.events),
+        Plan::Suppress {
+            node,
+            name,
+            terms,
+            ..
+        } => suppress_missing(alloc, *node, *name, terms, &*v, now.events),
+        Plan::Both { left, right, .. } => {
+            missing_exists();
+            match find_missing(alloc, left, &*v, now)? {
+                Some(literal) => Ok(Some(literal)),
+                None => find_missing(alloc, right, &*v, now),
+            }
+        }
+        Plan::Either { left, right, .. } => {
+            if misses_nothing(alloc, left, &*v, now)? {
+                return Ok(None);
+            }
+            find_missing(alloc, right, &*v, now)
+        }
+        Plan::TestOr { guard, body, .. } => {
+            if now.tables.holds_under(alloc, *guard, now.ordered, &*v)? {
+                return Ok(None);
+            }
+            find_missing(alloc, body, &*v, now)
+        }
+        Plan::Guarded { guard, body, .. } => {
+            let rows = now.tables.rows_under(alloc, *guard, now.ordered, &*v)?;
+            find_under(alloc, body, &rows, &*v, now)
+        }
+        Plan::Always { low, body, .. } => {
+            if *low > 0 {
+                return Ok(None);
+            }
+            find_missing(alloc, body, &*v, now)
+        }
+        Plan::Until {
+            low,
+            left,
+            right,
+            ..
+        } => {
+            if *low == 0 && misses_nothing(alloc, right, &*v, now)? {
+                return Ok(None);
+            }
+            find_missing(alloc, left, &*v, now)
+        }
+        Plan::Eventually { .. } | Plan::Next { .. } => Ok(None),
+    }
+}
+
+// The same under the first row of a table under which the plan misses any.
+#[cycle(finding)]
+fn find_under<'a>(
+    alloc: Global,
+    body: &Plan,
+    rows: &'a Table,
+    v: &'a Frame<'a>,
+    now: &Now<'_>,
+) -> Result<Option<Literal>, NoMemory>
+    requires { (row : List AnyValue) → Contains rows.now.rows row → CanAsk (guards_at now.now.tables.now)
+        (plan_of body.now) (filled (bound_in v.now) rows.now.columns row) }
+    ensures first { IfOk result (λ found. (trace : List Step) → IsNowOf now.now trace
+        → FirstOf (Gathers (λ row. Missing trace (plan_of body.now)
+        (filled (bound_in v.now) rows.now.columns row)) rows.now.rows) found) }
+    ensures wanted { IfOk result (λ found. IfSome found
+        (IsWantedUnder now.now (plan_of body.now) (bound_in v.now) rows.now)) }
+{
+    missing_exists();
+    for row in rows.rows() {
+        let inner = Frame::Row(&*v, rows.columns().as_slice(), row.as_slice());
+        if let Some(literal) = find_missing(alloc, body, &inner, now)? {
+            return Ok(Some(literal));
+        }
+    }
+    Ok(None)
+}
