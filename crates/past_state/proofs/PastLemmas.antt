@@ -1,7 +1,6 @@
 -- Past states step by step.
 use Rattle.std.proofs.Common.{◌≡◌, ◌∙◌, ◌↔◌, ⊎_elim, ℕ, zero, suc, ◌+◌, ◌<◌, ◌≤◌, IsTrue, List, [], ◌∷◌, ◌++◌, length, drop, reverse, get_or, All, Contains, Some, refl, sym, ap, subst, arith, append-nil, append_assoc, length-append}
 use Rattle.std.specs.Prelude.{Bool, IsSome, slice_get}
-use Rattle.enf_value.specs.declared.terms.VarId.{VarId}
 use Rattle.std.proofs.lemmas.Option.{same_Some, none-some}
 use Rattle.std.proofs.lemmas.Bool.{and_parts}
 use Rattle.std.proofs.lemmas.List.{reverse-append, reverse-reverse}
@@ -26,7 +25,7 @@ use Rattle.past_state.specs.Memories.{given_by}
 use Rattle.past_state.specs.Names.{names_of, operator_names}
 use Rattle.past_state.specs.Operators.{operators, all_operators, all_outermost}
 use Rattle.past_state.specs.Past.{Past, PastTables, IsPast, IsSound, TablesStand, TablesStay, TablesWillStand, GuardsWillHold, AreMadeOf, AreOf, AreOfBut, PastCommitted, PastStands, RunStands, CommitStands, AreEvaluated, AreSatisfied, ArePastTables, HasOpenColumns, BeginAt, BindsBound, IsEvaluated, IsGuard, IsSatisfied, IsTestOf, formulas, formula_of, past_names, tables_of}
-use Rattle.past_state.specs.Runs.{AllStand, AreInsideOut, AreOrdered, AllFit, Runs, outer_onto, AllCommitted, AreSameKinds}
+use Rattle.past_state.specs.Runs.{AllStand, AreInsideOut, AreOrdered, AllFit, Runs, outer_onto, AreSameKinds}
 use Rattle.past_state.specs.declared.guards.PlacedGuard.{PlacedGuard}
 use Rattle.past_state.specs.declared.memories.StepTables.{StepTables}
 use Rattle.past_state.specs.declared.operators.OperatorState.{OperatorState}

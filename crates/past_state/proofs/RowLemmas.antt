@@ -1,5 +1,5 @@
 -- Rows as valuations, and what holds under them.
-use Rattle.std.proofs.Common.{◌≡◌, ◌∙◌, ◌↔◌, List, length, Contains, Result, Ok, Err, IfOk, refl, sym, ap, subst}
+use Rattle.std.proofs.Common.{◌≡◌, ◌∙◌, ◌↔◌, List, length, Result, Ok, Err, IfOk, refl, sym, ap, subst}
 use Rattle.std.specs.Prelude.{IsSome}
 use Rattle.std.specs.FinMap as finite
 use Rattle.enf_value.specs.Membership.{HasNoRepeats}

@@ -1,10 +1,9 @@
 -- What operators on the past remember and answer depends on the events of their names alone.
-use Rattle.std.proofs.Common.{◌≡◌, ◌∙◌, ◌↔◌, ⊎_elim, true≢false, Bool, false, IsTrue, ℕ, zero, suc, ◌+◌, ◌-◌, ◌<◌, ◌≤◌, List, [], ◌∷◌, ◌++◌, length, drop, reverse, get_or, All, Contains, Option, None, Some, refl, sym, ap, subst, arith, length-append}
-use Rattle.std.proofs.lemmas.List.Elements.{All-append, All-cons, All-head, All-nil, All-tail, Contains-append_cases, Contains-append_left, Contains-append_right}
+use Rattle.std.proofs.Common.{◌≡◌, ◌∙◌, ◌↔◌, ⊎_elim, true≢false, Bool, false, IsTrue, ℕ, zero, suc, ◌-◌, ◌<◌, ◌≤◌, List, [], ◌∷◌, ◌++◌, length, drop, get_or, All, Contains, Option, None, Some, refl, sym, ap, subst, arith, length-append}
+use Rattle.std.proofs.lemmas.List.Elements.{All-cons, All-head, All-nil, All-tail, Contains-append_cases, Contains-append_left, Contains-append_right}
 use Rattle.enf_value.specs.Data.{step_at}
 use Rattle.enf_value.specs.Membership.{IsIn}
 use Rattle.enf_value.specs.Valuations.{Valuation}
-use Rattle.enf_value.specs.declared.events.Event.{Event}
 use Rattle.enf_value.specs.declared.events.NameId.{NameId}
 use Rattle.enf_value.specs.declared.intervals.Interval.{Interval}
 use Rattle.enf_value.specs.declared.steps.Step.{Step}
@@ -12,16 +11,15 @@ use Rattle.enf_value.specs.declared.terms.VarId.{VarId}
 use Rattle.enf_formula.specs.Formulas.{Formula, Not, Implies, Prev, Once, Historically, Since, tree_of}
 use Rattle.enf_formula.specs.Laws.{NamesDecide}
 use Rattle.enf_formula.specs.Names.{AreSameOf, HaveSameOf, names_in}
-use Rattle.enf_formula.specs.Satisfaction.{Sat, Anywhere}
-use Rattle.monitorable_guard.specs.Present.{StandFor, StandsFor, Tabled}
+use Rattle.enf_formula.specs.Satisfaction.{Sat}
+use Rattle.monitorable_guard.specs.Present.{StandFor, Tabled}
 use Rattle.monitorable_guard.specs.Safety.{denial}
 use Rattle.trace_meaning.specs.Continuation.{last_time}
-use Rattle.valuations.specs.Just.{Binds}
 use Rattle.valuations.specs.Tables.{Relation}
 use Rattle.windows.specs.Kept.{ChosenBy}
 use Rattle.windows.specs.Slots.{IsUpToTime}
 use Rattle.windows.specs.Windows.{Window}
-use Rattle.past_state.specs.Held.{HeldAt, HeldWhere}
+use Rattle.past_state.specs.Held.{HeldWhere}
 use Rattle.past_state.specs.Kept.{HasPairAt, KeptAt}
 use Rattle.past_state.specs.Laws.{everywhere, satisfied}
 use Rattle.past_state.specs.Lefts.{AsksLeft}
@@ -29,7 +27,7 @@ use Rattle.past_state.specs.Memories.{IsFor, MemoryStands}
 use Rattle.past_state.specs.Names.{left_names, memory_names, names_of, operator_names}
 use Rattle.past_state.specs.Operators.{inner}
 use Rattle.past_state.specs.Runs.{AllStand, AreFor, outer_onto}
-use Rattle.past_state.specs.Stands.{SlotStands, WindowStands}
+use Rattle.past_state.specs.Stands.{WindowStands}
 use Rattle.past_state.specs.declared.left.Left.{Left}
 use Rattle.past_state.specs.declared.left.Left.TheVariants as side
 use Rattle.past_state.specs.declared.memories.Memory.{Memory}

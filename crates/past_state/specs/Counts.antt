@@ -1,5 +1,5 @@
 -- How many operators on the past formulas have.
-use Rattle.std.specs.Prelude.{ℕ, ◌≤◌, List, length, map, sum}
+use Rattle.std.specs.Prelude.{◌≤◌, List, length, map, sum}
 use Rattle.enf_formula.specs.Formulas.{Formula}
 use Rattle.enf_formula.specs.Shape.{size_of}
 use Rattle.past_state.specs.Operators.{all_operators}
