@@ -92,7 +92,7 @@ module _ (plans : List Plan) (nothing : NothingClashes plans) where
   acts_on_another Suppress Suppress event other before between role absent acts same =
       absent (subst (Contains before) same (taken_is_there other before between acts.1))
 
-  abbrev acted : List Action → List Event
+  abbrev pub acted : List Action → List Event
   acted actions = map (λ a. a.event) actions
 
   spent_is_left : (kind : LiteralKind) (event : Event) (before : List Event) (actions : List Action) (after : List Event)

@@ -56,7 +56,7 @@ at_end : (trace : List Step) (step : Step) → slice_index_or (trace ++ step ∷
 at_end [] step = refl
 at_end (first ∷ trace) step = at_end trace step
 
-last_step : (trace : List Step) (step : Step) → step_at (trace ++ step ∷ []) (last_position (trace ++ step ∷ [])) ≡ step
+pub last_step : (trace : List Step) (step : Step) → step_at (trace ++ step ∷ []) (last_position (trace ++ step ∷ [])) ≡ step
 last_step trace step =
     let last : length trace ≡ last_position (trace ++ step ∷ []) = omega (arith, length-append trace (step ∷ [])) in
     subst (λ n. slice_index_or (trace ++ step ∷ []) n no_step ≡ step) last (at_end trace step)

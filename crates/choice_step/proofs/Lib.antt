@@ -2,3 +2,9 @@ pub mod ActionLemmas
 pub mod WantedLemmas
 pub mod ChoiceLemmas
 pub mod CaseLemmas
+pub mod FiniteLemmas
+pub mod KnownLemmas
+pub mod LookingLemmas
+pub mod UniverseLemmas
+pub mod StepLemmas
+pub mod LoopLemmas

@@ -1,18 +1,23 @@
 //! The choice loop: what is added at a step and taken out, so that nothing is missing there.
-ghost use Rattle.std.specs.Prelude.{◌≡◌, ◌≤◌, ◌^◌, IfOk, length, map};
+ghost use Rattle.std.specs.Prelude.{◌≤◌, ◌^◌, List, IfOk, IfSome, length, map};
 ghost use Rattle.std.specs.List.{AllByRecursion};
+ghost use Rattle.choice_step.specs.Choice.{all_asked};
 ghost use Rattle.choice_step.specs.Choosing.{ActsFrom, WillDecide};
-ghost use Rattle.obligations.specs.Asked.{placed_guard};
+ghost use Rattle.choice_step.specs.Looking.{IsActionFor, IsStepOf, IsWantedAt, IsWantedBehind, WillFind};
+ghost use Rattle.enf_value.specs.declared.steps.Step.{Step};
+ghost use Rattle.obligations.specs.Asked.{guards_at, placed_guard};
 ghost use Rattle.obligations.specs.Waiting.{CanAskOf, CanAskRoots};
 ghost use Rattle.past_state.specs.Past.{AreOf};
 ghost use Rattle.past_state.specs.Runs.{AreUpToTimeOf};
 ghost use Rattle.plan_terms.specs.Changes.{NothingClashes};
 ghost use Rattle.plan_terms.specs.Plans.{plan_of};
 
-use crate::actions::Actions;
+use crate::actions::{Action, Actions};
+use crate::looking::{act, first_action};
 use enf_value::event_sets::EventSet;
 use enf_value::memory::NoMemory;
-use obligations::Pending;
+use monitorable_guard::StepEvents;
+use obligations::{Now, Pending};
 use past_state::{PastState, Tables};
 use plan_terms::Plan;
 use std::alloc::Global;
@@ -24,6 +29,13 @@ pub struct Choice {
     pub events: EventSet,
     pub actions: Actions,
     pub tables: Tables,
+}
+
+// What is found at a step: the action for the first that misses something, and the tables of the past.
+#[derive(Drop)]
+struct Found {
+    action: Option<Action>,
+    tables: Tables,
 }
 
 /// Runs the choice loop at a step at this time and position, which begins with these events: as long as one of the
@@ -53,8 +65,86 @@ pub fn choose(
         (λ choice. ActsFrom (map plan_of plans.now) events choice.actions choice.events) }
     ensures tables { IfOk result (λ choice. AreOf past.now time choice.events choice.tables) }
 {
-    let _asked = (
-        alloc, plans, pending, past, time, position, events, inserted,
-    );
-    Err(NoMemory)
+    // Its clause says that no event stands twice.
+    let _given = events.as_slice();
+    let mut events = events;
+    let mut actions = Actions::new(alloc);
+    loop {
+        let Found { action, tables } = look(
+            alloc, plans, pending, past, time, position, &events, inserted,
+        )?;
+        let Some(action) = action else {
+            return Ok(Choice {
+                events,
+                actions,
+                tables,
+            });
+        };
+        act(alloc, &mut events, &action)?;
+        let Ok(()) = actions.push(action) else {
+            return Err(NoMemory);
+        };
+    }
+}
+
+// Looks at the step with these events.
+fn look(
+    alloc: Global,
+    plans: &[Plan],
+    pending: &Pending,
+    past: &PastState,
+    time: u64,
+    position: u64,
+    events: &EventSet,
+    inserted: bool,
+) -> Result<Found, NoMemory>
+    requires few { length plans.now ≤ 2 ^ 32 }
+    requires roots { CanAskRoots (map placed_guard past.now.guards) (map plan_of plans.now) }
+    requires instances { AllByRecursion (CanAskOf (map placed_guard past.now.guards) (map plan_of plans.now))
+        pending.now.instances }
+    requires later { AreUpToTimeOf time past.now.operators }
+    ensures found { IfOk result (λ found. WillFind (map plan_of plans.now) pending.now.instances past.now
+        inserted time position events.now found.action) }
+    ensures wanted { IfOk result (λ found. IfSome found.action
+        (IsWantedBehind (map plan_of plans.now) pending.now.instances past.now events.now)) }
+    ensures tables { IfOk result (λ found. AreOf past.now time events.now found.tables) }
+{
+    let ordered = StepEvents::of(alloc, events)?;
+    let tables = past.tables_at(alloc, time, &ordered)?;
+    let action = first_at(
+        alloc, plans, pending, time, position, &ordered, &tables, inserted,
+    )?;
+    Ok(Found { action, tables })
+}
+
+// The action for the first that misses something at a step with these tables.
+fn first_at(
+    alloc: Global,
+    plans: &[Plan],
+    pending: &Pending,
+    time: u64,
+    position: u64,
+    ordered: &StepEvents<'_>,
+    tables: &Tables,
+    inserted: bool,
+) -> Result<Option<Action>, NoMemory>
+    requires few { length plans.now ≤ 2 ^ 32 }
+    requires roots { CanAskRoots (guards_at tables.now) (map plan_of plans.now) }
+    requires instances { AllByRecursion (CanAskOf (guards_at tables.now) (map plan_of plans.now))
+        pending.now.instances }
+    ensures found { IfOk result (λ found. (trace : List Step)
+        → IsStepOf time position ordered.now tables.now trace
+        → IsActionFor (map plan_of plans.now) inserted trace
+        (all_asked (map plan_of plans.now) pending.now.instances) found) }
+    ensures wanted { IfOk result (λ found. IfSome found
+        (IsWantedAt (map plan_of plans.now) pending.now.instances ordered.now ordered.now tables.now)) }
+{
+    let now = Now {
+        time,
+        position,
+        events: ordered.set(),
+        ordered,
+        tables,
+    };
+    first_action(alloc, plans, pending, &now, inserted)
 }

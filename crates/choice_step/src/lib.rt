@@ -5,6 +5,7 @@
 pub mod actions;
 pub mod choosing;
 pub mod laws;
+mod looking;
 pub mod worked_cases;
 
 pub use actions::{Action, Actions};

@@ -1,0 +1,307 @@
+-- The first of some that are asked at a step, and the action for it.
+use Rattle.std.proofs.Common.{◌≡◌, ℕ, zero, suc, ◌+◌, ◌<◌, ◌≤◌, Bool, List, [], ◌∷◌, ◌++◌, Option, None, Some, length, map, Contains, get_or, refl, sym, subst, ap, ◌∙◌, ⊎_elim, inl, inr, arith}
+use Rattle.std.specs.Prelude.{slice_get}
+use Rattle.std.specs.FinMap.{get-empty}
+use Rattle.std.specs.List.{AllByRecursion, find, flat_map}
+use Rattle.std.proofs.lemmas.List.Elements.{Contains-append_left, Contains-append_right}
+use Rattle.std.proofs.lemmas.Option.{none-some}
+use Rattle.enf_value.specs.ListLaws.{AllByRecursion-append, AllByRecursion-find, AllByRecursion-from_contains, Contains-append, first_or_later, later, none_in_nil, there_from_get}
+use Rattle.enf_value.specs.Valuations.{Valuation, no_values, variable_cmp}
+use Rattle.enf_value.specs.declared.steps.Step.{Step}
+use Rattle.enf_value.specs.declared.values.Value.{Value}
+use Rattle.plan_terms.specs.Nodes.{has_number, nodes}
+use Rattle.plan_terms.specs.Plans.{Plan, Cause, Suppress, Both, Either, TestOr, Guarded, Eventually, Always, Until, Next, plan_of}
+use Rattle.plan_terms.specs.Standing.{nodes_of}
+use Rattle.plan_terms.specs.declared.plans.Plan as stored
+use Rattle.obligations.specs.Asked.{IsBound, IsKnownAt, IsNowOf, IsWanted}
+use Rattle.obligations.specs.Begun.{time_now}
+use Rattle.obligations.specs.Pending.{node_of}
+use Rattle.obligations.specs.Waiting.{FirstMissing, FirstMissingOf, IsWantedOf}
+use Rattle.obligations.specs.declared.actions.Action.{Action}
+use Rattle.obligations.specs.declared.instances.Instance.{Instance}
+use Rattle.obligations.specs.declared.literals.Literal.{Literal}
+use Rattle.obligations.specs.declared.now.Now.{Now}
+use Rattle.choice_step.specs.Choice.{Asked, IsFirst, Misses, MissesNothing, Root, Waiting, action_at, action_for, is_forced, roots_from}
+use Rattle.choice_step.specs.Looking.{IsActionFor, IsKnownFor, IsWantedAt}
+use Rattle.choice_step.proofs.FiniteLemmas.{Contains-flat_map}
+
+module _ (plans : List Plan) (inserted : Bool) (trace : List Step) where
+  abbrev pub MissesFirst : Asked → Literal → Type 0
+  MissesFirst asked literal = (rest : List Literal) × Misses plans inserted trace asked (literal ∷ rest)
+
+  abbrev pub NoneBefore : List Instance → ℕ → Type 0
+  NoneBefore xs k = (j : ℕ) (d : Instance) → j < k → MissesNothing plans inserted trace (Waiting (get_or xs j d))
+
+  pub first_waiting : (xs : List Instance) (k : ℕ) (x : Instance) (literal : Literal) → k < length xs → x ≡ get_or xs k x
+      → NoneBefore xs k → MissesFirst (Waiting x) literal → IsFirst plans inserted trace (map Waiting xs) (Waiting x) literal
+  first_waiting [] k x literal within is none misses = absurd (omega (arith, within))
+  first_waiting (y ∷ xs) zero x literal within is none misses =
+      inl (ap Waiting (sym is), misses.0, subst (λ z. Misses plans inserted trace (Waiting z) (literal ∷ misses.0)) is misses.1)
+  first_waiting (y ∷ xs) (suc k) x literal within is none misses =
+      inr (none 0 y (omega arith), first_waiting xs k x literal (omega (arith, within)) is (λ j d below. none (suc j) d (omega (arith, below))) misses)
+
+  pub none_waiting : (xs : List Instance) (k : ℕ) → length xs ≤ k → NoneBefore xs k
+      → AllByRecursion (MissesNothing plans inserted trace) (map Waiting xs)
+  none_waiting [] k within none = tt
+  none_waiting (y ∷ xs) zero within none = absurd (omega (arith, within))
+  none_waiting (y ∷ xs) (suc k) within none =
+      (none 0 y (omega arith), none_waiting xs k (omega (arith, within)) (λ j d below. none (suc j) d (omega (arith, below))))
+
+  -- the same of the roots of rules
+  abbrev pub NoRootBefore : List stored.Plan → ℕ → Type 0
+  NoRootBefore xs k = (j : ℕ) (d : stored.Plan) → j < k → MissesNothing plans inserted trace (Root j (plan_of (get_or xs j d)))
+
+  pub first_root : (rule : ℕ) (xs : List stored.Plan) (k number : ℕ) (x : stored.Plan) (literal : Literal) → k < length xs
+      → x ≡ get_or xs k x → number ≡ rule + k → NoRootBefore xs k → MissesFirst (Root number (plan_of x)) literal
+      → IsFirst plans inserted trace (roots_from rule (map plan_of xs)) (Root number (plan_of x)) literal
+  first_root rule [] k number x literal within is at none misses = absurd (omega (arith, within))
+  first_root rule (y ∷ xs) zero number x literal within is at none misses =
+      let same : rule ≡ number = omega (arith, at) in
+      inl (λ i. Root (same i) (plan_of (sym is i)), misses.0, subst (λ z. Misses plans inserted trace (Root rule (plan_of z)) (literal ∷ misses.0)) is misses.1)
+  first_root rule (y ∷ xs) (suc k) number x literal within is at none misses =
+      inr (
+        none 0 y (omega arith),
+        first_root (suc rule) xs k number x literal (omega (arith, within)) is (omega (arith, at)) (λ j d below. none (suc j) d (omega (arith, below))) misses,
+      )
+
+  pub no_root : (rule : ℕ) (xs : List stored.Plan) (k : ℕ) → length xs ≤ k → NoRootBefore xs k
+      → AllByRecursion (MissesNothing plans inserted trace) (roots_from rule (map plan_of xs))
+  no_root rule [] k within none = tt
+  no_root rule (y ∷ xs) zero within none = absurd (omega (arith, within))
+  no_root rule (y ∷ xs) (suc k) within none =
+      (none 0 y (omega arith), no_root (suc rule) xs k (omega (arith, within)) (λ j d below. none (suc j) d (omega (arith, below))))
+
+  -- what a pending instance misses first, by the answer of the call, and whether it misses nothing
+  at_its_time : (now : Now) (i : Instance) (forced : Bool) (found other : Option Literal) → IsNowOf now trace
+      → forced ≡ is_forced inserted now.time i → found ≡ other → FirstMissingOf plans trace i forced found
+      → FirstMissingOf plans trace i (is_forced inserted (time_now trace) i) other
+  at_its_time now i forced found other of is same misses =
+      let at : forced ≡ is_forced inserted (time_now trace) i = is ∙ ap (λ t. is_forced inserted t i) (sym of.time) in
+      subst (λ b. FirstMissingOf plans trace i b other) at (subst (FirstMissingOf plans trace i forced) same misses)
+
+  pub misses_waiting : (now : Now) (i : Instance) (forced : Bool) (found : Option Literal) (literal : Literal) → IsNowOf now trace
+      → forced ≡ is_forced inserted now.time i → found ≡ Some literal → FirstMissingOf plans trace i forced found
+      → MissesFirst (Waiting i) literal
+  misses_waiting now i forced found literal of is same misses = at_its_time now i forced found (Some literal) of is same misses
+
+  pub waits : (now : Now) (i : Instance) (forced : Bool) (found : Option Literal) → IsNowOf now trace
+      → forced ≡ is_forced inserted now.time i → found ≡ None → FirstMissingOf plans trace i forced found
+      → MissesNothing plans inserted trace (Waiting i)
+  waits now i forced found of is same misses = at_its_time now i forced found None of is same misses
+
+  -- and the same of a root
+  at_root : (plan : Plan) (v : Valuation) (found other : Option Literal) → v ≡ no_values → found ≡ other
+      → FirstMissing trace plan v found → FirstMissing trace plan no_values other
+  at_root plan v found other none same misses =
+      subst (λ w. FirstMissing trace plan w other) none (subst (FirstMissing trace plan v) same misses)
+
+  pub misses_root : (rule : ℕ) (plan : Plan) (v : Valuation) (found : Option Literal) (literal : Literal) → v ≡ no_values
+      → found ≡ Some literal → FirstMissing trace plan v found → MissesFirst (Root rule plan) literal
+  misses_root rule plan v found literal none same misses = at_root plan v found (Some literal) none same misses
+
+  pub stays_root : (rule : ℕ) (plan : Plan) (v : Valuation) (found : Option Literal) → v ≡ no_values → found ≡ None
+      → FirstMissing trace plan v found → MissesNothing plans inserted trace (Root rule plan)
+  stays_root rule plan v found none same misses = at_root plan v found None none same misses
+
+  -- one more that misses nothing
+  pub one_more_waiting : (xs : List Instance) (k : ℕ) (x : Instance) → k < length xs → x ≡ get_or xs k x → NoneBefore xs k
+      → MissesNothing plans inserted trace (Waiting x) → NoneBefore xs (k + 1)
+  one_more_waiting [] k x within is none this j d below = absurd (omega (arith, within))
+  one_more_waiting (y ∷ xs) zero x within is none this zero d below =
+      subst (λ z. MissesNothing plans inserted trace (Waiting z)) is this
+  one_more_waiting (y ∷ xs) zero x within is none this (suc j) d below = absurd (omega (arith, below))
+  one_more_waiting (y ∷ xs) (suc k) x within is none this zero d below = none 0 d (omega arith)
+  one_more_waiting (y ∷ xs) (suc k) x within is none this (suc j) d below =
+      one_more_waiting xs k x (omega (arith, within)) is (λ i e before. none (suc i) e (omega (arith, before))) this j d (omega (arith, below))
+
+  pub one_more_root : (xs : List stored.Plan) (k : ℕ) (x : stored.Plan) → k < length xs → x ≡ get_or xs k x → NoRootBefore xs k
+      → MissesNothing plans inserted trace (Root k (plan_of x)) → NoRootBefore xs (k + 1)
+  one_more_root [] k x within is none this j d below = absurd (omega (arith, within))
+  one_more_root (y ∷ xs) zero x within is none this zero d below =
+      subst (λ z. MissesNothing plans inserted trace (Root 0 (plan_of z))) is this
+  one_more_root (y ∷ xs) zero x within is none this (suc j) d below = absurd (omega (arith, below))
+  one_more_root (y ∷ xs) (suc k) x within is none this zero d below = none 0 d (omega arith)
+  one_more_root (y ∷ xs) (suc k) x within is none this (suc j) d below =
+      one_more_root xs k x (omega (arith, within)) is (λ i e before. none (suc i) e (omega (arith, before))) this j d (omega (arith, below))
+
+  -- those that are asked later change nothing where one was found
+  first_of_more : (xs ys : List Asked) (asked : Asked) (literal : Literal) → IsFirst plans inserted trace xs asked literal
+      → IsFirst plans inserted trace (xs ++ ys) asked literal
+  first_of_more [] ys asked literal first = absurd first
+  first_of_more (x ∷ xs) ys asked literal first =
+      ⊎_elim (λ found. inl found) (λ behind. inr (behind.0, first_of_more xs ys asked literal behind.1)) first
+
+  first_behind : (xs ys : List Asked) (asked : Asked) (literal : Literal)
+      → AllByRecursion (MissesNothing plans inserted trace) xs → IsFirst plans inserted trace ys asked literal
+      → IsFirst plans inserted trace (xs ++ ys) asked literal
+  first_behind [] ys asked literal none first = first
+  first_behind (x ∷ xs) ys asked literal none first = inr (none.0, first_behind xs ys asked literal none.1 first)
+
+  pub found_first : (xs ys : List Asked) (action : Action) → IsActionFor plans inserted trace xs (Some action)
+      → IsActionFor plans inserted trace (xs ++ ys) (Some action)
+  found_first xs ys action (asked, literal, first, is) = (asked, literal, first_of_more xs ys asked literal first, is)
+
+  pub found_behind : (xs ys : List Asked) (found : Option Action) → IsActionFor plans inserted trace xs None
+      → IsActionFor plans inserted trace ys found → IsActionFor plans inserted trace (xs ++ ys) found
+  found_behind xs ys None none behind = AllByRecursion-append (MissesNothing plans inserted trace) xs ys none behind
+  found_behind xs ys (Some action) none (asked, literal, first, is) =
+      (asked, literal, first_behind xs ys asked literal none first, is)
+
+-- the action at a step is the action for its trace
+pub for_trace : (now : Now) (trace : List Step) (asked : Asked) (literal : Literal) (action : Action) → IsNowOf now trace
+    → action ≡ action_at now.time now.position asked literal → action ≡ action_for trace asked literal
+for_trace now trace asked literal action of is =
+    is ∙ (λ i. action_at (sym of.time i) (sym of.position i) asked literal)
+
+-- ---- what is wanted
+
+nodes_within : (plan node leaf : Plan) → Contains (nodes plan) node → Contains (nodes node) leaf → Contains (nodes plan) leaf
+nodes_within (Cause number place name terms) node leaf there below =
+    one (Cause number place name terms) node leaf there below
+  where
+    one : (plan node leaf : Plan) → Contains (plan ∷ []) node → Contains (nodes node) leaf → Contains (nodes plan) leaf
+    one plan node leaf there below =
+        ⊎_elim
+        (λ same. subst (λ p. Contains (nodes p) leaf) (sym same) below)
+        (λ behind. absurd (none_in_nil node behind))
+        (first_or_later node plan [] there)
+nodes_within (Suppress number place name terms) node leaf there below =
+    ⊎_elim
+    (λ same. subst (λ p. Contains (nodes p) leaf) (sym same) below)
+    (λ behind. absurd (none_in_nil node behind))
+    (first_or_later node (Suppress number place name terms) [] there)
+nodes_within (Both number left right) node leaf there below =
+    ⊎_elim
+    (λ same. subst (λ p. Contains (nodes p) leaf) (sym same) below)
+    (λ behind. later leaf (Both number left right) (nodes left ++ nodes right) (⊎_elim
+    (λ front. Contains-append_left (nodes left) (nodes right) leaf (nodes_within left node leaf front below))
+    (λ back. Contains-append_right (nodes left) (nodes right) leaf (nodes_within right node leaf back below))
+    (Contains-append (nodes left) (nodes right) node behind)))
+    (first_or_later node (Both number left right) (nodes left ++ nodes right) there)
+nodes_within (Either number left right) node leaf there below =
+    ⊎_elim
+    (λ same. subst (λ p. Contains (nodes p) leaf) (sym same) below)
+    (λ behind. later leaf (Either number left right) (nodes left ++ nodes right) (⊎_elim
+    (λ front. Contains-append_left (nodes left) (nodes right) leaf (nodes_within left node leaf front below))
+    (λ back. Contains-append_right (nodes left) (nodes right) leaf (nodes_within right node leaf back below))
+    (Contains-append (nodes left) (nodes right) node behind)))
+    (first_or_later node (Either number left right) (nodes left ++ nodes right) there)
+nodes_within (TestOr number guard test body) node leaf there below =
+    ⊎_elim
+    (λ same. subst (λ p. Contains (nodes p) leaf) (sym same) below)
+    (λ behind. later leaf (TestOr number guard test body) (nodes body) (nodes_within body node leaf behind below))
+    (first_or_later node (TestOr number guard test body) (nodes body) there)
+nodes_within (Guarded number xs guard test body) node leaf there below =
+    ⊎_elim
+    (λ same. subst (λ p. Contains (nodes p) leaf) (sym same) below)
+    (λ behind. later leaf (Guarded number xs guard test body) (nodes body) (nodes_within body node leaf behind below))
+    (first_or_later node (Guarded number xs guard test body) (nodes body) there)
+nodes_within (Eventually number place low high body) node leaf there below =
+    ⊎_elim
+    (λ same. subst (λ p. Contains (nodes p) leaf) (sym same) below)
+    (λ behind. later leaf (Eventually number place low high body) (nodes body) (nodes_within body node leaf behind below))
+    (first_or_later node (Eventually number place low high body) (nodes body) there)
+nodes_within (Always number place low high body) node leaf there below =
+    ⊎_elim
+    (λ same. subst (λ p. Contains (nodes p) leaf) (sym same) below)
+    (λ behind. later leaf (Always number place low high body) (nodes body) (nodes_within body node leaf behind below))
+    (first_or_later node (Always number place low high body) (nodes body) there)
+nodes_within (Until number place low high left right) node leaf there below =
+    ⊎_elim
+    (λ same. subst (λ p. Contains (nodes p) leaf) (sym same) below)
+    (λ behind. later leaf (Until number place low high left right) (nodes left ++ nodes right) (⊎_elim
+    (λ front. Contains-append_left (nodes left) (nodes right) leaf (nodes_within left node leaf front below))
+    (λ back. Contains-append_right (nodes left) (nodes right) leaf (nodes_within right node leaf back below))
+    (Contains-append (nodes left) (nodes right) node behind)))
+    (first_or_later node (Until number place low high left right) (nodes left ++ nodes right) there)
+nodes_within (Next number place high body) node leaf there below =
+    ⊎_elim
+    (λ same. subst (λ p. Contains (nodes p) leaf) (sym same) below)
+    (λ behind. later leaf (Next number place high body) (nodes body) (nodes_within body node leaf behind below))
+    (first_or_later node (Next number place high body) (nodes body) there)
+
+-- a node that is found in the plan of a rule is one of all nodes, and so is each below it
+below_found : (plans : List Plan) (rule number : ℕ) (plan : Option Plan) (node leaf : Plan) → slice_get plans rule ≡ plan
+    → find (has_number number) (nodes_of plan) ≡ Some node → Contains (nodes node) leaf → Contains (flat_map nodes plans) leaf
+below_found plans rule number None node leaf at found below = absurd (none-some node found)
+below_found plans rule number (Some plan) node leaf at found below =
+    let there : Contains (nodes plan) node =
+    AllByRecursion-find (Contains (nodes plan)) (has_number number) (nodes plan) node
+    (AllByRecursion-from_contains (Contains (nodes plan)) (nodes plan) (λ other is. is)) found
+    in
+    Contains-flat_map nodes plans plan leaf (there_from_get plans rule plan at) (nodes_within plan node leaf there below)
+
+pub node_below : (plans : List Plan) (i : Instance) (node leaf : Plan) → node_of plans i ≡ Some node → Contains (nodes node) leaf
+    → Contains (flat_map nodes plans) leaf
+node_below plans i node leaf found below =
+    below_found plans i.rule i.node (slice_get plans i.rule) node leaf refl found below
+
+-- what is known to a plan is known, where the leaves below it are among those of all plans
+known_for : (plans : List Plan) (pending : List Instance) (now : Now) (plan : Plan) (i : Instance) (value : Value)
+    → Contains pending i → ((leaf : Plan) → Contains (nodes plan) leaf → Contains (flat_map nodes plans) leaf)
+    → IsKnownAt now plan i.valuation value → IsKnownFor plans pending now.ordered.now now.tables.now value
+known_for plans pending now plan i value there all known =
+    ⊎_elim
+    (λ bound. inl (i, there, bound))
+    (λ others. inr (⊎_elim
+    (λ argument. inl argument)
+    (λ others. inr (⊎_elim
+    (λ tabled. inl tabled)
+    (λ others. inr (⊎_elim
+    (λ constant. inl constant)
+    (λ leaf. inr (leaf.0, all leaf.0 leaf.1, leaf.2))
+    others))
+    others))
+    others))
+    known
+
+pub wanted_waiting : (plans : List Plan) (pending : List Instance) (now : Now) (i : Instance) (literal : Literal) (action : Action)
+    → Contains pending i → IsWantedOf now plans i literal → action ≡ action_at now.time now.position (Waiting i) literal
+    → IsWantedAt plans pending now.events.now now.ordered.now now.tables.now action
+wanted_waiting plans pending now i literal action there wanted is =
+    let all : (leaf : Plan) → Contains (nodes wanted.node) leaf → Contains (flat_map nodes plans) leaf =
+    λ leaf below. node_below plans i wanted.node leaf wanted.found below
+    in
+    let by : IsWantedAt plans pending now.events.now now.ordered.now now.tables.now (action_at now.time now.position (Waiting i) literal) = record {
+      leaf = wanted.wanted.leaf;
+      there = all wanted.wanted.leaf wanted.wanted.there;
+      is = wanted.wanted.is;
+      changes = wanted.wanted.changes;
+      known = λ value arg. known_for plans pending now wanted.node i value there all (wanted.wanted.known value arg);
+    } in
+    subst (IsWantedAt plans pending now.events.now now.ordered.now now.tables.now) (sym is) by
+
+-- nothing is bound at the root of a rule
+nothing_bound : (value : Value) → IsBound no_values value → ⊥
+nothing_bound value (x, is) = none-some value (sym (get-empty variable_cmp x) ∙ is)
+
+pub wanted_root : (plans : List Plan) (pending : List Instance) (now : Now) (rule : ℕ) (plan : Plan) (literal : Literal) (action : Action)
+    → Contains plans plan → IsWanted now plan no_values literal → action ≡ action_at now.time now.position (Root rule plan) literal
+    → IsWantedAt plans pending now.events.now now.ordered.now now.tables.now action
+wanted_root plans pending now rule plan literal action there wanted is =
+    let all : (leaf : Plan) → Contains (nodes plan) leaf → Contains (flat_map nodes plans) leaf =
+    λ leaf below. Contains-flat_map nodes plans plan leaf there below
+    in
+    let known : (value : Value) → IsKnownAt now plan no_values value → IsKnownFor plans pending now.ordered.now now.tables.now value =
+    λ value known. ⊎_elim
+    (λ bound. absurd (nothing_bound value bound))
+    (λ others. inr (⊎_elim
+    (λ argument. inl argument)
+    (λ others. inr (⊎_elim
+    (λ tabled. inl tabled)
+    (λ others. inr (⊎_elim
+    (λ constant. inl constant)
+    (λ leaf. inr (leaf.0, all leaf.0 leaf.1, leaf.2))
+    others))
+    others))
+    others))
+    known
+    in
+    let by : IsWantedAt plans pending now.events.now now.ordered.now now.tables.now (action_at now.time now.position (Root rule plan) literal) = record {
+      leaf = wanted.leaf;
+      there = all wanted.leaf wanted.there;
+      is = wanted.is;
+      changes = wanted.changes;
+      known = λ value arg. known value (wanted.known value arg);
+    } in
+    subst (IsWantedAt plans pending now.events.now now.ordered.now now.tables.now) (sym is) by

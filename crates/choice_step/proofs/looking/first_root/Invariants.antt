@@ -1,0 +1,10 @@
+use Rattle.std.proofs.Common.{List, map}
+use Rattle.enf_value.specs.declared.steps.Step.{Step}
+use Rattle.plan_terms.specs.Plans.{plan_of}
+use Rattle.obligations.specs.Asked.{IsNowOf}
+use Rattle.choice_step.proofs.LookingLemmas.{NoRootBefore}
+use Rattle.choice_step.proofs.looking.first_root.Given as goal
+
+abbrev pub invariant-loop-rule : goal.invariant-loop-rule
+invariant-loop-rule l = (trace : List Step) → IsNowOf l.now trace
+    → NoRootBefore (map plan_of l.plans) l.inserted trace l.plans l.rule
