@@ -8,5 +8,6 @@ pub mod ExistLemmas
 pub mod WantedLemmas
 pub mod FirstLemmas
 pub mod LawLemmas
+pub mod FoundingLemmas
 pub mod TraceLemmas
 pub mod NowLemmas

@@ -9,4 +9,5 @@ pub mod Asked
 pub mod Waiting
 pub mod Adding
 pub mod Existing
+pub mod Founding
 pub mod Cases

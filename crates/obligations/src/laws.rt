@@ -1,6 +1,7 @@
 //! Laws of what plans miss and begin, each the contract of a function that does nothing.
 ghost use Rattle.obligations.specs.Enough.{NothingMissedIsEnough, NothingMissedIsEnoughPending, SomethingMissedIsLost};
 ghost use Rattle.obligations.specs.Existing.{BegunExists, MissingExists, NothingGoesOn};
+ghost use Rattle.obligations.specs.Founding.{CanBeAsked, NowStands, WellFormedStand};
 ghost use Rattle.obligations.specs.Missing.{MissingIsOne};
 ghost use Rattle.obligations.specs.Pending.{AfterIsOne, BegunIsOne, MissingOfIsOne, PendIsOne};
 ghost use Rattle.obligations.specs.Rows.{RowsAreOne};
@@ -8,7 +9,7 @@ ghost use Rattle.obligations.specs.Traces.{CleanGrows, NothingIsPending, PendGro
 
 use enf_formula::laws;
 use monitorable_guard::laws::safe_has_rows;
-use plan_terms::laws::nodes_have_scopes;
+use plan_terms::laws::{nodes_have_scopes, nodes_stand_in_plans};
 use trace_meaning::laws::last_time_of_trace;
 
 /// A guard has one list of rows at most, and a plan misses one list of literals.
@@ -71,3 +72,16 @@ pub fn nothing_goes_on()
 {
     missing_exists();
 }
+
+/// The plans of a policy can be asked at a step with copies of its guards, and their nodes stand in them.
+pub fn well_formed_can_be_asked()
+    ensures asked { CanBeAsked }
+    ensures stand { WellFormedStand }
+{
+    nodes_stand_in_plans();
+}
+
+/// A step with the tables of a past that stands for a trace stands for the trace with the step.
+pub fn now_stands()
+    ensures { NowStands }
+{}
