@@ -1,2 +1,3 @@
+pub mod Beginning
 pub mod Beside
 pub mod Running

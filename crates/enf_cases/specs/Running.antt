@@ -9,8 +9,8 @@ use Rattle.past_state.specs.Guarded.{AreCopies, tree_in}
 use Rattle.past_state.specs.Past.{Past, PastStands}
 use Rattle.past_state.specs.LastTimes.{IsLastTime, IsUpToLast}
 use Rattle.valuations.specs.Just.{Binds}
-use Rattle.enf_cases.specs.declared.running.Asked.{Asked}
-use Rattle.enf_cases.specs.declared.running.Asked.TheVariants.{Rows, Holds}
+use Rattle.enf_cases.specs.declared.running.Question.{Question}
+use Rattle.enf_cases.specs.declared.running.Question.TheVariants.{Rows, Holds}
 
 -- the past has this guard alone
 abbrev pub IsOf : BoundFormula → Past → Type 0
@@ -29,6 +29,6 @@ abbrev pub IsClosed : BoundFormula → Type 0
 IsClosed guard = FreeWithin (tree_in guard) (Contains guard.bound)
 
 -- its rows, where nothing is bound; whether it holds under valuations that bind all its free variables
-abbrev pub CanAsk : BoundFormula → Asked → Type 0
+abbrev pub CanAsk : BoundFormula → Question → Type 0
 CanAsk guard Rows = Binds no_values guard.bound
 CanAsk guard (Holds valuations) = IsClosed guard × All (λ v. Binds v guard.bound) valuations.now

@@ -1,11 +1,9 @@
 //! Why a case has no answer.
-
-use enf_value::{NoMemory, TextRefusal};
+use enf_value::NoMemory;
 use std::alloc::{AllocError, AllocFailed};
-use std::fmt;
 
 /// Why a case has no answer.
-#[derive(Clone, Copy, Debug)]
+#[derive(Clone, Copy)]
 pub enum CaseError {
     UnknownKind,
     /// The input is not of the form that its kind has.
@@ -13,12 +11,13 @@ pub enum CaseError {
     NoMemory,
 }
 
-impl fmt::Display for CaseError {
-    fn fmt<W: fmt::Write>(&self, f: &mut fmt::Formatter<W>) -> fmt::Result {
+impl CaseError {
+    /// What is printed in the place of an answer.
+    pub fn text(self) -> &'static [u8] {
         match self {
-            CaseError::UnknownKind => write!(f, "unknown kind"),
-            CaseError::Malformed => write!(f, "malformed"),
-            CaseError::NoMemory => write!(f, "no memory"),
+            CaseError::UnknownKind => b"unknown kind",
+            CaseError::Malformed => b"malformed",
+            CaseError::NoMemory => b"no memory",
         }
     }
 }
@@ -38,14 +37,5 @@ impl From<AllocError> for CaseError {
 impl<T: Drop> From<AllocFailed<T>> for CaseError {
     fn from(_error: AllocFailed<T>) -> CaseError {
         CaseError::NoMemory
-    }
-}
-
-impl From<TextRefusal> for CaseError {
-    fn from(refusal: TextRefusal) -> CaseError {
-        match refusal {
-            TextRefusal::NoMemory => CaseError::NoMemory,
-            TextRefusal::TooLong | TextRefusal::NotUtf8 => CaseError::Malformed,
-        }
     }
 }

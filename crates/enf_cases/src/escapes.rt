@@ -1,60 +1,73 @@
 //! The bytes that an input stands for.
-ghost use Rattle.std.specs.Prelude.{◌<◌, IfOk};
+ghost use Rattle.std.specs.Prelude.{◌<◌, IfSome, length};
 
 use crate::case::CaseError;
 use std::alloc::Global;
 
-// What has come of an escape.
-#[derive(Clone, Copy)]
-enum Escape {
-    Nothing,
-    Backslash,
-    Hex,
-    HexDigit(u8),
-}
-
 /// The bytes of an input, with its escapes replaced.
 pub fn unescaped(alloc: Global, input: &[u8]) -> Result<Vec<u8>, CaseError> {
     let mut bytes = Vec::with_capacity(alloc, input.len())?;
-    let mut escape = Escape::Nothing;
-    for byte in input {
-        escape = take(escape, *byte, &mut bytes)?;
+    unescape(input, &mut bytes)?;
+    Ok(bytes)
+}
+
+fn unescape(input: &[u8], bytes: &mut Vec<u8>) -> Result<(), CaseError> {
+    let mut rest = input;
+    while let Some((byte, behind)) = next(rest) {
+        bytes.push(byte)?;
+        rest = behind;
     }
-    match escape {
-        Escape::Nothing => Ok(bytes),
-        _ => Err(CaseError::Malformed),
+    if rest.is_empty() {
+        Ok(())
+    } else {
+        Err(CaseError::Malformed)
     }
 }
 
-// Takes the next byte, and appends the one for which it or its escape stands.
-fn take(escape: Escape, byte: u8, bytes: &mut Vec<u8>) -> Result<Escape, CaseError> {
-    match (escape, byte) {
-        (Escape::Nothing, b'\\') => return Ok(Escape::Backslash),
-        (Escape::Nothing, _) => bytes.push(byte)?,
-        (Escape::Backslash, b'x') => return Ok(Escape::Hex),
-        (Escape::Backslash, _) => bytes.push(plain(byte)?)?,
-        (Escape::Hex, _) => return Ok(Escape::HexDigit(hex(byte)?)),
-        (Escape::HexDigit(high), _) => bytes.push((high & 15) << 4 | hex(byte)?)?,
-    }
-    Ok(Escape::Nothing)
-}
-
-fn plain(letter: u8) -> Result<u8, CaseError> {
-    match letter {
-        b'n' => Ok(b'\n'),
-        b'r' => Ok(b'\r'),
-        b't' => Ok(b'\t'),
-        b'\\' => Ok(b'\\'),
-        _ => Err(CaseError::Malformed),
-    }
-}
-
-fn hex(digit: u8) -> Result<u8, CaseError>
-    ensures { IfOk result (λ value. value < 16) }
+// The byte that the front stands for, and what is behind it.
+fn next(input: &[u8]) -> Option<(u8, &[u8])>
+    ensures { IfSome result (λ found. length found.1.now < length input.now) }
 {
+    match input.split_first()? {
+        (b'\\', rest) => escaped(rest),
+        (byte, rest) => Some((*byte, rest)),
+    }
+}
+
+// The same behind a backslash.
+fn escaped(input: &[u8]) -> Option<(u8, &[u8])>
+    ensures { IfSome result (λ found. length found.1.now < length input.now) }
+{
+    match input.split_first()? {
+        (b'x', digits) => byte_of(digits),
+        (letter, rest) => Some((plain(*letter)?, rest)),
+    }
+}
+
+// The byte of two digits.
+fn byte_of(digits: &[u8]) -> Option<(u8, &[u8])>
+    ensures { IfSome result (λ found. length found.1.now < length digits.now) }
+{
+    let [high, low, ..] = digits else {
+        return None;
+    };
+    Some((hex(*high)? << 4 | hex(*low)?, &digits[2..]))
+}
+
+fn plain(letter: u8) -> Option<u8> {
+    match letter {
+        b'n' => Some(b'\n'),
+        b'r' => Some(b'\r'),
+        b't' => Some(b'\t'),
+        b'\\' => Some(b'\\'),
+        _ => None,
+    }
+}
+
+fn hex(digit: u8) -> Option<u8> {
     match digit {
-        b'0'..=b'9' => Ok(digit - b'0'),
-        b'a'..=b'f' => Ok(digit - b'a' + 10),
-        _ => Err(CaseError::Malformed),
+        b'0'..=b'9' => Some(digit - b'0'),
+        b'a'..=b'f' => Some(digit - b'a' + 10),
+        _ => None,
     }
 }

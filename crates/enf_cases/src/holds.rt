@@ -5,27 +5,37 @@ ghost use Rattle.past_state.specs.Guarded.{IsFreshGuard};
 ghost use Rattle.valuations.specs.Just.{Binds};
 
 use crate::case::CaseError;
-use crate::parts::{cut, part, read_formula, read_variables};
+use crate::output::Output;
+use crate::parts::{cut, read_formula, read_variables, three};
 use crate::past::guard_of;
-use crate::running::{Asked, Run, Way, answer_log};
+use crate::running::{Question, Run, Way, answer_log};
 use crate::tables::read_valuation;
 use enf_value::{VarId, Vars};
 use monitorable_guard::{Guard, is_test};
 use std::alloc::Global;
 use valuations::Valuation;
 
-/// Appends, for each step of a log with `/` behind it, `1` for each valuation under which a guard holds and `0` for
+/// For each step of a log, with `/` behind it, `1` for each valuation under which a guard holds and `0` for
 /// each other. The input has, with a byte 1 behind each but the last, the numbers of the guard's variables, the
 /// valuations with `;` behind each, a signature, a policy of one rule, and a log: the guard is the formula of the rule,
 /// or what stands below its first `exists`.
-pub fn answer(alloc: Global, input: &[u8], out: &mut Vec<u8>) -> Result<(), CaseError> {
-    let (bound, rest) = part(input)?;
-    let (values, rest) = part(rest)?;
-    let (signature, rest) = part(rest)?;
-    let (policy, log) = part(rest)?;
-    let bound = read_variables(alloc, bound)?;
-    let guard = guard_of(alloc, read_formula(alloc, signature, policy)?, &bound)?;
+pub fn answer(alloc: Global, input: &[u8], out: &mut Output) -> Result<(), CaseError> {
+    let (bound, values, rest) = three(input)?;
+    let (signature, policy, log) = three(rest)?;
+    let guard = read_guard(alloc, bound, signature, policy)?;
     answer_guard(alloc, &guard, values, signature, log, out)
+}
+
+fn read_guard(
+    alloc: Global,
+    bound: &[u8],
+    signature: &[u8],
+    policy: &[u8],
+) -> Result<Guard, CaseError>
+    ensures { IfOk result IsFreshGuard }
+{
+    let bound = read_variables(alloc, bound)?;
+    guard_of(alloc, read_formula(alloc, signature, policy)?, &bound)
 }
 
 fn answer_guard(
@@ -34,16 +44,15 @@ fn answer_guard(
     values: &[u8],
     signature: &[u8],
     log: &[u8],
-    out: &mut Vec<u8>,
+    out: &mut Output,
 ) -> Result<(), CaseError>
     requires { IsFreshGuard guard.now }
 {
     check_test(alloc, guard)?;
     let valuations = read_valuations(alloc, guard.bound(), values)?;
-    let asked = Asked::Holds(valuations.as_slice());
     let run = Run {
         guard,
-        asked,
+        question: Question::Holds(valuations.as_slice()),
         way: Way::Committed,
     };
     answer_log(alloc, &run, signature, log, out)

@@ -1,16 +1,15 @@
 //! Intervals: whether they have a difference.
-
 use crate::case::CaseError;
+use crate::output::Output;
 use crate::parts::{read_interval, read_number};
-use enf_value::print_bytes;
 
-/// Appends whether the interval has the difference; the input is `LOW HIGH DIFFERENCE`, where HIGH may be `*`.
-pub fn answer(input: &[u8], out: &mut Vec<u8>) -> Result<(), CaseError> {
+/// Whether the interval has the difference; the input is `LOW HIGH DIFFERENCE`, where HIGH may be `*`.
+pub fn answer(input: &[u8], out: &mut Output) -> Result<(), CaseError> {
     let (interval, difference) = read_interval(input)?;
-    let answer: &[u8] = if interval.has(read_number(difference)?) {
-        b"within"
+    if interval.has(read_number(difference)?) {
+        out.bytes(b"within");
     } else {
-        b"outside"
-    };
-    Ok(print_bytes(answer, out)?)
+        out.bytes(b"outside");
+    }
+    Ok(())
 }

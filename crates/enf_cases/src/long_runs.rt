@@ -5,10 +5,11 @@ ghost use Rattle.past_state.specs.Past.{BindsBound};
 ghost use Rattle.past_state.specs.Runs.{AreUpToTimeOf};
 
 use crate::case::CaseError;
-use crate::event_sets::event_of;
-use crate::parts::{part, read_count, word};
+use crate::event_sets::{event_of, insert};
+use crate::output::Output;
+use crate::parts::{read_count, two, word};
 use crate::past::{begun, kept_rows, read_guard};
-use enf_value::{EventSet, print_bytes, print_number};
+use enf_value::EventSet;
 use past_state::{PastState, Tables};
 use std::alloc::Global;
 use valuations::Valuation;
@@ -32,25 +33,25 @@ struct Counts {
     most: usize,
 }
 
-/// Appends at how many steps of a run a guard has rows, how many rows are kept at its end, and the most behind a step.
-/// The input is the numbers of steps and of users and how many steps pass between two counts, a byte 1, and a policy of
-/// one rule: the guard is what stands below its first `exists`. With u being i modulo the users, step i is at time i and
-/// has `p(u)`, `q` of the user as far from the last as u from the first, and `r` of the user half of all further on.
-pub fn answer(alloc: Global, input: &[u8], out: &mut Vec<u8>) -> Result<(), CaseError> {
-    let (numbers, policy) = part(input)?;
+/// At how many steps of a run a guard has rows, how many rows are kept at its end, and the most behind a step. The input
+/// is the numbers of steps and of users and how many steps pass between two counts, a byte 1, and a policy of one rule:
+/// the guard is what stands below its first `exists`. With u being i modulo the users, step i is at time i and has
+/// `p(u)`, `q` of the user as far from the last as u from the first, and `r` of the user half of all further on.
+pub fn answer(alloc: Global, input: &[u8], out: &mut Output) -> Result<(), CaseError> {
+    let (numbers, policy) = two(input)?;
     let run = read_run(numbers)?;
     let guard = read_guard(alloc, SIGNATURE, policy)?;
     let mut state = begun(alloc, &guard)?;
-    let counts = count(alloc, run, &mut state)?;
-    print_counts(counts, out)
+    print_counts(count(alloc, run, &mut state)?, out);
+    Ok(())
 }
 
-fn print_counts(counts: Counts, out: &mut Vec<u8>) -> Result<(), CaseError> {
-    print_number(counts.held.into(), out)?;
-    print_bytes(b" steps, kept ", out)?;
-    print_number(counts.kept as u64, out)?;
-    print_bytes(b", at most ", out)?;
-    Ok(print_number(counts.most as u64, out)?)
+fn print_counts(counts: Counts, out: &mut Output) {
+    out.number(counts.held.into());
+    out.bytes(b" steps, kept ");
+    out.number(counts.kept as u64);
+    out.bytes(b", at most ");
+    out.number(counts.most as u64);
 }
 
 fn read_run(numbers: &[u8]) -> Result<Run, CaseError>
@@ -59,17 +60,26 @@ fn read_run(numbers: &[u8]) -> Result<Run, CaseError>
 {
     let (steps, rest) = word(numbers)?;
     let (users, every) = word(rest)?;
-    let steps = read_count(steps)?;
-    let users = read_count(users)?;
-    let every = read_count(every)?;
-    if users > 0 && every > 0 {
-        Ok(Run {
-            steps,
-            users,
-            every,
-        })
-    } else {
-        Err(CaseError::Malformed)
+    run_of(steps, users, every)
+}
+
+fn run_of(steps: &[u8], users: &[u8], every: &[u8]) -> Result<Run, CaseError>
+    ensures users { IfOk result (λ run. 0 < run.users) }
+    ensures every { IfOk result (λ run. 0 < run.every) }
+{
+    Ok(Run {
+        steps: read_count(steps)?,
+        users: read_positive(users)?,
+        every: read_positive(every)?,
+    })
+}
+
+fn read_positive(bytes: &[u8]) -> Result<u32, CaseError>
+    ensures { IfOk result (λ count. 0 < count) }
+{
+    match read_count(bytes)? {
+        0 => Err(CaseError::Malformed),
+        count => Ok(count),
     }
 }
 
@@ -87,15 +97,19 @@ fn count(alloc: Global, run: Run, state: &mut PastState) -> Result<Counts, CaseE
             held += 1;
         }
         if step % run.every == 0 {
-            most = most.max(kept_rows(alloc, state)?.len());
+            most = most.max(count_kept(alloc, state)?);
         }
     }
-    let kept = kept_rows(alloc, state)?.len();
+    let kept = count_kept(alloc, state)?;
     Ok(Counts {
         held,
         kept,
         most: most.max(kept),
     })
+}
+
+fn count_kept(alloc: Global, state: &PastState) -> Result<usize, CaseError> {
+    Ok(kept_rows(alloc, state)?.len())
 }
 
 // Whether the guard has a row at the step, which is committed.
@@ -141,10 +155,17 @@ fn events_at(alloc: Global, user: u32, users: u32) -> Result<EventSet, CaseError
     requires { user < users }
 {
     let mut events = EventSet::new(alloc);
-    insert(alloc, 0, user, &mut events)?;
-    insert(alloc, 1, users - 1 - user, &mut events)?;
-    insert(alloc, 2, opposite(user, users), &mut events)?;
+    insert_all(alloc, user, users, &mut events)?;
     Ok(events)
+}
+
+fn insert_all(alloc: Global, user: u32, users: u32, events: &mut EventSet) -> Result<(), CaseError>
+    requires { user < users }
+{
+    insert(event_of(alloc, 0, user.into())?, events)?;
+    insert(event_of(alloc, 1, (users - 1 - user).into())?, events)?;
+    insert(event_of(alloc, 2, opposite(user, users).into())?, events)?;
+    Ok(())
 }
 
 // The user who is half of all further on.
@@ -156,12 +177,5 @@ fn opposite(user: u32, users: u32) -> u32
         user + half
     } else {
         user - half
-    }
-}
-
-fn insert(alloc: Global, name: u32, user: u32, events: &mut EventSet) -> Result<(), CaseError> {
-    match events.insert(event_of(alloc, name, user.into())?) {
-        Ok(_) => Ok(()),
-        Err(_) => Err(CaseError::NoMemory),
     }
 }

@@ -1,13 +1,23 @@
 //! Parts of inputs that several kinds have.
-ghost use Rattle.std.specs.Prelude.{◌<◌, IfSome, length};
+ghost use Rattle.std.specs.Prelude.{◌<◌, ◌≤◌, IfOk, IfSome, length};
 
 use crate::case::CaseError;
 use enf_formula::Formula;
-use enf_value::{Interval, Items, MOST_FILE_BYTES, Place, VarId, Vars, print_bytes, print_number};
+use enf_value::{Interval, Items, MOST_FILE_BYTES, VarId, Vars};
 use formula_reader::{Rule, read_policy};
 use log_stream::{LogMode, LogReader};
 use signature::Signature;
 use std::alloc::Global;
+
+/// What stands beside a name in a table.
+pub fn find<T: Copy>(table: &[(&[u8], T)], name: &[u8]) -> Option<T> {
+    for (other, item) in table {
+        if *other == name {
+            return Some(*item);
+        }
+    }
+    None
+}
 
 /// What stands before the first of these bytes, and what stands behind it.
 pub fn cut(bytes: &[u8], mark: u8) -> Option<(&[u8], &[u8])>
@@ -17,58 +27,55 @@ pub fn cut(bytes: &[u8], mark: u8) -> Option<(&[u8], &[u8])>
     Some((&bytes[..end], &bytes[end + 1..]))
 }
 
-/// What stands before the first byte 1, and what stands behind it.
-pub fn part(bytes: &[u8]) -> Result<(&[u8], &[u8]), CaseError> {
-    match cut(bytes, 1) {
-        Some(parts) => Ok(parts),
-        None => Err(CaseError::Malformed),
-    }
+/// What stands before the first such byte, and what stands behind it.
+pub fn cut_at(bytes: &[u8], mark: u8) -> Result<(&[u8], &[u8]), CaseError> {
+    cut(bytes, mark).ok_or(CaseError::Malformed)
+}
+
+/// The parts of an input, with a byte 1 between them.
+pub fn two(input: &[u8]) -> Result<(&[u8], &[u8]), CaseError> {
+    cut_at(input, 1)
+}
+
+pub fn three(input: &[u8]) -> Result<(&[u8], &[u8], &[u8]), CaseError> {
+    let (first, rest) = two(input)?;
+    let (second, third) = two(rest)?;
+    Ok((first, second, third))
 }
 
 /// What stands before the first blank, and what stands behind it.
 pub fn word(bytes: &[u8]) -> Result<(&[u8], &[u8]), CaseError> {
-    match cut(bytes, b' ') {
-        Some(parts) => Ok(parts),
-        None => Err(CaseError::Malformed),
-    }
+    cut_at(bytes, b' ')
 }
 
 /// A number of digits alone.
 pub fn read_number(bytes: &[u8]) -> Result<u64, CaseError> {
-    let Ok(digits) = str::from_utf8(bytes) else {
-        return Err(CaseError::Malformed);
-    };
-    match digits.parse::<u64>() {
-        Ok(number) => Ok(number),
+    match str::from_utf8(bytes) {
+        Ok(digits) => digits.parse::<u64>().map_err(|_| CaseError::Malformed),
         Err(_) => Err(CaseError::Malformed),
     }
 }
 
 /// A number of digits alone, below 2^32.
 pub fn read_count(bytes: &[u8]) -> Result<u32, CaseError> {
-    match u32::try_from(read_number(bytes)?) {
-        Ok(count) => Ok(count),
-        Err(_) => Err(CaseError::Malformed),
-    }
+    let number = read_number(bytes)?;
+    u32::try_from(number).map_err(|_| CaseError::Malformed)
 }
 
 /// The interval `LOW HIGH` at the front, where HIGH may be `*`, and what stands behind it and a blank.
 pub fn read_interval(bytes: &[u8]) -> Result<(Interval, &[u8]), CaseError> {
     let (low, rest) = word(bytes)?;
     let (high, rest) = word(rest)?;
+    Ok((interval_of(low, high)?, rest))
+}
+
+fn interval_of(low: &[u8], high: &[u8]) -> Result<Interval, CaseError> {
     let low = read_number(low)?;
     let high = match high {
         b"*" => None,
         digits => Some(read_number(digits)?),
     };
-    Ok((Interval { low, high }, rest))
-}
-
-/// Appends what is refused, and its place.
-pub fn print_place(what: &[u8], place: Place, out: &mut Vec<u8>) -> Result<(), CaseError> {
-    print_bytes(what, out)?;
-    print_bytes(b" at ", out)?;
-    Ok(print_number(place.into(), out)?)
+    Ok(Interval { low, high })
 }
 
 /// Variables by their numbers, each of one digit.
@@ -89,30 +96,40 @@ pub fn read_variable(digit: u8) -> Result<VarId, CaseError> {
     }
 }
 
+/// The bytes themselves, where a file may have so many.
+pub fn within_limit(bytes: &[u8]) -> Result<&[u8], CaseError>
+    ensures { IfOk result (λ text. length text.now ≤ MOST_FILE_BYTES) }
+{
+    if bytes.len() <= MOST_FILE_BYTES {
+        Ok(bytes)
+    } else {
+        Err(CaseError::Malformed)
+    }
+}
+
 /// The signature that the bytes spell.
 pub fn read_signature(alloc: Global, bytes: &[u8]) -> Result<Signature, CaseError> {
-    if bytes.len() > MOST_FILE_BYTES {
-        return Err(CaseError::Malformed);
-    }
-    match Signature::read(alloc, bytes) {
-        Ok(signature) => Ok(signature),
-        Err(_) => Err(CaseError::Malformed),
-    }
+    let text = within_limit(bytes)?;
+    Signature::read(alloc, text).map_err(|_| CaseError::Malformed)
 }
 
 /// A reader of a log under a signature, which was fed the log.
 pub fn open_log(alloc: Global, signature: &[u8], log: &[u8]) -> Result<LogReader, CaseError> {
-    let mut reader = LogReader::new(alloc, read_signature(alloc, signature)?, LogMode::Input);
+    let signature = read_signature(alloc, signature)?;
+    let mut reader = LogReader::new(alloc, signature, LogMode::Input);
     reader.feed(log)?;
     Ok(reader)
 }
 
 /// The formula of a policy's only rule under a signature, or what stands below its first `exists`.
 pub fn read_formula(alloc: Global, signature: &[u8], text: &[u8]) -> Result<Formula, CaseError> {
-    if text.len() > MOST_FILE_BYTES {
-        return Err(CaseError::Malformed);
-    }
-    match read_policy(alloc, &read_signature(alloc, signature)?, text) {
+    let signature = read_signature(alloc, signature)?;
+    formula_under(alloc, &signature, text)
+}
+
+fn formula_under(alloc: Global, signature: &Signature, text: &[u8]) -> Result<Formula, CaseError> {
+    let text = within_limit(text)?;
+    match read_policy(alloc, signature, text) {
         Ok(policy) => formula_of(alloc, policy.rules.as_slice()),
         Err(_) => Err(CaseError::Malformed),
     }

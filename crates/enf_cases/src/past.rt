@@ -5,8 +5,9 @@ ghost use Rattle.past_state.specs.Guarded.{IsFreshGuard};
 ghost use Rattle.past_state.specs.Saved.{AreRowsKept, AreRowsRising};
 
 use crate::case::CaseError;
-use crate::parts::{part, read_formula};
-use crate::running::{Asked, Run, Way, answer_log};
+use crate::output::Output;
+use crate::parts::{read_formula, three};
+use crate::running::{Question, Run, Way, answer_log};
 use enf_formula::Formula;
 use enf_value::{Items, Vars};
 use monitorable_guard::Guard;
@@ -15,17 +16,16 @@ use past_state::{KeptRows, PastState};
 use std::alloc::Global;
 use std::slice;
 
-/// Appends the rows of a guard at each step of a log, with `/` behind them. The input has a signature, a policy of one
+/// The rows of a guard at each step of a log, with `/` behind them. The input has a signature, a policy of one
 /// rule and a log, with a byte 1 between them: the guard is the formula of the rule, or what stands below its first
 /// `exists`, and none of its variables is bound. Where the way is to tell what is kept, those rows stand behind the
 /// ones of each step and a `|`, each as the number of its window, `:`, its values and its time.
-pub fn answer(alloc: Global, way: Way, input: &[u8], out: &mut Vec<u8>) -> Result<(), CaseError> {
-    let (signature, rest) = part(input)?;
-    let (policy, log) = part(rest)?;
+pub fn answer(alloc: Global, way: Way, input: &[u8], out: &mut Output) -> Result<(), CaseError> {
+    let (signature, policy, log) = three(input)?;
     let guard = read_guard(alloc, signature, policy)?;
     let run = Run {
         guard: &guard,
-        asked: Asked::Rows,
+        question: Question::Rows,
         way,
     };
     answer_log(alloc, &run, signature, log, out)

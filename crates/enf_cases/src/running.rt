@@ -7,10 +7,11 @@ ghost use Rattle.past_state.specs.Past.{AreOf, BindsBound, IsTestOf};
 ghost use Rattle.past_state.specs.LastTimes.{IsFrom};
 
 use crate::case::CaseError;
+use crate::output::Output;
 use crate::parts::open_log;
 use crate::past::{begun, kept_rows, restored};
 use crate::tables::{print_row_at, print_table};
-use enf_value::{EventSet, Step, print_bytes, print_number};
+use enf_value::{EventSet, Step};
 use log_stream::{Found, LogItem, LogReader};
 use monitorable_guard::Guard;
 use past_state::{KeptRow, PastState, Tables};
@@ -20,7 +21,7 @@ use valuations::Valuation;
 
 /// What is asked at a step: the guard's rows, or whether it holds under each of some valuations.
 #[derive(Clone, Copy)]
-pub enum Asked<'a> {
+pub enum Question<'a> {
     Rows,
     Holds(&'a [Valuation]),
 }
@@ -29,7 +30,7 @@ pub enum Asked<'a> {
 #[derive(Clone, Copy)]
 pub enum Way {
     Committed,
-    /// And the rows that are kept are appended.
+    /// And the rows that are kept are told.
     Kept,
     /// While tables of the step are held that share what is kept, and are asked afterwards.
     Shared,
@@ -41,7 +42,7 @@ pub enum Way {
 #[derive(Clone, Copy)]
 pub struct Run<'a, 'b> {
     pub guard: &'a Guard,
-    pub asked: Asked<'b>,
+    pub question: Question<'b>,
     pub way: Way,
 }
 
@@ -52,16 +53,16 @@ struct Running {
     last: Option<u64>,
 }
 
-/// Appends what is asked at each step of a log under a signature, with `/` behind it.
+/// What is asked at each step of a log under a signature, with `/` behind it.
 pub fn answer_log(
     alloc: Global,
     run: &Run<'_, '_>,
     signature: &[u8],
     log: &[u8],
-    out: &mut Vec<u8>,
+    out: &mut Output,
 ) -> Result<(), CaseError>
     requires fresh { IsFreshGuard run.now.guard.now }
-    requires asked { CanAsk run.now.guard.now run.now.asked }
+    requires asked { CanAsk run.now.guard.now run.now.question }
 {
     let mut running = Running {
         state: begun(alloc, run.guard)?,
@@ -71,17 +72,17 @@ pub fn answer_log(
     answer_steps(alloc, run, &mut reader, log.len(), &mut running, out)
 }
 
-// Appends what is asked at each step of a log with at most so many records.
+// What is asked at each step of a log with at most so many records.
 fn answer_steps(
     alloc: Global,
     run: &Run<'_, '_>,
     reader: &mut LogReader,
     most: usize,
     running: &mut Running,
-    out: &mut Vec<u8>,
+    out: &mut Output,
 ) -> Result<(), CaseError>
     requires fresh { IsFreshGuard run.now.guard.now }
-    requires asked { CanAsk run.now.guard.now run.now.asked }
+    requires asked { CanAsk run.now.guard.now run.now.question }
     requires of { IsOf run.now.guard.now running.old.state }
     requires stands { StandsUpTo running.old.last running.old.state }
 {
@@ -140,15 +141,15 @@ fn is_from(last: Option<u64>, time: u64) -> bool
     }
 }
 
-// Appends what is asked at a step, and makes it the last one.
+// What is asked at a step, which becomes the last one.
 fn answer_step(
     alloc: Global,
     run: &Run<'_, '_>,
     step: &Step,
     running: &mut Running,
-    out: &mut Vec<u8>,
+    out: &mut Output,
 ) -> Result<(), CaseError>
-    requires asked { CanAsk run.now.guard.now run.now.asked }
+    requires asked { CanAsk run.now.guard.now run.now.question }
     requires from { IsFrom running.old.last step.now.time }
     requires of { IsOf run.now.guard.now running.old.state }
     requires stands { StandsUpTo running.old.last running.old.state }
@@ -182,20 +183,20 @@ fn commit(step: &Step, tables: Tables, running: &mut Running) -> Result<(), Case
     Ok(())
 }
 
-// Appends what the tables tell of what is asked.
+// What the tables tell of what is asked.
 fn print_asked(
     alloc: Global,
     run: &Run<'_, '_>,
     events: &EventSet,
     tables: &Tables,
-    out: &mut Vec<u8>,
+    out: &mut Output,
 ) -> Result<(), CaseError>
     requires of { AreCopies (run.now.guard.now ∷ []) tables.now.guards }
-    requires asked { CanAsk run.now.guard.now run.now.asked }
+    requires asked { CanAsk run.now.guard.now run.now.question }
 {
-    match run.asked {
-        Asked::Rows => print_rows_of(alloc, events, tables, out),
-        Asked::Holds(valuations) => print_held(alloc, valuations, events, tables, out),
+    match run.question {
+        Question::Rows => print_rows_of(alloc, events, tables, out),
+        Question::Holds(valuations) => print_held(alloc, valuations, events, tables, out),
     }
 }
 
@@ -203,22 +204,25 @@ fn print_rows_of(
     alloc: Global,
     events: &EventSet,
     tables: &Tables,
-    out: &mut Vec<u8>,
+    out: &mut Output,
 ) -> Result<(), CaseError>
     requires one { 0 < length tables.now.guards }
     requires binds { BindsBound tables.now.guards 0 no_values }
 {
-    let rows = tables.rows(alloc, 0, events, &Valuation::empty(alloc))?;
-    print_table(&rows, out)
+    print_table(
+        &tables.rows(alloc, 0, events, &Valuation::empty(alloc))?,
+        out,
+    );
+    Ok(())
 }
 
-// Appends `1` for each valuation under which the guard holds, and `0` for each other.
+// `1` for each valuation under which the guard holds, and `0` for each other.
 fn print_held(
     alloc: Global,
     valuations: &[Valuation],
     events: &EventSet,
     tables: &Tables,
-    out: &mut Vec<u8>,
+    out: &mut Output,
 ) -> Result<(), CaseError>
     requires one { 0 < length tables.now.guards }
     requires bind { All (BindsBound tables.now.guards 0) valuations.now }
@@ -226,30 +230,30 @@ fn print_held(
 {
     for v in valuations {
         let holds = tables.holds(alloc, 0, events, v)?;
-        out.push(if holds { b'1' } else { b'0' })?;
+        out.bytes(if holds { b"1" } else { b"0" });
     }
     Ok(())
 }
 
-// Appends what is kept behind a step, where it is wanted, and a `/`.
+// What is kept behind a step, where it is wanted, and a `/`.
 fn print_end(
     alloc: Global,
     way: Way,
     state: &PastState,
-    out: &mut Vec<u8>,
+    out: &mut Output,
 ) -> Result<(), CaseError> {
     if let Way::Kept = way {
-        print_bytes(b"|", out)?;
-        print_kept(kept_rows(alloc, state)?.as_slice(), out)?;
+        out.bytes(b"|");
+        print_kept(kept_rows(alloc, state)?.as_slice(), out);
     }
-    Ok(print_bytes(b"/", out)?)
+    out.bytes(b"/");
+    Ok(())
 }
 
-fn print_kept(rows: &[KeptRow], out: &mut Vec<u8>) -> Result<(), CaseError> {
+fn print_kept(rows: &[KeptRow], out: &mut Output) {
     for row in rows {
-        print_number(row.window.into(), out)?;
-        print_bytes(b":", out)?;
-        print_row_at(&row.row, row.time, out)?;
+        out.number(row.window.into());
+        out.bytes(b":");
+        print_row_at(&row.row, row.time, out);
     }
-    Ok(())
 }

@@ -5,93 +5,135 @@ ghost use Rattle.enf_value.specs.declared.terms.VarId.{VarId as Variable};
 ghost use Rattle.valuations.specs.Terms.{IsColumnOf};
 
 use crate::case::CaseError;
-use crate::parts::{cut, read_variable, read_variables, word};
-use enf_value::{
-    Row, Term, Value, VarId, Vars, print_bytes, print_number, print_value, read_value,
-};
+use crate::output::Output;
+use crate::parts::{cut, cut_at, find, read_variable, read_variables, word};
+use crate::values::read_at;
+use enf_value::{Row, Term, Value, VarId, Vars};
 use std::alloc::Global;
 use valuations::{Compare, Table, Valuation};
 
-/// Appends what an operation gives: the input is its name and two operands, with `&` between them. A table is the
-/// numbers of its columns, one digit each, a `|`, and its rows, each with `;` behind it and `,` behind each value.
-pub fn answer(alloc: Global, input: &[u8], out: &mut Vec<u8>) -> Result<(), CaseError> {
-    let Some((name, operands)) = cut(input, b'&') else {
-        return Err(CaseError::Malformed);
-    };
-    let Some((first, second)) = cut(operands, b'&') else {
-        return Err(CaseError::Malformed);
-    };
-    let left = read_table(alloc, first)?;
-    answer_operation(alloc, name, &left, second, out)
+/// What an operation gives: the input is its name and two operands, with `&` between them. A table is the numbers of
+/// its columns, one digit each, a `|`, and its rows, each with `;` behind it and `,` behind each value.
+pub fn answer(alloc: Global, input: &[u8], out: &mut Output) -> Result<(), CaseError> {
+    let (name, operands) = cut_at(input, b'&')?;
+    let operation = find(&OPERATIONS, name).ok_or(CaseError::Malformed)?;
+    let (first, second) = cut_at(operands, b'&')?;
+    answer_operands(alloc, operation, first, second, out)
 }
+
+fn answer_operands(
+    alloc: Global,
+    operation: Operation,
+    first: &[u8],
+    second: &[u8],
+    out: &mut Output,
+) -> Result<(), CaseError> {
+    let left = read_table(alloc, first)?;
+    answer_operation(alloc, operation, &left, second, out)
+}
+
+#[derive(Clone, Copy)]
+enum Operation {
+    Rows,
+    Has,
+    HasValuation,
+    Project,
+    Under,
+    Select,
+    Join,
+    Antijoin,
+    Union,
+}
+
+static OPERATIONS: [(&[u8], Operation); 9] = [
+    (b"rows", Operation::Rows),
+    (b"has", Operation::Has),
+    (b"valuation", Operation::HasValuation),
+    (b"project", Operation::Project),
+    (b"under", Operation::Under),
+    (b"select", Operation::Select),
+    (b"join", Operation::Join),
+    (b"antijoin", Operation::Antijoin),
+    (b"union", Operation::Union),
+];
 
 fn answer_operation(
     alloc: Global,
-    name: &[u8],
+    operation: Operation,
     left: &Table,
     second: &[u8],
-    out: &mut Vec<u8>,
+    out: &mut Output,
 ) -> Result<(), CaseError> {
-    match name {
-        b"rows" => print_table(left, out),
-        b"has" => print_answer(left.has(&read_row(alloc, second)?), out),
-        b"valuation" => print_answer(left.has_valuation(&read_valuation(alloc, second)?), out),
-        _ => print_table(&operated(alloc, name, left, second)?, out),
+    match operation {
+        Operation::Rows => print_table(left, out),
+        Operation::Has => print_answer(left.has(&read_row(alloc, second)?), out),
+        Operation::HasValuation => {
+            print_answer(left.has_valuation(&read_valuation(alloc, second)?), out)
+        }
+        _ => print_table(&operated(alloc, operation, left, second)?, out),
+    }
+    Ok(())
+}
+
+fn operated(
+    alloc: Global,
+    operation: Operation,
+    left: &Table,
+    second: &[u8],
+) -> Result<Table, CaseError> {
+    match operation {
+        Operation::Project => project(alloc, left, second),
+        Operation::Under => Ok(left.rows_under(alloc, &read_valuation(alloc, second)?)?),
+        Operation::Select => selected(alloc, left, second),
+        _ => combined(alloc, operation, left, &read_table(alloc, second)?),
     }
 }
 
-fn operated(alloc: Global, name: &[u8], left: &Table, second: &[u8]) -> Result<Table, CaseError> {
-    match name {
-        b"project" => project(alloc, left, second),
-        b"under" => Ok(left.rows_under(alloc, &read_valuation(alloc, second)?)?),
-        b"select" => selected(alloc, left, second),
-        _ => combined(alloc, name, left, &read_table(alloc, second)?),
-    }
-}
-
-fn combined(alloc: Global, name: &[u8], left: &Table, right: &Table) -> Result<Table, CaseError> {
-    match name {
-        b"join" => Ok(left.join(alloc, right)?),
-        b"antijoin" => antijoin(alloc, left, right),
-        b"union" => union(alloc, left, right),
-        _ => Err(CaseError::Malformed),
+fn combined(
+    alloc: Global,
+    operation: Operation,
+    left: &Table,
+    right: &Table,
+) -> Result<Table, CaseError> {
+    match operation {
+        Operation::Antijoin => antijoin(alloc, left, right),
+        Operation::Union => union(alloc, left, right),
+        _ => Ok(left.join(alloc, right)?),
     }
 }
 
 // The rows for which a comparison holds: `=`, `<` or `<=`, and two terms, with blanks between them.
 fn selected(alloc: Global, table: &Table, comparison: &[u8]) -> Result<Table, CaseError> {
-    let (kind, rest) = word(comparison)?;
-    let (left, right) = word(rest)?;
-    let kind = read_kind(kind)?;
+    let (kind, terms) = word(comparison)?;
+    let kind = find(&COMPARISONS, kind).ok_or(CaseError::Malformed)?;
+    let (left, right) = word(terms)?;
     let left = read_term(alloc, left)?;
-    select(alloc, table, kind, &left, &read_term(alloc, right)?)
+    select(alloc, table, kind, &left, right)
 }
+
+static COMPARISONS: [(&[u8], Compare); 3] = [
+    (b"=", Compare::Equal),
+    (b"<", Compare::Less),
+    (b"<=", Compare::AtMost),
+];
 
 fn select(
     alloc: Global,
     table: &Table,
     kind: Compare,
     left: &Term,
-    right: &Term,
+    right: &[u8],
 ) -> Result<Table, CaseError> {
-    if is_column_of(table, left) && is_column_of(table, right) {
-        Ok(table.select(alloc, left, right, kind)?)
+    let right = read_term(alloc, right)?;
+    if is_column_of(table, left) && is_column_of(table, &right) {
+        Ok(table.select(alloc, left, &right, kind)?)
     } else {
         Err(CaseError::Malformed)
     }
 }
 
-fn read_kind(bytes: &[u8]) -> Result<Compare, CaseError> {
-    match bytes {
-        b"=" => Ok(Compare::Equal),
-        b"<" => Ok(Compare::Less),
-        b"<=" => Ok(Compare::AtMost),
-        _ => Err(CaseError::Malformed),
-    }
-}
-
-// A variable, as `?` and a digit, or a value.
-fn read_term(alloc: Global, bytes: &[u8]) -> Result<Term, CaseError> {
+/// A variable, as `?` and a digit, or a value.
+pub fn read_term(alloc: Global, bytes: &[u8]) -> Result<Term, CaseError> {
     match bytes {
         [b'?', digit] => Ok(Term::Var(read_variable(*digit)?)),
         value => Ok(Term::Const(read_whole(alloc, value)?)),
@@ -110,14 +152,19 @@ fn is_column_of(table: &Table, term: &Term) -> bool
 
 /// The table that the bytes spell.
 pub fn read_table(alloc: Global, bytes: &[u8]) -> Result<Table, CaseError> {
-    let Some((columns, rows)) = cut(bytes, b'|') else {
-        return Err(CaseError::Malformed);
-    };
-    table_of(read_variables(alloc, columns)?, read_rows(alloc, rows)?)
+    let (columns, rows) = cut_at(bytes, b'|')?;
+    table_of(alloc, read_variables(alloc, columns)?, rows)
 }
 
-/// The table of these rows, where the columns are distinct and each row is as long as they.
-pub fn table_of(columns: Vars, rows: Vec<Row>) -> Result<Table, CaseError>
+/// The table of the rows that the bytes spell, where the columns are distinct and each row is as long as they.
+pub fn table_of(alloc: Global, columns: Vars, rows: &[u8]) -> Result<Table, CaseError>
+    ensures columns { IfOk result (λ t. t.columns ≡ columns) }
+    ensures distinct { OnOk result (HasNoRepeats columns) }
+{
+    table_with(columns, read_rows(alloc, rows)?)
+}
+
+fn table_with(columns: Vars, rows: Vec<Row>) -> Result<Table, CaseError>
     ensures columns { IfOk result (λ t. t.columns ≡ columns) }
     ensures distinct { OnOk result (HasNoRepeats columns) }
 {
@@ -128,55 +175,67 @@ pub fn table_of(columns: Vars, rows: Vec<Row>) -> Result<Table, CaseError>
     }
 }
 
-/// Rows, each with `;` behind it.
-pub fn read_rows(alloc: Global, bytes: &[u8]) -> Result<Vec<Row>, CaseError> {
+// Rows, each with `;` behind it.
+fn read_rows(alloc: Global, bytes: &[u8]) -> Result<Vec<Row>, CaseError> {
     let mut rows = Vec::new(alloc);
+    push_rows(alloc, bytes, &mut rows)?;
+    Ok(rows)
+}
+
+fn push_rows(alloc: Global, bytes: &[u8], rows: &mut Vec<Row>) -> Result<(), CaseError> {
     let mut rest = bytes;
     while let Some((piece, behind)) = cut(rest, b';') {
         rows.push(read_row(alloc, piece)?)?;
         rest = behind;
     }
-    Ok(rows)
+    Ok(())
 }
 
 // A row, with `,` behind each value.
 fn read_row(alloc: Global, bytes: &[u8]) -> Result<Row, CaseError> {
     let mut values = Vec::new(alloc);
+    push_values(alloc, bytes, &mut values)?;
+    Ok(Row::from_vec(values))
+}
+
+fn push_values(alloc: Global, bytes: &[u8], values: &mut Vec<Value>) -> Result<(), CaseError> {
     let mut rest = bytes;
     while let Some((piece, behind)) = cut(rest, b',') {
         values.push(read_whole(alloc, piece)?)?;
         rest = behind;
     }
-    Ok(Row::from_vec(values))
+    Ok(())
 }
 
 fn read_whole(alloc: Global, bytes: &[u8]) -> Result<Value, CaseError> {
-    match read_value(alloc, bytes, 0)? {
-        Some((value, _)) => Ok(value),
-        None => Err(CaseError::Malformed),
-    }
+    Ok(read_at(alloc, bytes, 0)?.0)
 }
 
 /// A digit and a value for each variable that is bound, with `,` behind it.
 pub fn read_valuation(alloc: Global, bytes: &[u8]) -> Result<Valuation, CaseError> {
     let mut v = Valuation::empty(alloc);
-    let mut rest = bytes;
-    while let Some((piece, behind)) = cut(rest, b',') {
-        let Some((digit, value)) = piece.split_first() else {
-            return Err(CaseError::Malformed);
-        };
-        bind(&mut v, *digit, read_whole(alloc, value)?)?;
-        rest = behind;
-    }
+    bind_all(alloc, bytes, &mut v)?;
     Ok(v)
 }
 
-fn bind(v: &mut Valuation, digit: u8, value: Value) -> Result<(), CaseError> {
-    let variable = read_variable(digit)?;
+fn bind_all(alloc: Global, bytes: &[u8], v: &mut Valuation) -> Result<(), CaseError> {
+    let mut rest = bytes;
+    while let Some((piece, behind)) = cut(rest, b',') {
+        bind(alloc, piece, v)?;
+        rest = behind;
+    }
+    Ok(())
+}
+
+fn bind(alloc: Global, binding: &[u8], v: &mut Valuation) -> Result<(), CaseError> {
+    let Some((digit, value)) = binding.split_first() else {
+        return Err(CaseError::Malformed);
+    };
+    let variable = read_variable(*digit)?;
     if v.get(variable).is_some() {
         return Err(CaseError::Malformed);
     }
-    Ok(v.bind(variable, value)?)
+    Ok(v.bind(variable, read_whole(alloc, value)?)?)
 }
 
 /// The rows of the left table without those of the right one, whose columns are among them.
@@ -238,63 +297,82 @@ fn are_within(columns: &[VarId], others: &[VarId]) -> bool
     }
 }
 
-/// Appends a table in the same form.
-pub fn print_table(table: &Table, out: &mut Vec<u8>) -> Result<(), CaseError> {
+/// A table in the same form.
+pub fn print_table(table: &Table, out: &mut Output) {
     for column in table.columns().as_slice() {
-        print_number(column.0.into(), out)?;
+        out.number(column.0.into());
     }
-    print_bytes(b"|", out)?;
-    print_rows(table.rows(), out)
+    out.bytes(b"|");
+    print_rows(table.rows(), out);
 }
 
-/// Appends the rows in the form of a table.
-pub fn print_rows(rows: &[Row], out: &mut Vec<u8>) -> Result<(), CaseError> {
+/// Rows in the form of a table.
+pub fn print_rows(rows: &[Row], out: &mut Output) {
     for row in rows {
-        print_row(row, out)?;
-        print_bytes(b";", out)?;
+        print_row(row, out);
+        out.bytes(b";");
     }
-    Ok(())
 }
 
-// Appends the values of a row, with `,` behind each.
-fn print_row(row: &Row, out: &mut Vec<u8>) -> Result<(), CaseError> {
+/// The values of a row, with `,` behind each.
+pub fn print_row(row: &Row, out: &mut Output) {
     for value in row.as_slice() {
-        print_value(value, out)?;
-        print_bytes(b",", out)?;
+        out.value(value);
+        out.bytes(b",");
     }
+}
+
+/// The values of a row, and its time with `@` before and `;` behind it.
+pub fn print_row_at(row: &Row, time: u64, out: &mut Output) {
+    print_row(row, out);
+    out.bytes(b"@");
+    out.number(time);
+    out.bytes(b";");
+}
+
+/// `true` or `false`.
+pub fn print_answer(answer: bool, out: &mut Output) {
+    if answer {
+        out.bytes(b"true");
+    } else {
+        out.bytes(b"false");
+    }
+}
+
+/// How many rows a join and an antijoin of tables of 10,000 rows have: that of each number beside what it is modulo
+/// 5,000 with the same the other way round, and that of each number beside itself with the even ones.
+pub fn answer_counts(alloc: Global, out: &mut Output) -> Result<(), CaseError> {
+    out.number(count_joined(alloc)? as u64);
+    out.bytes(b" ");
+    out.number(count_unmatched(alloc)? as u64);
     Ok(())
-}
-
-/// Appends the values of a row, and its time with `@` before and `;` behind it.
-pub fn print_row_at(row: &Row, time: u64, out: &mut Vec<u8>) -> Result<(), CaseError> {
-    print_row(row, out)?;
-    print_bytes(b"@", out)?;
-    print_number(time, out)?;
-    Ok(print_bytes(b";", out)?)
-}
-
-fn print_answer(answer: bool, out: &mut Vec<u8>) -> Result<(), CaseError> {
-    Ok(print_bytes(if answer { b"true".as_slice() } else { b"false" }, out)?)
-}
-
-/// Appends how many rows a join and an antijoin of tables of 10,000 rows have: that of each number beside what it is
-/// modulo 5,000 with the same the other way round, and that of each number beside itself with the even ones.
-pub fn answer_counts(alloc: Global, out: &mut Vec<u8>) -> Result<(), CaseError> {
-    print_number(count_joined(alloc)? as u64, out)?;
-    print_bytes(b" ", out)?;
-    Ok(print_number(count_unmatched(alloc)? as u64, out)?)
 }
 
 fn count_joined(alloc: Global) -> Result<usize, CaseError> {
     let left = table_of_pairs(alloc, b"01", Pair::Rest)?;
+    joined_with(alloc, &left)
+}
+
+fn joined_with(alloc: Global, left: &Table) -> Result<usize, CaseError> {
     let right = table_of_pairs(alloc, b"12", Pair::OfRest)?;
-    Ok(left.join(alloc, &right)?.len())
+    let joined = left.join(alloc, &right);
+    Ok(joined?.len())
 }
 
 fn count_unmatched(alloc: Global) -> Result<usize, CaseError> {
     let same = table_of_pairs(alloc, b"01", Pair::Same)?;
-    let even = project(alloc, &table_of_pairs(alloc, b"12", Pair::Even)?, b"1")?;
-    Ok(antijoin(alloc, &same, &even)?.len())
+    unmatched_with(alloc, &same)
+}
+
+fn unmatched_with(alloc: Global, same: &Table) -> Result<usize, CaseError> {
+    let even = even_numbers(alloc)?;
+    let unmatched = antijoin(alloc, same, &even);
+    Ok(unmatched?.len())
+}
+
+fn even_numbers(alloc: Global) -> Result<Table, CaseError> {
+    let even = table_of_pairs(alloc, b"12", Pair::Even)?;
+    project(alloc, &even, b"1")
 }
 
 // What stands in a row of a number.
@@ -318,7 +396,7 @@ fn pair_of(kind: Pair, number: u32) -> (u32, u32) {
 
 fn table_of_pairs(alloc: Global, columns: &[u8], kind: Pair) -> Result<Table, CaseError> {
     let columns = read_variables(alloc, columns)?;
-    table_of(columns, pairs(alloc, kind)?)
+    table_with(columns, pairs(alloc, kind)?)
 }
 
 fn pairs(alloc: Global, kind: Pair) -> Result<Vec<Row>, CaseError> {
@@ -330,8 +408,6 @@ fn pairs(alloc: Global, kind: Pair) -> Result<Vec<Row>, CaseError> {
 }
 
 fn row_of(alloc: Global, pair: (u32, u32)) -> Result<Row, CaseError> {
-    let mut row = Vec::new(alloc);
-    row.push(Value::Num(pair.0.into()))?;
-    row.push(Value::Num(pair.1.into()))?;
-    Ok(Row::from_vec(row))
+    let values = vec![in alloc; Value::Num(pair.0.into()), Value::Num(pair.1.into())]?;
+    Ok(Row::from_vec(values))
 }

@@ -1,89 +1,84 @@
 //! Policies by what they may change: the mark, the horizon and the roles, or the first refusal.
+ghost use Rattle.formula_reader.specs.Resolution.{rules_of};
+ghost use Rattle.formula_reader.specs.WellFormed.{IsWellFormedPolicy};
 
 use crate::case::CaseError;
-use crate::parts::{part, print_place, read_signature};
+use crate::output::Output;
+use crate::parts::{read_signature, two, within_limit};
 use crate::policies;
-use enf_value::{MOST_FILE_BYTES, NameId, print_bytes, print_number};
+use enf_value::NameId;
 use enforce_types::{TypeRefusal, TypedPolicy};
-use formula_reader::read_policy;
+use formula_reader::{Policy, read_policy};
 use rank_check::Role;
 use signature::Signature;
 use std::alloc::Global;
 
-/// Reads a signature and, behind a byte 1, a policy under it. Appends `transparent yes` or `transparent no`, the horizon,
-/// and each name that is caused or suppressed, in the signature's order.
-pub fn answer(alloc: Global, input: &[u8], out: &mut Vec<u8>) -> Result<(), CaseError> {
-    let (signature, text) = part(input)?;
-    if text.len() > MOST_FILE_BYTES {
-        return Err(CaseError::Malformed);
-    }
+/// Reads a signature and, behind a byte 1, a policy under it: `transparent yes` or `transparent no`, the horizon, and
+/// each name that is caused or suppressed, in the signature's order.
+pub fn answer(alloc: Global, input: &[u8], out: &mut Output) -> Result<(), CaseError> {
+    let (signature, text) = two(input)?;
     let signature = read_signature(alloc, signature)?;
-    match read_policy(alloc, &signature, text) {
-        Ok(policy) => match TypedPolicy::of(alloc, &signature, &policy) {
-            Ok(typed) => print_typed(&signature, &typed, out),
-            Err(refusal) => print_refusal(&signature, refusal, out),
-        },
-        Err(refusal) => policies::print_refusal(refusal, out),
-    }
+    answer_under(alloc, &signature, text, out)
 }
 
-fn print_typed(
+fn answer_under(
+    alloc: Global,
     signature: &Signature,
-    typed: &TypedPolicy,
-    out: &mut Vec<u8>,
+    text: &[u8],
+    out: &mut Output,
 ) -> Result<(), CaseError> {
-    let mark: &[u8] = if typed.is_transparent() {
-        b"yes"
-    } else {
-        b"no"
-    };
-    print_bytes(b"transparent ", out)?;
-    print_bytes(mark, out)?;
-    print_bytes(b", horizon ", out)?;
-    print_number(typed.horizon(), out)?;
-    for number in 0..signature.len() {
-        print_role(signature, NameId(number), typed, out)?;
+    let text = within_limit(text)?;
+    match read_policy(alloc, signature, text) {
+        Ok(policy) => answer_policy(alloc, signature, &policy, out),
+        Err(refusal) => policies::print_refusal(refusal, out),
     }
     Ok(())
 }
 
-fn print_role(
-    signature: &Signature,
-    name: NameId,
-    typed: &TypedPolicy,
-    out: &mut Vec<u8>,
-) -> Result<(), CaseError> {
+fn answer_policy(alloc: Global, signature: &Signature, policy: &Policy, out: &mut Output)
+    requires { IsWellFormedPolicy signature.now (rules_of policy.now) }
+{
+    match TypedPolicy::of(alloc, signature, policy) {
+        Ok(typed) => print_typed(signature, &typed, out),
+        Err(refusal) => print_refusal(signature, refusal, out),
+    }
+}
+
+fn print_typed(signature: &Signature, typed: &TypedPolicy, out: &mut Output) {
+    out.bytes(if typed.is_transparent() {
+        b"transparent yes, horizon ".as_slice()
+    } else {
+        b"transparent no, horizon "
+    });
+    out.number(typed.horizon());
+    for number in 0..signature.len() {
+        print_role(signature, NameId(number), typed, out);
+    }
+}
+
+fn print_role(signature: &Signature, name: NameId, typed: &TypedPolicy, out: &mut Output) {
     match typed.role(name) {
-        Role::Free => Ok(()),
+        Role::Free => (),
         Role::Caused => print_named(b", cause ", signature, name, out),
         Role::Suppressed => print_named(b", suppress ", signature, name, out),
     }
 }
 
-fn print_named(
-    word: &[u8],
-    signature: &Signature,
-    name: NameId,
-    out: &mut Vec<u8>,
-) -> Result<(), CaseError> {
-    print_bytes(word, out)?;
+fn print_named(word: &[u8], signature: &Signature, name: NameId, out: &mut Output) {
+    out.bytes(word);
     if let Some(entry) = signature.entry(name) {
-        print_bytes(entry.text.bytes(), out)?;
+        out.bytes(entry.text.bytes());
     }
-    Ok(())
 }
 
-fn print_refusal(
-    signature: &Signature,
-    refusal: TypeRefusal,
-    out: &mut Vec<u8>,
-) -> Result<(), CaseError> {
+/// The refusal with its place or name.
+pub fn print_refusal(signature: &Signature, refusal: TypeRefusal, out: &mut Output) {
     match refusal {
-        TypeRefusal::Unguarded { place } => print_place(b"unguarded", place, out),
-        TypeRefusal::NotEnforceable { place } => print_place(b"not enforceable", place, out),
-        TypeRefusal::Untriggered { place } => print_place(b"untriggered", place, out),
+        TypeRefusal::Unguarded { place } => out.place(b"unguarded", place),
+        TypeRefusal::NotEnforceable { place } => out.place(b"not enforceable", place),
+        TypeRefusal::Untriggered { place } => out.place(b"untriggered", place),
         TypeRefusal::RoleClash { name } => print_named(b"role clash ", signature, name, out),
         TypeRefusal::Cyclic { name } => print_named(b"cyclic ", signature, name, out),
-        TypeRefusal::NoMemory => Err(CaseError::NoMemory),
+        TypeRefusal::NoMemory => out.no_memory(),
     }
 }

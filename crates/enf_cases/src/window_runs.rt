@@ -5,15 +5,16 @@ ghost use Rattle.enf_value.specs.Membership.{HasNoRepeats};
 ghost use Rattle.windows.specs.Windows.{FitsColumns, IsSameKind};
 
 use crate::case::CaseError;
-use crate::parts::{cut, read_interval, read_number, read_variables, word};
-use crate::tables::{antijoin, are_distinct, print_row_at, print_rows, read_rows, table_of};
-use enf_value::{Duplicate, Interval, Vars, print_bytes};
+use crate::output::Output;
+use crate::parts::{cut, cut_at, read_interval, read_number, read_variables, word};
+use crate::tables::{antijoin, are_distinct, print_row_at, print_rows, table_of};
+use enf_value::{Duplicate, Interval, Vars};
 use std::alloc::Global;
 use valuations::Table;
 use windows::{KeptPair, SinceWalk, SinceWindow, Surviving};
 
-/// Appends, for each step with `/` behind it, the rows that a window gives at it and, once it is committed, its rows and
-/// what it keeps, with `|` between them; where the walk gives other rows, those are appended. The input is
+/// For each step, with `/` behind it, the rows that a window gives at it and, once it is committed, its rows and
+/// what it keeps, with `|` between them; where the walk gives other rows, those too. The input is
 /// `LOW HIGH COLUMNS`, a `&`, and the steps, with `/` behind each: the time, a blank, the rows that survive, `|`, and
 /// the right rows. `*` stands for all rows, `+` for those that follow, `-` for all others.
 /// Where it restores, the window is made anew behind each step, of what it keeps.
@@ -21,20 +22,25 @@ pub fn answer(
     alloc: Global,
     restores: bool,
     input: &[u8],
-    out: &mut Vec<u8>,
+    out: &mut Output,
 ) -> Result<(), CaseError> {
     let (interval, rest) = read_interval(input)?;
-    let Some((columns, steps)) = cut(rest, b'&') else {
-        return Err(CaseError::Malformed);
+    let (columns, steps) = cut_at(rest, b'&')?;
+    let form = Form {
+        interval,
+        columns: read_columns_of(alloc, columns)?,
+        restores,
     };
-    let columns = read_variables(alloc, columns)?;
+    answer_window(alloc, &form, steps, out)
+}
+
+// Distinct columns.
+fn read_columns_of(alloc: Global, digits: &[u8]) -> Result<Vars, CaseError>
+    ensures { IfOk result HasNoRepeats }
+{
+    let columns = read_variables(alloc, digits)?;
     if are_distinct(columns.as_slice()) {
-        let form = Form {
-            interval,
-            columns,
-            restores,
-        };
-        answer_window(alloc, &form, steps, out)
+        Ok(columns)
     } else {
         Err(CaseError::Malformed)
     }
@@ -52,7 +58,7 @@ fn answer_window(
     alloc: Global,
     form: &Form,
     steps: &[u8],
-    out: &mut Vec<u8>,
+    out: &mut Output,
 ) -> Result<(), CaseError>
     requires { HasNoRepeats form.now.columns }
 {
@@ -67,7 +73,7 @@ fn answer_steps(
     steps: &[u8],
     window: &mut SinceWindow,
     walk: &mut SinceWalk,
-    out: &mut Vec<u8>,
+    out: &mut Output,
 ) -> Result<(), CaseError>
     requires distinct { HasNoRepeats form.now.columns }
     requires beside { AreBeside window.old walk.old }
@@ -133,13 +139,13 @@ impl WindowStep {
     }
 }
 
-// Appends what is given at the step, commits it, and appends what is kept.
+// What is given at the step, which is committed, and what is kept.
 fn answer_step(
     alloc: Global,
     step: &WindowStep,
     window: &mut SinceWindow,
     walk: &mut SinceWalk,
-    out: &mut Vec<u8>,
+    out: &mut Output,
 ) -> Result<(), CaseError>
     requires beside { AreBeside window.old walk.old }
     requires later { window.old.last ≤ step.now.time }
@@ -204,7 +210,7 @@ fn print_given(
     surviving: &Table,
     window: &SinceWindow,
     walk: &SinceWalk,
-    out: &mut Vec<u8>,
+    out: &mut Output,
 ) -> Result<(), CaseError>
     requires beside { AreBeside window.now walk.now }
     requires later { window.now.last ≤ step.now.time }
@@ -214,39 +220,39 @@ fn print_given(
 {
     let given = given_rows(alloc, step, window)?;
     let walked = walk.answer(alloc, step.time, surviving, &step.right)?;
-    print_both(&given, &walked, out)?;
-    Ok(print_bytes(b"|", out)?)
+    print_both(&given, &walked, out);
+    out.bytes(b"|");
+    Ok(())
 }
 
 fn print_kept(
     alloc: Global,
     window: &SinceWindow,
     walk: &SinceWalk,
-    out: &mut Vec<u8>,
+    out: &mut Output,
 ) -> Result<(), CaseError> {
     let rows = window.rows(alloc)?;
-    print_both(&rows, &walk.rows(alloc)?, out)?;
-    print_bytes(b"|", out)?;
-    print_pairs(&window.kept(alloc)?, out)?;
-    Ok(print_bytes(b"/", out)?)
+    print_both(&rows, &walk.rows(alloc)?, out);
+    out.bytes(b"|");
+    print_pairs(&window.kept(alloc)?, out);
+    out.bytes(b"/");
+    Ok(())
 }
 
-// Appends each row, with `@` and its time behind it.
-fn print_pairs(pairs: &[KeptPair], out: &mut Vec<u8>) -> Result<(), CaseError> {
+// Each row, with `@` and its time behind it.
+fn print_pairs(pairs: &[KeptPair], out: &mut Output) {
     for pair in pairs {
-        print_row_at(&pair.row, pair.time, out)?;
+        print_row_at(&pair.row, pair.time, out);
     }
-    Ok(())
 }
 
-// Appends the rows of a table, and those of the walk where they are others.
-fn print_both(table: &Table, walked: &Table, out: &mut Vec<u8>) -> Result<(), CaseError> {
-    print_rows(table.rows(), out)?;
+// The rows of a table, and those of the walk where they are others.
+fn print_both(table: &Table, walked: &Table, out: &mut Output) {
+    print_rows(table.rows(), out);
     if table.rows() != walked.rows() {
-        print_bytes(b" walk: ", out)?;
-        print_rows(walked.rows(), out)?;
+        out.bytes(b" walk: ");
+        print_rows(walked.rows(), out);
     }
-    Ok(())
 }
 
 // A step that is not before the last one.
@@ -261,13 +267,11 @@ fn read_step(
     ensures by { IfOk result (λ step. step.by.columns ≡ columns.now) }
 {
     let (time, rest) = word(bytes)?;
-    let time = read_number(time)?;
-    let (how, by, right) = read_signs(rest)?;
-    if time < last {
-        return Err(CaseError::Malformed);
-    }
-    let by = read_columns(alloc, columns, by)?;
-    let right = read_columns(alloc, columns, right)?;
+    let (surviving, right) = cut_at(rest, b'|')?;
+    let (how, by) = read_how(surviving)?;
+    let time = read_time(last, time)?;
+    let by = read_rows(alloc, columns, by)?;
+    let right = read_rows(alloc, columns, right)?;
     Ok(WindowStep {
         time,
         right,
@@ -276,21 +280,28 @@ fn read_step(
     })
 }
 
-fn read_signs(bytes: &[u8]) -> Result<(How, &[u8], &[u8]), CaseError> {
-    let Some((surviving, right)) = cut(bytes, b'|') else {
-        return Err(CaseError::Malformed);
-    };
-    match surviving.split_first() {
-        Some((b'*', by)) => Ok((How::All, by, right)),
-        Some((b'+', by)) => Ok((How::Only, by, right)),
-        Some((b'-', by)) => Ok((How::AllBut, by, right)),
+fn read_time(last: u64, bytes: &[u8]) -> Result<u64, CaseError>
+    ensures { IfOk result (λ time. last ≤ time) }
+{
+    let time = read_number(bytes)?;
+    if last <= time {
+        Ok(time)
+    } else {
+        Err(CaseError::Malformed)
+    }
+}
+
+fn read_how(bytes: &[u8]) -> Result<(How, &[u8]), CaseError> {
+    match bytes.split_first() {
+        Some((b'*', by)) => Ok((How::All, by)),
+        Some((b'+', by)) => Ok((How::Only, by)),
+        Some((b'-', by)) => Ok((How::AllBut, by)),
         _ => Err(CaseError::Malformed),
     }
 }
 
-fn read_columns(alloc: Global, columns: &Vars, rows: &[u8]) -> Result<Table, CaseError>
+fn read_rows(alloc: Global, columns: &Vars, rows: &[u8]) -> Result<Table, CaseError>
     ensures { IfOk result (λ t. t.columns ≡ columns.now) }
 {
-    let columns = columns.duplicate(alloc)?;
-    table_of(columns, read_rows(alloc, rows)?)
+    table_of(alloc, columns.duplicate(alloc)?, rows)
 }

@@ -1,5 +1,5 @@
 use Rattle.std.proofs.Common.{length}
-use Rattle.enf_cases.proofs.evaluations.read_tables.Given as goal
+use Rattle.enf_cases.proofs.evaluations.push_tables.Given as goal
 
 abbrev pub decreases-loop-piece : goal.decreases-loop-piece
 decreases-loop-piece l = length l.rest
