@@ -47,7 +47,7 @@ known_behind plans pending past time events tables are known value is =
     (λ behind. inr (⊎_elim (λ constant. inr (inl constant)) (λ kept. inl kept) behind))
     (known value tabled))
     (λ others. inr (inr (⊎_elim
-    (λ constant. inl (subst (λ gs. IsConstantOf (formulas gs) value) are.0 constant))
+    (λ constant. inl (subst (λ gs. IsConstantOf (formulas gs) value) are.2.0 constant))
     (λ leaf. inr leaf)
     others)))
     others)
