@@ -7,6 +7,7 @@ pub mod AddingLemmas
 pub mod ExistLemmas
 pub mod WantedLemmas
 pub mod FirstLemmas
+pub mod PartLemmas
 pub mod LawLemmas
 pub mod FoundingLemmas
 pub mod TraceLemmas

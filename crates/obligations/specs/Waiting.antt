@@ -13,9 +13,9 @@ use Rattle.plan_terms.specs.Nodes.{is_future, nodes}
 use Rattle.plan_terms.specs.Plans.{Plan}
 use Rattle.valuations.specs.Scopes.{filled}
 use Rattle.valuations.specs.Tables.{Relation}
-use Rattle.obligations.specs.Asked.{CanAsk, IsWanted}
+use Rattle.obligations.specs.Asked.{CanAsk, IsNowOf, IsWanted, guards_at}
 use Rattle.obligations.specs.Missing.{Missing}
-use Rattle.obligations.specs.Pending.{HasDeadline, MissingOf, node_of}
+use Rattle.obligations.specs.Pending.{HasDeadline, MissesAt, MissingOf, node_of}
 use Rattle.obligations.specs.contracts.instances.Instance as stored
 use Rattle.obligations.specs.declared.instances.Instance.{Instance}
 use Rattle.obligations.specs.declared.literals.Literal.{Literal}
@@ -53,6 +53,18 @@ pub record IsWantedUnder (now : Now) (plan : Plan) (v : Valuation) (rows : Relat
   pub row : List Value
   pub there : Contains rows.rows row
   pub wanted : IsWanted now plan (filled v rows.columns row) literal
+
+-- an instance of the node misses what a part of the node misses
+pub record AsksPart (now : Now) (node : Plan) (i : Instance) (forced : Bool) (part : Plan) : Type 0 where
+  pub misses : (trace : List Step) → IsNowOf now trace → (literals : List Literal)
+      → Missing trace part i.valuation literals → MissesAt trace node i forced literals
+  pub inside : (leaf : Plan) → Contains (nodes part) leaf → Contains (nodes node) leaf
+  pub can : CanAsk (guards_at now.tables.now) part i.valuation
+
+-- it misses what this part misses, or nothing
+abbrev pub Asks : Now → Plan → Instance → (forced : Bool) → Option Plan → Type 0
+Asks now node i forced None = (trace : List Step) → IsNowOf now trace → MissesAt trace node i forced []
+Asks now node i forced (Some part) = AsksPart now node i forced part
 
 -- each of the plans can be asked at a step with these guards, where nothing is bound, and its windows end in time
 abbrev pub CanAskRoot : List (Formula × List VarId) → Plan → Type 0

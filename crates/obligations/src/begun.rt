@@ -12,6 +12,7 @@ ghost use Rattle.obligations.specs.Waiting.{CanAskOf};
 ghost use Rattle.obligations.specs.declared.now.TheConstants.{MOST_TIME};
 
 use crate::instances::Instance;
+use crate::laws::missing_exists;
 use crate::now::Now;
 use enf_value::memory::NoMemory;
 use plan_terms::Plan;
@@ -34,5 +35,9 @@ pub fn take(
     ensures asked { IfOk result (λ begun. (plans : List Tree) → StandsIn plans rule (plan_of plan.now)
         → AllByRecursion (CanAskOf (guards_at now.now.tables.now) plans) begun.items) }
 {
-    Err(NoMemory)
+    if plan.has_future() {
+        return Err(NoMemory);
+    }
+    missing_exists();
+    Ok(Vec::new(alloc))
 }

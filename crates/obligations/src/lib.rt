@@ -13,6 +13,7 @@ pub mod literals;
 pub mod missing;
 pub mod now;
 pub mod pending;
+mod waiting;
 pub mod worked_cases;
 
 pub use actions::Action;

@@ -13,6 +13,7 @@ use crate::instances::Instance;
 use crate::lists::push_missing;
 use crate::literals::Literal;
 use crate::now::Now;
+use crate::waiting::{node_in, part_asked};
 use enf_value::memory::NoMemory;
 use plan_terms::Plan;
 use std::alloc::Global;
@@ -66,7 +67,13 @@ pub fn first_missing_of(
     ensures wanted { IfOk result (λ found. IfSome found
         (IsWantedOf now.now (map plan_of plans.now) instance.now)) }
 {
-    Err(NoMemory)
+    let Some(node) = node_in(plans, instance) else {
+        return Ok(None);
+    };
+    match part_asked(alloc, node, instance, now, forced)? {
+        Some(part) => find_missing(alloc, part, &Frame::Whole(&instance.valuation), now),
+        None => Ok(None),
+    }
 }
 
 /// The literals that a pending instance misses at the step.
@@ -81,5 +88,11 @@ pub fn lack_pending(
     ensures { IfOk result (λ literals. (trace : List Step) → IsNowOf now.now trace
         → MissingOf (map plan_of plans.now) trace instance.now forced literals.items) }
 {
-    Err(NoMemory)
+    let Some(node) = node_in(plans, instance) else {
+        return Ok(Vec::new(alloc));
+    };
+    match part_asked(alloc, node, instance, now, forced)? {
+        Some(part) => lack(alloc, part, &instance.valuation, now),
+        None => Ok(Vec::new(alloc)),
+    }
 }
