@@ -7,6 +7,8 @@ mod devices;
 #[cfg(test)]
 mod formulas;
 #[cfg(test)]
+mod found;
+#[cfg(test)]
 mod plans;
 #[cfg(test)]
 mod values;

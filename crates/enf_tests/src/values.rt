@@ -1,4 +1,5 @@
 //! Values, lists and signatures with ample memory.
+use crate::found::Found;
 use enf_value::{
     Duplicate, Event, EventSet, NameId, Row, Term, Terms, TextValue, Value, VarId, print_value,
     read_value,
@@ -8,9 +9,8 @@ use std::alloc::Global;
 use std::test::Fail;
 
 fn event(alloc: Global, name: u32) -> Result<Event, Fail> {
-    let mut args = Row::new(alloc);
-    args.push(Value::Num(-7))?;
-    args.push(Value::Text(TextValue::from_bytes(alloc, b"a \"quoted\" text")?))?;
+    let text = TextValue::from_bytes(alloc, b"a \"quoted\" text")?;
+    let args = Row::from_vec(vec![in alloc; Value::Num(-7), Value::Text(text)]?);
     Ok(Event {
         name: NameId(name),
         args,
@@ -19,40 +19,85 @@ fn event(alloc: Global, name: u32) -> Result<Event, Fail> {
 
 #[test]
 fn values_and_lists(rt: HostRuntime) -> Result<(), Fail> {
-    let alloc = rt.alloc();
-    let first = event(alloc, 1)?;
-    assert_eq!(rt; first.duplicate(alloc)?, first);
+    let mut found = Found::new(rt.alloc());
+    find_event(rt.alloc(), &mut found)?;
+    find_set(rt.alloc(), &mut found)?;
+    find_terms(rt.alloc(), &mut found)?;
+    assert_eq!(rt; found.text(), b"yes|no|100|yes|yes|".as_slice());
+    Ok(())
+}
+
+fn find_event(alloc: Global, found: &mut Found) -> Result<(), Fail> {
+    let event = event(alloc, 1)?;
+    let copy = event.duplicate(alloc)?;
+    found.holds(copy == event);
+    Ok(())
+}
+
+fn find_set(alloc: Global, found: &mut Found) -> Result<(), Fail> {
     let mut set = EventSet::new(alloc);
+    fill(alloc, &mut set)?;
+    find_filled(alloc, &mut set, found)
+}
+
+fn fill(alloc: Global, set: &mut EventSet) -> Result<(), Fail> {
     for name in 0..100 {
-        assert!(rt; set.insert(event(alloc, name)?)?);
+        set.insert(event(alloc, name)?)?;
     }
-    assert!(rt; !set.insert(event(alloc, 99)?)?);
-    assert_eq!(rt; set.duplicate(alloc)?.as_slice(), set.as_slice());
+    Ok(())
+}
+
+fn find_filled(alloc: Global, set: &mut EventSet, found: &mut Found) -> Result<(), Fail> {
+    found.holds(set.insert(event(alloc, 99)?)?);
+    found.number(set.len() as u64);
+    let copy = set.duplicate(alloc)?;
+    found.holds(copy.as_slice() == set.as_slice());
+    Ok(())
+}
+
+fn find_terms(alloc: Global, found: &mut Found) -> Result<(), Fail> {
     let mut terms = Terms::new(alloc);
     terms.push(Term::Var(VarId(3)))?;
     terms.push(Term::Const(Value::Num(4)))?;
-    assert_eq!(rt; terms.duplicate(alloc)?, terms);
+    let copy = terms.duplicate(alloc)?;
+    found.holds(copy == terms);
     Ok(())
 }
 
 #[test]
 fn what_is_printed_is_read(rt: HostRuntime) -> Result<(), Fail> {
-    let alloc = rt.alloc();
-    for value in event(alloc, 1)?.args.as_slice() {
-        let mut text = Vec::new(alloc);
-        print_value(value, &mut text)?;
-        let read = read_value(alloc, &text, 0)?;
-        assert_eq!(rt; read, Some((value.duplicate(alloc)?, text.len())));
+    let mut found = Found::new(rt.alloc());
+    find_read(rt.alloc(), &Value::Num(-7), &mut found)?;
+    let text = TextValue::from_bytes(rt.alloc(), b"a \"quoted\" text")?;
+    find_read(rt.alloc(), &Value::Text(text), &mut found)?;
+    assert_eq!(rt; found.text(), b"yes|yes|".as_slice());
+    Ok(())
+}
+
+fn find_read(alloc: Global, value: &Value, found: &mut Found) -> Result<(), Fail> {
+    let mut text = Vec::new(alloc);
+    print_value(value, &mut text)?;
+    match read_value(alloc, &text, 0)? {
+        Some((read, end)) => found.holds(read == *value && end == text.len()),
+        None => found.holds(false),
     }
     Ok(())
 }
 
 #[test]
 fn signatures(rt: HostRuntime) -> Result<(), Fail> {
-    let alloc = rt.alloc();
-    let read = Signature::read(alloc, b"request(text, int) +-; alarm() +;").ok();
-    let copy = read.ok_or("a signature")?.duplicate(alloc)?;
-    assert_eq!(rt; copy.len(), 2);
-    assert_eq!(rt; copy.find(b"alarm"), Some(NameId(1)));
+    let mut found = Found::new(rt.alloc());
+    find_signature(rt.alloc(), &mut found)?;
+    assert_eq!(rt; found.text(), b"2|yes|".as_slice());
+    Ok(())
+}
+
+fn find_signature(alloc: Global, found: &mut Found) -> Result<(), Fail> {
+    let Ok(read) = Signature::read(alloc, b"request(text, int) +-; alarm() +;") else {
+        return Err("a signature".into());
+    };
+    let copy = read.duplicate(alloc)?;
+    found.number(copy.len().into());
+    found.holds(copy.find(b"alarm") == Some(NameId(1)));
     Ok(())
 }
