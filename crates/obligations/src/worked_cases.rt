@@ -7,6 +7,7 @@ ghost use Rattle.obligations.specs.Cases.{at_5, always_p, bar_q, cause_p, each_q
 ghost use Rattle.obligations.specs.Cases.{no_q_until_p, q_of_1, q_of_2, soon_p, two_and_one, waiting, Begins};
 ghost use Rattle.obligations.specs.Cases.{begun_at_5, then_at, Misses, Becomes, Owes, Pends};
 ghost use Rattle.obligations.specs.Missing.{Missing, cause, suppress};
+ghost use Rattle.obligations.specs.Pending.{IsClean, IsReady, NoneIsOver};
 ghost use Rattle.plan_terms.specs.Plans as plan;
 
 /// What leaves and connectives miss.
@@ -16,8 +17,11 @@ pub fn missing_now()
     ensures cause_another_there { Missing (at_5 (event_q ∷ [])) (cause_p 3) no_values [] → ⊥ }
     ensures suppress_present { Missing (at_5 (event_q ∷ [])) (bar_q 3) no_values (suppress event_q 3 ∷ []) }
     ensures suppress_absent { Missing (at_5 []) (bar_q 3) no_values [] }
+    ensures suppress_nothing_there { Missing (at_5 []) (bar_q 3) no_values (suppress event_q 3 ∷ []) → ⊥ }
     ensures both { Missing (at_5 (event_q ∷ [])) (plan.Both 0 (cause_p 1) (bar_q 2)) no_values
         (cause event_p 1 ∷ suppress event_q 2 ∷ []) }
+    ensures both_not_the_first_alone { Missing (at_5 (event_q ∷ [])) (plan.Both 0 (cause_p 1) (bar_q 2)) no_values
+        (cause event_p 1 ∷ []) → ⊥ }
     ensures left_side_holds { Missing (at_5 (event_p ∷ event_q ∷ [])) (plan.Either 0 (cause_p 1) (bar_q 2))
         no_values [] }
     ensures right_side_holds { Missing (at_5 []) (plan.Either 0 (cause_p 1) (bar_q 2)) no_values [] }
@@ -26,6 +30,8 @@ pub fn missing_now()
     ensures not_the_left_side { Missing (at_5 (event_q ∷ [])) (plan.Either 0 (cause_p 1) (bar_q 2)) no_values
         (cause event_p 1 ∷ []) → ⊥ }
     ensures test_holds { Missing (at_5 []) (plan.TestOr 0 0 holds (cause_p 1)) no_values [] }
+    ensures test_holds_all_the_same { Missing (at_5 []) (plan.TestOr 0 0 holds (cause_p 1)) no_values
+        (cause event_p 1 ∷ []) → ⊥ }
     ensures test_fails { Missing (at_5 []) (plan.TestOr 0 0 fails (cause_p 1)) no_values (cause event_p 1 ∷ []) }
 {}
 
@@ -53,6 +59,7 @@ pub fn missing_ahead()
 /// What is begun.
 pub fn begun()
     ensures leaf { Begins (at_5 (event_p ∷ [])) (cause_p 0) [] }
+    ensures suppress { Begins (at_5 []) (bar_q 0) [] }
     ensures eventually { Begins (at_5 []) (soon_p 0 0) (begun_at_5 0 5 15 ∷ []) }
     ensures eventually_met { Begins (at_5 (event_p ∷ [])) (soon_p 0 0) [] }
     ensures eventually_not_left_open { Begins (at_5 (event_p ∷ [])) (soon_p 0 0) (begun_at_5 0 5 15 ∷ []) → ⊥ }
@@ -158,4 +165,16 @@ pub fn pending()
     ensures kept_before_begun { Pends (at_time 1 [] ∷ at_5 []) (soon_p 0 0)
         (waiting 0 1 11 ∷ record { rule = 0; node = 0; valuation = no_values; origin = 1; low = 5; high = 15 } ∷ []) }
     ensures met { Pends (at_5 (event_p ∷ [])) (soon_p 0 0) [] }
+{}
+
+/// Where a trace is clean and nothing is behind the times: under p(), under p() within ten units, and under p() always.
+pub fn clean()
+    ensures nothing_missing { IsClean (cause_p 0 ∷ []) (at_5 (event_p ∷ [])) }
+    ensures something_missing { IsClean (cause_p 0 ∷ []) (at_5 []) → ⊥ }
+    ensures no_step { IsClean (cause_p 0 ∷ []) [] }
+    ensures at_the_deadline { NoneIsOver (soon_p 0 0 ∷ []) (begun_at_5 0 5 15 ∷ []) 15 }
+    ensures past_the_deadline { NoneIsOver (soon_p 0 0 ∷ []) (begun_at_5 0 5 15 ∷ []) 16 → ⊥ }
+    ensures no_deadline { NoneIsOver (always_p 0 0 ∷ []) (begun_at_5 0 5 15 ∷ []) 16 }
+    ensures ready { IsReady (cause_p 0 ∷ []) (at_5 (event_p ∷ [])) 5 }
+    ensures not_ready_before { IsReady (cause_p 0 ∷ []) (at_5 (event_p ∷ [])) 4 → ⊥ }
 {}
