@@ -26,3 +26,7 @@ returns-clause-wanted c =
     (subst (λ l. AreOf c.args.past.now c.args.time l tables) c.in_ok-ordered.ensures c.in_ok-tables.ensures.are)
     (subst (λ l. AreKnown c.args.past.now l tables) c.in_ok-ordered.ensures c.in_ok-tables.ensures.known)
     (subst (λ l. IfSome c.in_ok-action.action (IsWantedAt plans c.args.pending.now.instances l l tables)) c.in_ok-ordered.ensures c.in_ok-action.ensures.wanted)
+
+pub returns-clause-tables : goal.returns-clause-tables
+returns-clause-tables c =
+    subst (λ l. AreOf c.args.past.now c.args.time l c.in_ok-tables.tables) c.in_ok-ordered.ensures c.in_ok-tables.ensures.are
