@@ -8,3 +8,4 @@ pub mod LookingLemmas
 pub mod UniverseLemmas
 pub mod StepLemmas
 pub mod LoopLemmas
+pub mod WakingLemmas

@@ -1,5 +1,6 @@
 pub mod Choice
 pub mod Follows
+pub mod Waking
 pub mod Looking
 pub mod Choosing
 pub mod Laws

@@ -1,5 +1,5 @@
 //! The choice loop: what is added at a step and taken out, so that nothing is missing there.
-ghost use Rattle.std.specs.Prelude.{◌≤◌, ◌^◌, List, IfOk, IfSome, length, map};
+ghost use Rattle.std.specs.Prelude.{◌≡◌, ◌≤◌, ◌^◌, List, IfOk, IfSome, length, map};
 ghost use Rattle.std.specs.List.{AllByRecursion};
 ghost use Rattle.choice_step.specs.Choice.{all_asked};
 ghost use Rattle.choice_step.specs.Choosing.{ActsFrom, WillDecide};
@@ -11,9 +11,11 @@ ghost use Rattle.past_state.specs.Past.{AreOf};
 ghost use Rattle.past_state.specs.Runs.{AreUpToTimeOf};
 ghost use Rattle.plan_terms.specs.Changes.{NothingClashes};
 ghost use Rattle.plan_terms.specs.Plans.{plan_of};
+ghost use Rattle.plan_terms.specs.Triggers.{guard_triggers};
 
 use crate::actions::{Action, Actions};
 use crate::looking::{act, first_action};
+use crate::waking::Wakes;
 use enf_value::event_sets::EventSet;
 use enf_value::memory::NoMemory;
 use monitorable_guard::StepEvents;
@@ -65,13 +67,46 @@ pub fn choose(
         (λ choice. ActsFrom (map plan_of plans.now) events choice.actions choice.events) }
     ensures tables { IfOk result (λ choice. AreOf past.now time choice.events choice.tables) }
 {
+    let wakes = Wakes::of(alloc, plans)?;
+    choose_with(
+        alloc, &wakes, plans, pending, past, time, position, events, inserted,
+    )
+}
+
+/// The same with what wakes the rules, which is made once for the plans.
+pub fn choose_with(
+    alloc: Global,
+    wakes: &Wakes,
+    plans: &[Plan],
+    pending: &Pending,
+    past: &PastState,
+    time: u64,
+    position: u64,
+    events: EventSet,
+    inserted: bool,
+) -> Result<Choice, NoMemory>
+    requires wakes { wakes.now ≡ map guard_triggers (map plan_of plans.now) }
+    requires few { length plans.now ≤ 2 ^ 32 }
+    requires roles { NothingClashes (map plan_of plans.now) }
+    requires roots { CanAskRoots (map placed_guard past.now.guards) (map plan_of plans.now) }
+    requires instances { AllByRecursion (CanAskOf (map placed_guard past.now.guards) (map plan_of plans.now))
+        pending.now.instances }
+    requires later { AreUpToTimeOf time past.now.operators }
+    // For each trace for which the past state stands.
+    ensures decided { IfOk result (λ choice. WillDecide (map plan_of plans.now) pending.now.instances past.now
+        inserted time position events choice.actions choice.events) }
+    // Whatever it stands for.
+    ensures acted { IfOk result
+        (λ choice. ActsFrom (map plan_of plans.now) events choice.actions choice.events) }
+    ensures tables { IfOk result (λ choice. AreOf past.now time choice.events choice.tables) }
+{
     // Its clause says that no event stands twice.
     let _given = events.as_slice();
     let mut events = events;
     let mut actions = Actions::new(alloc);
     loop {
         let Found { action, tables } = look(
-            alloc, plans, pending, past, time, position, &events, inserted,
+            alloc, wakes, plans, pending, past, time, position, &events, inserted,
         )?;
         let Some(action) = action else {
             return Ok(Choice {
@@ -90,6 +125,7 @@ pub fn choose(
 // Looks at the step with these events.
 fn look(
     alloc: Global,
+    wakes: &Wakes,
     plans: &[Plan],
     pending: &Pending,
     past: &PastState,
@@ -98,6 +134,7 @@ fn look(
     events: &EventSet,
     inserted: bool,
 ) -> Result<Found, NoMemory>
+    requires wakes { wakes.now ≡ map guard_triggers (map plan_of plans.now) }
     requires few { length plans.now ≤ 2 ^ 32 }
     requires roots { CanAskRoots (map placed_guard past.now.guards) (map plan_of plans.now) }
     requires instances { AllByRecursion (CanAskOf (map placed_guard past.now.guards) (map plan_of plans.now))
@@ -112,7 +149,7 @@ fn look(
     let ordered = StepEvents::of(alloc, events)?;
     let tables = past.tables_at(alloc, time, &ordered)?;
     let action = first_at(
-        alloc, plans, pending, time, position, &ordered, &tables, inserted,
+        alloc, wakes, plans, pending, time, position, &ordered, &tables, inserted,
     )?;
     Ok(Found { action, tables })
 }
@@ -120,6 +157,7 @@ fn look(
 // The action for the first that misses something at a step with these tables.
 fn first_at(
     alloc: Global,
+    wakes: &Wakes,
     plans: &[Plan],
     pending: &Pending,
     time: u64,
@@ -128,6 +166,7 @@ fn first_at(
     tables: &Tables,
     inserted: bool,
 ) -> Result<Option<Action>, NoMemory>
+    requires wakes { wakes.now ≡ map guard_triggers (map plan_of plans.now) }
     requires few { length plans.now ≤ 2 ^ 32 }
     requires roots { CanAskRoots (guards_at tables.now) (map plan_of plans.now) }
     requires instances { AllByRecursion (CanAskOf (guards_at tables.now) (map plan_of plans.now))
@@ -146,5 +185,5 @@ fn first_at(
         ordered,
         tables,
     };
-    first_action(alloc, plans, pending, &now, inserted)
+    first_action(alloc, plans, wakes, pending, &now, inserted)
 }

@@ -6,7 +6,9 @@ pub mod actions;
 pub mod choosing;
 pub mod laws;
 mod looking;
+pub mod waking;
 pub mod worked_cases;
 
 pub use actions::{Action, Actions};
-pub use choosing::{Choice, choose};
+pub use choosing::{Choice, choose, choose_with};
+pub use waking::Wakes;

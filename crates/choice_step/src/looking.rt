@@ -1,20 +1,25 @@
 //! Who is the first at a step that misses something, and the action for that one.
-ghost use Rattle.std.specs.Prelude.{◌≡◌, ◌≤◌, ◌^◌, List, IfOk, IfSome, OnOk, length, map};
+ghost use Rattle.std.specs.Prelude.{◌≡◌, ◌≤◌, ◌^◌, List, IfOk, IfSome, OnOk, Some, length, map, slice_get};
 ghost use Rattle.std.specs.List.{AllByRecursion};
 ghost use Rattle.choice_step.specs.Choice.{Root, Waiting, action_at, all_asked, is_forced, roots_from};
 ghost use Rattle.choice_step.specs.Choice.{Applies};
 ghost use Rattle.choice_step.specs.Looking.{IsActionAt, IsWantedAt};
-ghost use Rattle.obligations.specs.Asked.{Changes, guards_at};
-ghost use Rattle.obligations.specs.Waiting.{CanAskOf, CanAskRoots};
+ghost use Rattle.enf_value.specs.Valuations.{no_values};
+ghost use Rattle.enf_value.specs.declared.steps.Step.{Step};
+ghost use Rattle.obligations.specs.Asked.{Changes, IsNowOf, IsWanted, guards_at};
+ghost use Rattle.obligations.specs.Waiting.{CanAskOf, CanAskRoot, CanAskRoots, FirstMissing};
 ghost use Rattle.obligations.specs.declared.instances.Instance.{Instance as AnyInstance};
 ghost use Rattle.plan_terms.specs.Plans.{Plan as AnyPlan, plan_of};
+ghost use Rattle.plan_terms.specs.Triggers.{guard_triggers};
 
+use crate::waking::Wakes;
 use enf_value::event_sets::EventSet;
 use enf_value::items::Duplicate;
 use enf_value::memory::NoMemory;
 use obligations::missing::{first_missing, first_missing_of};
 use obligations::{Action, Instance, Literal, LiteralKind, Now, Pending};
 use plan_terms::Plan;
+use plan_terms::laws::triggers_are_met;
 use std::alloc::Global;
 use valuations::{Frame, Valuation};
 
@@ -22,11 +27,14 @@ use valuations::{Frame, Valuation};
 pub fn first_action(
     alloc: Global,
     plans: &[Plan],
+    wakes: &Wakes,
     pending: &Pending,
     now: &Now<'_>,
     inserted: bool,
 ) -> Result<Option<Action>, NoMemory>
     requires few { length plans.now ≤ 2 ^ 32 }
+    requires wakes { wakes.now ≡ map guard_triggers (map plan_of plans.now) }
+    requires ordered { now.now.ordered.now ≡ now.now.events.now }
     requires roots { CanAskRoots (guards_at now.now.tables.now) (map plan_of plans.now) }
     requires instances { AllByRecursion (CanAskOf (guards_at now.now.tables.now) (map plan_of plans.now))
         pending.now.instances }
@@ -38,7 +46,7 @@ pub fn first_action(
 {
     match first_waiting(alloc, plans, pending.as_slice(), now, inserted)? {
         Some(action) => Ok(Some(action)),
-        None => first_root(alloc, plans, now, inserted),
+        None => first_root(alloc, plans, wakes, now, inserted),
     }
 }
 
@@ -69,10 +77,13 @@ fn first_waiting(
 fn first_root(
     alloc: Global,
     plans: &[Plan],
+    wakes: &Wakes,
     now: &Now<'_>,
     inserted: bool,
 ) -> Result<Option<Action>, NoMemory>
     requires few { length plans.now ≤ 2 ^ 32 }
+    requires wakes { wakes.now ≡ map guard_triggers (map plan_of plans.now) }
+    requires ordered { now.now.ordered.now ≡ now.now.events.now }
     requires roots { CanAskRoots (guards_at now.now.tables.now) (map plan_of plans.now) }
     ensures found { IfOk result (IsActionAt (map plan_of plans.now) inserted now.now
         (roots_from 0 (map plan_of plans.now))) }
@@ -80,14 +91,35 @@ fn first_root(
         (IsWantedAt (map plan_of plans.now) pending now.now.events.now now.now.ordered.now
         now.now.tables.now)) }
 {
-    let nothing = Valuation::empty(alloc);
-    let unbound = Frame::Whole(&nothing);
     for (rule, plan) in plans.iter().enumerate() {
-        if let Some(literal) = first_missing(alloc, plan, &unbound, now)? {
+        if let Some(literal) = first_of_root(alloc, wakes, rule, plan, now)? {
             return Ok(Some(action_of_root(alloc, rule as u32, literal, now)));
         }
     }
     Ok(None)
+}
+
+// The first literal that the root of a rule misses; it is not asked where no event wakes the rule.
+fn first_of_root(
+    alloc: Global,
+    wakes: &Wakes,
+    rule: usize,
+    plan: &Plan,
+    now: &Now<'_>,
+) -> Result<Option<Literal>, NoMemory>
+    requires wakes { slice_get wakes.now rule ≡ Some (guard_triggers (plan_of plan.now)) }
+    requires ordered { now.now.ordered.now ≡ now.now.events.now }
+    requires root { CanAskRoot (guards_at now.now.tables.now) (plan_of plan.now) }
+    ensures first { IfOk result (λ found. (trace : List Step) → IsNowOf now.now trace
+        → FirstMissing trace (plan_of plan.now) no_values found) }
+    ensures wanted { IfOk result (λ found. IfSome found (IsWanted now.now (plan_of plan.now) no_values)) }
+{
+    triggers_are_met();
+    if wakes.sleeps(rule, now.ordered) {
+        return Ok(None);
+    }
+    let nothing = Valuation::empty(alloc);
+    first_missing(alloc, plan, &Frame::Whole(&nothing), now)
 }
 
 // Whether an instance cannot wait any longer: at an inserted step at the end of its window.

@@ -2,7 +2,7 @@ use Rattle.std.proofs.Common.{◌-◌, length, map}
 use Rattle.plan_terms.specs.Plans.{plan_of}
 use Rattle.choice_step.proofs.LoopLemmas.{Keeps}
 use Rattle.choice_step.proofs.UniverseLemmas.{possible}
-use Rattle.choice_step.proofs.choosing.choose.Given as goal
+use Rattle.choice_step.proofs.choosing.choose_with.Given as goal
 
 abbrev pub invariant-loop-actions : goal.invariant-loop-actions
 invariant-loop-actions l =

@@ -4,7 +4,7 @@ use Rattle.plan_terms.specs.Plans.{plan_of}
 use Rattle.choice_step.specs.Looking.{IsWantedBehind, WillFind}
 use Rattle.choice_step.proofs.LoopLemmas.{Keeps, few, keeps_first, keeps_more, will_decide}
 use Rattle.choice_step.proofs.UniverseLemmas.{possible}
-use Rattle.choice_step.proofs.choosing.choose.Goals as goal
+use Rattle.choice_step.proofs.choosing.choose_with.Goals as goal
 
 pub loop-actions-init : goal.loop-actions-init
 loop-actions-init c =

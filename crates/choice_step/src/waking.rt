@@ -1,0 +1,94 @@
+//! Which rules the events of a step can wake.
+ghost use Rattle.std.specs.Prelude.{◌≡◌, IfOk, IsTrue, Some, map, slice_get};
+ghost use Rattle.std.specs.Option.{option_map};
+ghost use Rattle.choice_step.specs.Waking.{HasNoneOf, IsAway};
+ghost use Rattle.plan_terms.specs.Plans.{plan_of};
+ghost use Rattle.plan_terms.specs.Triggers.{guard_triggers};
+
+use enf_value::events::NameId;
+use enf_value::items::Items;
+use enf_value::memory::NoMemory;
+use monitorable_guard::StepEvents;
+use plan_terms::Plan;
+use plan_terms::triggers::triggers;
+use std::alloc::Global;
+use std::marker::Model;
+
+/// The triggers of the rules of a policy: where the root of a rule is a guard with triggers, the rule misses something
+/// only at a step with an event of one of these names. It is made once for the plans.
+#[derive(Drop)]
+pub struct Wakes {
+    triggers: Items<Option<Vec<NameId>>>,
+}
+
+impl Model for Wakes {
+    ghost use Rattle.std.specs.Prelude.{List, Option, map};
+    ghost use Rattle.std.specs.Option.{option_map};
+    ghost use Rattle.enf_value.specs.declared.events.NameId.{NameId};
+
+    ghost Value = { List (Option (List NameId)) };
+
+    ghost view = { λ w. map (option_map (λ names. names.items)) w.triggers };
+}
+
+impl Wakes {
+    /// Those of the roots of the plans.
+    pub fn of(alloc: Global, plans: &[Plan]) -> Result<Wakes, NoMemory>
+        ensures { IfOk result (λ wakes. wakes ≡ map guard_triggers (map plan_of plans.now)) }
+    {
+        let mut triggers = Vec::with_capacity(alloc, plans.len())?;
+        for plan in plans {
+            triggers.push(triggers_of(alloc, plan)?)?;
+        }
+        Ok(Wakes {
+            triggers: Items::from_vec(triggers),
+        })
+    }
+
+    // Whether the rule of that number has triggers, and the step no event of them.
+    pub(crate) fn sleeps(&self, rule: usize, events: &StepEvents<'_>) -> bool
+        ensures { IsTrue result → HasNoneOf (slice_get self.now rule) events.now }
+    {
+        match self.triggers.get(rule) {
+            Some(Some(names)) => has_none_of(names.as_slice(), events),
+            Some(None) | None => false,
+        }
+    }
+}
+
+// The triggers of the guard that is the plan's root.
+fn triggers_of(alloc: Global, plan: &Plan) -> Result<Option<Vec<NameId>>, NoMemory>
+    ensures { IfOk result (λ names. option_map (λ all. all.items) names ≡ guard_triggers (plan_of plan.now)) }
+{
+    match plan {
+        Plan::Guarded { test, .. } => triggers(alloc, test),
+        Plan::Cause { .. }
+        | Plan::Suppress { .. }
+        | Plan::Both { .. }
+        | Plan::Either { .. }
+        | Plan::TestOr { .. }
+        | Plan::Eventually { .. }
+        | Plan::Always { .. }
+        | Plan::Until { .. }
+        | Plan::Next { .. } => Ok(None),
+    }
+}
+
+// Whether the step has no event of the names.
+fn has_none_of(names: &[NameId], events: &StepEvents<'_>) -> bool
+    ensures { IsTrue result → HasNoneOf (Some (Some names.now)) events.now }
+{
+    for name in names {
+        if !is_away(*name, events) {
+            return false;
+        }
+    }
+    true
+}
+
+// Whether the step has no event of the name.
+fn is_away(name: NameId, events: &StepEvents<'_>) -> bool
+    ensures { IsTrue result → IsAway events.now name }
+{
+    events.named(name).is_empty()
+}
