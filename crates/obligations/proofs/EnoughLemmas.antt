@@ -41,7 +41,7 @@ pub nil_right : {X : Type 0} (xs ys : List X) → [] ≡ xs ++ ys → ys ≡ []
 nil_right [] ys same = sym same
 nil_right (x ∷ xs) ys same = let n : 0 ≡ length (x ∷ (xs ++ ys)) = ap length same in absurd (omega arith)
 
-no_nil : {X : Type 0} (x : X) (xs : List X) → [] ≡ x ∷ xs → ⊥
+pub no_nil : {X : Type 0} (x : X) (xs : List X) → [] ≡ x ∷ xs → ⊥
 no_nil x xs same = let n : 0 ≡ length (x ∷ xs) = ap length same in omega arith
 
 -- of all of two lists, all of each

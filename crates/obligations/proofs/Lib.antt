@@ -10,5 +10,6 @@ pub mod FirstLemmas
 pub mod PartLemmas
 pub mod LawLemmas
 pub mod FoundingLemmas
+pub mod UnreadLemmas
 pub mod TraceLemmas
 pub mod NowLemmas

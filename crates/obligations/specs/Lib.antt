@@ -10,4 +10,5 @@ pub mod Waiting
 pub mod Adding
 pub mod Existing
 pub mod Founding
+pub mod Unread
 pub mod Cases

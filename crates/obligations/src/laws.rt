@@ -6,6 +6,7 @@ ghost use Rattle.obligations.specs.Missing.{MissingIsOne};
 ghost use Rattle.obligations.specs.Pending.{AfterIsOne, BegunIsOne, MissingOfIsOne, PendIsOne};
 ghost use Rattle.obligations.specs.Rows.{RowsAreOne};
 ghost use Rattle.obligations.specs.Traces.{CleanGrows, NothingIsPending, PendGrows, PendingIsEnough};
+ghost use Rattle.obligations.specs.Unread.{UnreadStaysMet};
 
 use enf_formula::laws;
 use monitorable_guard::laws::safe_has_rows;
@@ -85,3 +86,12 @@ pub fn well_formed_can_be_asked()
 pub fn now_stands()
     ensures { NowStands }
 {}
+
+/// What missed nothing misses nothing after an action on a name that no guard or test of it looks for, and of which no
+/// leaf wants the contrary.
+pub fn unread_stays_met()
+    ensures { UnreadStaysMet }
+{
+    laws::dependence();
+    missing_exists();
+}

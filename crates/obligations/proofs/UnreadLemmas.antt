@@ -1,0 +1,141 @@
+-- What misses nothing misses nothing after an action on a name that it does not read.
+use Rattle.std.proofs.Common.{◌≡◌, ℕ, zero, suc, List, [], ◌∷◌, ◌++◌, length, Contains, Option, None, Some, refl, sym, ap, subst, inl, inr, ⊎_elim, ◌⊎◌, ◌∙◌}
+use Rattle.std.specs.Prelude.{◌↔◌}
+use Rattle.std.specs.List.{AllByRecursion}
+use Rattle.std.proofs.lemmas.List.Elements.{All-contains}
+use Rattle.enf_value.specs.Data.{step_at}
+use Rattle.enf_value.specs.Valuations.{Valuation, values_of, with_values}
+use Rattle.enf_value.specs.declared.events.Event.{Event}
+use Rattle.enf_value.specs.declared.events.NameId.{NameId}
+use Rattle.enf_value.specs.declared.steps.Step.{Step}
+use Rattle.enf_value.specs.declared.terms.VarId.{VarId}
+use Rattle.enf_value.specs.declared.values.Value.{Value}
+use Rattle.enf_formula.specs.Formulas.{Formula}
+use Rattle.enf_formula.specs.Satisfaction.{Sat}
+use Rattle.std.specs.Prelude.{◌-◌}
+use Rattle.enf_formula.specs.Laws.{NamesDecide}
+use Rattle.enf_formula.specs.Names.{AreSameOf, names_in}
+use Rattle.plan_terms.specs.Nodes.{nodes}
+use Rattle.plan_terms.specs.Plans.{Plan, Cause, Suppress, Both, Either, TestOr, Guarded, Eventually, Always}
+use Rattle.plan_terms.specs.Plans.{Until, Next}
+use Rattle.obligations.specs.Asked.{CanAsk, CanAskIn, FitsScope}
+use Rattle.obligations.specs.Existing.{MissingExists}
+use Rattle.obligations.specs.Missing.{HasSome, IsAbsent, IsPresent, LiteralUnless, MissesAlways, MissesEither, MissesUntil, Missing, OfEvent, cause, suppress}
+use Rattle.obligations.specs.Rows.{Gathers, HoldsLast, last_position}
+use Rattle.obligations.specs.Unread.{DiffersIn, HaveMore, IsUnread, UnreadStaysMet}
+use Rattle.obligations.specs.declared.literals.Literal.{Literal}
+use Rattle.obligations.specs.declared.literals.LiteralKind.{LiteralKind}
+use Rattle.obligations.specs.declared.literals.LiteralKind.TheVariants as kind
+use Rattle.obligations.proofs.AskLemmas.{under_row}
+use Rattle.obligations.proofs.EnoughLemmas.{all_left, all_right, nil_left, nil_right, no_nil}
+use Rattle.enf_value.specs.ListLaws.{here, later}
+
+present_stays : (k : LiteralKind) (name : NameId) (trace other : List Step) → DiffersIn k name trace other → (i : ℕ) (e : Event)
+    → (k ≡ kind.Suppress → e.name ≡ name → ⊥) → Contains (step_at trace i).events e → Contains (step_at other i).events e
+present_stays kind.Cause name trace other differs i e unread there = differs.more i e there
+present_stays kind.Suppress name trace other differs i e unread there = (differs.others i e (unread refl)).0 there
+
+absent_stays : (k : LiteralKind) (name : NameId) (trace other : List Step) → DiffersIn k name trace other → (i : ℕ) (e : Event)
+    → (k ≡ kind.Cause → e.name ≡ name → ⊥) → Contains (step_at other i).events e → Contains (step_at trace i).events e
+absent_stays kind.Cause name trace other differs i e unread there = (differs.others i e (unread refl)).1 there
+absent_stays kind.Suppress name trace other differs i e unread there = differs.more i e there
+
+leaf_stays : (n : NameId) (o : Option (List Value)) (P Q : Event → Type 0) (l : Event → Literal)
+    → ((e : Event) → e.name ≡ n → P e → Q e) → OfEvent n o (λ e. LiteralUnless (P e) (l e) [])
+    → OfEvent n o (λ e. LiteralUnless (Q e) (l e) [])
+leaf_stays n None P Q l turn missing = missing
+leaf_stays n (Some args) P Q l turn missing =
+    ⊎_elim (λ met. inl (turn (record { name = n; args = args }) refl met.0, refl)) (λ lacks. absurd (no_nil (l (record { name = n; args = args })) [] lacks.1)) missing
+
+none_gathered : {X : Type 0} (P Q : X → List Literal → Type 0) (xs : List X) → ((x : X) → Contains xs x → P x [] → Q x [])
+    → Gathers P xs [] → Gathers Q xs []
+none_gathered P Q [] turn gathered = gathered
+none_gathered P Q (x ∷ xs) turn (one, rest, is, others, are) = (
+  [],
+  [],
+  turn x (here x xs) (subst (P x) (nil_left one rest are) is),
+  none_gathered P Q xs (λ y there. turn y (later y x xs there)) (subst (Gathers P xs) (nil_right one rest are) others),
+  refl,
+)
+
+module _ (names : NamesDecide) (exist : MissingExists) (guards : List (Formula × List VarId)) (k : LiteralKind) (name : NameId)
+    (trace other : List Step) (differs : DiffersIn k name trace other) where
+  same_last : last_position trace ≡ last_position other
+  same_last = ap (λ n. n - 1) differs.long
+
+  same_holds : (f : Formula) → (Contains (names_in f) name → ⊥) → (v : Valuation) → HoldsLast trace v f ↔ HoldsLast other v f
+  same_holds f unread v =
+      let same : AreSameOf (names_in f) trace other = record {
+        long = differs.long;
+        times = differs.times;
+        events = λ i event among. differs.others i event (λ is. unread (subst (Contains (names_in f)) is among));
+      } in
+      let both = names trace other (last_position trace) v f same in (
+        λ holds. subst (λ n. Sat other n v f) same_last (both.0 holds),
+        λ holds. both.1 (subst (λ n. Sat other n v f) (sym same_last) holds),
+      )
+
+  at_last : (e : Event) → Contains (step_at other (last_position trace)).events e → IsPresent other e
+  at_last e there = subst (λ n. Contains (step_at other n).events e) same_last there
+
+  from_last : (e : Event) → IsPresent other e → Contains (step_at other (last_position trace)).events e
+  from_last e there = subst (λ n. Contains (step_at other n).events e) (sym same_last) there
+
+  until_stays : (low : ℕ) (L R L' R' : List Literal → Type 0) → (L [] → L' []) → (R [] → R' []) → (ls : List Literal) × R' ls
+      → MissesUntil low L R [] → MissesUntil low L' R' []
+  until_stays zero L R L' R' l r ([], is) missing = inl (is, refl)
+  until_stays zero L R L' R' l r (x ∷ xs, is) missing =
+      ⊎_elim (λ met. inl (r met.0, refl)) (λ lacks. inr ((x, xs, is), l lacks.1)) missing
+  until_stays (suc low) L R L' R' l r some missing = l missing
+
+  stays : (plan : Plan) (scope : List VarId) → CanAskIn guards plan scope → AllByRecursion (IsUnread k name) (nodes plan) → (v : Valuation)
+      → FitsScope scope v → Missing trace plan v [] → Missing other plan v []
+  stays (Cause node place n terms) scope can unread v fit missing =
+      leaf_stays n (values_of v terms) (IsPresent trace) (IsPresent other) (λ e. cause e node)
+      (λ e is there. at_last e (present_stays k name trace other differs (last_position trace) e (λ s named. unread.0 s (sym is ∙ named)) there)) missing
+  stays (Suppress node place n terms) scope can unread v fit missing =
+      leaf_stays n (values_of v terms) (IsAbsent trace) (IsAbsent other) (λ e. suppress e node)
+      (λ e is absent there. absent (absent_stays k name trace other differs (last_position trace) e (λ s named. unread.0 s (sym is ∙ named)) (from_last e there))) missing
+  stays (Both node left right) scope can unread v fit (first, rest, on_left, on_right, are) = (
+    [],
+    [],
+    stays left scope can.1 (all_left (IsUnread k name) (nodes left) (nodes right) unread.1) v fit (subst (Missing trace left v) (nil_left first rest are) on_left),
+    stays right scope can.2 (all_right (IsUnread k name) (nodes left) (nodes right) unread.1) v fit (subst (Missing trace right v) (nil_right first rest are) on_right),
+    refl,
+  )
+  stays (Either node left right) scope can unread v fit missing =
+      let l = stays left scope can.1 (all_left (IsUnread k name) (nodes left) (nodes right) unread.1) v fit in
+      let r = stays right scope can.2 (all_right (IsUnread k name) (nodes left) (nodes right) unread.1) v fit in
+      ⊎_elim (λ met. inl (l met.0, refl)) (λ more. ⊎_elim (λ met. inr (inl (r met.0, refl))) (λ lacks. inr (inl (r lacks.2, refl))) more) missing
+  stays (TestOr node guard test body) scope can unread v fit missing =
+      ⊎_elim
+      (λ met. inl ((same_holds test unread.0 v).0 met.0, refl))
+      (λ fails. inr ((λ holds. fails.0 ((same_holds test unread.0 v).1 holds)), stays body scope can.1 unread.1 v fit fails.1))
+      missing
+  stays (Guarded node xs guard test body) scope can unread v fit (rows, are, gathered) = (
+    rows,
+    record {
+      fit = are.fit;
+      rise = are.rise;
+      are = λ row long. (
+        (λ there. (same_holds test unread.0 (with_values xs row v)).0 ((are.are row long).0 there)),
+        (λ holds. (are.are row long).1 ((same_holds test unread.0 (with_values xs row v)).1 holds)),
+      );
+    },
+    none_gathered (λ row. Missing trace body (with_values xs row v)) (λ row. Missing other body (with_values xs row v)) rows
+        (λ row there missing. stays body (scope ++ xs) can.1 unread.1 (with_values xs row v)
+        (under_row scope xs can.0.2 v fit row (All-contains (λ (r : List Value). length r ≡ length xs) rows row are.fit there)) missing) gathered,
+  )
+  stays (Eventually node place low high body) scope can unread v fit missing = refl
+  stays (Always node place zero high body) scope can unread v fit missing = stays body scope can.1 unread.1 v fit missing
+  stays (Always node place (suc low) high body) scope can unread v fit missing = refl
+  stays (Until node place low high left right) scope can unread v fit missing =
+      until_stays low (Missing trace left v) (Missing trace right v) (Missing other left v) (Missing other right v)
+      (stays left scope can.1 (all_left (IsUnread k name) (nodes left) (nodes right) unread.1) v fit)
+      (stays right scope can.2 (all_right (IsUnread k name) (nodes left) (nodes right) unread.1) v fit)
+      (exist guards other right v (record { scope = scope; can = can.2; fits = fit })) missing
+  stays (Next node place high body) scope can unread v fit missing = refl
+
+pub unread_stays_met : NamesDecide → MissingExists → UnreadStaysMet
+unread_stays_met names exist guards k name trace other plan v differs unread can missing =
+    stays names exist guards k name trace other differs plan can.scope can.can unread v can.fits missing
