@@ -1,5 +1,5 @@
 -- What is put last by the parts of a plan is what its whole puts last.
-use Rattle.std.proofs.Common.{◌≡◌, ℕ, zero, suc, ◌+◌, ◌<◌, ◌≤◌, Bool, true, false, List, [], ◌∷◌, ◌++◌, length, take, Contains, Option, None, Some, MatchBool, refl, sym, ap, subst, arith, inl, inr, ⊎_elim, ◌⊎◌, ◌∙◌, append_assoc, get_or}
+use Rattle.std.proofs.Common.{◌≡◌, ℕ, zero, suc, ◌+◌, ◌<◌, Bool, true, false, List, [], ◌∷◌, ◌++◌, length, take, Contains, Option, refl, sym, ap, subst, arith, inl, inr, ◌∙◌, append_assoc, get_or}
 use Rattle.std.specs.Prelude.{◌↔◌, IsTrue, IsFalse}
 use Rattle.std.specs.Option.{option_to_list}
 use Rattle.std.proofs.Common.{true≢false}
@@ -17,15 +17,14 @@ use Rattle.enf_formula.specs.Scopes.{AreNew}
 use Rattle.monitorable_guard.specs.Evaluation.{AreOpen}
 use Rattle.monitorable_guard.specs.Safety.{FreeWithin}
 use Rattle.past_state.specs.Past.{AreEvaluated, HasOpenColumns, IsEvaluated}
-use Rattle.plan_terms.specs.Plans.{Plan, Cause, Suppress, Both, Either, TestOr, Guarded, Eventually, Always}
-use Rattle.plan_terms.specs.Plans.{Until, Next}
+use Rattle.plan_terms.specs.Plans.{Plan, Cause, Suppress, Both, Either, TestOr, Guarded, Always}
+use Rattle.plan_terms.specs.Plans.{Until}
 use Rattle.valuations.specs.Just.{Binds}
 use Rattle.valuations.specs.Scopes.{filled}
 use Rattle.valuations.specs.Tables.{IsTable, Relation}
 use Rattle.obligations.specs.Adding.{Adds, TellsNothing}
 use Rattle.obligations.specs.Asked.{CanAsk, CanAskIn, FitsScope, IsGuardAt, IsNowOf, guards_at}
-use Rattle.obligations.specs.Begun.{LacksNothing, LacksSome}
-use Rattle.obligations.specs.Missing.{LiteralUnless, Missing, HasSome, MissesEither, MissesUntil, OfEvent, cause, suppress}
+use Rattle.obligations.specs.Missing.{LiteralUnless, Missing, HasSome, MissesEither, OfEvent, cause, suppress}
 use Rattle.obligations.proofs.AskLemmas.{filled_is, row_fits, rows_are, same_columns, test_is, under_row}
 use Rattle.obligations.specs.Rows.{Gathers}
 use Rattle.obligations.specs.declared.literals.Literal.{Literal}

@@ -1,16 +1,11 @@
 -- What asking a plan takes: guards at their numbers, variables that have values, and rows of tables.
-use Rattle.std.proofs.Common.{◌≡◌, ℕ, zero, suc, ◌<◌, List, [], ◌∷◌, ◌++◌, length, map, drop, Contains, Option, None, Some, IsTrue, refl, sym, ap, subst, arith, inl, inr, ⊎_elim, ◌⊎◌, ◌∙◌}
-use Rattle.std.specs.Prelude.{◌↔◌, Bool, All, slice_get, IsSome}
-use Rattle.std.specs.List.{AllByRecursion}
-use Rattle.std.specs.List.Sorted.{IsStrictlySortedBy}
-use Rattle.std.proofs.lemmas.List.Elements.{All-contains, Contains-append_left, Contains-append_right}
-use Rattle.std.proofs.lemmas.Map.Keys.{sorted_head, sorted_tail}
+use Rattle.std.proofs.Common.{◌≡◌, ℕ, zero, suc, ◌<◌, List, [], ◌∷◌, ◌++◌, length, map, Contains, Option, None, Some, IsTrue, refl, sym, ap, subst, arith, ⊎_elim, ◌∙◌}
+use Rattle.std.specs.Prelude.{◌↔◌, Bool, slice_get, IsSome}
+use Rattle.std.proofs.lemmas.List.Elements.{Contains-append_left, Contains-append_right}
 use Rattle.std.proofs.lemmas.Option.{same_Some, none-some}
-use Rattle.enf_value.specs.ListLaws.{AllByRecursion-contains, Contains-append, first_or_later, here, later, none_in_nil}
+use Rattle.enf_value.specs.ListLaws.{AllByRecursion-contains, Contains-append}
 use Rattle.enf_value.specs.Membership.{HasNoRepeats}
-use Rattle.enf_value.specs.Order.{row_cmp}
-use Rattle.enf_value.specs.Valuations.{Valuation, value_at, variable_cmp, variable_cmp_total, with_values}
-use Rattle.enf_value.specs.declared.events.Event.{Event}
+use Rattle.enf_value.specs.Valuations.{Valuation, value_at, variable_cmp_total, with_values}
 use Rattle.enf_value.specs.declared.steps.Step.{Step}
 use Rattle.enf_value.specs.declared.terms.Term.{Term}
 use Rattle.enf_value.specs.declared.terms.Term.TheVariants.{Var}
@@ -26,9 +21,9 @@ use Rattle.past_state.specs.declared.guards.PlacedGuard.{PlacedGuard}
 use Rattle.valuations.specs.Columns.{among_or_not}
 use Rattle.valuations.specs.Just.{Binds}
 use Rattle.valuations.specs.RowLaws.{agrees_once, cell_some, fits, value_at-with_inside, value_at-with_outside}
-use Rattle.valuations.specs.ScopeLaws.{filled_fresh, same_or_other}
+use Rattle.valuations.specs.ScopeLaws.{filled_fresh}
 use Rattle.valuations.specs.Scopes.{filled}
-use Rattle.valuations.specs.Tables.{AgreeOn, Agrees, Has, IsTable, Relation, cell}
+use Rattle.valuations.specs.Tables.{AgreeOn, Agrees, Has, IsTable, Relation}
 use Rattle.obligations.specs.Asked.{FitsScope, IsGuardAt, IsNowOf, placed_guard, guards_at}
 use Rattle.obligations.specs.Rows.{AreRowsOf, HoldsLast}
 use Rattle.obligations.specs.declared.now.Now.{Now}

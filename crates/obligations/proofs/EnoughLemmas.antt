@@ -1,12 +1,11 @@
 -- That nothing is missed at a step, and what is begun there is met behind it, is enough: by induction over plans.
-use Rattle.std.proofs.Common.{◌≡◌, ℕ, zero, suc, ◌+◌, ◌-◌, ◌<◌, ◌≤◌, Bool, true, false, List, [], ◌∷◌, ◌++◌, length, Contains, Option, None, Some, IsTrue, refl, sym, ap, subst, arith, inl, inr, ⊎_elim, ◌⊎◌, length-append}
+use Rattle.std.proofs.Common.{◌≡◌, ℕ, zero, suc, ◌+◌, ◌<◌, ◌≤◌, Bool, true, false, List, [], ◌∷◌, ◌++◌, length, Contains, Option, None, Some, IsTrue, refl, sym, ap, subst, arith, inl, inr, ⊎_elim, ◌⊎◌, length-append}
 use Rattle.std.specs.List.{AllByRecursion}
 use Rattle.std.proofs.lemmas.Bool.{cases_lt}
 use Rattle.std.proofs.lemmas.List.Elements.{All-contains}
 use Rattle.std.proofs.lemmas.List.{get_or_append_left}
 use Rattle.enf_value.specs.Data.{step_at, no_step}
 use Rattle.enf_value.specs.Valuations.{Valuation, values_of, with_values}
-use Rattle.enf_value.specs.declared.events.Event.{Event}
 use Rattle.enf_value.specs.declared.events.NameId.{NameId}
 use Rattle.enf_value.specs.declared.steps.Step.{Step}
 use Rattle.enf_value.specs.declared.terms.VarId.{VarId}
@@ -14,7 +13,7 @@ use Rattle.enf_value.specs.declared.values.Value.{Value}
 use Rattle.enf_formula.specs.Formulas.{Formula}
 use Rattle.enf_formula.specs.Laws.{PastDecides}
 use Rattle.enf_formula.specs.Past.{is_past}
-use Rattle.enf_formula.specs.Satisfaction.{Classically, HoldsUntil, IsAmong, Sat, elapsed}
+use Rattle.enf_formula.specs.Satisfaction.{HoldsUntil, IsAmong, Sat, elapsed}
 use Rattle.enf_value.specs.Membership.{IsIn}
 use Rattle.enf_value.specs.ListLaws.{AllByRecursion-contains}
 use Rattle.plan_terms.specs.Nodes.{nodes, number_of}
@@ -23,12 +22,12 @@ use Rattle.plan_terms.specs.Plans.{Plan, Cause, Suppress, Both, Either, TestOr, 
 use Rattle.plan_terms.specs.Plans.{Until, Next}
 use Rattle.obligations.specs.Begun.{Begun, LacksNothing, LacksSome, Takes, Where, begun_now, has_future, time_now}
 use Rattle.plan_terms.specs.Guards.{GuardLooksBack}
-use Rattle.plan_terms.specs.Standing.{IsNamed, StandsIn}
+use Rattle.plan_terms.specs.Standing.{IsNamed}
 use Rattle.obligations.specs.Missing.{Missing, MissingIsOne, HasSome, IsAbsent, IsPresent, LiteralUnless, MissesEither, MissesUntil, OfEvent, cause, suppress}
 use Rattle.obligations.specs.Pending.{AtNode, BecomesAt, IsNowIn, MissesAt, node_of}
 use Rattle.plan_terms.specs.Nodes.{has_deadline}
 use Rattle.obligations.specs.Residuals.{Residual, OwesAt, IsLeft}
-use Rattle.obligations.specs.Rows.{AreRowsOf, Gathers, RowsAreOne, last_position}
+use Rattle.obligations.specs.Rows.{Gathers, RowsAreOne, last_position}
 use Rattle.obligations.proofs.LostLemmas.{cause_absent, no_cons, some_row, suppress_present}
 use Rattle.obligations.specs.declared.instances.Instance.{Instance}
 use Rattle.obligations.specs.declared.literals.Literal.{Literal}

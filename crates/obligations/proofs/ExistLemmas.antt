@@ -1,12 +1,12 @@
 -- That what is missing and begun at a step is a list: guards have lists of rows, and tests are decided.
-use Rattle.std.proofs.Common.{◌≡◌, ℕ, zero, suc, Bool, true, false, List, [], ◌∷◌, ◌++◌, length, Contains, Option, None, Some, refl, sym, ap, subst, inl, inr, ⊎_elim, ◌⊎◌, ◌∙◌}
+use Rattle.std.proofs.Common.{◌≡◌, ℕ, zero, suc, Bool, true, false, List, [], ◌∷◌, ◌++◌, length, Contains, Option, None, Some, refl, sym, ap, subst, inl, inr, ⊎_elim, ◌⊎◌}
 use Rattle.std.specs.Prelude.{IsSome}
 use Rattle.std.specs.Bool.{Decides}
 use Rattle.std.specs.List.{list_any}
 use Rattle.std.proofs.lemmas.Bool.{false≢true}
 use Rattle.std.proofs.lemmas.List.Elements.{All-contains}
 use Rattle.enf_value.specs.Data.{step_at}
-use Rattle.enf_value.specs.Valuations.{Valuation, value_at, value_of, values_of, onto_values, with_values}
+use Rattle.enf_value.specs.Valuations.{Valuation, value_at, values_of, onto_values, with_values}
 use Rattle.enf_value.specs.declared.events.Event.{Event}
 use Rattle.enf_value.specs.declared.events.NameId.{NameId}
 use Rattle.enf_value.specs.declared.steps.Step.{Step}
@@ -18,16 +18,16 @@ use Rattle.enf_value.specs.Decided.{event_eq, event_eq-Decides, list_any-Decides
 use Rattle.enf_formula.specs.Formulas.{Formula}
 use Rattle.enf_formula.specs.Scopes.{AreInScope, AreNew}
 use Rattle.monitorable_guard.specs.Evaluation.{AreOpen}
-use Rattle.monitorable_guard.specs.Rows.{AreRowsAt, AreTold, SafeHasRows, SafeIsDecided}
+use Rattle.monitorable_guard.specs.Rows.{AreTold, SafeHasRows, SafeIsDecided}
 use Rattle.plan_terms.specs.Plans.{Plan, Cause, Suppress, Both, Either, TestOr, Guarded, Eventually, Always}
 use Rattle.plan_terms.specs.Plans.{Until, Next}
 use Rattle.valuations.specs.Just.{Binds}
-use Rattle.obligations.specs.Asked.{CanAsk, CanAskIn, FitsScope, IsGuardAt}
+use Rattle.obligations.specs.Asked.{CanAskIn, FitsScope, IsGuardAt}
 use Rattle.obligations.specs.Begun.{BeginsAlways, BeginsOrWaits, Begun, LacksNothing, LacksSome, Takes, TakesPresent, Where}
 use Rattle.obligations.specs.Begun.{WithBehind, begun_now, has_future}
 use Rattle.obligations.specs.Existing.{BegunExists, MissingExists}
 use Rattle.obligations.specs.Missing.{HasSome, IsAbsent, IsPresent, LiteralUnless, MissesEither, MissesUntil, MissesAlways, Missing, OfEvent, cause, suppress}
-use Rattle.obligations.specs.Rows.{AreRowsOf, Gathers, HoldsLast, last_position}
+use Rattle.obligations.specs.Rows.{AreRowsOf, HoldsLast, last_position}
 use Rattle.obligations.specs.declared.instances.Instance.{Instance}
 use Rattle.obligations.specs.declared.literals.Literal.{Literal}
 use Rattle.obligations.proofs.AddingLemmas.{gathers_exist}

@@ -1,5 +1,5 @@
 -- The first literal that the parts of a plan miss is the first that its whole misses.
-use Rattle.std.proofs.Common.{◌≡◌, ℕ, zero, suc, ◌<◌, Bool, true, false, List, [], ◌∷◌, ◌++◌, length, Contains, Option, None, Some, refl, sym, ap, subst, arith, inl, inr, ⊎_elim, ◌⊎◌, ◌∙◌, true≢false, take, drop, get_or}
+use Rattle.std.proofs.Common.{◌≡◌, ℕ, zero, suc, ◌<◌, Bool, false, List, [], ◌∷◌, ◌++◌, length, Contains, Option, None, Some, refl, sym, subst, arith, inl, inr, ◌∙◌, true≢false, take, get_or}
 use Rattle.std.specs.Prelude.{IsFalse, IsTrue}
 use Rattle.std.specs.Option.{option_to_list}
 use Rattle.enf_value.specs.Valuations.{Valuation, values_of, with_values}
@@ -8,21 +8,20 @@ use Rattle.enf_value.specs.declared.events.NameId.{NameId}
 use Rattle.enf_value.specs.declared.steps.Step.{Step}
 use Rattle.enf_value.specs.declared.terms.Term.{Term}
 use Rattle.enf_value.specs.declared.terms.VarId.{VarId}
-use Rattle.enf_value.specs.declared.values.Value.{Value}
 use Rattle.enf_formula.specs.Formulas.{Formula}
 use Rattle.enf_formula.specs.Scopes.{AreNew}
 use Rattle.monitorable_guard.specs.Evaluation.{AreOpen}
 use Rattle.monitorable_guard.specs.Safety.{FreeWithin}
 use Rattle.past_state.specs.Past.{AreEvaluated, HasOpenColumns, IsEvaluated}
-use Rattle.plan_terms.specs.Plans.{Plan, Cause, Suppress, Both, Either, TestOr, Guarded, Eventually, Always}
-use Rattle.plan_terms.specs.Plans.{Until, Next}
+use Rattle.plan_terms.specs.Plans.{Plan, Cause, Suppress, Both, Either, TestOr, Guarded}
+use Rattle.plan_terms.specs.Plans.{Until}
 use Rattle.valuations.specs.Just.{Binds}
 use Rattle.valuations.specs.Scopes.{filled}
 use Rattle.valuations.specs.Tables.{IsTable, Relation}
 use Rattle.obligations.specs.Adding.{TellsNothing}
 use Rattle.obligations.specs.Asked.{CanAsk, FitsScope, IsGuardAt, IsNowOf, guards_at}
 use Rattle.obligations.specs.Existing.{MissingExists}
-use Rattle.obligations.specs.Missing.{LiteralUnless, Missing, MissesEither, MissesUntil, OfEvent, cause, suppress}
+use Rattle.obligations.specs.Missing.{LiteralUnless, Missing, OfEvent, cause, suppress}
 use Rattle.obligations.specs.Rows.{Gathers}
 use Rattle.obligations.specs.Waiting.{FirstMissing, FirstOf}
 use Rattle.obligations.specs.declared.literals.Literal.{Literal}

@@ -1,11 +1,11 @@
 -- The plans of a policy can be asked at a step, which stands for the trace with it.
-use Rattle.std.proofs.Common.{◌≡◌, ℕ, zero, suc, ◌+◌, ◌-◌, ◌<◌, ◌≤◌, List, [], ◌∷◌, ◌++◌, length, map, Contains, Some, None, refl, sym, ap, subst, arith, ⊎_elim, ◌∙◌, length-append}
+use Rattle.std.proofs.Common.{◌≡◌, ℕ, ◌+◌, ◌≤◌, List, [], ◌∷◌, ◌++◌, length, map, Some, refl, sym, ap, subst, arith, ⊎_elim, ◌∙◌, length-append}
 use Rattle.std.specs.Prelude.{◌↔◌, slice_get}
 use Rattle.std.specs.FinMap as finite
 use Rattle.std.specs.List.{AllByRecursion}
 use Rattle.enf_value.specs.Data.{step_at}
 use Rattle.enf_value.specs.ListLaws.{AllByRecursion-contains, Contains-append, none_in_nil, there_from_get}
-use Rattle.enf_value.specs.Valuations.{Valuation, no_values, value_at, variable_cmp, variable_cmp_total}
+use Rattle.enf_value.specs.Valuations.{Valuation, variable_cmp, variable_cmp_total}
 use Rattle.enf_value.specs.declared.steps.Step.{Step}
 use Rattle.enf_value.specs.declared.terms.VarId.{VarId}
 use Rattle.enf_formula.specs.Formulas.{Formula}
@@ -17,14 +17,14 @@ use Rattle.trace_meaning.specs.Continuation.{last_time}
 use Rattle.past_state.specs.Guarded.{AreCopies}
 use Rattle.past_state.specs.Past.{GuardsWillHold, IsGuard, Past, PastStands, formula_of, tables_of}
 use Rattle.past_state.specs.declared.guards.PlacedGuard.{PlacedGuard}
-use Rattle.plan_terms.specs.Guards.{IsFresh, IsListedNode, IsSafeNode, guard_of, guards_of}
+use Rattle.plan_terms.specs.Guards.{IsFresh, IsListedNode, IsSafeNode, guards_of}
 use Rattle.plan_terms.specs.Plans.{Plan, Cause, Suppress, Both, Either, TestOr, Guarded, Eventually, Always}
 use Rattle.plan_terms.specs.Plans.{Until, Next}
 use Rattle.plan_terms.specs.ScopeLaws.{AtEach-weaker}
 use Rattle.plan_terms.specs.Scopes.{AtEach, IsScopedNode}
 use Rattle.plan_terms.specs.Standing.{PlansStandIn}
 use Rattle.plan_terms.specs.WellFormed.{IsWellFormed}
-use Rattle.obligations.specs.Asked.{BindsFree, CanAsk, CanAskIn, CanAskNode, FitsScope, IsGuardAt, IsNowOf, placed_guard}
+use Rattle.obligations.specs.Asked.{BindsFree, CanAskNode, IsNowOf, placed_guard}
 use Rattle.obligations.specs.Founding.{CanBeAsked, NowStands, WellFormedStand}
 use Rattle.obligations.specs.Rows.{HoldsLast, last_position}
 use Rattle.obligations.specs.Waiting.{CanAskRoot, CanAskRoots}

@@ -1,5 +1,5 @@
 -- The laws of what is missed, begun and pending, over whole traces.
-use Rattle.std.proofs.Common.{◌≡◌, ℕ, ◌<◌, ◌≤◌, true, false, List, [], ◌∷◌, ◌++◌, length, Option, Some, None, refl, sym, subst, arith}
+use Rattle.std.proofs.Common.{◌≡◌, ℕ, ◌<◌, ◌≤◌, true, false, List, [], ◌++◌, length, Option, Some, refl, sym, subst, arith}
 use Rattle.std.specs.List.{AllByRecursion}
 use Rattle.enf_value.specs.Data.{IsTrace, step_at}
 use Rattle.enf_value.specs.declared.steps.Step.{Step}
@@ -11,7 +11,7 @@ use Rattle.obligations.specs.Begun.{time_now}
 use Rattle.plan_terms.specs.Guards.{GuardLooksBack}
 use Rattle.plan_terms.specs.Standing.{IsNamed, StandsIn}
 use Rattle.obligations.specs.Enough.{NothingMissedIsEnough, NothingMissedIsEnoughPending, SomethingMissedIsLost}
-use Rattle.obligations.specs.Pending.{AtNode, BecomesAt, MissesAt, NoneIsOver, node_of}
+use Rattle.obligations.specs.Pending.{AtNode, BecomesAt, MissesAt, node_of}
 use Rattle.plan_terms.specs.Nodes.{has_deadline}
 use Rattle.obligations.specs.Residuals.{OwesAt, Residual}
 use Rattle.obligations.specs.Rows.{last_position}

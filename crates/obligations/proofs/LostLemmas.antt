@@ -1,23 +1,12 @@
 -- Leaves and rows that miss something.
-use Rattle.std.proofs.Common.{◌≡◌, ℕ, zero, suc, ◌+◌, ◌<◌, ◌≤◌, List, [], ◌∷◌, ◌++◌, length, Contains, Option, None, Some, IsTrue, refl, sym, ap, subst, arith, ⊎_elim, ◌⊎◌}
-use Rattle.std.specs.Prelude.{All}
-use Rattle.std.specs.List.{AllByRecursion}
+use Rattle.std.proofs.Common.{◌≡◌, ℕ, List, [], ◌∷◌, length, Contains, Option, None, Some, sym, ap, subst, arith, ⊎_elim}
 use Rattle.enf_value.specs.Data.{step_at}
-use Rattle.enf_value.specs.Membership.{IsIn}
-use Rattle.enf_value.specs.Valuations.{Valuation, values_of, with_values}
-use Rattle.enf_value.specs.declared.events.Event.{Event}
 use Rattle.enf_value.specs.declared.events.NameId.{NameId}
 use Rattle.enf_value.specs.declared.steps.Step.{Step}
 use Rattle.enf_value.specs.declared.values.Value.{Value}
-use Rattle.enf_formula.specs.Laws.{PastDecides}
-use Rattle.enf_formula.specs.Satisfaction.{IsAmong, Sat, elapsed}
-use Rattle.plan_terms.specs.Nodes.{nodes}
-use Rattle.plan_terms.specs.PlanFormula.{formula_for, from_to}
-use Rattle.plan_terms.specs.Plans.{Plan, Cause, Suppress, Both, Either, TestOr, Guarded, Eventually, Always}
-use Rattle.plan_terms.specs.Plans.{Until, Next}
+use Rattle.enf_formula.specs.Satisfaction.{IsAmong}
 use Rattle.enf_value.specs.ListLaws.{here, later}
-use Rattle.plan_terms.specs.Guards.{GuardLooksBack}
-use Rattle.obligations.specs.Missing.{Missing, HasSome, IsAbsent, IsPresent, LiteralUnless, OfEvent, cause, suppress}
+use Rattle.obligations.specs.Missing.{HasSome, IsAbsent, IsPresent, LiteralUnless, OfEvent, cause, suppress}
 use Rattle.obligations.specs.Rows.{Gathers, last_position}
 use Rattle.obligations.specs.declared.literals.Literal.{Literal}
 

@@ -1,19 +1,18 @@
 -- Plans that do not look ahead leave nothing pending.
-use Rattle.std.proofs.Common.{◌≡◌, ℕ, zero, suc, ◌+◌, ◌<◌, Bool, true, false, List, [], ◌∷◌, length, map, take, get_or, refl, sym, ap, subst, arith, ◌||◌, ◌∙◌}
+use Rattle.std.proofs.Common.{◌≡◌, ℕ, zero, suc, ◌+◌, ◌<◌, Bool, true, false, List, [], ◌∷◌, length, map, take, get_or, refl, sym, subst, arith, ◌||◌, ◌∙◌}
 use Rattle.std.proofs.lemmas.Bool.{false≢true}
 use Rattle.std.specs.List.{AllByRecursion, list_any}
 use Rattle.enf_value.specs.Valuations.{no_values}
 use Rattle.enf_value.specs.declared.steps.Step.{Step}
 use Rattle.enf_value.specs.declared.terms.VarId.{VarId}
 use Rattle.enf_formula.specs.Formulas.{Formula}
-use Rattle.plan_terms.specs.Nodes.{is_future, nodes}
+use Rattle.plan_terms.specs.Nodes.{is_future}
 use Rattle.plan_terms.specs.Plans.{Plan}
 use Rattle.obligations.specs.Begun.{Begun}
 use Rattle.obligations.specs.Existing.{BegunExists, NothingGoesOn}
 use Rattle.obligations.specs.Pending.{BegunByRoots}
 use Rattle.obligations.specs.Traces.{LooksAtNow}
 use Rattle.obligations.specs.Waiting.{CanAskRoots}
-use Rattle.obligations.specs.declared.instances.Instance.{Instance}
 use Rattle.obligations.proofs.TraceLemmas.{none_begun}
 
 roots_nothing : BegunExists → (guards : List (Formula × List VarId)) (trace : List Step) (rule : ℕ) (plans : List Plan)

@@ -1,5 +1,5 @@
 -- A plan misses one list of literals at most, and begins one list of instances.
-use Rattle.std.proofs.Common.{◌≡◌, ℕ, zero, suc, Bool, true, false, List, [], ◌∷◌, ◌++◌, Option, None, Some, length, refl, sym, ap, subst, arith, ⊎_elim, ◌⊎◌, ◌∙◌, take}
+use Rattle.std.proofs.Common.{◌≡◌, ℕ, zero, suc, Bool, true, false, List, [], ◌∷◌, ◌++◌, Option, None, Some, length, sym, ap, subst, arith, ⊎_elim, ◌⊎◌, ◌∙◌, take}
 use Rattle.enf_value.specs.Valuations.{Valuation, no_values, values_of, with_values}
 use Rattle.enf_value.specs.declared.events.Event.{Event}
 use Rattle.enf_value.specs.declared.events.NameId.{NameId}

@@ -1,18 +1,13 @@
 -- What a pending instance misses is what a part of its node misses.
-use Rattle.std.proofs.Common.{◌≡◌, ℕ, ◌≤◌, Bool, true, false, List, [], ◌∷◌, ◌++◌, Contains, refl, sym, ap, subst, inl, inr}
+use Rattle.std.proofs.Common.{◌≡◌, ℕ, Bool, false, List, sym, subst, inl, inr}
 use Rattle.std.specs.Prelude.{IsTrue}
 use Rattle.enf_value.specs.declared.steps.Step.{Step}
-use Rattle.enf_value.specs.declared.terms.VarId.{VarId}
-use Rattle.enf_formula.specs.Formulas.{Formula}
-use Rattle.plan_terms.specs.Nodes.{nodes}
 use Rattle.plan_terms.specs.Plans.{Plan, Eventually, Always, Until, Next}
 use Rattle.obligations.specs.Asked.{CanAsk, IsNowOf, guards_at}
-use Rattle.obligations.specs.Begun.{LacksSome, Where}
-use Rattle.obligations.specs.Missing.{Missing}
-use Rattle.obligations.specs.Pending.{IsInWindow, IsNowIn, MissesAt}
+use Rattle.obligations.specs.Begun.{LacksSome}
+use Rattle.obligations.specs.Pending.{IsInWindow, IsNowIn}
 use Rattle.obligations.specs.Waiting.{AsksPart}
 use Rattle.obligations.specs.declared.instances.Instance.{Instance}
-use Rattle.obligations.specs.declared.literals.Literal.{Literal}
 use Rattle.obligations.specs.declared.now.Now.{Now}
 use Rattle.obligations.proofs.WantedLemmas.{in_body, in_left, in_right}
 

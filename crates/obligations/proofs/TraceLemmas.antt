@@ -1,5 +1,5 @@
 -- That it is enough to meet what is pending behind a clean trace: from its last step to its first.
-use Rattle.std.proofs.Common.{◌≡◌, ℕ, zero, suc, ◌+◌, ◌<◌, ◌≤◌, ◌||◌, Bool, true, false, List, [], ◌∷◌, ◌++◌, length, take, drop, Option, None, Some, slice_get, length-append, refl, sym, ap, subst, ◌∙◌, arith, inl, inr, ⊎_elim, ◌⊎◌, append_assoc}
+use Rattle.std.proofs.Common.{◌≡◌, ℕ, zero, suc, ◌+◌, ◌<◌, ◌≤◌, ◌||◌, Bool, false, List, [], ◌∷◌, ◌++◌, length, take, drop, Option, None, Some, slice_get, length-append, refl, sym, ap, subst, ◌∙◌, arith, ⊎_elim, append_assoc}
 use Rattle.std.specs.List.{AllByRecursion, find, list_any}
 use Rattle.std.specs.Option.{option_map}
 use Rattle.std.proofs.lemmas.Bool.{cases_lt, false≢true}
@@ -24,7 +24,7 @@ use Rattle.trace_meaning.specs.Laws.{LastIsAtTheEnd}
 use Rattle.obligations.specs.Begun.{Begun, LacksNothing, has_future, time_now}
 use Rattle.plan_terms.specs.Guards.{GuardLooksBack}
 use Rattle.plan_terms.specs.Standing.{IsNamed, StandsIn, nodes_of}
-use Rattle.obligations.specs.Pending.{After, AtNode, BecomesAt, BegunByRoots, Goes, HasDeadline, IsClean, IsCleanAt, MissingOf, NoneIsOver, PendsBehind, node_of}
+use Rattle.obligations.specs.Pending.{After, AtNode, BecomesAt, BegunByRoots, Goes, HasDeadline, IsClean, IsCleanAt, MissingOf, PendsBehind, node_of}
 use Rattle.obligations.specs.Residuals.{Residual}
 use Rattle.obligations.specs.Rows.{Gathers, last_position}
 use Rattle.obligations.specs.Traces.{AllHold, CleanGrows, LooksAtNow, NothingIsPending, PendGrows, PendingIsEnough, PlansStand}

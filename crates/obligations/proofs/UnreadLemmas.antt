@@ -1,5 +1,5 @@
 -- What misses nothing misses nothing after an action on a name that it does not read.
-use Rattle.std.proofs.Common.{◌≡◌, ℕ, zero, suc, List, [], ◌∷◌, ◌++◌, length, Contains, Option, None, Some, refl, sym, ap, subst, inl, inr, ⊎_elim, ◌⊎◌, ◌∙◌}
+use Rattle.std.proofs.Common.{◌≡◌, ℕ, zero, suc, List, [], ◌∷◌, ◌++◌, length, Contains, Option, None, Some, refl, sym, ap, subst, inl, inr, ⊎_elim, ◌∙◌}
 use Rattle.std.specs.Prelude.{◌↔◌}
 use Rattle.std.specs.List.{AllByRecursion}
 use Rattle.std.proofs.lemmas.List.Elements.{All-contains}
@@ -18,11 +18,11 @@ use Rattle.enf_formula.specs.Names.{AreSameOf, names_in}
 use Rattle.plan_terms.specs.Nodes.{nodes}
 use Rattle.plan_terms.specs.Plans.{Plan, Cause, Suppress, Both, Either, TestOr, Guarded, Eventually, Always}
 use Rattle.plan_terms.specs.Plans.{Until, Next}
-use Rattle.obligations.specs.Asked.{CanAsk, CanAskIn, FitsScope}
+use Rattle.obligations.specs.Asked.{CanAskIn, FitsScope}
 use Rattle.obligations.specs.Existing.{MissingExists}
-use Rattle.obligations.specs.Missing.{HasSome, IsAbsent, IsPresent, LiteralUnless, MissesAlways, MissesEither, MissesUntil, Missing, OfEvent, cause, suppress}
+use Rattle.obligations.specs.Missing.{IsAbsent, IsPresent, LiteralUnless, MissesUntil, Missing, OfEvent, cause, suppress}
 use Rattle.obligations.specs.Rows.{Gathers, HoldsLast, last_position}
-use Rattle.obligations.specs.Unread.{DiffersIn, HaveMore, IsUnread, UnreadStaysMet}
+use Rattle.obligations.specs.Unread.{DiffersIn, IsUnread, UnreadStaysMet}
 use Rattle.obligations.specs.declared.literals.Literal.{Literal}
 use Rattle.obligations.specs.declared.literals.LiteralKind.{LiteralKind}
 use Rattle.obligations.specs.declared.literals.LiteralKind.TheVariants as kind

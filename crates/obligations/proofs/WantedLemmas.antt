@@ -5,7 +5,7 @@ use Rattle.std.specs.Option.{option_to_list}
 use Rattle.std.proofs.lemmas.List.Elements.{Contains-append_left, Contains-append_right}
 use Rattle.std.proofs.lemmas.Option.{same_Some, none-some}
 use Rattle.enf_value.specs.ListLaws.{first_or_later, here, later, none_in_nil}
-use Rattle.enf_value.specs.Valuations.{Valuation, onto_values, value_at, value_of, values_of, with_values}
+use Rattle.enf_value.specs.Valuations.{Valuation, onto_values, value_of, values_of, with_values}
 use Rattle.enf_value.specs.declared.events.Event.{Event}
 use Rattle.enf_value.specs.declared.events.NameId.{NameId}
 use Rattle.enf_value.specs.declared.terms.Term.{Term}
@@ -14,15 +14,14 @@ use Rattle.enf_value.specs.declared.terms.VarId.{VarId}
 use Rattle.enf_value.specs.declared.values.Value.{Value}
 use Rattle.enf_formula.specs.Formulas.{Formula}
 use Rattle.enf_formula.specs.Scopes.{AreNew}
-use Rattle.monitorable_guard.specs.Evaluation.{AreOpen, IsKnownNow, IsTabled}
-use Rattle.past_state.specs.Known.{IsConstantOf, IsKnownOfGuard}
-use Rattle.past_state.specs.Past.{AreEvaluated, HasOpenColumns, IsGuard, formula_of, formulas, tables_of}
+use Rattle.monitorable_guard.specs.Evaluation.{AreOpen, IsKnownNow}
+use Rattle.past_state.specs.Known.{IsKnownOfGuard}
+use Rattle.past_state.specs.Past.{AreEvaluated, HasOpenColumns, IsGuard, formula_of, tables_of}
 use Rattle.past_state.specs.declared.guards.PlacedGuard.{PlacedGuard}
 use Rattle.plan_terms.specs.Nodes.{nodes}
 use Rattle.plan_terms.specs.Plans.{Plan, Cause, Suppress, Guarded}
 use Rattle.valuations.specs.Columns.{among_or_not}
 use Rattle.valuations.specs.RowLaws.{value_at-with_inside, value_at-with_outside}
-use Rattle.valuations.specs.Scopes.{filled}
 use Rattle.valuations.specs.Tables.{IsTable, Relation, cell}
 use Rattle.obligations.specs.Asked.{FitsScope, IsBound, IsGuardAt, IsKnownAt, IsLeafConstant, IsWanted, guards_at}
 use Rattle.obligations.specs.Missing.{LiteralUnless, OfEvent, cause, suppress}

@@ -73,8 +73,8 @@ pub record IsGuardAt (guards : List (Formula × List VarId)) (number : ℕ) (tes
   pub safe : Safe test (Contains scope)
   pub fresh : IsFresh (test, scope)
 
--- the variables of a leaf are in scope; a test's are in scope; a guard's are in scope or those that it brings, which are
--- new and in order
+-- the variables of a leaf are in scope; a test's are in scope; a guard's are in scope or those that it brings, which
+-- are new and in order
 abbrev pub CanAskNode : List (Formula × List VarId) → Plan → (scope : List VarId) → Type 0
 CanAskNode guards (Cause node place name terms) scope = AreInScope scope terms
 CanAskNode guards (Suppress node place name terms) scope = AreInScope scope terms

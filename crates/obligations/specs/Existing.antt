@@ -27,5 +27,5 @@ BegunExists = (guards : List (Formula × List VarId)) (trace : List Step) (rule 
 
 -- plans that do not look ahead leave nothing pending behind a step, where nothing was
 abbrev pub NothingGoesOn : Type 0
-NothingGoesOn = (guards : List (Formula × List VarId)) (plans : List Plan) (trace : List Step) → CanAskRoots guards plans
-    → AllByRecursion LooksAtNow plans → Goes plans trace [] []
+NothingGoesOn = (guards : List (Formula × List VarId)) (plans : List Plan) (trace : List Step)
+    → CanAskRoots guards plans → AllByRecursion LooksAtNow plans → Goes plans trace [] []

@@ -33,8 +33,8 @@ FirstMissing trace plan v = FirstOf (Missing trace plan v)
 abbrev pub FirstMissingOf : List Plan → List Step → Instance → (forced : Bool) → Option Literal → Type 0
 FirstMissingOf plans trace i forced = FirstOf (MissingOf plans trace i forced)
 
--- the instance is of an operator on the future of one of the plans, which can be asked at a step with these guards under
--- the instance's valuation, and whose windows end in time
+-- the instance is of an operator on the future of one of the plans, which can be asked at a step with these guards
+-- under the instance's valuation, and whose windows end in time
 pub record CanAskOf (guards : List (Formula × List VarId)) (plans : List Plan) (i : Instance) : Type 0 where
   pub node : Plan
   pub found : node_of plans i ≡ Some node
@@ -87,7 +87,8 @@ pending_code =
 -- the deadlines are those of the instances
 abbrev pub KeepsDeadlines : List Plan → PendingList → Type 0
 KeepsDeadlines plans pending = (deadline : ℕ)
-    → (Contains pending.deadlines deadline → (i : Instance) × Contains pending.instances i × HasDeadline plans i deadline)
+    → (Contains pending.deadlines deadline
+    → (i : Instance) × Contains pending.instances i × HasDeadline plans i deadline)
     × ((i : Instance) → Contains pending.instances i → HasDeadline plans i deadline
     → Contains pending.deadlines deadline)
 

@@ -27,7 +27,8 @@ pub fn pending_is_one()
     ensures pending { PendIsOne }
 {}
 
-/// Where nothing is missing, it is enough that later positions meet what is begun, and what becomes of what was pending.
+/// Where nothing is missing, it is enough that later positions meet what is begun, and what becomes of what was
+/// pending.
 pub fn nothing_missed_is_enough()
     ensures begun { NothingMissedIsEnough }
     ensures pending { NothingMissedIsEnoughPending }
@@ -53,7 +54,8 @@ pub fn pending_is_enough()
     last_time_of_trace();
 }
 
-/// With a step more at a trace, what is pending goes where the step leads it, and the trace stays clean where the step is.
+/// With a step more at a trace, what is pending goes where the step leads it, and the trace stays clean where the step
+/// is.
 pub fn traces_grow()
     ensures pending { PendGrows }
     ensures clean { CleanGrows }

@@ -1,19 +1,17 @@
-use Rattle.std.specs.Prelude.{IfOk, IfSome, None, Some, true, false, ◌+◌}
-use Rattle.std.proofs.Common.{rules, ◌≡◌, ◌<◌, ◌≤◌, ◌∙◌, List, [], ◌∷◌, Contains, Option, length, get_or, take, sym, subst, ap, arith}
+use Rattle.std.specs.Prelude.{IfSome, None, Some, false}
+use Rattle.std.proofs.Common.{rules, ◌≡◌, ◌<◌, ◌≤◌, ◌∙◌, List, [], length, get_or, sym, subst, arith}
 use Rattle.std.proofs.lemmas.List.{take_all}
 use Rattle.std.proofs.lemmas.Result.{IfOk-weaker}
-use Rattle.enf_value.specs.Valuations.{Valuation}
 use Rattle.enf_value.specs.declared.steps.Step.{Step}
 use Rattle.enf_value.specs.declared.values.Value.{Value}
 use Rattle.enf_formula.specs.Formulas.{tree_of}
-use Rattle.plan_terms.specs.Plans.{Plan, Both, Either, TestOr, Guarded, Always, Until, plan_of}
+use Rattle.plan_terms.specs.Plans.{Both, Either, TestOr, Guarded, Always, Until, plan_of}
 use Rattle.valuations.specs.Scopes.{bound_in, filled}
 use Rattle.obligations.specs.Adding.{TellsNothing}
 use Rattle.obligations.specs.Asked.{CanAsk, CanAskIn, IsNowOf, IsWanted, guards_at}
 use Rattle.obligations.specs.Missing.{Missing}
 use Rattle.obligations.specs.Rows.{Gathers}
-use Rattle.obligations.specs.Waiting.{FirstMissing, FirstOf, IsWantedUnder}
-use Rattle.obligations.specs.declared.literals.Literal.{Literal}
+use Rattle.obligations.specs.Waiting.{FirstOf, IsWantedUnder}
 use Rattle.obligations.proofs.AddingLemmas.{body_can, gathers_one_more}
 use Rattle.obligations.proofs.AskLemmas.{binds_bound, is_test, within}
 use Rattle.obligations.proofs.FirstLemmas.{First, cause_first, either_first, gathers_first, left_first, right_first, rows_first}

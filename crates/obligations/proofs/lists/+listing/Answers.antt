@@ -1,5 +1,5 @@
 use Rattle.std.specs.Prelude.{◌↔◌, IsTrue, true, false, [], ◌+◌}
-use Rattle.std.proofs.Common.{rules, ◌≡◌, ◌<◌, ◌≤◌, ◌∙◌, List, Contains, length, get_or, take, sym, subst, ap, arith}
+use Rattle.std.proofs.Common.{rules, ◌≡◌, ◌<◌, ◌≤◌, ◌∙◌, List, length, get_or, take, sym, subst, arith}
 use Rattle.std.proofs.lemmas.List.{take_all}
 use Rattle.std.proofs.lemmas.Result.{on_ok_weaker}
 use Rattle.enf_value.specs.Valuations.{Valuation}
@@ -11,7 +11,6 @@ use Rattle.obligations.specs.Adding.{Adds, TellsNothing}
 use Rattle.obligations.specs.Asked.{CanAsk, CanAskIn, guards_at}
 use Rattle.obligations.specs.Missing.{Missing}
 use Rattle.obligations.specs.Rows.{Gathers}
-use Rattle.obligations.specs.declared.literals.Literal.{Literal}
 use Rattle.obligations.proofs.AddingLemmas.{adds_both, body_can, cause_listed, either_nothing, either_right, gathers_one_more, rows_listed}
 use Rattle.obligations.proofs.AddingLemmas.{suppress_listed, tells, test_body, test_nothing, until_left, until_nothing}
 use Rattle.obligations.proofs.AskLemmas.{binds_bound, is_test, within}

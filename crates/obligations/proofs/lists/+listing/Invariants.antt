@@ -1,5 +1,4 @@
 use Rattle.std.proofs.Common.{◌+◌, ◌*◌, length, take}
-use Rattle.enf_value.specs.declared.values.Value.{Value}
 use Rattle.plan_terms.specs.Nodes.{nodes}
 use Rattle.plan_terms.specs.Plans.{plan_of}
 use Rattle.valuations.specs.Scopes.{bound_in, filled}

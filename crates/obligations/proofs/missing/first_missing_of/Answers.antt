@@ -1,4 +1,4 @@
-use Rattle.std.specs.Prelude.{◌≡◌, IfOk, IfSome, Some, map}
+use Rattle.std.specs.Prelude.{◌≡◌, IfSome, Some, map}
 use Rattle.std.specs.Option.{option_copied, option_map}
 use Rattle.std.proofs.Common.{◌∙◌, sym, subst, ap}
 use Rattle.std.proofs.lemmas.Result.{IfOk-weaker}

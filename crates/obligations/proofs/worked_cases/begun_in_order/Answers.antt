@@ -1,7 +1,7 @@
-use Rattle.std.proofs.Common.{rules, ◌≡◌, ℕ, [], ◌∷◌, List, refl, ap, arith, inr, slice_index_or}
+use Rattle.std.proofs.Common.{rules, ◌≡◌, [], ◌∷◌, List, refl, ap, arith, inr, slice_index_or}
 use Rattle.enf_formula.specs.Cases.{event_p}
 use Rattle.enf_value.specs.Valuations.{no_values}
-use Rattle.obligations.specs.Cases.{at_5, begun_at_5, cause_p, next_p}
+use Rattle.obligations.specs.Cases.{at_5, begun_at_5, next_p}
 use Rattle.obligations.specs.Missing.{cause}
 use Rattle.obligations.specs.declared.instances.Instance.{Instance}
 use Rattle.obligations.proofs.OneLemmas.{begun_is_one}

@@ -1,13 +1,10 @@
-use Rattle.std.proofs.Common.{◌≡◌, ℕ, zero, suc, ◌≤◌, ◌<◌, true, false, [], ◌∷◌, List, All, refl, subst, sym, arith, inl, inr, ⊎_elim}
-use Rattle.std.proofs.lemmas.Bool.{false≢true}
+use Rattle.std.proofs.Common.{ℕ, zero, suc, ◌≤◌, false, [], ◌∷◌, refl, arith, inl}
 use Rattle.std.proofs.lemmas.List.Elements.{All-cons, All-nil}
 use Rattle.enf_formula.specs.Cases.{event_p}
 use Rattle.enf_value.specs.Valuations.{no_values}
-use Rattle.plan_terms.specs.Plans.{Plan}
 use Rattle.obligations.specs.Begun.{LacksNothing}
-use Rattle.obligations.specs.Cases.{always_p, at_5, begun_at_5, cause_p, soon_p}
-use Rattle.obligations.specs.Pending.{HasDeadline, IsClean, IsCleanAt, MissingOf, NoneIsOver, PendsBehind}
-use Rattle.obligations.specs.declared.instances.Instance.{Instance}
+use Rattle.obligations.specs.Cases.{at_5, begun_at_5, cause_p}
+use Rattle.obligations.specs.Pending.{HasDeadline, IsClean, MissingOf}
 use Rattle.obligations.proofs.worked_cases.clean.Goals as goal
 
 one_step : IsClean (cause_p 0 ∷ []) (at_5 (event_p ∷ []))

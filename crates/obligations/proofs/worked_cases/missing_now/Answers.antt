@@ -1,4 +1,4 @@
-use Rattle.std.proofs.Common.{rules, [], ◌∷◌, refl, inl, inr}
+use Rattle.std.proofs.Common.{rules, [], ◌∷◌, refl, inr}
 use Rattle.enf_formula.specs.Cases.{event_p, event_q}
 use Rattle.obligations.specs.Missing.{cause, suppress}
 use Rattle.obligations.proofs.worked_cases.missing_now.Goals as goal

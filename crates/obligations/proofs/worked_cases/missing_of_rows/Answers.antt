@@ -1,7 +1,7 @@
 use Rattle.std.proofs.Common.{rules, ◌≡◌, ℕ, zero, suc, List, [], ◌∷◌, length, Contains, Some, refl, ap, subst, sym, arith, inr, lit<, slice_index_or}
 use Rattle.std.specs.Prelude.{◌↔◌, Option, pos}
 use Rattle.std.specs.List.Sorted.{IsStrictlySortedBy}
-use Rattle.enf_value.specs.Valuations.{Valuation, no_values, with_values, value_at, value_at-insert, values_of, onto_values}
+use Rattle.enf_value.specs.Valuations.{Valuation, no_values, with_values, value_at-insert, values_of, onto_values}
 use Rattle.enf_value.specs.declared.events.Event.{Event}
 use Rattle.enf_value.specs.declared.terms.Term.TheVariants.{Var}
 use Rattle.enf_value.specs.declared.values.Value.{Value}
@@ -12,7 +12,6 @@ use Rattle.enf_value.specs.ListLaws.{none_in_nil}
 use Rattle.obligations.specs.Cases.{at_5, cause_q_x, q_of_1, q_of_2, two_and_one}
 use Rattle.obligations.specs.Missing.{Missing, OfEvent, LiteralUnless, IsPresent, cause}
 use Rattle.obligations.specs.Rows.{AreRowsOf, HoldsLast}
-use Rattle.obligations.specs.declared.literals.Literal.{Literal}
 use Rattle.obligations.proofs.worked_cases.missing_of_rows.Goals as goal
 
 abbrev one : Value

@@ -1,4 +1,4 @@
-use Rattle.std.proofs.Common.{rules, [], refl, inr}
+use Rattle.std.proofs.Common.{rules, [], inr}
 use Rattle.enf_formula.specs.Cases.{event_p}
 use Rattle.obligations.specs.Missing.{cause}
 use Rattle.obligations.proofs.worked_cases.pending_misses.Goals as goal

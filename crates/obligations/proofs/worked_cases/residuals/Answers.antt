@@ -1,4 +1,4 @@
-use Rattle.std.proofs.Common.{rules, ◌≡◌, ℕ, zero, suc, ◌<◌, ◌≤◌, List, [], ◌∷◌, Contains, refl, arith, lit<, lit≤, ap}
+use Rattle.std.proofs.Common.{ℕ, zero, suc, ◌<◌, ◌≤◌, List, [], ◌∷◌, Contains, refl, arith, lit<, lit≤}
 use Rattle.enf_value.specs.Data.{step_at}
 use Rattle.enf_value.specs.declared.events.Event.{Event}
 use Rattle.enf_formula.specs.Cases.{event_p, event_q}
