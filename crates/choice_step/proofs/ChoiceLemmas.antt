@@ -23,7 +23,7 @@ use Rattle.obligations.specs.declared.literals.LiteralKind.{LiteralKind}
 use Rattle.obligations.specs.declared.literals.LiteralKind.TheVariants.{Cause, Suppress}
 use Rattle.choice_step.specs.Choice.{Applies, Asked, Decides, IsFirst, Misses, MissesNothing, Root, Waiting, action_for, all_asked, is_forced, with_step}
 use Rattle.choice_step.specs.Follows.{ActedStep, Answers, Follows, GoesOut, Inserts, IsLeastDeadline, is_inserted, steps_of}
-use Rattle.choice_step.specs.Laws.{AreDistinct, DecidesIsOne, DrainIsOne, FollowsIsOne}
+use Rattle.choice_step.specs.Laws.{AreDistinct, DecidedMissesNothing, DecidesIsOne, DrainIsOne, FollowsIsOne}
 use Rattle.obligations.specs.declared.actions.Action.{Action}
 use Rattle.choice_step.proofs.ActionLemmas.{distinct_rest}
 use Rattle.choice_step.proofs.WantedLemmas.{IsWanted, WantedAs, missing_are_wanted, missing_of_are_wanted}
@@ -152,6 +152,12 @@ module _ (missing_one : MissingIsOne) (missing_of_one : MissingOfIsOne) where
       (subst (λ l. Decides plans trace pending inserted time l others rest) (sym to) rests)
       in
       (λ i. same i ∷ behind.0 i, behind.1)
+
+pub decided_misses_nothing : DecidedMissesNothing
+decided_misses_nothing plans trace pending inserted time before [] after decided =
+    subst (λ l. AllByRecursion (MissesNothing plans inserted (with_step trace time l)) (all_asked plans pending)) (sym decided.0) decided.1
+decided_misses_nothing plans trace pending inserted time before (a ∷ actions) after (asked, literal, between, first, is, applies, more) =
+    decided_misses_nothing plans trace pending inserted time between actions after more
 
 -- ---- what goes out
 

@@ -11,7 +11,7 @@ use Rattle.trace_meaning.specs.Records.{Record, recorded}
 use Rattle.plan_terms.specs.Changes.{IsCaused, IsSuppressed, NothingClashes}
 use Rattle.plan_terms.specs.Plans.{Plan}
 use Rattle.obligations.specs.declared.instances.Instance.{Instance}
-use Rattle.choice_step.specs.Choice.{Decides}
+use Rattle.choice_step.specs.Choice.{Decides, MissesNothing, all_asked, with_step}
 use Rattle.choice_step.specs.Choosing.{ActsFrom}
 use Rattle.choice_step.specs.Follows.{ActedStep, Follows, FollowsDrain, change_of}
 use Rattle.obligations.specs.declared.actions.Action.{Action}
@@ -23,6 +23,13 @@ DecidesIsOne = (plans : List Plan) (trace : List Step) (pending : List Instance)
     → Decides plans trace pending inserted time before actions after
     → Decides plans trace pending inserted time before others rest
     → (actions ≡ others) × (after ≡ rest)
+
+-- at the end nothing is missing
+abbrev pub DecidedMissesNothing : Type 0
+DecidedMissesNothing = (plans : List Plan) (trace : List Step) (pending : List Instance) (inserted : Bool) (time : ℕ)
+    (before : List Event) (actions : List Action) (after : List Event)
+    → Decides plans trace pending inserted time before actions after
+    → AllByRecursion (MissesNothing plans inserted (with_step trace time after)) (all_asked plans pending)
 
 -- the step records have no repeats
 abbrev pub AreDistinct : List Record → Type 0

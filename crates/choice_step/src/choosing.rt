@@ -7,7 +7,7 @@ ghost use Rattle.choice_step.specs.Looking.{IsActionFor, IsStepOf, IsWantedAt, I
 ghost use Rattle.enf_value.specs.declared.steps.Step.{Step};
 ghost use Rattle.obligations.specs.Asked.{guards_at, placed_guard};
 ghost use Rattle.obligations.specs.Waiting.{CanAskOf, CanAskRoots};
-ghost use Rattle.past_state.specs.Past.{AreOf};
+ghost use Rattle.past_state.specs.Past.{AreOf, GuardsWillHold};
 ghost use Rattle.past_state.specs.Runs.{AreUpToTimeOf};
 ghost use Rattle.plan_terms.specs.Changes.{NothingClashes};
 ghost use Rattle.plan_terms.specs.Plans.{plan_of};
@@ -66,6 +66,7 @@ pub fn choose(
     ensures acted { IfOk result
         (λ choice. ActsFrom (map plan_of plans.now) events choice.actions choice.events) }
     ensures tables { IfOk result (λ choice. AreOf past.now time choice.events choice.tables) }
+    ensures hold { IfOk result (λ choice. GuardsWillHold past.now time choice.events choice.tables) }
 {
     let wakes = Wakes::of(alloc, plans)?;
     choose_with(
@@ -99,6 +100,7 @@ pub fn choose_with(
     ensures acted { IfOk result
         (λ choice. ActsFrom (map plan_of plans.now) events choice.actions choice.events) }
     ensures tables { IfOk result (λ choice. AreOf past.now time choice.events choice.tables) }
+    ensures hold { IfOk result (λ choice. GuardsWillHold past.now time choice.events choice.tables) }
 {
     // Its clause says that no event stands twice.
     let _given = events.as_slice();
@@ -145,6 +147,7 @@ fn look(
     ensures wanted { IfOk result (λ found. IfSome found.action
         (IsWantedBehind (map plan_of plans.now) pending.now.instances past.now events.now)) }
     ensures tables { IfOk result (λ found. AreOf past.now time events.now found.tables) }
+    ensures hold { IfOk result (λ found. GuardsWillHold past.now time events.now found.tables) }
 {
     let ordered = StepEvents::of(alloc, events)?;
     let tables = past.tables_at(alloc, time, &ordered)?;

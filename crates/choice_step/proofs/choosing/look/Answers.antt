@@ -30,3 +30,7 @@ returns-clause-wanted c =
 pub returns-clause-tables : goal.returns-clause-tables
 returns-clause-tables c =
     subst (λ l. AreOf c.args.past.now c.args.time l c.in_ok-tables.tables) c.in_ok-ordered.ensures c.in_ok-tables.ensures.are
+
+pub returns-clause-hold : goal.returns-clause-hold
+returns-clause-hold c =
+    subst (λ l. GuardsWillHold c.args.past.now c.args.time l c.in_ok-tables.tables) c.in_ok-ordered.ensures c.in_ok-tables.ensures.hold

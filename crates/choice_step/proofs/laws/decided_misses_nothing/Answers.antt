@@ -1,0 +1,5 @@
+use Rattle.choice_step.proofs.ChoiceLemmas.{decided_misses_nothing}
+use Rattle.choice_step.proofs.laws.decided_misses_nothing.Goals as goal
+
+pub returns : goal.returns
+returns c = decided_misses_nothing
