@@ -67,8 +67,8 @@ abbrev pub CausesAlone : Type 0
 CausesAlone = (plans : List Plan) (actions : List Action) (after : List Event) → NothingClashes plans
     → ActsFrom plans [] actions after → All IsCause (map change_of actions)
 
--- a step stands for each trace for which the past state stands, with the step behind it, where guards hold by its tables
--- if they are satisfied
+-- a step stands for each trace for which the past state stands, with the step behind it, where guards hold by its
+-- tables if they are satisfied
 abbrev pub StepIsNow : Type 0
 StepIsNow = (past : Past) (trace : List Step) (now : Now)
     → GuardsWillHold past now.time now.ordered.now now.tables.now → now.events.now ≡ now.ordered.now
