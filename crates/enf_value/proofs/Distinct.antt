@@ -1,5 +1,5 @@
 -- What the words of `IndexSet` say of its keys as a list, where `==` at the keys tells exactly whether they are equal.
-use Rattle.std.proofs.Common.{◌≡◌, ℕ, ◌<◌, ◌+◌, Bool, true, false, cond, not, ◌||◌, List, [], ◌∷◌, ◌++◌, length, get_or, take, Contains, refl, sym, ap, subst, ◌∙◌, true≢false, arith, Result, Ok, Err, IfOk, OnErr, MatchResult, if◌then◌else◌, suc, zero}
+use Rattle.std.proofs.Common.{◌≡◌, ℕ, ◌<◌, ◌+◌, Bool, true, false, cond, not, ◌||◌, List, [], ◌∷◌, ◌++◌, length, get_or, take, Contains, refl, sym, ap, subst, ◌∙◌, true≢false, arith, Result, Ok, Err, is_err, slice_get, remove, Some, IfOk, OnErr, MatchResult, if◌then◌else◌, suc, zero}
 use Rattle.std.specs.Bool.{Decides}
 use Rattle.std.specs.List.{list_any}
 use Rattle.std.specs.Result.{IsErrAnd}
@@ -86,3 +86,38 @@ after_insert xs before after i d x true distinct inside front at inserted =
     (inserted.absent refl).1 ∙ (λ j. front j ++ at j ∷ []) ∙ sym (take_more xs i d inside)
 after_insert xs before after i d x false distinct inside front at inserted =
     absurd (not_before xs i d distinct inside (subst (λ l. Contains l (get_or xs i d)) front (subst (Contains before) at (inserted.present refl).0)))
+
+-- what an insertion that succeeds does where the item is not there
+pub put_last : {X E : Type 0} (x : X) (before after : List X) (r : Result Bool E) → is_err r ≡ false → IfOk r (λ new. Inserts x before new after) → (Contains before x → ⊥) → after ≡ before ++ x ∷ []
+put_last x before after (Ok true) good inserted absent = (inserted.absent refl).1
+put_last x before after (Ok false) good inserted absent = absurd (absent (inserted.present refl).0)
+put_last x before after (Err e) good inserted absent = absurd (true≢false good)
+
+-- what stands in a list stands there with one more item in the middle
+among_more : {X : Type 0} (front back : List X) (x y : X) → Contains (front ++ back) y → Contains (front ++ x ∷ back) y
+among_more [] back x y there = (suc there.0, omega (arith, there.1), there.2)
+among_more (z ∷ front) back x y there = by there.0 there.1 there.2 (among_more front back x y)
+  where
+    by : (k : ℕ) → k < length ((z ∷ front) ++ back) → get_or ((z ∷ front) ++ back) k y ≡ y → (Contains (front ++ back) y → Contains (front ++ x ∷ back) y) → Contains ((z ∷ front) ++ x ∷ back) y
+    by zero within is rest = (0, omega arith, is)
+    by (suc k) within is rest = let later = rest (k, omega (arith, within), is) in (suc later.0, omega (arith, later.1), later.2)
+
+-- so without it none stands twice either
+pub without_middle : {X : Type 0} (front back : List X) (x : X) → HasNoRepeats (front ++ x ∷ back) → HasNoRepeats (front ++ back)
+without_middle [] back x distinct = distinct.1
+without_middle (y ∷ front) back x distinct = (λ there. distinct.0 (among_more front back x y there), without_middle front back x distinct.1)
+
+-- the item at a place is taken out
+pub taken_out : {X : Type 0} (xs : List X) (place : ℕ) (x : X) → slice_get xs place ≡ Some x → TakesOut x xs (remove xs place)
+taken_out [] place x is = cc
+taken_out (y ∷ xs) zero x is = record { front = []; back = xs; was = ap (λ z. z ∷ xs) (cc); is = refl }
+taken_out (y ∷ xs) (suc place) x is =
+    let later = taken_out xs place x is in
+    record { front = y ∷ later.front; back = later.back; was = ap (λ l. y ∷ l) later.was; is = ap (λ l. y ∷ l) later.is }
+
+-- what an insertion says where the item is there, and where it is not
+pub stays : {X : Type 0} (x : X) (before : List X) → Contains before x → Inserts x before false before
+stays x before there = record { absent = λ t. absurd (true≢false (sym t)); present = λ f. (there, refl) }
+
+pub goes_last : {X : Type 0} (x : X) (before after : List X) → (Contains before x → ⊥) → after ≡ before ++ x ∷ [] → Inserts x before true after
+goes_last x before after absent is = record { absent = λ t. (absent, is); present = λ f. absurd (true≢false f) }

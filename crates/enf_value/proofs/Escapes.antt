@@ -1,9 +1,10 @@
 -- The pieces of a text up to its last quote, found from the front.
-use Rattle.std.proofs.Common.{◌≡◌, ◌≢◌, ℕ, ◌<◌, ◌≤◌, ◌+◌, ◌==◌, Bool, true, false, inl, inr, List, [], ◌∷◌, ◌++◌, length, get_or, drop, refl, sym, ap, subst, ◌∙◌, arith, append_assoc, append-nil, add-zero, if◌then◌else◌, suc, Option, Some, None}
+use Rattle.std.proofs.Common.{◌≡◌, ◌≢◌, ℕ, ◌<◌, ◌≤◌, ◌+◌, ◌==◌, Bool, true, false, inl, inr, List, [], ◌∷◌, ◌++◌, length, get_or, slice_index, take, drop, refl, sym, ap, subst, ◌∙◌, arith, append_assoc, append-nil, add-zero, if◌then◌else◌, suc, zero, Option, Some, None}
 use Rattle.std.proofs.lemmas.Bool.{eqb-true, eqb-false}
 use Rattle.std.proofs.lemmas.Bool.Decides.{nat_tests}
 use Rattle.std.proofs.Math.ListN.{drop_of_length-le}
 use Rattle.std.proofs.Math.Seq.{drop-cons}
+use Rattle.memchr.specs.Find.{is_byte2}
 use Rattle.enf_value.specs.Tokens.{text_front, with_backslash, with_byte, with_escape}
 use Rattle.enf_value.specs.ValueTokens.{meaning, IsWritten, WrittenAt}
 
@@ -44,6 +45,27 @@ written_plain byte bytes text end quote backslash w = record {
   ends = ap suc w.ends;
   pieces = (byte ∷ [], w.written, inl (refl, quote, backslash), w.pieces, refl);
 }
+
+-- bytes before the first quote or backslash, which is a quote, are written as they stand
+other_than : (byte : ℕ) → (is_byte2 34 92 byte ≡ true → ⊥) → (byte ≢ 34) × (byte ≢ 92)
+other_than byte neither = (
+  λ is. neither (subst (λ b. is_byte2 34 92 b ≡ true) (sym is) refl),
+  λ is. neither (subst (λ b. is_byte2 34 92 b ≡ true) (sym is) refl),
+)
+
+pub plain_written : (bytes : List ℕ) (quote : ℕ) → quote < length bytes → ((k : ℕ) → k < quote → is_byte2 34 92 (slice_index bytes k) ≡ true → ⊥) → slice_index bytes quote ≡ 34 → WrittenAt bytes quote (take quote bytes)
+plain_written [] quote within before is = absurd (omega (arith, within))
+plain_written (byte ∷ bytes) zero within before is = record {
+  written = [];
+  rest = bytes;
+  splits = ap (λ b. b ∷ bytes) is;
+  ends = refl;
+  pieces = refl;
+}
+plain_written (byte ∷ bytes) (suc quote) within before is =
+    let apart = other_than byte (before 0 (omega arith)) in
+    written_plain byte bytes (take quote bytes) quote apart.0 apart.1
+    (plain_written bytes quote (omega (arith, within)) (λ k below. before (suc k) (omega (arith, below))) is)
 
 written_escape : (letter byte : ℕ) (bytes text : List ℕ) (end : ℕ) → meaning letter ≡ Some byte → WrittenAt bytes end text → WrittenAt (92 ∷ letter ∷ bytes) (suc (suc end)) (byte ∷ text)
 written_escape letter byte bytes text end is w = record {

@@ -1,5 +1,5 @@
 -- The number tokens at the front of bytes, and what `parse` makes of them.
-use Rattle.std.proofs.Common.{◌≡◌, ◌≢◌, ℕ, ◌<◌, ◌≤◌, ◌+◌, ◌==◌, ℤ, pos, negsuc, neg_ℤ, Bool, true, false, cond, inl, inr, List, [], ◌∷◌, ◌++◌, length, slice_index, take, drop, refl, sym, ap, subst, ◌∙◌, true≢false, arith, if◌then◌else◌, suc, zero, FitsSigned, zero-add, Result, Ok, Err, Some, None, MatchResult}
+use Rattle.std.proofs.Common.{◌≡◌, ◌≢◌, ℕ, ◌<◌, ◌≤◌, ◌+◌, ◌-◌, ◌*◌, ◌^◌, ◌==◌, ℤ, pos, negsuc, neg_ℤ, Bool, true, false, cond, inl, inr, List, [], ◌∷◌, ◌++◌, length, get_or, slice_index, take, drop, refl, sym, ap, subst, ◌∙◌, true≢false, arith, if◌then◌else◌, suc, zero, FitsSigned, zero-add, Result, Ok, Err, Some, None, MatchResult}
 use Rattle.std.specs.Char.{is_ascii_digit, digit_value}
 use Rattle.std.specs.List.{prefix_len}
 use Rattle.std.specs.Int.{w64}
@@ -8,6 +8,7 @@ use Rattle.std.specs.Str.{IsAscii, IsUtf8}
 use Rattle.std.specs.Str.Parse.{AllDigits, IsNumeral, digits_value, signed_digits_value, without_leading_sign, without_leading_plus, ParsesSigned}
 use Rattle.std.proofs.lemmas.Bool.{eqb-true}
 use Rattle.std.proofs.lemmas.Bool.Decides.{nat_tests}
+use Rattle.std.proofs.lemmas.Int.Digits.{digits_value_more}
 use Rattle.std.proofs.lemmas.List.{take-append-drop, length-take-le}
 use Rattle.std.proofs.lemmas.Result.{Ok-from_Ok_iff, OkIff-at_ok}
 use Rattle.std.proofs.lemmas.Str.{IsUtf8-from_ascii}
@@ -193,3 +194,32 @@ none_ok r x none e = let f = sym none ∙ ap result_ok e in cc
 pub err_utf8 : {T E A : Type 0} (P : T → Type 0) (U : Type 0) (V : E → Type 0) (r : Result T E) → result_ok r ≡ None → MatchResult r P (λ e. ¬ U × V e) → U → A
 err_utf8 P U V (Ok x) none cases u = let f = none in cc
 err_utf8 P U V (Err e) none cases u = absurd (cases.0 u)
+
+-- one digit more behind those before it
+value_of_digit : (c : ℕ) → is_ascii_digit c ≡ true → digit_value c ≡ c - 48
+value_of_digit c h = grind (arith, nat_tests)
+
+pub one_digit_more : (digits : List ℕ) (i number : ℕ) → i < length digits → is_ascii_digit (get_or digits i 0) ≡ true → number ≡ digits_value 10 (take i digits) → 10 * number + (get_or digits i 0 - 48) ≡ digits_value 10 (take (i + 1) digits)
+one_digit_more digits i number within digit is =
+    let value = value_of_digit (get_or digits i 0) digit in
+    let more = digits_value_more 10 digits i within in
+    omega (arith, is, value, more)
+
+pub all_digits_more : (digits : List ℕ) (i : ℕ) → i < length digits → AllDigits 10 (take i digits) → digit_value (get_or digits i 0) < 10 → AllDigits 10 (take (i + 1) digits)
+all_digits_more [] i within each digit = absurd (omega (arith, within))
+all_digits_more (x ∷ xs) zero within each digit = (digit, tt)
+all_digits_more (x ∷ xs) (suc i) within each digit =
+    let more : suc (i + 1) ≡ suc i + 1 = omega arith in
+    subst (λ n. AllDigits 10 (take n (x ∷ xs))) more (each.0, all_digits_more xs i (omega (arith, within)) each.1 digit)
+
+-- the number that digits alone write is the token at the front
+pub plain_token : (bytes : List ℕ) (end number : ℕ) → end ≡ end_of bytes → end ≤ length bytes → IsNumeral 10 (take end bytes) → number ≡ digits_value 10 (take end bytes) → number < 2 ^ 63 → TokenAt bytes 0 end (Num (pos number))
+plain_token bytes end number at within numeral is small = record {
+  token = take end bytes;
+  rest = drop end bytes;
+  splits = sym (take-append-drop end bytes);
+  ends = sym (length-take-le end bytes within) ∙ sym (zero-add (length (take end bytes)));
+  stands = inl (numeral, ap pos is);
+  whole = subst (λ n. IsNoDigit (drop n bytes)) (sym at) (behind_end bytes);
+  fits = small;
+}

@@ -95,8 +95,8 @@ none_through P R Q (Some x) None is p f = absurd is
 none_through P R Q (Some x) (Some y) is p f = tt
 
 -- there is no token where the text that is written there is refused
-pub none_from_refused : (bytes text : List ℕ) (quote : ℕ) → WrittenAt (take (length bytes - 1) (drop 1 bytes)) quote text → (IsText text → ⊥) → (other : List ℕ) (end : ℕ) → TokenAt bytes 0 end (Text other) → ⊥
+pub none_from_refused : (bytes text : List ℕ) (quote : ℕ) → WrittenAt (drop 1 bytes) quote text → (IsText text → ⊥) → (other : List ℕ) (end : ℕ) → TokenAt bytes 0 end (Text other) → ⊥
 none_from_refused bytes text quote w refused other end t =
     let o = written_from_token bytes other end t in
-    let same = one_written (drop 1 bytes) other text o.0 quote o.1 (subst (λ l. WrittenAt l quote text) (slice_from bytes 1) w) in
+    let same = one_written (drop 1 bytes) other text o.0 quote o.1 w in
     refused (subst IsText same.0 t.fits)

@@ -10,6 +10,7 @@ pub mod MembershipLaws
 pub mod Names
 pub mod Order
 pub mod Spelling
+pub mod Stored
 pub mod Text
 pub mod TokenLaws
 pub mod TokenViews

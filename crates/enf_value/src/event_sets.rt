@@ -1,6 +1,8 @@
 //! Sets of events, in the order in which the events came.
-ghost use Rattle.std.specs.Prelude.{◌≡◌, ◌↔◌, IsTrue, List, [], IfOk, IfErr, OnErr, Contains, length, slice_get};
+ghost use Rattle.std.specs.Prelude.{◌≡◌, ◌↔◌, ◌<◌, ◌≤◌, ◌+◌, ◌++◌, ◌∷◌, IsTrue, List, [], Some, Contains, length};
+ghost use Rattle.std.specs.Prelude.{IfOk, IfErr, IfNone, IfSome, OnErr, slice_get};
 ghost use Rattle.std.specs.Option.{option_copied};
+ghost use Rattle.indexmap.specs.IndexSet.{spare};
 ghost use Rattle.enf_value.specs.Membership.{HasNoRepeats, Inserts, Removes};
 
 use crate::events::Event;
@@ -9,23 +11,35 @@ use crate::memory::NoMemory;
 use indexmap::IndexSet;
 use std::alloc::Global;
 use std::marker::Model;
+use std::mem;
 
 /// A list of events without repeats, which finds an event without a look at the others.
 #[derive(Drop)]
 pub struct EventSet {
-    events: IndexSet<Event>,
+    events: Stored,
+}
+
+// How many events are searched at most. Above that there is a table.
+const MOST_SEARCHED: usize = 16;
+
+// The events of a set: a few, which are searched, or more, with a table.
+#[derive(Drop)]
+pub(crate) enum Stored {
+    Few(Vec<Event>),
+    Many(Box<IndexSet<Event>>),
 }
 
 impl Model for EventSet {
     ghost use Rattle.std.specs.Prelude.{List};
     ghost use Rattle.enf_value.specs.declared.events.Event.{Event};
     ghost use Rattle.enf_value.specs.Membership.{HasNoRepeats};
+    ghost use Rattle.enf_value.specs.Stored.{stored};
 
     ghost Value = { List Event };
 
-    ghost view = { λ s. s.events.keys };
+    ghost view = { λ s. stored s.events };
 
-    ghost invariant = { λ s. HasNoRepeats s.events.keys };
+    ghost invariant = { λ s. HasNoRepeats (stored s.events) };
 }
 
 impl EventSet {
@@ -34,7 +48,7 @@ impl EventSet {
         ensures { result ≡ [] }
     {
         EventSet {
-            events: IndexSet::new(alloc),
+            events: Stored::Few(Vec::new(alloc)),
         }
     }
 
@@ -47,7 +61,15 @@ impl EventSet {
         ensures absent { OnErr result (Contains self.old event → ⊥) }
         ensures distinct { HasNoRepeats self.new }
     {
-        self.events.insert(event).map_err(|failed| failed.value)
+        match &mut self.events {
+            Stored::Many(table) => insert_in_table(table, event),
+            Stored::Few(few) if few.len() < MOST_SEARCHED => insert_searched(few, event),
+            Stored::Few(few) if is_among(few.as_slice(), &event) => Ok(false),
+            Stored::Few(few) => {
+                self.events = Stored::Many(with_table(few, event)?);
+                Ok(true)
+            }
+        }
     }
 
     /// Takes an event out and answers whether it was there. The rest keeps its order.
@@ -55,35 +77,41 @@ impl EventSet {
         ensures removed { Removes event.now self.old result self.new }
         ensures distinct { HasNoRepeats self.new }
     {
-        self.events.shift_remove(event)
+        match &mut self.events {
+            Stored::Few(few) => remove_searched(few, event),
+            Stored::Many(table) => remove_from_table(table, event),
+        }
     }
 
     /// Whether the event is there.
     pub fn contains(&self, event: &Event) -> bool
         ensures { IsTrue result ↔ Contains self.now event.now }
     {
-        self.events.contains(event)
+        match &self.events {
+            Stored::Few(few) => is_among(few.as_slice(), event),
+            Stored::Many(table) => is_in_table(table, event),
+        }
     }
 
     /// How many events there are.
     pub fn len(&self) -> usize
         ensures { result ≡ length self.now }
     {
-        self.events.len()
+        self.as_slice().len()
     }
 
     /// Whether there is no event.
     pub fn is_empty(&self) -> bool
         ensures { IsTrue result ↔ (self.now ≡ []) }
     {
-        self.events.is_empty()
+        self.as_slice().is_empty()
     }
 
     /// The event at a place, counted from 0.
     pub fn get(&self, place: usize) -> Option<&Event>
         ensures { option_copied result ≡ slice_get self.now place }
     {
-        self.events.get_index(place)
+        self.as_slice().get(place)
     }
 
     /// The events in order.
@@ -91,7 +119,127 @@ impl EventSet {
         ensures events { result.now ≡ self.now }
         ensures distinct { HasNoRepeats self.now }
     {
-        self.events.as_slice()
+        match &self.events {
+            Stored::Few(few) => few.as_slice(),
+            Stored::Many(many) => many.as_slice(),
+        }
+    }
+}
+
+// Whether an event is in a table.
+fn is_in_table(table: &IndexSet<Event>, event: &Event) -> bool
+    ensures { IsTrue result ↔ Contains table.now.keys event.now }
+{
+    table.contains(event)
+}
+
+// Puts a new event last in a table, and answers whether it is new.
+fn insert_in_table(table: &mut IndexSet<Event>, event: Event) -> Result<bool, Event>
+    ensures inserted { IfOk result (λ new. Inserts event table.old.keys new table.new.keys) }
+    ensures value_returned { IfErr result (λ back. back ≡ event) }
+    ensures err { OnErr result (table.new.keys ≡ table.old.keys) }
+    ensures absent { OnErr result (Contains table.old.keys event → ⊥) }
+    ensures distinct { HasNoRepeats table.new.keys }
+{
+    table.insert(event).map_err(|failed| failed.value)
+}
+
+// Takes an event out of a table, and answers whether it was there.
+fn remove_from_table(table: &mut IndexSet<Event>, event: &Event) -> bool
+    ensures removed { Removes event.now table.old.keys result table.new.keys }
+    ensures distinct { HasNoRepeats table.new.keys }
+{
+    table.shift_remove(event)
+}
+
+// Whether an event is among a few.
+fn is_among(few: &[Event], event: &Event) -> bool
+    ensures { IsTrue result ↔ Contains few.now event.now }
+{
+    place_of(few, event).is_some()
+}
+
+// Puts a new event last among a few, and answers whether it is new.
+fn insert_searched(few: &mut Vec<Event>, event: Event) -> Result<bool, Event>
+    requires { HasNoRepeats few.old.items }
+    ensures inserted { IfOk result (λ new. Inserts event few.old.items new few.new.items) }
+    ensures value_returned { IfErr result (λ back. back ≡ event) }
+    ensures err { OnErr result (few.new.items ≡ few.old.items) }
+    ensures absent { OnErr result (Contains few.old.items event → ⊥) }
+    ensures distinct { HasNoRepeats few.new.items }
+{
+    if is_among(few.as_slice(), &event) {
+        return Ok(false);
+    }
+    match few.push(event) {
+        Ok(()) => Ok(true),
+        Err(failed) => Err(failed.value),
+    }
+}
+
+// Takes an event out of a few, and answers whether it was there.
+fn remove_searched(few: &mut Vec<Event>, event: &Event) -> bool
+    requires { HasNoRepeats few.old.items }
+    ensures removed { Removes event.now few.old.items result few.new.items }
+    ensures distinct { HasNoRepeats few.new.items }
+{
+    match place_of(few.as_slice(), event) {
+        Some(place) => {
+            few.remove(place);
+            true
+        }
+        None => false,
+    }
+}
+
+// Where an event stands.
+fn place_of(events: &[Event], event: &Event) -> Option<usize>
+    ensures some { IfSome result (λ place. slice_get events.now place ≡ Some event.now) }
+    ensures within { IfSome result (λ place. place < length events.now) }
+    ensures none { IfNone result (Contains events.now event.now → ⊥) }
+{
+    for (place, other) in events.iter().enumerate() {
+        if other == event {
+            return Some(place);
+        }
+    }
+    None
+}
+
+// Moves a few events into a table, and puts a new one behind them. For want of memory they stay, and the new one
+// comes back.
+fn with_table(few: &mut Vec<Event>, event: Event) -> Result<Box<IndexSet<Event>>, Event>
+    requires distinct { HasNoRepeats few.old.items }
+    requires absent { Contains few.old.items event → ⊥ }
+    ensures ok { IfOk result (λ table. table.value.keys ≡ few.old.items ++ event ∷ []) }
+    ensures distinct { IfOk result (λ table. HasNoRepeats table.value.keys) }
+    ensures value_returned { IfErr result (λ back. back ≡ event) }
+    ensures err { OnErr result (few.new.items ≡ few.old.items) }
+{
+    let alloc = *few.allocator();
+    let Ok(empty) = IndexSet::with_capacity(alloc, few.len() + 1) else {
+        return Err(event);
+    };
+    let Ok(mut table) = Box::new(alloc, empty) else {
+        return Err(event);
+    };
+    for moved in mem::replace(few, Vec::new(alloc)) {
+        put(&mut table, moved);
+    }
+    put(&mut table, event);
+    Ok(table)
+}
+
+// Puts an event that is not there last, where there is room.
+fn put(table: &mut IndexSet<Event>, event: Event)
+    requires room { 0 < spare table.old }
+    requires absent { Contains table.old.keys event → ⊥ }
+    ensures keys { table.new.keys ≡ table.old.keys ++ event ∷ [] }
+    ensures distinct { HasNoRepeats table.new.keys }
+    ensures room { spare table.old ≤ spare table.new + 1 }
+{
+    if table.insert(event).is_err() {
+        unreachable!();
     }
 }
 

@@ -45,10 +45,12 @@ pub fn printed_is_cut()
 /// Worked cases of tokens.
 pub fn worked_cases()
     ensures longest { tokens (codes "a1+-5;")
-        ≡ (0, token.Word (codes "a1")) ∷ (2, token.Mark mark.PlusMinus) ∷ (4, token.Digits 5) ∷ (5, token.Mark mark.Semicolon) ∷ [] }
+        ≡ (0, token.Word (codes "a1")) ∷ (2, token.Mark mark.PlusMinus)
+        ∷ (4, token.Digits 5) ∷ (5, token.Mark mark.Semicolon) ∷ [] }
     ensures apart { tokens (codes "+ -") ≡ (0, token.Mark mark.Plus) ∷ (2, token.Mark mark.Minus) ∷ [] }
     ensures minus { tokens (codes "<-5 --> 007")
-        ≡ (0, token.Mark mark.Less) ∷ (1, token.Negative 5) ∷ (4, token.Mark mark.Minus) ∷ (5, token.Mark mark.Arrow) ∷ (8, token.Digits 7) ∷ [] }
+        ≡ (0, token.Mark mark.Less) ∷ (1, token.Negative 5) ∷ (4, token.Mark mark.Minus)
+        ∷ (5, token.Mark mark.Arrow) ∷ (8, token.Digits 7) ∷ [] }
     ensures comment { tokens (codes "a #(" ++ 10 ∷ codes ")#;")
         ≡ (0, token.Word (codes "a")) ∷ (5, token.Mark mark.CloseParen) ∷ [] }
     ensures least { tokens (codes "-9223372036854775808") ≡ (0, token.Negative 9223372036854775808) ∷ [] }

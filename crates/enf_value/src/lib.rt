@@ -16,6 +16,7 @@ pub mod places;
 pub mod printing;
 pub mod reading;
 pub mod rows;
+pub mod short_lists;
 pub mod steps;
 pub mod terms;
 pub mod texts;
@@ -33,7 +34,7 @@ pub use limits::{
 pub use memory::NoMemory;
 pub use names::{ByteKind, is_reserved, name_text};
 pub use places::Place;
-pub use printing::{print_bytes, print_number, print_value};
+pub use printing::{print_byte, print_bytes, print_number, print_value};
 pub use reading::read_value;
 pub use rows::Row;
 pub use steps::Step;

@@ -20,6 +20,8 @@ pub enum ByteKind {
     Word,
     /// What stands in a comment: each byte but a line feed.
     Comment,
+    /// What is printed as it stands in a text: no control character, quote or backslash.
+    Plain,
 }
 
 impl ByteKind {
@@ -32,6 +34,7 @@ impl ByteKind {
             ByteKind::Letter => byte.is_ascii_alphabetic(),
             ByteKind::Word => byte.is_ascii_alphanumeric() || byte == b'_',
             ByteKind::Comment => byte != b'\n',
+            ByteKind::Plain => byte >= b' ' && byte != b'"' && byte != b'\\',
         }
     }
 

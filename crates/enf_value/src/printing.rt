@@ -1,10 +1,11 @@
 //! The canonical texts of values and of numbers.
-ghost use Rattle.std.specs.Prelude.{◌≡◌, ◌++◌, OnOk, OnErr, decimal};
+ghost use Rattle.std.specs.Prelude.{◌≡◌, ◌++◌, ◌∷◌, ◌<◌, ◌≤◌, [], IfOk, OnOk, OnErr, decimal, length, take};
 ghost use Rattle.std.specs.Fmt.{signed_decimal};
 ghost use Rattle.std.specs.List.{flat_map};
 ghost use Rattle.enf_value.specs.Spelling.{spelled, escaped, quoted, AppendsPart};
 
 use crate::memory::NoMemory;
+use crate::names::ByteKind;
 use crate::values::Value;
 use itoa::Buffer;
 
@@ -14,6 +15,15 @@ pub fn print_bytes(bytes: &[u8], out: &mut Vec<u8>) -> Result<(), NoMemory>
     ensures err { OnErr result (out.new.items ≡ out.old.items) }
 {
     out.extend_from_slice(bytes)?;
+    Ok(())
+}
+
+/// Appends a byte; for want of memory nothing is appended.
+pub fn print_byte(byte: u8, out: &mut Vec<u8>) -> Result<(), NoMemory>
+    ensures ok { OnOk result (out.new.items ≡ out.old.items ++ byte ∷ []) }
+    ensures err { OnErr result (out.new.items ≡ out.old.items) }
+{
+    out.push(byte)?;
     Ok(())
 }
 
@@ -38,19 +48,36 @@ fn print_text(bytes: &[u8], out: &mut Vec<u8>) -> Result<(), NoMemory>
     ensures ok { OnOk result (out.new.items ≡ out.old.items ++ quoted bytes.now) }
     ensures err { OnErr result (AppendsPart (quoted bytes.now) out.old.items out.new.items) }
 {
-    print_bytes(b"\"", out)?;
+    print_byte(b'"', out)?;
     print_escaped(bytes, out)?;
-    print_bytes(b"\"", out)
+    print_byte(b'"', out)
 }
 
 fn print_escaped(bytes: &[u8], out: &mut Vec<u8>) -> Result<(), NoMemory>
     ensures ok { OnOk result (out.new.items ≡ out.old.items ++ flat_map escaped bytes.now) }
     ensures err { OnErr result (AppendsPart (flat_map escaped bytes.now) out.old.items out.new.items) }
 {
-    for byte in bytes {
-        print_escaped_byte(*byte, out)?;
+    let mut at = 0;
+    while at < bytes.len() {
+        at += print_front(&bytes[at..], out)?;
     }
     Ok(())
+}
+
+// Appends the bytes that stand for themselves, and the byte behind them, and gives how many they are.
+fn print_front(bytes: &[u8], out: &mut Vec<u8>) -> Result<usize, NoMemory>
+    requires { 0 < length bytes.now }
+    ensures ok { IfOk result (λ count. out.new.items ≡ out.old.items ++ flat_map escaped (take count bytes.now)) }
+    ensures within { IfOk result (λ count. (0 < count) × (count ≤ length bytes.now)) }
+    ensures err { OnErr result (AppendsPart (flat_map escaped bytes.now) out.old.items out.new.items) }
+{
+    let plain = ByteKind::Plain.front(bytes);
+    print_bytes(plain, out)?;
+    if plain.len() < bytes.len() {
+        print_escaped_byte(bytes[plain.len()], out)?;
+        return Ok(plain.len() + 1);
+    }
+    Ok(plain.len())
 }
 
 fn print_escaped_byte(byte: u8, out: &mut Vec<u8>) -> Result<(), NoMemory>
@@ -63,7 +90,7 @@ fn print_escaped_byte(byte: u8, out: &mut Vec<u8>) -> Result<(), NoMemory>
         b'\n' => print_bytes(b"\\n", out),
         b'\r' => print_bytes(b"\\r", out),
         b'\t' => print_bytes(b"\\t", out),
-        _ => print_bytes(&[byte], out),
+        _ => print_byte(byte, out),
     }
 }
 

@@ -1,7 +1,10 @@
 //! The tokens of values, read where they begin.
-ghost use Rattle.std.specs.Prelude.{◌≡◌, ◌<◌, ◌≤◌, ◌+◌, ◌==◌, ℕ, ℤ, List, length, drop, slice_index, IfOk, IfSome, IfNone, if◌then◌else◌};
+ghost use Rattle.std.specs.Prelude.{◌≡◌, ◌<◌, ◌≤◌, ◌+◌, ◌==◌, ◌^◌, ℕ, ℤ, List, length, take, drop, slice_index};
+ghost use Rattle.std.specs.Prelude.{IfOk, IfSome, IfNone, if◌then◌else◌};
 ghost use Rattle.std.specs.Char.{is_ascii_digit};
 ghost use Rattle.std.specs.List.{prefix_len};
+ghost use Rattle.std.specs.Str.Parse.{IsNumeral, digits_value};
+ghost use Rattle.enf_value.specs.Text.{IsText};
 ghost use Rattle.enf_value.specs.ValueTokens.{TokenAt, WrittenAt, meaning};
 ghost use Rattle.enf_value.specs.declared.values.Value.{Value as AnyValue};
 ghost use Rattle.enf_value.specs.declared.values.Value.TheVariants.{Num, Text};
@@ -10,6 +13,7 @@ use crate::memory::NoMemory;
 use crate::names::ByteKind;
 use crate::texts::{TextRefusal, TextValue};
 use crate::values::Value;
+use memchr::memchr2;
 use std::alloc::Global;
 
 /// The value of the number or text token that begins at a place, and the place behind it; none where no token
@@ -23,7 +27,8 @@ pub fn read_value(
     requires { at ≤ length bytes.now }
     ensures some { IfOk result (λ found. IfSome found (λ read. TokenAt bytes.now at read.1 read.0)) }
     ensures within { IfOk result (λ found. IfSome found (λ read. (at < read.1) × (read.1 ≤ length bytes.now))) }
-    ensures none { IfOk result (λ found. IfNone found ((value : AnyValue) (end : ℕ) → TokenAt bytes.now at end value → ⊥)) }
+    ensures none { IfOk result
+        (λ found. IfNone found ((value : AnyValue) (end : ℕ) → TokenAt bytes.now at end value → ⊥)) }
 {
     let Some((value, length)) = read_front(alloc, &bytes[at..])? else {
         return Ok(None);
@@ -33,7 +38,8 @@ pub fn read_value(
 
 fn read_front(alloc: Global, bytes: &[u8]) -> Result<Option<(Value, usize)>, NoMemory>
     ensures some { IfOk result (λ found. IfSome found (λ read. TokenAt bytes.now 0 read.1 read.0)) }
-    ensures none { IfOk result (λ found. IfNone found ((value : AnyValue) (end : ℕ) → TokenAt bytes.now 0 end value → ⊥)) }
+    ensures none { IfOk result
+        (λ found. IfNone found ((value : AnyValue) (end : ℕ) → TokenAt bytes.now 0 end value → ⊥)) }
 {
     if begins_text(bytes) {
         Ok(read_text(alloc, bytes)?.map(|(text, end)| (Value::Text(text), end)))
@@ -53,14 +59,40 @@ fn read_number(bytes: &[u8]) -> Option<(i64, usize)>
     ensures none { IfNone result ((number : ℤ) (end : ℕ) → TokenAt bytes.now 0 end (Num number) → ⊥) }
 {
     let end = number_end(bytes);
+    if let Some(number) = plain_number(&bytes[..end]) {
+        return Some((number as i64, end));
+    }
     let number = str::from_utf8(&bytes[..end]).ok()?.parse().ok()?;
     Some((number, end))
+}
+
+// A number up to this one can have any digit behind it, and is still below 2^63.
+const MOST_BEFORE_A_DIGIT: u64 = 922_337_203_685_477_579;
+
+// The number that digits alone write, where it is sure to fit.
+fn plain_number(digits: &[u8]) -> Option<u64>
+    ensures numeral { IfSome result (λ number. IsNumeral 10 digits.now) }
+    ensures value { IfSome result (λ number. number ≡ digits_value 10 digits.now) }
+    ensures small { IfSome result (λ number. number < 2 ^ 63) }
+{
+    if digits.is_empty() {
+        return None;
+    }
+    let mut number = 0;
+    for digit in digits {
+        if !digit.is_ascii_digit() || number > MOST_BEFORE_A_DIGIT {
+            return None;
+        }
+        number = 10 * number + (*digit - b'0') as u64;
+    }
+    Some(number)
 }
 
 // Where a minus and digits at the front end.
 fn number_end(bytes: &[u8]) -> usize
     ensures within { result ≤ length bytes.now }
-    ensures end { result ≡ (if slice_index bytes.now 0 == 45 then 1 + prefix_len is_ascii_digit (drop 1 bytes.now) else prefix_len is_ascii_digit bytes.now) }
+    ensures end { result ≡ (if slice_index bytes.now 0 == 45
+        then 1 + prefix_len is_ascii_digit (drop 1 bytes.now) else prefix_len is_ascii_digit bytes.now) }
 {
     match bytes {
         [b'-', digits @ ..] => 1 + ByteKind::Digit.front_length(digits),
@@ -71,13 +103,44 @@ fn number_end(bytes: &[u8]) -> usize
 fn read_text(alloc: Global, bytes: &[u8]) -> Result<Option<(TextValue, usize)>, NoMemory>
     requires { slice_index bytes.now 0 ≡ 34 }
     ensures some { IfOk result (λ found. IfSome found (λ read. TokenAt bytes.now 0 read.1 (Text read.0))) }
-    ensures none { IfOk result (λ found. IfNone found ((text : List ℕ) (end : ℕ) → TokenAt bytes.now 0 end (Text text) → ⊥)) }
+    ensures none { IfOk result
+        (λ found. IfNone found ((text : List ℕ) (end : ℕ) → TokenAt bytes.now 0 end (Text text) → ⊥)) }
 {
-    let Some((text, length)) = read_written(alloc, &bytes[1..])? else {
+    let behind = &bytes[1..];
+    if let Some(quote) = plain_end(behind) {
+        return text_token(alloc, &behind[..quote], quote);
+    }
+    let Some((written, quote)) = read_written(alloc, behind)? else {
         return Ok(None);
     };
-    match TextValue::from_bytes(alloc, text.as_slice()) {
-        Ok(text) => Ok(Some((text, length + 2))),
+    text_token(alloc, written.as_slice(), quote)
+}
+
+// Where the last quote of a text stands that has no escape, in the bytes behind its first.
+fn plain_end(bytes: &[u8]) -> Option<usize>
+    ensures written { IfSome result (λ quote. WrittenAt bytes.now quote (take quote bytes.now)) }
+    ensures within { IfSome result (λ quote. quote < length bytes.now) }
+{
+    match memchr2(b'"', b'\\', bytes) {
+        Some(place) if bytes[place] == b'"' => Some(place),
+        _ => None,
+    }
+}
+
+// The text, where its bytes are one, and the place behind its last quote.
+fn text_token(
+    alloc: Global,
+    text: &[u8],
+    quote: usize,
+) -> Result<Option<(TextValue, usize)>, NoMemory>
+    requires { quote < 2 ^ 63 }
+    ensures some { (bytes : List ℕ) → slice_index bytes 0 ≡ 34 → WrittenAt (drop 1 bytes) quote text.now
+        → IfOk result (λ found. IfSome found (λ read. TokenAt bytes 0 read.1 (Text read.0))) }
+    ensures none { (bytes : List ℕ) → WrittenAt (drop 1 bytes) quote text.now
+        → IfOk result (λ found. IfNone found ((other : List ℕ) (end : ℕ) → TokenAt bytes 0 end (Text other) → ⊥)) }
+{
+    match TextValue::from_bytes(alloc, text) {
+        Ok(text) => Ok(Some((text, quote + 2))),
         Err(TextRefusal::TooLong) => Ok(None),
         Err(TextRefusal::NotUtf8) => Ok(None),
         Err(TextRefusal::NoMemory) => Err(NoMemory),
@@ -87,6 +150,7 @@ fn read_text(alloc: Global, bytes: &[u8]) -> Result<Option<(TextValue, usize)>, 
 // The bytes of a text behind its first quote, and where its last quote stands.
 fn read_written(alloc: Global, bytes: &[u8]) -> Result<Option<(Vec<u8>, usize)>, NoMemory>
     ensures some { IfOk result (λ found. IfSome found (λ read. WrittenAt bytes.now read.1 read.0.items)) }
+    ensures within { IfOk result (λ found. IfSome found (λ read. read.1 < length bytes.now)) }
     ensures none { IfOk result (λ found. IfNone found ((text : List ℕ) (end : ℕ) → WrittenAt bytes.now end text → ⊥)) }
 {
     let mut text = Vec::new(alloc);

@@ -3,17 +3,18 @@ ghost use Rattle.std.specs.Prelude.{◌≡◌, ◌↔◌, IsTrue, [], ◌∷◌,
 ghost use Rattle.std.specs.Option.{option_copied};
 ghost use Rattle.enf_value.specs.Order.{row_cmp};
 
-use crate::items::{Duplicate, Items};
+use crate::items::Duplicate;
 use crate::memory::NoMemory;
+use crate::short_lists::ShortList;
 use crate::values::Value;
 use std::alloc::Global;
 use std::cmp::Ordering;
 use std::marker::Model;
 
-/// A list of values that grows at its end, seen as the list of them.
+/// A list of values that grows at its end, seen as the list of them. The first two take no memory.
 #[derive(Debug, PartialEq, Eq, Hash, Drop)]
 pub struct Row {
-    values: Items<Value>,
+    values: ShortList<Value>,
 }
 
 impl Model for Row {
@@ -33,7 +34,7 @@ impl Row {
         ensures { result ≡ [] }
     {
         Row {
-            values: Items::new(alloc),
+            values: ShortList::new(alloc),
         }
     }
 
@@ -42,15 +43,8 @@ impl Row {
         ensures { result ≡ values.items }
     {
         Row {
-            values: Items::from_vec(values),
+            values: ShortList::from_vec(values),
         }
-    }
-
-    /// The values as a vector; it takes no memory.
-    pub fn into_vec(self) -> Vec<Value>
-        ensures { result.items ≡ self }
-    {
-        self.values.into_vec()
     }
 
     /// Puts a value last, or hands it back for want of memory.
@@ -66,21 +60,21 @@ impl Row {
     pub fn get(&self, place: usize) -> Option<&Value>
         ensures { option_copied result ≡ slice_get self.now place }
     {
-        self.values.get(place)
+        self.as_slice().get(place)
     }
 
     /// How many values there are.
     pub fn len(&self) -> usize
         ensures { result ≡ length self.now }
     {
-        self.values.len()
+        self.as_slice().len()
     }
 
     /// Whether there is no value.
     pub fn is_empty(&self) -> bool
         ensures { IsTrue result ↔ (self.now ≡ []) }
     {
-        self.values.is_empty()
+        self.as_slice().is_empty()
     }
 
     /// The values in order.

@@ -57,7 +57,8 @@ impl TextValue {
         ensures value { IfOk result (λ text. text ≡ bytes.now) }
         ensures text { IfOk result (λ text. IsText bytes.now) }
         ensures too_long { IsErrOf result TextRefusal.TooLong ↔ (MOST_TEXT_BYTES < length bytes.now) }
-        ensures not_utf8 { IsErrOf result TextRefusal.NotUtf8 ↔ ((length bytes.now ≤ MOST_TEXT_BYTES) × (IsUtf8 bytes.now → ⊥)) }
+        ensures not_utf8 { IsErrOf result TextRefusal.NotUtf8
+            ↔ ((length bytes.now ≤ MOST_TEXT_BYTES) × (IsUtf8 bytes.now → ⊥)) }
     {
         if bytes.len() > MOST_TEXT_BYTES {
             return Err(TextRefusal::TooLong);

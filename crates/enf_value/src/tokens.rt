@@ -1,5 +1,6 @@
 //! The tokens of signatures and policies, each read where it begins.
-ghost use Rattle.std.specs.Prelude.{◌≡◌, ◌<◌, ◌≤◌, ◌+◌, ◌-◌, ◌∷◌, [], false, true, IfOk, IfSome, IfNone, drop, length, slice_index};
+ghost use Rattle.std.specs.Prelude.{◌≡◌, ◌<◌, ◌≤◌, ◌+◌, ◌-◌, ◌∷◌, [], false, true, IfOk, IfSome, IfNone, drop};
+ghost use Rattle.std.specs.Prelude.{length, slice_index};
 ghost use Rattle.enf_value.specs.Tokens.{IsProper, is_blank, mark_text, tokens_at};
 ghost use Rattle.enf_value.specs.Names.{is_word_start};
 ghost use Rattle.enf_value.specs.TokenViews.{BeginsToken, IsMarkAt, IsTokenAt, begins_value, placed_of, token_of};
@@ -63,7 +64,8 @@ pub fn next_token(
 ) -> Result<Option<PlacedToken<'_>>, NoMemory>
     requires short { length bytes.now ≤ MOST_FILE_BYTES }
     requires at { at ≤ length bytes.now }
-    ensures some { IfOk result (λ found. IfSome found (λ next. tokens_at bytes.now at ≡ placed_of next ∷ tokens_at bytes.now next.end)) }
+    ensures some { IfOk result
+        (λ found. IfSome found (λ next. tokens_at bytes.now at ≡ placed_of next ∷ tokens_at bytes.now next.end)) }
     ensures proper { IfOk result (λ found. IfSome found (λ next. IsProper (token_of next.token))) }
     ensures within { IfOk result (λ found. IfSome found (λ next. (at < next.end) × (next.end ≤ length bytes.now))) }
     ensures placed { IfOk result (λ found. IfSome found (λ next. next.place < length bytes.now)) }

@@ -7,6 +7,7 @@ use crate::memory::NoMemory;
 use crate::texts::TextValue;
 use std::alloc::Global;
 use std::cmp::Ordering;
+use std::default::Default;
 
 /// A number or a text.
 #[derive(Debug, PartialEq, Eq, PartialOrd, Ord, Hash, Drop)]
@@ -21,6 +22,12 @@ impl Value {
         ensures { result ≡ value_cmp self.now other.now }
     {
         self.cmp(other)
+    }
+}
+
+impl Default for Value {
+    fn default() -> Value {
+        Value::Num(0)
     }
 }
 

@@ -67,7 +67,8 @@ pub record IsWholeAt (bytes : List ℕ) (from begin end : ℕ) : Type 0 where
 abbrev pub FindsFront : List ℕ → (from : ℕ) → Front → Type 0
 FindsFront bytes from (fronts.Whole begin end) = IsWholeAt bytes from begin end
 FindsFront bytes from fronts.TooLong =
-    (record_length (behind_blanks (drop from bytes)) ≡ None) × (MOST_RECORD_BYTES ≤ length (behind_blanks (drop from bytes)))
+    (record_length (behind_blanks (drop from bytes)) ≡ None)
+    × (MOST_RECORD_BYTES ≤ length (behind_blanks (drop from bytes)))
 FindsFront bytes from (fronts.Pending begin scan) =
     IsPending (drop from bytes) × BeginsAt bytes from begin
     × (scan ≡ scan_after Outside (behind_blanks (drop from bytes)))

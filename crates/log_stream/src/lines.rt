@@ -6,7 +6,9 @@ ghost use Rattle.log_stream.specs.Lines.{spelled_event, spelled_row, step_line};
 ghost use Rattle.log_stream.specs.Written.{mark_of};
 ghost use Rattle.signature.specs.Grammar.{names as names_of};
 
-use enf_value::{Event, EventSet, NameId, NoMemory, Value, print_bytes, print_number, print_value};
+use enf_value::{
+    Event, EventSet, NameId, NoMemory, Value, print_byte, print_bytes, print_number, print_value,
+};
 use signature::Signature;
 use trace_meaning::StepKind;
 
@@ -24,18 +26,18 @@ pub fn write_step(
     ensures err { OnErr result (AppendsPart (step_line (names_of signature.now) kind time events.now)
         out.old.items out.new.items) }
 {
-    print_bytes(mark(kind), out)?;
+    print_byte(mark(kind), out)?;
     print_number(time, out)?;
     print_events(signature, events.as_slice(), out)?;
     print_bytes(b";\n", out)
 }
 
-fn mark(kind: StepKind) -> &'static [u8]
-    ensures { result.now ≡ mark_of kind ∷ [] }
+fn mark(kind: StepKind) -> u8
+    ensures { result ≡ mark_of kind }
 {
     match kind {
-        StepKind::System => b"@",
-        StepKind::Inserted => b"+",
+        StepKind::System => b'@',
+        StepKind::Inserted => b'+',
     }
 }
 
@@ -59,11 +61,11 @@ fn print_event(signature: &Signature, event: &Event, out: &mut Vec<u8>) -> Resul
     ensures err { OnErr result (AppendsPart (32 ∷ spelled_event (names_of signature.now) event.now)
         out.old.items out.new.items) }
 {
-    print_bytes(b" ", out)?;
+    print_byte(b' ', out)?;
     print_name(signature, event.name, out)?;
-    print_bytes(b"(", out)?;
+    print_byte(b'(', out)?;
     print_row(event.args.as_slice(), out)?;
-    print_bytes(b")", out)
+    print_byte(b')', out)
 }
 
 fn print_name(signature: &Signature, name: NameId, out: &mut Vec<u8>) -> Result<(), NoMemory>
@@ -97,6 +99,6 @@ fn print_next(value: &Value, out: &mut Vec<u8>) -> Result<(), NoMemory>
     ensures ok { OnOk result (out.new.items ≡ out.old.items ++ 44 ∷ spelled value.now) }
     ensures err { OnErr result (AppendsPart (44 ∷ spelled value.now) out.old.items out.new.items) }
 {
-    print_bytes(b",", out)?;
+    print_byte(b',', out)?;
     print_value(value, out)
 }

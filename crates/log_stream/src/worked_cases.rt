@@ -42,7 +42,8 @@ pub fn judgement()
     ensures reserved { judged sample (Line System 7 (written 3 (codes "int") [] ∷ [])) ≡ Err (UnknownName 3) }
     ensures arity { judged sample (Line System 7 (written 3 (codes "two") (arg 7 (Text []) ∷ []) ∷ []))
         ≡ Err (Arity 3) }
-    ensures sort { judged sample (Line System 7 (written 3 (codes "two") (arg 7 (Num (pos 1)) ∷ arg 9 (Num (pos 2)) ∷ []) ∷ []))
+    ensures sort { judged sample (Line System 7 (written 3 (codes "two")
+        (arg 7 (Num (pos 1)) ∷ arg 9 (Num (pos 2)) ∷ []) ∷ []))
         ≡ Err (SortClash 9) }
     ensures late { judged sample (Line System 1000000000000001 (written 3 (codes "pong") [] ∷ []))
         ≡ Err TimeTooLarge }

@@ -1,9 +1,23 @@
-use Rattle.std.proofs.Common.{◌∙◌}
-use Rattle.enf_value.specs.Spelling.{escaped}
-use Rattle.enf_value.proofs.Parts.{on_err_from, part_of_flat_map}
+use Rattle.std.proofs.Common.{ap, arith, subst, take, ◌∙◌, ◌++◌}
+use Rattle.std.specs.List.{flat_map}
+use Rattle.enf_value.specs.Spelling.{AppendsPart, escaped}
+use Rattle.enf_value.proofs.Parts.{front_appended, on_err_from, part_behind}
+use Rattle.enf_value.proofs.TextTokens.{slice_from}
 use Rattle.enf_value.proofs.printing.print_escaped.Goals as goal
 
-pub returns-in_err-print_escaped_byte-clause-err :
-    goal.returns-in_err-print_escaped_byte-clause-err
-returns-in_err-print_escaped_byte-clause-err c =
-    on_err_from _ (part_of_flat_map escaped c.args.bytes.now c.loop-byte.byte-index c.args.out.now.items c.print_escaped_byte.new.out.items (c.in_err-print_escaped_byte.ensures.err ∙ c.loop-byte.invariant))
+pub returns-in_err-at-clause-err : goal.returns-in_err-at-clause-err
+returns-in_err-at-clause-err c =
+    let bytes = c.args.bytes.now in
+    let before = c.args.out.now.items in
+    let middle = c.loop-at.out.items in
+    let after = c.print_front.new.out.items in
+    on_err_from _ (part_behind escaped bytes c.loop-at.at before middle after c.loop-at.invariant
+    (subst (λ l. AppendsPart (flat_map escaped l) middle after) (slice_from bytes c.loop-at.at) c.in_err-at.ensures.err))
+
+pub loop-at-preserved : goal.loop-at-preserved
+loop-at-preserved c =
+    let bytes = c.args.bytes.now in
+    let middle = c.loop-at.out.items in
+    let count = c.in_ok-at.field-0 in
+    front_appended bytes c.loop-at.at count c.args.out.now.items middle c.print_front.new.out.items (omega (arith, c.loop-at-test.true)) c.loop-at.invariant
+    (c.in_ok-at.ensures.ok ∙ ap (λ l. middle ++ flat_map escaped (take count l)) (slice_from bytes c.loop-at.at))

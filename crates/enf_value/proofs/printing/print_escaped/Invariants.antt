@@ -1,7 +1,10 @@
-use Rattle.std.proofs.Common.{◌≡◌, ◌++◌, take}
+use Rattle.std.proofs.Common.{◌≡◌, ◌++◌, ◌-◌, length, take}
 use Rattle.std.specs.List.{flat_map}
 use Rattle.enf_value.specs.Spelling.{escaped}
 use Rattle.enf_value.proofs.printing.print_escaped.Given as goal
 
-abbrev pub invariant-loop-byte : goal.invariant-loop-byte
-invariant-loop-byte l = l.out.items ≡ l.fn.out.items ++ flat_map escaped (take l.byte-index l.bytes)
+abbrev pub invariant-loop-at : goal.invariant-loop-at
+invariant-loop-at l = l.out.items ≡ l.fn.out.items ++ flat_map escaped (take l.at l.bytes)
+
+abbrev pub decreases-loop-at : goal.decreases-loop-at
+decreases-loop-at l = length l.bytes - l.at

@@ -6,4 +6,4 @@ use Rattle.enf_value.proofs.printing.print_text.Goals as goal
 
 pub returns-in_err-print_escaped-clause-err : goal.returns-in_err-print_escaped-clause-err
 returns-in_err-print_escaped-clause-err c =
-    on_err_from _ (part_inside (34 ∷ []) (flat_map escaped c.args.bytes.now) (34 ∷ []) c.args.out.now.items c.print_bytes.new.out.items c.print_escaped.new.out.items c.in_ok-print_bytes.ensures.ok c.in_err-print_escaped.ensures.err)
+    on_err_from _ (part_inside (34 ∷ []) (flat_map escaped c.args.bytes.now) (34 ∷ []) c.args.out.now.items c.print_byte.new.out.items c.print_escaped.new.out.items c.in_ok-print_byte.ensures.ok c.in_err-print_escaped.ensures.err)

@@ -1,10 +1,10 @@
 use Rattle.std.proofs.Common.{sym, ap, subst, ◌∙◌, take, w64}
 use Rattle.std.specs.Str.{IsUtf8}
-use Rattle.std.proofs.Math.Facts.{to_z-of_z}
+use Rattle.std.proofs.Math.Facts.{to_z-of_z, to_z_pos}
 use Rattle.std.proofs.lemmas.Result.{MatchResult-at_ok}
 use Rattle.enf_value.specs.ValueTokens.{TokenAt}
 use Rattle.enf_value.specs.declared.values.Value.TheVariants.{Num}
-use Rattle.enf_value.proofs.Numerals.{err_utf8, none_ok, ok_some, front_utf8, front_parses, parsed_front, fits_from_number}
+use Rattle.enf_value.proofs.Numerals.{err_utf8, none_ok, ok_some, front_utf8, front_parses, parsed_front, plain_token, fits_from_number}
 use Rattle.enf_value.proofs.reading.read_number.Goals as goal
 
 pub returns-in_err-ok-clause-none : goal.returns-in_err-ok-clause-none
@@ -24,3 +24,8 @@ returns-clause-some c =
     let number = c.in_ok-number.number in
     let read = parsed_front c.args.bytes.now c.in_ok-ok.field-0.now c.number_end-end.result number c.parse.result c.number_end-end.ensures.end c.number_end-end.ensures.within text.0 c.parse.ensures.value.0 (ok_some c.parse.result number (sym c.ok-2.ensures.value ∙ c.in_ok-number.was)) in
     subst (λ n. TokenAt c.args.bytes.now 0 c.number_end-end.result (Num n)) (sym (to_z-of_z {w = w64} (fits_from_number number read.fits))) read
+
+pub returns-in-Some-clause-some : goal.returns-in-Some-clause-some
+returns-in-Some-clause-some c =
+    let token = plain_token c.args.bytes.now c.number_end-end.result c.in-Some.number c.number_end-end.ensures.end c.number_end-end.ensures.within c.in-Some.ensures.numeral c.in-Some.ensures.value c.in-Some.ensures.small in
+    subst (λ n. TokenAt c.args.bytes.now 0 c.number_end-end.result (Num n)) (sym (to_z_pos w64 c.in-Some.ensures.small)) token

@@ -1,0 +1,14 @@
+use Rattle.std.proofs.Common.{Contains, subst, sym, true≢false, ◌∙◌}
+use Rattle.enf_value.proofs.Distinct.{stays}
+use Rattle.enf_value.specs.Membership.{HasNoRepeats}
+use Rattle.enf_value.specs.MembershipLaws.{HasNoRepeats-push}
+use Rattle.enf_value.proofs.event_sets.insert_searched.Goals as goal
+
+pub returns-then-is_among-clause-inserted : goal.returns-then-is_among-clause-inserted
+returns-then-is_among-clause-inserted c =
+    stays c.args.event c.args.few.now.items (subst (λ l. Contains l c.args.event) c.as_slice.ensures.value (c.is_among.ensures.0 c.if-is_among.true))
+
+pub returns-in-Ok-clause-distinct : goal.returns-in-Ok-clause-distinct
+returns-in-Ok-clause-distinct c =
+    subst HasNoRepeats (sym c.in-Ok.ensures.items)
+    (HasNoRepeats-push c.args.few.now.items c.args.event c.requires (λ there. true≢false (sym (c.is_among.ensures.1 (subst (λ l. Contains l c.args.event) (sym c.as_slice.ensures.value) there)) ∙ c.if-is_among.false)))
