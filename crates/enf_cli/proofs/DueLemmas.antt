@@ -1,5 +1,5 @@
 -- Where each status must come: what holds at the other statuses leaves no room for it.
-use Rattle.std.proofs.Common.{All, ◌≡◌, ◌≢◌, ℕ, ◌-◌, ◌<◌, ◌≤◌, List, [], ◌∷◌, ◌++◌, Option, Some, None, Result, Err, Ok, length, take, drop, codes, refl, sym, ap, subst, ◌∙◌, inl, inr, arith, length-take}
+use Rattle.std.proofs.Common.{◌≡◌, ◌≢◌, ℕ, ◌-◌, ◌<◌, ◌≤◌, List, [], ◌∷◌, ◌++◌, Option, Some, None, true, false, Result, Err, Ok, length, take, drop, codes, refl, sym, ap, subst, ◌∙◌, inl, inr, arith, length-take}
 use Rattle.std.specs.Prelude.{◌⊎◌}
 use Rattle.std.proofs.lemmas.List.{append-nil, take-append-drop}
 use Rattle.enf_io.specs.Contents.{Contents}
@@ -35,7 +35,8 @@ use Rattle.enf_cli.specs.Limits.{most_log_bytes}
 use Rattle.enf_cli.specs.Logs.{IsFalling, IsRefusedAs, RunsLog}
 use Rattle.enf_cli.specs.Owed.{Setting, anew}
 use Rattle.enf_cli.specs.Outcomes.{Asks, AsksToEnforce, ChecksPolicy, GeneratesLog, IsDone, IsFinished, Outcome, Refuses, RefusesPolicyFile, RefusesRecord, RefusesSignatureFile, RefusesWords}
-use Rattle.enf_cli.specs.Policies.{CanBeBuilt, HasUnbuilt, ReadsPolicy, SpellsPolicy, SpellsRefused, formulas}
+use Rattle.enforce_types.specs.PolicyLaws.{OnePlans}
+use Rattle.enf_cli.specs.Policies.{CanBeBuilt, CannotBeBuilt, look_ahead, ReadsPolicy, SpellsPolicy, SpellsRefused, formulas}
 use Rattle.enf_cli.specs.Signatures.{SpellsSignature}
 use Rattle.enf_cli.specs.Words.{IsCheck, IsEnforce, IsGenerate, MatchNoForm, NamesFiles}
 use Rattle.enf_cli.specs.declared.log.Verdict.{Verdict}
@@ -109,13 +110,13 @@ OneTextAnswer = (entries : List NameEntry) (bytes : List ℕ)
 same_text_answer : OneTextAnswer → (entries : List NameEntry) (bytes : List ℕ) (answer other : Result (List Rule) PolicyTextRefusal) → IsTextAnswer entries bytes answer → IsTextAnswer entries bytes other → answer ≡ other
 same_text_answer one entries bytes answer other is also = let all = one entries bytes in all.2 answer is ∙ sym (all.2 other also)
 
--- a policy of which each rule can be built has none that cannot
-built_or_not : (entries others : List NameEntry) (policy policy' : List Rule) → entries ≡ others → policy ≡ policy' → All (CanBeBuilt entries) (formulas policy) → HasUnbuilt others policy' → ⊥
-built_or_not entries others policy policy' same is_same all none =
-    let there = none.of_policy in
-    let here = subst (λ (es : List NameEntry). All (CanBeBuilt es) (formulas policy)) same all in
-    let also = subst (λ (rules : List Rule). All (CanBeBuilt others) (formulas rules)) is_same here in
-    none.not_built (subst (CanBeBuilt others) there.2 (also there.0 none.formula there.1))
+-- a policy has one list of plans, so one that can be built is none that cannot
+built_or_not : OnePlans → (entries others : List NameEntry) (policy policy' : List Rule) → entries ≡ others → policy ≡ policy' → CanBeBuilt entries (formulas policy) → CannotBeBuilt others (formulas policy') → ⊥
+built_or_not one entries others policy policy' same is_same built none =
+    let there = subst (λ (rules : List Rule). CanBeBuilt others (formulas rules)) is_same (subst (λ (es : List NameEntry). CanBeBuilt es (formulas policy)) same built) in
+    let plans = one others (formulas policy') there.0 none.0 there.1 none.1 there.2 none.2 in
+    let clash : true ≡ false = sym none.3 ∙ ap look_ahead (sym plans.0) ∙ there.3 in
+    cc
 
 -- what is asked for in one form
 asks_named : {Gate : Type 0} (call : Call Gate) (entries : List NameEntry) (policy : List Rule) → Asks IsEnforce call entries policy ⊎ Asks IsCheck call entries policy → Asks NamesFiles call entries policy
@@ -141,7 +142,7 @@ policy_named call entries policy (inr t) =
     }
 
 -- each text of a signature has one answer, and each of a policy; and a policy that is accepted is not refused
-module _ (one : OneAnswer) (one_text : OneTextAnswer) (accepted : AcceptedIsNotRefused) where
+module _ (one : OneAnswer) (one_text : OneTextAnswer) (accepted : AcceptedIsNotRefused) (one_plans : OnePlans) where
   -- bytes are one signature at most
   same_signature : (bytes : List ℕ) (entries others : List NameEntry) → SpellsSignature bytes entries → SpellsSignature bytes others → entries ≡ others
   same_signature bytes entries others p q =
@@ -227,7 +228,7 @@ module _ (one : OneAnswer) (one_text : OneTextAnswer) (accepted : AcceptedIsNotR
         let named = policy_named call t.entries t.policy (inl t.asks) in
         let other = one_policy call t.entries named.asks named.bytes named.told s.entries a.policy (asks_named call s.entries a.policy (inl a.asks)) in
         let same = same_policy t.entries named.bytes a.policy t.policy other.1.reads named.is_policy.reads in
-        built_or_not s.entries t.entries a.policy t.policy (sym other.0) same a.can_be_built t.unbuilt
+        built_or_not one_plans s.entries t.entries a.policy t.policy (sym other.0) same a.can_be_built t.unbuilt
 
     not_asked : AsksRefused call → (s : Setting) → AsksToEnforce call s → ⊥
     not_asked (inl t) s a = refused_signature_not_asked t s.entries a.policy (asks_named call s.entries a.policy (inl a.asks))
@@ -275,7 +276,7 @@ module _ (one : OneAnswer) (one_text : OneTextAnswer) (accepted : AcceptedIsNotR
         let m = (no_refusal_of_files s.entries t.policy named o).meets in
         let other = one_policy call s.entries named.asks named.bytes named.told m.entries m.policy (asks_named call m.entries m.policy (inl m.asks)) in
         let same = same_policy s.entries named.bytes t.policy m.policy named.is_policy.reads other.1.reads in
-        built_or_not s.entries m.entries t.policy m.policy other.0 same t.can_be_built m.unbuilt
+        built_or_not one_plans s.entries m.entries t.policy m.policy other.0 same t.can_be_built m.unbuilt
 
     checked_not_refused : AsksToCheck call → FilesRefused → ⊥
     checked_not_refused (entries, policy, t) o =

@@ -1,4 +1,3 @@
-pub mod BuildingLemmas
 pub mod CutLemmas
 pub mod ExchangeLemmas
 pub mod FileLemmas

@@ -10,10 +10,11 @@ use Rattle.enf_io.specs.Exchange.{Exchange, Gave, IsAtEnd, with_given}
 use Rattle.enf_io.specs.Streams.{Stream}
 use Rattle.enf_formula.specs.Formulas.{Formula}
 use Rattle.enf_value.specs.declared.steps.Step.{Step}
+use Rattle.choice_step.specs.Follows.{ActedStep, out_step, steps_of}
+use Rattle.enforcer_core.specs.Answered.{Permits}
 use Rattle.enforcer_core.specs.Course.{Course}
-use Rattle.enforcer_core.specs.Enforcers.{Enforcing, out_steps}
-use Rattle.enforcer_core.specs.Laws.{BuiltAreSatisfied, CourseBegins, CourseEnforces, CourseFollows, CourseFollowsToEnd, CourseGoesOn, CourseKeepsUp}
-use Rattle.enforcer_core.specs.Rules.{AreBuilt}
+use Rattle.enforcer_core.specs.Enforcers.{Enforcing, acted_steps, formulas_for, out_steps, plans_of}
+use Rattle.enforcer_core.specs.Laws.{StandAtNow}
 use Rattle.enforcer_core.specs.Stands.{Stands}
 use Rattle.enforcer_core.specs.declared.steps.StepOut.{StepOut}
 use Rattle.log_stream.specs.LogLaws.{Spells-append, Spells-blanks, Spells-none, Spells-push}
@@ -24,8 +25,7 @@ use Rattle.log_stream.specs.declared.items.LogMode.TheVariants.{Input}
 use Rattle.signature.specs.Grammar.{names as names_of}
 use Rattle.signature.specs.declared.entries.NameEntry.{NameEntry}
 use Rattle.trace_meaning.specs.Good.{Good, GoodPrefix}
-use Rattle.trace_meaning.specs.Laws.{FrontIsGood, SatisfyingIsGood}
-use Rattle.trace_meaning.specs.OutSteps.{OutStep, trace_of}
+use Rattle.trace_meaning.specs.OutSteps.{trace_of}
 use Rattle.trace_meaning.specs.Records.{Record, clock_after}
 use Rattle.enf_cli.specs.Accepted.{Accepts, UpToDate, record_of, records_of}
 use Rattle.enforce_types.specs.Marks.{is_causable, is_suppressible}
@@ -33,8 +33,8 @@ use Rattle.enf_cli.specs.Endings.{GaveLines, write_faults_behind}
 use Rattle.enf_cli.specs.Exchanges.{Exchanged, IsBegun}
 use Rattle.enf_cli.specs.Limits.{most_log_bytes}
 use Rattle.enf_cli.specs.Logs.{CutsRun, EndsAs, IsOwedWhere, IsRefusedAs, RanAsJudged, RunsShort}
-use Rattle.enf_cli.specs.Owed.{IsOwedInAll, IsOwedSoFar, Setting, setting_of}
-use Rattle.enf_cli.specs.Progress.{CutsDrain, CutsDrainLines, CutsTaken, CutsTurn, Drains, GivesDrain, LosesBytes, TakesBytes, TakesItem, TakesRecord, lines_of, moment}
+use Rattle.enf_cli.specs.Owed.{HasPlans, IsOwedInAll, IsOwedSoFar, Setting, setting_of}
+use Rattle.enf_cli.specs.Progress.{CutsDrain, CutsDrainLines, CutsTaken, CutsTurn, Drains, GivesDrain, Laws, LosesBytes, TakesBytes, TakesItem, TakesRecord, lines_of, moment}
 use Rattle.enf_cli.specs.declared.endings.Cut.{Cut}
 use Rattle.enf_cli.specs.declared.endings.Cut.TheVariants as cuts
 use Rattle.enf_cli.specs.declared.log.Enforcement.{Enforcement}
@@ -66,17 +66,9 @@ module _ (entries : List NameEntry) (clock count : ℕ) (rest : List ℕ) (befor
   ends_gave verdicts.Fault h = (h.0, reads ∙ h.1)
   ends_gave (verdicts.Refused why) h = (refused_gave why h.0, reads ∙ h.1)
 
--- the laws of what an enforcer does for records
-pub record Laws : Type 0 where
-  pub begins : CourseBegins
-  pub goes_on : CourseGoesOn
-  pub keeps_up : CourseKeepsUp
-  pub enforces : CourseEnforces
-  pub follows : CourseFollows
-  pub follows_to_end : CourseFollowsToEnd
-  pub built : BuiltAreSatisfied
-  pub front : FrontIsGood
-  pub satisfying : SatisfyingIsGood
+-- what the plans of an enforcer change may be changed, and none of them looks ahead
+abbrev pub MayRun : List NameEntry → Enforcing → Type 0
+MayRun entries enforcer = Permits (is_causable entries) (is_suppressible entries) (plans_of enforcer) × StandAtNow (plans_of enforcer)
 
 module _ (entries : List NameEntry) (policy : List Formula) (first : Enforcing) (trace : List Step) where
   abbrev pub setting : Setting
@@ -86,14 +78,14 @@ module _ (entries : List NameEntry) (policy : List Formula) (first : Enforcing) 
   pub record HasRead (taken rest : List ℕ) (now : Enforcing) : Type 0 where
     pub read : List LogItem
     pub spelled : Spells entries Input taken read rest
-    pub out : List OutStep
+    pub out : List ActedStep
     pub course : Course first trace (records_of read) out now
 
   -- so many were taken, what went out for them was given, and it was so at each read
   pub record Progress (before : Stream) (taken rest : List ℕ) (accepted : ℕ) (now : Enforcing) (after : Stream) : Type 0 where
     pub so_far : HasRead taken rest now
     pub count : accepted ≡ length so_far.read
-    pub exchanged : Exchanged (UpToDate setting) taken (text_of (names_of entries) so_far.out) before.told after.told
+    pub exchanged : Exchanged (UpToDate setting) taken (text_of (names_of entries) (out_steps so_far.out)) before.told after.told
     pub steady : IsSteady before.told after.told
     pub begun : 0 < length taken → IsBegun before.told after.told
     pub reads : after.read_faults ≡ before.read_faults
@@ -103,12 +95,12 @@ module _ (entries : List NameEntry) (policy : List Formula) (first : Enforcing) 
   pub record Ended (before : Stream) (taken rest : List ℕ) (accepted : ℕ) (now : Enforcing) (verdict : Verdict) (after : Stream) : Type 0 where
     pub so_far : HasRead taken rest now
     pub count : accepted ≡ length so_far.read
-    pub exchanged : Exchanged (UpToDate setting) taken (text_of (names_of entries) so_far.out) before.told after.told
+    pub exchanged : Exchanged (UpToDate setting) taken (text_of (names_of entries) (out_steps so_far.out)) before.told after.told
     pub ends : EndsAs entries Input (clock_after first.clock (records_of so_far.read)) (length taken) rest before after verdict
     pub begun : IsBegun before.told after.told
     pub writes : after.write_faults ≡ before.write_faults
 
-  module _ (laws : Laws) (may : All (λ rule. IsTrue (is_causable entries rule.cause)) first.rules) (built : AreBuilt policy first.rules) where
+  module _ (laws : Laws) (may : MayRun entries first) (built : HasPlans entries policy first) where
     -- before any call
     pub progress_none : Stands first trace → (before : Stream) → Progress before [] [] 0 first before
     progress_none stands before =
@@ -126,26 +118,26 @@ module _ (entries : List NameEntry) (policy : List Formula) (first : Enforcing) 
       -- what went out is what is owed to the records so far
       pub owed_so_far : IsOwedSoFar setting (records_of h.read) h.out
       owed_so_far =
-          let k = laws.keeps_up (is_causable entries) (is_suppressible entries) first trace (records_of h.read) h.out now may h.course in
+          let k = laws.keeps_up (is_causable entries) (is_suppressible entries) first trace (records_of h.read) h.out now may.0 may.1 h.course in
           let good = k.good in
           record {
-            keeps_up = record { lawful = k.lawful; within = k.within; good = (good.0, good.1, laws.built policy first.rules good.0 built good.2) };
-            decided = laws.follows policy first trace (records_of h.read) h.out now built h.course;
+            keeps_up = record { lawful = k.lawful; within = k.within; good = (good.0, good.1, laws.planned entries policy (plans_of first) built.0 good.0 built.1 good.2) };
+            decided = laws.follows entries policy built.0 first trace (records_of h.read) h.out now built.1 h.course;
           }
 
       -- and with a drain what is owed in all
-      pub owed_in_all : (made : StepOut) (after : Enforcing) → Drains now made after → IsOwedInAll setting (records_of h.read) (h.out ++ out_steps made.steps)
+      pub owed_in_all : (made : StepOut) (after : Enforcing) → Drains now made after → IsOwedInAll setting (records_of h.read) (h.out ++ acted_steps made.steps)
       owed_in_all made after d =
-          let e = laws.enforces (is_causable entries) (is_suppressible entries) first trace (records_of h.read) h.out now made after may h.course d.stands d.satisfied d.changed in
+          let e = laws.enforces (is_causable entries) (is_suppressible entries) first trace (records_of h.read) h.out now made after may.0 h.course d.stands d.satisfied d.changed in
           record {
-            enforced = record { lawful = e.lawful; is_trace = e.is_trace; satisfied = laws.built policy first.rules (trace ++ trace_of (h.out ++ out_steps made.steps)) built e.satisfied };
-            decided = laws.follows_to_end policy first trace (records_of h.read) h.out now made built h.course d.decided;
+            enforced = record { lawful = e.lawful; is_trace = e.is_trace; satisfied = laws.planned entries policy (plans_of first) built.0 (trace ++ trace_of (out_steps (h.out ++ acted_steps made.steps))) built.1 e.satisfied };
+            decided = laws.follows_to_end entries policy built.0 first trace (records_of h.read) h.out now made built.1 h.course d.decided;
           }
 
       pub accepts : Accepts entries Input first.clock taken h.read rest
       accepts = record { spelled = h.spelled; rising = h.course.in_time }
 
-      pub up_to_date : IsPending rest → UpToDate setting taken (text_of (names_of entries) h.out)
+      pub up_to_date : IsPending rest → UpToDate setting taken (text_of (names_of entries) (out_steps h.out))
       up_to_date pending = record { rest = rest; answers = record { read = h.read; accepts = accepts; out = h.out; text = refl; owed = owed_so_far }; pending = pending }
 
       -- a piece more was taken
@@ -164,33 +156,45 @@ module _ (entries : List NameEntry) (policy : List Formula) (first : Enforcing) 
           record {
             read = h.read ++ item ∷ [];
             spelled = Spells-push entries Input taken h.read rest item more h.spelled begins;
-            out = h.out ++ out_steps made.steps;
-            course = subst (λ (rs : List Record). Course first trace rs (h.out ++ out_steps made.steps) after) (sym (map-append record_of h.read (item ∷ [])))
+            out = h.out ++ acted_steps made.steps;
+            course = subst (λ (rs : List Record). Course first trace rs (h.out ++ acted_steps made.steps) after) (sym (map-append record_of h.read (item ∷ [])))
                 (laws.goes_on first trace (records_of h.read) h.out now (record_of item) made after h.course takes.answered takes.stands takes.changed takes.decided);
           }
 
-    lines_more : (out : List OutStep) (made : StepOut) → text_of (names_of entries) (out ++ out_steps made.steps) ≡ text_of (names_of entries) out ++ lines_of entries made
-    lines_more out made = flat_map-append (line_of (names_of entries)) out (out_steps made.steps)
+    -- the lines of some steps and of those behind them
+    lines_behind : (out more : List ActedStep) → text_of (names_of entries) (out_steps (out ++ more)) ≡ text_of (names_of entries) (out_steps out) ++ text_of (names_of entries) (out_steps more)
+    lines_behind out more = ap (text_of (names_of entries)) (map-append out_step out more) ∙ flat_map-append (line_of (names_of entries)) (out_steps out) (out_steps more)
+
+    lines_more : (out : List ActedStep) (made : StepOut) → text_of (names_of entries) (out_steps (out ++ acted_steps made.steps)) ≡ text_of (names_of entries) (out_steps out) ++ lines_of entries made
+    lines_more out made = lines_behind out (acted_steps made.steps)
 
     -- the steps in front of others that can be continued well can be so themselves
-    good_front : (out whole behind : List OutStep) (clock : ℕ) → out ≡ whole ++ behind → Good policy (trace ++ trace_of out) clock → GoodPrefix policy (trace ++ trace_of whole)
+    good_front : (out whole behind : List ActedStep) (clock : ℕ) → out ≡ whole ++ behind → Good policy (trace ++ steps_of out) clock → GoodPrefix policy (trace ++ steps_of whole)
     good_front out whole behind clock split good =
-        let begins : trace ++ trace_of out ≡ (trace ++ trace_of whole) ++ trace_of behind =
-        ap (λ steps. trace ++ steps) (ap trace_of split ∙ map-append (λ (o : OutStep). o.step) whole behind) ∙ sym (append_assoc trace (trace_of whole) (trace_of behind)) in
-        laws.front policy (trace ++ trace_of whole) (trace_of behind) clock (subst (λ (steps : List Step). Good policy steps clock) begins good)
+        let begins : trace ++ steps_of out ≡ (trace ++ steps_of whole) ++ steps_of behind =
+        ap (λ steps. trace ++ steps) (ap steps_of split ∙ map-append (λ (o : ActedStep). o.step) whole behind) ∙ sym (append_assoc trace (steps_of whole) (steps_of behind)) in
+        laws.front policy (trace ++ steps_of whole) (steps_of behind) clock (subst (λ (steps : List Step). Good policy steps clock) begins good)
+
+    -- the trace of steps is that of the same steps with their changes
+    same_steps : (out : List ActedStep) (P : List Step → Type 0) → P (trace_of (out_steps out)) → P (steps_of out)
+    same_steps out P = subst P (is out)
+      where
+        is : (out : List ActedStep) → trace_of (out_steps out) ≡ steps_of out
+        is [] = refl
+        is (o ∷ out) = ap (λ (steps : List Step). o.step ∷ steps) (is out)
 
     -- what is owed can be continued well
-    good_owed : (read : List LogItem) (count : ℕ) (rest : List ℕ) (before after : Stream) (out : List OutStep) → IsOwedWhere setting read count rest before after out → (clock : ℕ) × Good policy (trace ++ trace_of out) clock
-    good_owed read count rest before after out (inl within) = (clock_after first.clock (records_of read), within.0.keeps_up.good)
-    good_owed read count rest before after out (inr (inl so_far, ended)) = (clock_after first.clock (records_of read), so_far.keeps_up.good)
+    good_owed : (read : List LogItem) (count : ℕ) (rest : List ℕ) (before after : Stream) (out : List ActedStep) → IsOwedWhere setting read count rest before after out → (clock : ℕ) × Good policy (trace ++ steps_of out) clock
+    good_owed read count rest before after out (inl within) = (clock_after first.clock (records_of read), same_steps out (λ steps. Good policy (trace ++ steps) (clock_after first.clock (records_of read))) within.0.keeps_up.good)
+    good_owed read count rest before after out (inr (inl so_far, ended)) = (clock_after first.clock (records_of read), same_steps out (λ steps. Good policy (trace ++ steps) (clock_after first.clock (records_of read))) so_far.keeps_up.good)
     good_owed read count rest before after out (inr (inr in_all, ended)) =
-        (first.clock, laws.satisfying policy (trace ++ trace_of out) first.clock in_all.enforced.is_trace in_all.enforced.satisfied)
+        (first.clock, same_steps out (λ steps. Good policy (trace ++ steps) first.clock) (laws.satisfying policy (trace ++ trace_of (out_steps out)) first.clock in_all.enforced.is_trace in_all.enforced.satisfied))
 
     -- what is owed was given all, as far as it is known
-    short_whole : (before : Stream) (taken rest : List ℕ) (now : Enforcing) (h : HasRead taken rest now) (c : Stream) → Exchanged (UpToDate setting) taken (text_of (names_of entries) h.out) before.told c.told
+    short_whole : (before : Stream) (taken rest : List ℕ) (now : Enforcing) (h : HasRead taken rest now) (c : Stream) → Exchanged (UpToDate setting) taken (text_of (names_of entries) (out_steps h.out)) before.told c.told
         → IsOwedWhere setting h.read (length taken) rest before c h.out → RunsShort setting before c
     short_whole before taken rest now h c exchanged owed =
-        let given = text_of (names_of entries) h.out in
+        let given = text_of (names_of entries) (out_steps h.out) in
         let good = good_owed h.read (length taken) rest before c h.out owed in
         record {
           taken = taken;
@@ -211,31 +215,31 @@ module _ (entries : List NameEntry) (policy : List Formula) (first : Enforcing) 
         }
 
     -- of the lines of more steps not all were given
-    short_lines : (before : Stream) (taken rest : List ℕ) (read : List LogItem) (b c : Stream) (out : List OutStep) (made : StepOut) → Accepts entries Input first.clock taken read rest
-        → Exchanged (UpToDate setting) taken (text_of (names_of entries) out) before.told b.told → GaveLines (names_of entries) (out_steps made.steps) b.told c.told
-        → IsOwedWhere setting read (length taken) rest before c (out ++ out_steps made.steps) → (short : RunsShort setting before c) × (short.behind ≢ [])
+    short_lines : (before : Stream) (taken rest : List ℕ) (read : List LogItem) (b c : Stream) (out : List ActedStep) (made : StepOut) → Accepts entries Input first.clock taken read rest
+        → Exchanged (UpToDate setting) taken (text_of (names_of entries) (out_steps out)) before.told b.told → GaveLines (names_of entries) (acted_steps made.steps) b.told c.told
+        → IsOwedWhere setting read (length taken) rest before c (out ++ acted_steps made.steps) → (short : RunsShort setting before c) × (short.behind ≢ [])
     short_lines before taken rest read b c out made accepted exchanged lines owed =
-        let given = text_of (names_of entries) out in
-        let good = good_owed read (length taken) rest before c (out ++ out_steps made.steps) owed in
-        let split : out ++ out_steps made.steps ≡ (out ++ lines.whole) ++ lines.next ∷ lines.behind =
-        ap (λ (l : List OutStep). out ++ l) lines.split ∙ sym (append_assoc out lines.whole (lines.next ∷ lines.behind)) in (
+        let given = text_of (names_of entries) (out_steps out) in
+        let good = good_owed read (length taken) rest before c (out ++ acted_steps made.steps) owed in
+        let split : out ++ acted_steps made.steps ≡ (out ++ lines.whole) ++ lines.next ∷ lines.behind =
+        ap (λ (l : List ActedStep). out ++ l) lines.split ∙ sym (append_assoc out lines.whole (lines.next ∷ lines.behind)) in (
           record {
             taken = taken;
-            given = given ++ (text_of (names_of entries) lines.whole ++ lines.front);
-            exchanged = exchanged_gave (UpToDate setting) taken given before.told b.told c.told exchanged (text_of (names_of entries) lines.whole ++ lines.front) lines.gave;
+            given = given ++ (text_of (names_of entries) (out_steps lines.whole) ++ lines.front);
+            exchanged = exchanged_gave (UpToDate setting) taken given before.told b.told c.told exchanged (text_of (names_of entries) (out_steps lines.whole) ++ lines.front) lines.gave;
             read = read;
             rest = rest;
             accepts = accepted;
-            out = out ++ out_steps made.steps;
+            out = out ++ acted_steps made.steps;
             owed = owed;
             whole = out ++ lines.whole;
             behind = lines.next ∷ lines.behind;
             split = split;
             cut = lines.front;
             line = lines.line;
-            lines = sym (append_assoc given (text_of (names_of entries) lines.whole) lines.front)
-                ∙ ap (λ (l : List ℕ). l ++ lines.front) (sym (flat_map-append (line_of (names_of entries)) out lines.whole));
-            good = good_front (out ++ out_steps made.steps) (out ++ lines.whole) (lines.next ∷ lines.behind) good.0 split good.1;
+            lines = sym (append_assoc given (text_of (names_of entries) (out_steps lines.whole)) lines.front)
+                ∙ ap (λ (l : List ℕ). l ++ lines.front) (sym (lines_behind out lines.whole));
+            good = good_front (out ++ acted_steps made.steps) (out ++ lines.whole) (lines.next ∷ lines.behind) good.0 split good.1;
           },
           λ none. absurd (omega (arith, ap length none)),
         )
@@ -245,7 +249,7 @@ module _ (entries : List NameEntry) (policy : List Formula) (first : Enforcing) 
       pub progress_one : (more : List ℕ) (item : LogItem) (after : Enforcing) → BeginsWith entries Input rest item more → TakesItem entries (record_of item) (moment now b) (moment after c)
           → c.read_faults ≡ b.read_faults → c.write_faults ≡ b.write_faults → Progress before taken more (accepted + 1) after c
       progress_one more item after begins t reads writes =
-          let given = text_of (names_of entries) h.so_far.out in
+          let given = text_of (names_of entries) (out_steps h.so_far.out) in
           record {
             so_far = one_more_read taken rest now h.so_far more item t.made after begins t.takes;
             count = omega (arith, h.count, length_push h.so_far.read item);
@@ -262,7 +266,7 @@ module _ (entries : List NameEntry) (policy : List Formula) (first : Enforcing) 
           → Progress before (taken ++ bytes) (behind_blanks rest ++ bytes) accepted now c
       progress_more pending bytes takes some reads writes =
           let so_far = h.so_far in
-          let given = text_of (names_of entries) so_far.out in
+          let given = text_of (names_of entries) (out_steps so_far.out) in
           record {
             so_far = read_more taken rest now so_far bytes;
             count = h.count;
@@ -287,7 +291,7 @@ module _ (entries : List NameEntry) (policy : List Formula) (first : Enforcing) 
           let lines = cut.cut.given in
           let some : 0 < length taken = omega (arith, room, begins_shorter entries Input rest cut.item cut.more cut.begins) in (
             taken_short cut t.1,
-            begun_gave (UpToDate setting) taken (text_of (names_of entries) h.so_far.out) before.told b.told c.told h.exchanged (text_of (names_of entries) lines.whole ++ lines.front) lines.gave (h.begun some),
+            begun_gave (UpToDate setting) taken (text_of (names_of entries) (out_steps h.so_far.out)) before.told b.told c.told h.exchanged (text_of (names_of entries) (out_steps lines.whole) ++ lines.front) lines.gave (h.begun some),
             writes ∙ ap one_more h.writes,
           )
 
@@ -302,13 +306,13 @@ module _ (entries : List NameEntry) (policy : List Formula) (first : Enforcing) 
         by : (c.told ≡ b.told) ⊎ (LosesBytes log b.told c.told ⊎ CutsTaken entries log.reader.rest (moment log.enforcer b) c.told) → RunsShort setting before c
         by (inl same) =
             short_whole before taken log.reader.rest log.enforcer h.so_far c
-            (subst (λ (o : Option Exchange). Exchanged (UpToDate setting) taken (text_of (names_of entries) h.so_far.out) before.told o) (sym same) h.exchanged)
+            (subst (λ (o : Option Exchange). Exchanged (UpToDate setting) taken (text_of (names_of entries) (out_steps h.so_far.out)) before.told o) (sym same) h.exchanged)
             (inl (owed_so_far taken log.reader.rest log.enforcer h.so_far, reads))
         by (inr (inl lost)) =
             let takes = subst (λ (n : ℕ). TakesBytes (most_log_bytes - n) lost.bytes b.told c.told) count lost.takes in
             let rest = behind_blanks log.reader.rest ++ lost.bytes in
             let read = read_more taken log.reader.rest log.enforcer h.so_far lost.bytes in
-            let given = text_of (names_of entries) h.so_far.out in
+            let given = text_of (names_of entries) (out_steps h.so_far.out) in
             let exchanged = exchanged_took (UpToDate setting) taken given before.told b.told c.told h.exchanged (up_to_date taken log.reader.rest log.enforcer h.so_far lost.pending) h.steady lost.bytes takes.took takes.piece (omega (arith, takes.within, h.exchanged.limit, length-append taken lost.bytes)) in
             short_whole before (taken ++ lost.bytes) rest log.enforcer read c exchanged (inl (owed_so_far (taken ++ lost.bytes) rest log.enforcer read, reads))
         by (inr (inr cut)) = (taken_short before taken log.reader.rest log.accepted log.enforcer b c h cut t.1).0
@@ -321,11 +325,11 @@ module _ (entries : List NameEntry) (policy : List Formula) (first : Enforcing) 
           record {
             ran = record {
               taken = taken;
-              given = text_of (names_of entries) (h.out ++ out_steps g.made.steps);
+              given = text_of (names_of entries) (out_steps (h.out ++ acted_steps g.made.steps));
               exchanged = subst (λ (l : List ℕ). Exchanged (UpToDate setting) taken l before.told c.told) (sym (lines_more h.out g.made))
-                  (exchanged_gave (UpToDate setting) taken (text_of (names_of entries) h.out) before.told b.told c.told e.exchanged (lines_of entries g.made) g.given);
+                  (exchanged_gave (UpToDate setting) taken (text_of (names_of entries) (out_steps h.out)) before.told b.told c.told e.exchanged (lines_of entries g.made) g.given);
               rest = rest;
-              answers = record { read = h.read; accepts = accepts taken rest now h; out = h.out ++ out_steps g.made.steps; text = refl; owed = owed_in_all taken rest now h g.made after g.drains };
+              answers = record { read = h.read; accepts = accepts taken rest now h; out = h.out ++ acted_steps g.made.steps; text = refl; owed = owed_in_all taken rest now h g.made after g.drains };
               ends = ends_gave entries (clock_after first.clock (records_of h.read)) (length taken) rest before b c (lines_of entries g.made) g.given reads verdict e.ends;
               writes = writes ∙ e.writes;
             };
@@ -336,21 +340,21 @@ module _ (entries : List NameEntry) (policy : List Formula) (first : Enforcing) 
       drain_short : CutsDrainLines entries (moment now b) c.told → (short : RunsShort setting before c) × (short.behind ≢ [])
       drain_short t =
           let h = e.so_far in
-          let given = text_of (names_of entries) t.given.whole ++ t.given.front in
+          let given = text_of (names_of entries) (out_steps t.given.whole) ++ t.given.front in
           let ends = ends_gave entries (clock_after first.clock (records_of h.read)) (length taken) rest before b c given t.given.gave reads verdict e.ends in
           short_lines before taken rest h.read b c h.out t.made (accepts taken rest now h) e.exchanged t.given (inr (inr (owed_in_all taken rest now h t.made t.after t.drains), (verdict, ends)))
 
       pub cut_drain : (T : Type 0) (cut : Cut) → CutsDrain entries (moment now b) c.told cut → c.write_faults ≡ write_faults_behind {T = T} (Err cut) b.write_faults → CutsRun setting before c cut
       cut_drain T cuts.WriteFault t writes = (
         drain_short t,
-        begun_gave (UpToDate setting) taken (text_of (names_of entries) e.so_far.out) before.told b.told c.told e.exchanged (text_of (names_of entries) t.given.whole ++ t.given.front) t.given.gave e.begun,
+        begun_gave (UpToDate setting) taken (text_of (names_of entries) (out_steps e.so_far.out)) before.told b.told c.told e.exchanged (text_of (names_of entries) (out_steps t.given.whole) ++ t.given.front) t.given.gave e.begun,
         writes ∙ ap one_more e.writes,
       )
       cut_drain T cuts.NoMemory (inl same) writes =
           let h = e.so_far in
           let none : Gave [] b.told c.told = subst (Gave [] b.told) (sym same) (gave_none b.told) in
           let ends = ends_gave entries (clock_after first.clock (records_of h.read)) (length taken) rest before b c [] none reads verdict e.ends in (
-            short_whole before taken rest now h c (subst (λ (o : Option Exchange). Exchanged (UpToDate setting) taken (text_of (names_of entries) h.out) before.told o) (sym same) e.exchanged)
+            short_whole before taken rest now h c (subst (λ (o : Option Exchange). Exchanged (UpToDate setting) taken (text_of (names_of entries) (out_steps h.out)) before.told o) (sym same) e.exchanged)
                 (inr (inl (owed_so_far taken rest now h), (verdict, ends))),
             writes ∙ e.writes,
           )

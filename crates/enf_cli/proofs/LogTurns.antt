@@ -1,11 +1,9 @@
 -- One turn more of the run of a log, and how it ends.
-use Rattle.std.proofs.Common.{◌≡◌, ℕ, ◌+◌, ◌*◌, ◌-◌, ◌<◌, ◌≤◌, List, [], ◌++◌, length, length-append, None, inl, inr, refl, sym, ap, subst, ◌∙◌, Option, Err, IsTrue, arith}
-use Rattle.std.specs.List.{All}
+use Rattle.std.proofs.Common.{◌≡◌, ℕ, ◌+◌, ◌*◌, ◌-◌, ◌^◌, ◌<◌, ◌≤◌, List, [], ◌++◌, length, length-append, None, inl, inr, refl, sym, ap, subst, ◌∙◌, Option, Err, IsTrue, arith}
 use Rattle.enf_io.specs.Counts.{one_more}
 use Rattle.enf_io.specs.Exchange.{Exchange}
 use Rattle.enf_io.specs.Streams.{Stream}
-use Rattle.enforcer_core.specs.Enforcers.{Enforcing}
-use Rattle.enforcer_core.specs.Rules.{AreBuilt}
+use Rattle.enforcer_core.specs.Enforcers.{Enforcing, out_steps}
 use Rattle.enforcer_core.specs.Stands.{Stands}
 use Rattle.enf_value.specs.declared.steps.Step.{Step}
 use Rattle.enf_formula.specs.Formulas.{Formula}
@@ -22,12 +20,11 @@ use Rattle.signature.specs.declared.entries.NameEntry.{NameEntry}
 use Rattle.trace_meaning.specs.Records.{clock_after}
 use Rattle.enf_cli.specs.Accepted.{UpToDate, records_of}
 use Rattle.enf_cli.specs.Endings.{write_faults_behind}
-use Rattle.enforce_types.specs.Marks.{is_causable}
 use Rattle.enf_cli.specs.Exchanges.{Exchanged, IsBegun}
 use Rattle.enf_cli.specs.Limits.{most_log_bytes}
 use Rattle.enf_cli.specs.Logs.{CutsRun, EndsAs, IsRefusedAs, MetEnd}
-use Rattle.enf_cli.specs.Owed.{Setting, setting_of}
-use Rattle.enf_cli.specs.Progress.{AnswersTurn, CutsTurn, EndsByRefusal, EndsTurn, EnforcesOne, IsLeft, IsNew, MeetsEnd, RefusesNext, TakesBytes, TakesMore, reads_on}
+use Rattle.enf_cli.specs.Owed.{HasPlans, Setting, setting_of}
+use Rattle.enf_cli.specs.Progress.{AnswersTurn, CutsTurn, EndsByRefusal, EndsTurn, EnforcesOne, IsLeft, IsNew, Laws, MeetsEnd, RefusesNext, TakesBytes, TakesMore, reads_on}
 use Rattle.enf_cli.specs.declared.endings.Cut.{Cut}
 use Rattle.enf_cli.specs.declared.endings.Cut.TheVariants as cuts
 use Rattle.enf_cli.specs.declared.log.Enforcement.{Enforcement}
@@ -36,8 +33,8 @@ use Rattle.enf_cli.specs.declared.log.Verdict.TheVariants as verdicts
 use Rattle.enf_cli.specs.declared.refusals.RecordRefusal.{RecordRefusal}
 use Rattle.enf_cli.specs.declared.refusals.RecordRefusal.TheVariants as records
 use Rattle.enf_cli.proofs.ExchangeLemmas.{begun_marked, begun_took, exchanged_ended, exchanged_marked}
-use Rattle.enf_cli.proofs.LogLemmas.{begins_shorter, behind_le}
-use Rattle.enf_cli.proofs.LogProgress.{Ended, Laws, Progress, cut_memory, cut_write, progress_more, progress_none, progress_one, setting, up_to_date}
+use Rattle.enf_cli.proofs.LogLemmas.{begins_shorter, behind_le, item_time}
+use Rattle.enf_cli.proofs.LogProgress.{Ended, MayRun, Progress, cut_memory, cut_write, progress_more, progress_none, progress_one, setting, up_to_date}
 
 -- where a record is whole there is something
 record_some : (rest : List ℕ) (n : ℕ) → HasRecord rest n → 0 < length rest
@@ -61,14 +58,14 @@ refused_some entries rest clock (records.Log why) r = read_some entries rest why
 refused_some entries rest clock (records.Falling given at) r = record_some rest r.1.begins.0 r.1.begins.1
 refused_some entries rest clock records.InputLimit r = absurd r
 
-module _ (entries : List NameEntry) (policy : List Formula) (first : Enforcing) (trace : List Step) (laws : Laws) (may : All (λ rule. IsTrue (is_causable entries rule.cause)) first.rules) (built : AreBuilt policy first.rules) where
+module _ (entries : List NameEntry) (policy : List Formula) (first : Enforcing) (trace : List Step) (laws : Laws) (may : MayRun entries first) (built : HasPlans entries policy first) where
   module _ (before : Stream) (old : Enforcement) (taken : List ℕ) (b c : Stream) (h : Progress entries policy first trace before taken old.reader.rest old.accepted old.enforcer b) (count : old.taken ≡ length taken)
       (room : old.accepted + length old.reader.rest ≤ old.taken) (writes : c.write_faults ≡ b.write_faults) where
     abbrev here : Setting
     here = setting entries policy first trace
 
     abbrev given : List ℕ
-    given = text_of (names_of entries) h.so_far.out
+    given = text_of (names_of entries) (out_steps h.so_far.out)
 
     -- what the exchange was before the last turn it still is, where that left the gate
     left_as_it_was : c.told ≡ b.told → Exchanged (UpToDate here) taken given before.told c.told
@@ -127,11 +124,20 @@ module _ (entries : List NameEntry) (policy : List Formula) (first : Enforcing) 
 
 -- for each trace that the enforcer stood for, and each policy of which its rules are built, so much was done
 abbrev pub Done : List NameEntry → Enforcing → Stream → List ℕ → Enforcement → Stream → Type 0
-Done entries first before taken log after = (policy : List Formula) (trace : List Step) → AreBuilt policy first.rules → Stands first trace
+Done entries first before taken log after = (policy : List Formula) (trace : List Step) → HasPlans entries policy first → Stands first trace
     → Progress entries policy first trace before taken log.reader.rest log.accepted log.enforcer after
 
+-- the times of what was taken are those of records, and no more steps went out than records were taken and units of time
+-- went by
+pub record IsWithinLimits (log : Enforcement) : Type 0 where
+  pub clock : log.enforcer.clock ≤ 1000000000000000
+  pub position : log.enforcer.position < 2 ^ 63 + log.accepted + log.enforcer.clock
+
+pub limits_none : (entries : List NameEntry) (log : Enforcement) → IsNew entries log → IsWithinLimits log
+limits_none entries log new = record { clock = new.clock; position = omega (arith, new.position) }
+
 -- of a new log nothing was taken
-pub done_none : (entries : List NameEntry) (log : Enforcement) (laws : Laws) (may : All (λ rule. IsTrue (is_causable entries rule.cause)) log.enforcer.rules) (before : Stream) → IsNew entries log
+pub done_none : (entries : List NameEntry) (log : Enforcement) (laws : Laws) (may : MayRun entries log.enforcer) (before : Stream) → IsNew entries log
     → Done entries log.enforcer before [] log before
 done_none entries log laws may before new policy trace built stands =
     let none = progress_none entries policy log.enforcer trace laws may built stands before in
@@ -139,8 +145,8 @@ done_none entries log laws may before new policy trace built stands =
     subst (λ (n : ℕ). Progress entries policy log.enforcer trace before [] log.reader.rest n log.enforcer before) (sym new.accepted) at_rest
 
 -- a turn that does not end the log
-module _ (entries : List NameEntry) (first : Enforcing) (laws : Laws) (may : All (λ rule. IsTrue (is_causable entries rule.cause)) first.rules) (before : Stream) (old new : Enforcement) (taken : List ℕ) (b c : Stream)
-    (h : Done entries first before taken old b) (count : old.taken ≡ length taken) (most : old.taken ≤ most_log_bytes) (room : old.accepted + length old.reader.rest ≤ old.taken) (writes : c.write_faults ≡ b.write_faults) where
+module _ (entries : List NameEntry) (first : Enforcing) (laws : Laws) (may : MayRun entries first) (before : Stream) (old new : Enforcement) (taken : List ℕ) (b c : Stream)
+    (h : Done entries first before taken old b) (limits : IsWithinLimits old) (count : old.taken ≡ length taken) (most : old.taken ≤ most_log_bytes) (room : old.accepted + length old.reader.rest ≤ old.taken) (writes : c.write_faults ≡ b.write_faults) where
   -- what is known behind it, and that less is left to do
   pub record GoesOn : Type 0 where
     pub bytes : List ℕ
@@ -149,6 +155,7 @@ module _ (entries : List NameEntry) (first : Enforcing) (laws : Laws) (may : All
     pub room_is : new.accepted + length new.reader.rest ≤ new.taken
     pub reader_is : new.reader ≡ reads_on entries new.reader.rest
     pub progress : Done entries first before bytes new c
+    pub still : IsWithinLimits new
     pub less : 2 * (most_log_bytes - new.taken) + length new.reader.rest < 2 * (most_log_bytes - old.taken) + length old.reader.rest
 
   record_more : EnforcesOne entries old new b c → Done entries first before taken new c
@@ -156,6 +163,16 @@ module _ (entries : List NameEntry) (first : Enforcing) (laws : Laws) (may : All
       let t = one.takes in
       let more = progress_one entries policy first trace laws may built before taken old.reader.rest old.accepted old.enforcer b c (h policy trace built stands) new.reader.rest t.item new.enforcer t.begins t.taken one.reads writes in
       subst (λ (n : ℕ). Progress entries policy first trace before taken new.reader.rest n new.enforcer c) (sym one.accepted) more
+
+  limits_more : EnforcesOne entries old new b c → IsWithinLimits new
+  limits_more one =
+      let t = one.takes in
+      let takes = t.taken.takes in
+      let moved = takes.answered in
+      record {
+        clock = omega (arith, moved.1.clock_is, item_time entries _ t.item t.begins.2);
+        position = omega (arith, moved.0.not_over, moved.1.clock_is, moved.1.position, takes.few, one.accepted, limits.position);
+      }
 
   piece_more : (piece : TakesMore entries old new b c) → Done entries first before (taken ++ piece.bytes) new c
   piece_more piece policy trace built stands =
@@ -177,6 +194,7 @@ module _ (entries : List NameEntry) (first : Enforcing) (laws : Laws) (may : All
         room_is = omega (arith, one.taken, one.accepted, room, shorter);
         reader_is = t.reader_is;
         progress = record_more one;
+        still = limits_more one;
         less = omega (arith, one.taken, shorter);
       }
   goes_on (inr piece) =
@@ -188,11 +206,15 @@ module _ (entries : List NameEntry) (first : Enforcing) (laws : Laws) (may : All
         room_is = omega (arith, piece.taken, piece.accepted, room, ap length rest_is, length-append (behind_blanks old.reader.rest) piece.bytes, behind_le old.reader.rest);
         reader_is = piece.reader ∙ (λ i. reads_on entries (sym rest_is i));
         progress = piece_more piece;
+        still = record {
+          clock = omega (arith, limits.clock, ap (λ (e : Enforcing). e.clock) piece.enforcer);
+          position = omega (arith, limits.position, piece.accepted, ap (λ (e : Enforcing). e.position) piece.enforcer, ap (λ (e : Enforcing). e.clock) piece.enforcer);
+        };
         less = omega (arith, piece.taken, piece.takes.within, most, piece.some, ap length rest_is, length-append (behind_blanks old.reader.rest) piece.bytes, behind_le old.reader.rest);
       }
 
 -- a turn was cut
-pub cut_run : (T : Type 0) (entries : List NameEntry) (policy : List Formula) (first : Enforcing) (trace : List Step) (laws : Laws) (may : All (λ rule. IsTrue (is_causable entries rule.cause)) first.rules) (built : AreBuilt policy first.rules)
+pub cut_run : (T : Type 0) (entries : List NameEntry) (policy : List Formula) (first : Enforcing) (trace : List Step) (laws : Laws) (may : MayRun entries first) (built : HasPlans entries policy first)
     (before : Stream) (taken : List ℕ) (log : Enforcement) (b c : Stream) → Progress entries policy first trace before taken log.reader.rest log.accepted log.enforcer b → log.taken ≡ length taken → log.accepted + length log.reader.rest ≤ log.taken
     → (cut : Cut) → CutsTurn entries log b c cut → c.write_faults ≡ write_faults_behind {T = T} (Err cut) b.write_faults → CutsRun (setting_of entries policy first trace) before c cut
 cut_run T entries policy first trace laws may built before taken log b c h count room cuts.WriteFault t writes =

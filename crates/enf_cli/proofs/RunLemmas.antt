@@ -1,18 +1,24 @@
 -- How a run ends, from how its parts end.
-use Rattle.std.proofs.Common.{◌≡◌, ℕ, ◌+◌, List, [], length, inl, inr, refl, sym, ap, subst, Ok, Err, false}
-use Rattle.std.specs.List.{All}
+use Rattle.std.proofs.Common.{◌≡◌, ℕ, ◌+◌, List, [], length, inl, inr, refl, sym, ap, subst, Ok, Err, Bool, true, false, ◌∷◌, ◌||◌, ◌∙◌, ◌-◌, map, take, suc, zero}
 use Rattle.enforcer_core.specs.Enforcers.{Enforcing}
-use Rattle.enforcer_core.specs.declared.enforcer.CauseRule.{CauseRule}
+use Rattle.obligations.specs.Begun.{has_future}
+use Rattle.obligations.specs.Traces.{LooksAtNow}
+use Rattle.plan_terms.specs.Nodes.{is_future, nodes}
+use Rattle.plan_terms.specs.Plans.{Plan}
+use Rattle.std.specs.List.{AllByRecursion, list_any}
 use Rattle.enf_formula.specs.Formulas.{Formula}
 use Rattle.formula_reader.specs.Resolution.{Rule}
+use Rattle.log_stream.specs.declared.items.LogMode.TheVariants.{Input}
 use Rattle.signature.specs.declared.entries.NameEntry.{NameEntry}
-use Rattle.trace_meaning.specs.OutSteps.{OutStep}
+use Rattle.choice_step.specs.Follows.{ActedStep}
 use Rattle.enf_io.specs.Streams.{Stream}
-use Rattle.enf_cli.specs.Actions.{SaysActions, SaysActionsInPart}
+use Rattle.enf_cli.specs.Actions.{SaysActions, SaysActionsInPart, action_lines, joined, lines_of_actions}
+use Rattle.enf_io.specs.Exchange.{Gave}
+use Rattle.std.proofs.lemmas.List.{append-nil}
 use Rattle.enf_cli.specs.Calls.{Call, LeavesFiles}
 use Rattle.enf_cli.specs.Checking.{check_text}
 use Rattle.enf_cli.specs.Endings.{ending_after_file}
-use Rattle.enf_cli.specs.Policies.{CanBeBuilt, formulas}
+use Rattle.enf_cli.specs.Policies.{CanBeBuilt, formulas, look_ahead}
 use Rattle.enf_cli.specs.Files.{EndsFile, HoldsPolicy, HoldsRefusedPolicy, HoldsRefusedSignature, HoldsSignature}
 use Rattle.enf_cli.specs.Logs.{CutsRun, RunsLog, conclusion_of}
 use Rattle.enf_cli.specs.Owed.{Setting, anew, setting_of}
@@ -39,9 +45,26 @@ use Rattle.enf_cli.specs.declared.refusals.Status.TheVariants as statuses
 use Rattle.enf_cli.proofs.ExchangeLemmas.{gave_none}
 
 -- what holds from where a new enforcer stands holds from where nothing had gone out
-pub from_the_start : (entries : List NameEntry) (policy : List Formula) (enforcer : Enforcing) (rules : List CauseRule) → enforcer ≡ record { rules = rules; clock = 0; stopped = false } → (P : Setting → Type 0)
-    → P (setting_of entries policy enforcer []) → P (anew entries policy)
-from_the_start entries policy enforcer rules is P = subst (λ (e : Enforcing). P (setting_of entries policy e [])) is
+pub from_the_start : (entries : List NameEntry) (policy : List Formula) (enforcer : Enforcing) → enforcer.clock ≡ 0 → (P : Setting → Type 0) → P (setting_of entries policy enforcer []) → P (anew entries policy)
+from_the_start entries policy enforcer is P =
+    subst (λ (clock : ℕ). P (record { entries = entries; policy = policy; mode = Input; start = record { trace = []; clock = clock } })) is
+
+-- where no element passes a test, each fails it
+any_none : {X : Type 0} (p : X → Bool) (xs : List X) → list_any p xs ≡ false → AllByRecursion (λ x. p x ≡ false) xs
+any_none p [] none = tt
+any_none {X = X} p (x ∷ xs) none = by (p x) refl none (any_none p xs)
+  where
+    by : (b : Bool) → p x ≡ b → (b || list_any p xs) ≡ false → (list_any p xs ≡ false → AllByRecursion (λ y. p y ≡ false) xs) → AllByRecursion (λ y. p y ≡ false) (x ∷ xs)
+    by true e h rest = cc
+    by false e h rest = (e, rest h)
+
+-- plans that do not look ahead have no node that does
+pub none_ahead : (plans : List Plan) → look_ahead plans ≡ false → AllByRecursion LooksAtNow plans
+none_ahead plans none = each plans (any_none has_future plans none)
+  where
+    each : (plans : List Plan) → AllByRecursion (λ plan. has_future plan ≡ false) plans → AllByRecursion LooksAtNow plans
+    each [] h = tt
+    each (plan ∷ plans) h = (any_none is_future (nodes plan) h.0, each plans h.1)
 
 -- ---- the work of a run
 
@@ -71,7 +94,7 @@ module _ {Gate : Type 0} (call : Call Gate) (signature_file policy_file : List �
 
 module _ {Gate : Type 0} (call : Call Gate) (signature_file policy_file : List ℕ) (form : IsEnforce call.words signature_file policy_file) (entries : List NameEntry) (policy : List Rule)
     (holds_signature : HoldsSignature call.before.files.contents signature_file entries) (holds_policy : HoldsPolicy call.before.files.contents policy_file entries policy)
-    (can_be_built : All (CanBeBuilt entries) (formulas policy)) (same : LeavesFiles call) where
+    (can_be_built : CanBeBuilt entries (formulas policy)) (same : LeavesFiles call) where
   abbrev here : Setting
   here = anew entries (formulas policy)
 
@@ -143,12 +166,32 @@ of_refusal call refusals.NotBuilt r = inr (inr r)
 of_refusal call (refusals.Record number why) r = (number, why, r)
 of_refusal call refusals.ReadFault r = r
 
--- nothing was said of actions, since they have no line
-no_actions : (steps : List OutStep) (report : Stream) → SaysActions steps report report
-no_actions steps report = record { gave = gave_none report.told; writes = refl; reads = refl }
+-- actions have no line, nor have those of the first steps
+no_lines : (steps : List ActedStep) → action_lines steps ≡ []
+no_lines [] = refl
+no_lines (step ∷ steps) = no_lines steps
 
-part_of_none : (steps : List OutStep) (report : Stream) → SaysActionsInPart steps report report
-part_of_none steps report = record { front = []; missing = []; is_front = record { split = refl; of_last = []; begins = refl }; gains = no_actions steps report }
+no_pieces : (count : ℕ) (steps : List ActedStep) → joined (take count (map lines_of_actions steps)) ≡ []
+no_pieces zero steps = refl
+no_pieces (suc count) [] = refl
+no_pieces (suc count) (step ∷ steps) = no_pieces count steps
+
+all_pieces : (steps : List ActedStep) → joined (map lines_of_actions steps) ≡ []
+all_pieces [] = refl
+all_pieces (step ∷ steps) = all_pieces steps
+
+-- so nothing was said of them
+no_actions : (steps : List ActedStep) (report : Stream) → SaysActions steps report report
+no_actions steps report = record { gave = subst (λ (text : List ℕ). Gave text report.told report.told) (sym (no_lines steps)) (gave_none report.told); writes = refl; reads = refl }
+
+part_of_none : (steps : List ActedStep) (report : Stream) → SaysActionsInPart steps report report
+part_of_none steps report =
+    record {
+      front = [];
+      missing = [];
+      is_front = record { split = all_pieces steps; of_last = []; begins = sym (append-nil (joined (take (length (map lines_of_actions steps) - 1) (map lines_of_actions steps))) ∙ no_pieces (length (map lines_of_actions steps) - 1) steps) };
+      gains = record { gave = gave_none report.told; writes = refl; reads = refl };
+    }
 
 -- a run that is done has left the report as it was
 pub done_whole : {Gate : Type 0} (call : Call Gate) → call.after.report ≡ call.before.report → IsFinished call → Outcome call statuses.Done

@@ -18,7 +18,8 @@ use Rattle.log_stream.specs.declared.items.LogRefusal.TheVariants as log
 use Rattle.signature.specs.declared.entries.NameEntry.{NameEntry}
 use Rattle.enf_cli.specs.Accepted.{record_of}
 use Rattle.enf_cli.specs.Limits.{most_log_bytes}
-use Rattle.enf_cli.specs.Progress.{CutsItem, CutsNext, EndsTurn, JudgesEnd, LeavesItem, MeetsEnd, Moment, RefusesNext, TakesBytes, TakesMore, TakesPiece, ReadsPiece, WaitsForMore, front, reads_on}
+use Rattle.trace_meaning.specs.Records.{Record}
+use Rattle.enf_cli.specs.Progress.{CutsItem, CutsLines, CutsNext, EndsTurn, JudgesEnd, LeavesItem, MeetsEnd, Moment, RefusesNext, TakesBytes, TakesMore, TakesPiece, ReadsPiece, WaitsForMore, front, reads_on}
 use Rattle.enf_cli.specs.declared.endings.Cut.{Cut}
 use Rattle.enf_cli.specs.declared.endings.Cut.TheVariants as cuts
 use Rattle.enf_cli.specs.declared.log.Enforcement.{Enforcement}
@@ -128,3 +129,9 @@ module _ (entries : List NameEntry) (old : Enforcement) (middle reader : Reader)
       by : ((verdict ≡ verdicts.Accepted) × (behind_blanks reader.rest ≡ [])) ⊎ ((verdict ≡ verdicts.Refused (records.Log log.Truncated)) × IsTruncated reader.rest) → EndsTurn entries old a c verdict
       by (inl (same, blank)) = subst (EndsTurn entries old a c) (sym same) (sym again ∙ ap behind_blanks (sym rest_is) ∙ blank, meets)
       by (inr (same, truncated)) = subst (EndsTurn entries old a c) (sym same) (inr (inl (refl, (waits.pending, subst (λ (l : List ℕ). 0 < length l) (ap behind_blanks rest_is ∙ again) truncated.1), meets)))
+
+-- a record was taken, and its lines were cut, for whatever cause
+pub cuts_lines : (entries : List NameEntry) (next : Record) (from : Moment) (told : Option Exchange)
+    → CutsLines entries next from told → (cut : Cut) → CutsItem entries next from told cut
+cuts_lines entries next from told lines cuts.WriteFault = lines
+cuts_lines entries next from told lines cuts.NoMemory = inr lines

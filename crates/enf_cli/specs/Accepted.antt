@@ -7,7 +7,8 @@ use Rattle.log_stream.specs.declared.items.LogItem.TheVariants as items
 use Rattle.log_stream.specs.declared.items.LogMode.{LogMode}
 use Rattle.signature.specs.Grammar.{names as names_of}
 use Rattle.signature.specs.declared.entries.NameEntry.{NameEntry}
-use Rattle.trace_meaning.specs.OutSteps.{OutStep}
+use Rattle.choice_step.specs.Follows.{ActedStep}
+use Rattle.enforcer_core.specs.Enforcers.{out_steps}
 use Rattle.trace_meaning.specs.Records.{NeverFall, Record, StepRecord, Tick}
 use Rattle.enf_cli.specs.Owed.{IsOwedInAll, IsOwedSoFar, Setting}
 
@@ -26,12 +27,12 @@ pub record Accepts (entries : List NameEntry) (mode : LogMode) (clock : ℕ) (by
   pub rising : NeverFall clock (records_of read)
 
 -- the records of the bytes taken, up to a rest, are accepted, and the bytes given are the text of what is owed to them
-pub record Gives (IsOwed : List Record → List OutStep → Type 0) (s : Setting)
+pub record Gives (IsOwed : List Record → List ActedStep → Type 0) (s : Setting)
     (taken given rest : List ℕ) : Type 0 where
   pub read : List LogItem
   pub accepts : Accepts s.entries s.mode s.start.clock taken read rest
-  pub out : List OutStep
-  pub text : given ≡ text_of (names_of s.entries) out
+  pub out : List ActedStep
+  pub text : given ≡ text_of (names_of s.entries) (out_steps out)
   pub owed : IsOwed (records_of read) out
 
 -- of what is owed so far, and in all

@@ -1,13 +1,17 @@
--- What a run says on the report of the changes that it made, in front of the line of its end.
-use Rattle.std.specs.Prelude.{◌≡◌, ◌≢◌, ℕ, ◌-◌, List, [], ◌++◌, length, take, Option}
+-- What a run says on the report of the actions that it took, in front of the line of its end.
+use Rattle.std.specs.Prelude.{◌≡◌, ◌≢◌, ℕ, ◌-◌, List, [], ◌++◌, length, map, take}
+use Rattle.std.specs.List.{flat_map}
 use Rattle.enf_io.specs.Counts.{one_more}
-use Rattle.enf_io.specs.Exchange.{Exchange, Gave}
+use Rattle.enf_io.specs.Exchange.{Gave}
 use Rattle.enf_io.specs.Streams.{Stream}
-use Rattle.trace_meaning.specs.OutSteps.{OutStep}
+use Rattle.choice_step.specs.Follows.{ActedStep}
 
--- the lines of the changes that made these steps: none is written
-abbrev pub action_lines : List OutStep → List ℕ
-action_lines steps = []
+-- the lines of the actions that made a step: none is written
+abbrev pub lines_of_actions : ActedStep → List ℕ
+lines_of_actions step = []
+
+abbrev pub action_lines : List ActedStep → List ℕ
+action_lines steps = flat_map lines_of_actions steps
 
 -- the report gained this text, and no write to it failed
 pub record Gains (text : List ℕ) (before after : Stream) : Type 0 where
@@ -16,24 +20,32 @@ pub record Gains (text : List ℕ) (before after : Stream) : Type 0 where
   pub reads : after.read_faults ≡ before.read_faults
 
 -- the report gained the lines of these steps
-abbrev pub SaysActions : List OutStep → Stream → Stream → Type 0
+abbrev pub SaysActions : List ActedStep → Stream → Stream → Type 0
 SaysActions steps before after = Gains (action_lines steps) before after
 
--- a front of the lines of these steps, and what is missing of them: those of all steps but the last are whole
-pub record IsFrontOfActions (steps : List OutStep) (front missing : List ℕ) : Type 0 where
-  pub split : action_lines steps ≡ front ++ missing
+-- of pieces one behind the other
+abbrev pub joined : List (List ℕ) → List ℕ
+joined pieces = flat_map (λ piece. piece) pieces
+
+-- a front, in which all but the last one are whole, and what is missing
+pub record IsFrontOf (pieces : List (List ℕ)) (front missing : List ℕ) : Type 0 where
+  pub split : joined pieces ≡ front ++ missing
   pub of_last : List ℕ
-  pub begins : front ≡ action_lines (take (length steps - 1) steps) ++ of_last
+  pub begins : front ≡ joined (take (length pieces - 1) pieces) ++ of_last
+
+-- a front of the lines of these steps, in which those of all steps but the last are whole
+abbrev pub IsFrontOfActions : List ActedStep → (front missing : List ℕ) → Type 0
+IsFrontOfActions steps front missing = IsFrontOf (map lines_of_actions steps) front missing
 
 -- the report gained such a front of the lines of the steps that went out whole, where the run was cut
-pub record SaysActionsInPart (whole : List OutStep) (before after : Stream) : Type 0 where
+pub record SaysActionsInPart (whole : List ActedStep) (before after : Stream) : Type 0 where
   pub front : List ℕ
   pub missing : List ℕ
   pub is_front : IsFrontOfActions whole front missing
   pub gains : Gains front before after
 
 -- or a write to it failed behind such a front, with something missing
-pub record FailsWithinActions (whole : List OutStep) (before after : Stream) : Type 0 where
+pub record FailsWithinActions (whole : List ActedStep) (before after : Stream) : Type 0 where
   pub front : List ℕ
   pub missing : List ℕ
   pub is_front : IsFrontOfActions whole front missing

@@ -1,5 +1,5 @@
 -- Where each status must come, of every gate and files that tell.
-use Rattle.std.specs.Prelude.{◌≡◌, ◌≢◌, ℕ, ◌-◌, ◌<◌, List, length, take, All, Option, None, Some, ◌⊎◌}
+use Rattle.std.specs.Prelude.{◌≡◌, ◌≢◌, ℕ, ◌-◌, ◌<◌, List, length, take, Option, None, Some, ◌⊎◌}
 use Rattle.enf_io.specs.Contents.{Contents, Holds}
 use Rattle.enf_io.specs.Exchange.{Exchange, left}
 use Rattle.formula_reader.specs.Resolution.{Rule}
@@ -13,7 +13,7 @@ use Rattle.enf_cli.specs.Limits.{most_log_bytes}
 use Rattle.enf_cli.specs.Files.{IsRefusedPolicy, IsRefusedSignature}
 use Rattle.enf_cli.specs.Logs.{IsRefusedAs}
 use Rattle.enf_cli.specs.Owed.{Setting, anew}
-use Rattle.enf_cli.specs.Policies.{CanBeBuilt, HasUnbuilt, SpellsPolicy, formulas}
+use Rattle.enf_cli.specs.Policies.{CanBeBuilt, CannotBeBuilt, SpellsPolicy, formulas}
 use Rattle.enf_cli.specs.Signatures.{SpellsSignature}
 use Rattle.enf_cli.specs.Words.{IsCheck, IsEnforce, IsGenerate, MatchNoForm, NamesFiles}
 use Rattle.enf_cli.specs.declared.refusals.PolicyRefusal.{PolicyRefusal}
@@ -45,12 +45,12 @@ pub record AsksPolicy {Gate : Type 0} (IsForm : List (List ℕ) → List ℕ →
   pub told : TellBytes call.before.files.contents asks.policy_file bytes
   pub is_policy : SpellsPolicy entries bytes policy
 
--- the words ask to enforce, under a signature and a policy that files tell and of which each rule can be built, so that
--- the log is enforced in this setting
+-- the words ask to enforce, under a signature and a policy that files tell and that can be built, so that the log is
+-- enforced in this setting
 pub record AsksTold {Gate : Type 0} (call : Call Gate) (s : Setting) : Type 0 where
   pub policy : List Rule
   pub asks : AsksPolicy IsEnforce call s.entries policy
-  pub can_be_built : All (CanBeBuilt s.entries) (formulas policy)
+  pub can_be_built : CanBeBuilt s.entries (formulas policy)
   pub is_setting : s ≡ anew s.entries (formulas policy)
 
 -- the words name a signature that files tell and that is refused
@@ -72,12 +72,12 @@ pub record AsksRefusedPolicy {Gate : Type 0} (call : Call Gate) : Type 0 where
   pub why : PolicyRefusal
   pub refused : IsRefusedPolicy entries why bytes
 
--- the words ask to enforce a policy that files tell and that is accepted, of which a rule cannot be built
+-- the words ask to enforce a policy that files tell and that is accepted, but cannot be built
 pub record AsksUnbuilt {Gate : Type 0} (call : Call Gate) : Type 0 where
   pub entries : List NameEntry
   pub policy : List Rule
   pub asks : AsksPolicy IsEnforce call entries policy
-  pub unbuilt : HasUnbuilt entries policy
+  pub unbuilt : CannotBeBuilt entries (formulas policy)
 
 -- the files that the words name are such that the run is refused
 abbrev pub AsksRefused : {Gate : Type 0} → Call Gate → Type 0

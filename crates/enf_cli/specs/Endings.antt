@@ -7,7 +7,8 @@ use Rattle.enf_io.specs.declared.devices.IoRefusal.TheVariants as io
 use Rattle.enf_io.specs.declared.writing.WriteRefusal.{WriteRefusal}
 use Rattle.enf_io.specs.declared.writing.WriteRefusal.TheVariants as writes
 use Rattle.log_stream.specs.Lines.{line_of, text_of}
-use Rattle.trace_meaning.specs.OutSteps.{OutStep}
+use Rattle.choice_step.specs.Follows.{ActedStep, out_step}
+use Rattle.enforcer_core.specs.Enforcers.{out_steps}
 use Rattle.enf_cli.specs.declared.endings.Cut.{Cut}
 use Rattle.enf_cli.specs.declared.endings.Cut.TheVariants as cuts
 use Rattle.enf_cli.specs.declared.endings.Ending.{Ending}
@@ -46,11 +47,11 @@ pub record IsPart (front text : List ℕ) : Type 0 where
   pub split : text ≡ front ++ rest
 
 -- a device that tells was given the whole lines of the first steps, and of the next one's a part
-pub record GaveLines (names : List (List ℕ)) (steps : List OutStep) (before after : Option Exchange) : Type 0 where
-  pub whole : List OutStep
-  pub next : OutStep
-  pub behind : List OutStep
+pub record GaveLines (names : List (List ℕ)) (steps : List ActedStep) (before after : Option Exchange) : Type 0 where
+  pub whole : List ActedStep
+  pub next : ActedStep
+  pub behind : List ActedStep
   pub split : steps ≡ whole ++ next ∷ behind
   pub front : List ℕ
-  pub line : IsPart front (line_of names next)
-  pub gave : Gave (text_of names whole ++ front) before after
+  pub line : IsPart front (line_of names (out_step next))
+  pub gave : Gave (text_of names (out_steps whole) ++ front) before after

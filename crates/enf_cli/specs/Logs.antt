@@ -11,7 +11,8 @@ use Rattle.log_stream.specs.declared.items.LogRefusal.TheVariants as log
 use Rattle.signature.specs.Grammar.{names as names_of}
 use Rattle.signature.specs.declared.entries.NameEntry.{NameEntry}
 use Rattle.trace_meaning.specs.Good.{GoodPrefix}
-use Rattle.trace_meaning.specs.OutSteps.{OutStep, trace_of}
+use Rattle.choice_step.specs.Follows.{ActedStep, out_step, steps_of}
+use Rattle.enforcer_core.specs.Enforcers.{out_steps}
 use Rattle.trace_meaning.specs.Records.{clock_after, time_of}
 use Rattle.enf_cli.specs.Accepted.{Accepts, GivesInAll, UpToDate, record_of, records_of}
 use Rattle.enf_cli.specs.Owed.{IsOwedInAll, IsOwedSoFar, Setting}
@@ -76,9 +77,9 @@ pub record RanAsJudged (s : Setting) (judged : Judged) (before after : Stream) :
   pub count : judged.accepted ≡ length ran.answers.read
 
 -- of a line that is cut, a part; where no step is left there is no such line
-abbrev pub IsCutLine : List (List ℕ) → List OutStep → List ℕ → Type 0
+abbrev pub IsCutLine : List (List ℕ) → List ActedStep → List ℕ → Type 0
 IsCutLine names [] front = front ≡ []
-IsCutLine names (next ∷ behind) front = IsPart front (line_of names next)
+IsCutLine names (next ∷ behind) front = IsPart front (line_of names (out_step next))
 
 -- the log ended behind these accepted records
 abbrev pub HasEnded : Setting → List LogItem → ℕ → List ℕ → Stream → Stream → Type 0
@@ -86,7 +87,7 @@ HasEnded s read count rest before after = (verdict : Verdict)
     × EndsAs s.entries s.mode (clock_after s.start.clock (records_of read)) count rest before after verdict
 
 -- within the log no read failed, and the steps are owed so far; behind its end they may be owed in all
-abbrev pub IsOwedWhere : Setting → List LogItem → ℕ → List ℕ → Stream → Stream → List OutStep → Type 0
+abbrev pub IsOwedWhere : Setting → List LogItem → ℕ → List ℕ → Stream → Stream → List ActedStep → Type 0
 IsOwedWhere s read count rest before after out =
     (IsOwedSoFar s (records_of read) out × (after.read_faults ≡ before.read_faults))
     ⊎ ((IsOwedSoFar s (records_of read) out ⊎ IsOwedInAll s (records_of read) out)
@@ -101,15 +102,15 @@ pub record RunsShort (s : Setting) (before after : Stream) : Type 0 where
   pub read : List LogItem
   pub rest : List ℕ
   pub accepts : Accepts s.entries s.mode s.start.clock taken read rest
-  pub out : List OutStep
+  pub out : List ActedStep
   pub owed : IsOwedWhere s read (length taken) rest before after out
-  pub whole : List OutStep
-  pub behind : List OutStep
+  pub whole : List ActedStep
+  pub behind : List ActedStep
   pub split : out ≡ whole ++ behind
   pub cut : List ℕ
   pub line : IsCutLine (names_of s.entries) behind cut
-  pub lines : given ≡ text_of (names_of s.entries) whole ++ cut
-  pub good : GoodPrefix s.policy (s.start.trace ++ trace_of whole)
+  pub lines : given ≡ text_of (names_of s.entries) (out_steps whole) ++ cut
+  pub good : GoodPrefix s.policy (s.start.trace ++ steps_of whole)
 
 -- the run of the log was cut: by a write that failed, behind a read at least and with a line still to give, or by want
 -- of memory

@@ -1,5 +1,5 @@
 -- What holds of a run at each status.
-use Rattle.std.specs.Prelude.{◌≡◌, ℕ, ◌+◌, List, [], length, All, ◌⊎◌, Option, Result, Ok, Err}
+use Rattle.std.specs.Prelude.{◌≡◌, ℕ, ◌+◌, List, [], length, ◌⊎◌, Option, Result, Ok, Err}
 use Rattle.std.proofs.Common.{inl, inr}
 use Rattle.enf_io.specs.Counts.{one_more}
 use Rattle.enf_io.specs.Exchange.{Exchange, Gave}
@@ -7,7 +7,7 @@ use Rattle.enforce_types.specs.Accepted.{IsTyped}
 use Rattle.enforce_types.specs.Typed.{Typed}
 use Rattle.formula_reader.specs.Resolution.{Rule}
 use Rattle.signature.specs.declared.entries.NameEntry.{NameEntry}
-use Rattle.trace_meaning.specs.OutSteps.{OutStep}
+use Rattle.choice_step.specs.Follows.{ActedStep}
 use Rattle.log_gen.specs.Generated.{generated_text}
 use Rattle.enf_cli.specs.Actions.{FailsWithinActions, SaysActions, SaysActionsInPart, SaysThen}
 use Rattle.enf_cli.specs.Calls.{Call, LeavesFiles, LeavesGate}
@@ -15,7 +15,7 @@ use Rattle.enf_cli.specs.Checking.{check_text}
 use Rattle.enf_cli.specs.Exchanges.{IsBegun}
 use Rattle.enf_cli.specs.Files.{FailsToRead, HoldsPolicy, HoldsRefusedPolicy, HoldsRefusedSignature, HoldsSignature}
 use Rattle.enf_cli.specs.Generating.{AddsPartOrNothing}
-use Rattle.enf_cli.specs.Policies.{CanBeBuilt, HasUnbuilt, formulas}
+use Rattle.enf_cli.specs.Policies.{CanBeBuilt, CannotBeBuilt, formulas}
 use Rattle.enf_cli.specs.Logs.{CutsRun, RunsLog, RunsShort}
 use Rattle.enf_cli.specs.Owed.{Setting, anew}
 use Rattle.enf_cli.specs.Refusals.{text_of_refusal}
@@ -43,11 +43,11 @@ pub record Asks {Gate : Type 0} (IsForm : List (List ℕ) → List ℕ → List 
   pub holds_signature : HoldsSignature call.before.files.contents signature_file entries
   pub holds_policy : HoldsPolicy call.before.files.contents policy_file entries policy
 
--- the words ask to enforce a policy of which each rule can be built, so that the log is enforced in this setting
+-- the words ask to enforce a policy that can be built, so that the log is enforced in this setting
 pub record AsksToEnforce {Gate : Type 0} (call : Call Gate) (s : Setting) : Type 0 where
   pub policy : List Rule
   pub asks : Asks IsEnforce call s.entries policy
-  pub can_be_built : All (CanBeBuilt s.entries) (formulas policy)
+  pub can_be_built : CanBeBuilt s.entries (formulas policy)
   pub is_setting : s ≡ anew s.entries (formulas policy)
 
 -- the words match no form, and nothing was touched
@@ -76,12 +76,12 @@ pub record RefusesPolicyFile {Gate : Type 0} (call : Call Gate) (why : PolicyRef
   pub gate : LeavesGate call
   pub files : LeavesFiles call
 
--- the policy is accepted and to be enforced, but a rule of it cannot be built, and the gate was not touched
+-- the policy is accepted and to be enforced, but cannot be built, and the gate was not touched
 pub record RefusesUnbuilt {Gate : Type 0} (call : Call Gate) : Type 0 where
   pub entries : List NameEntry
   pub policy : List Rule
   pub asks : Asks IsEnforce call entries policy
-  pub unbuilt : HasUnbuilt entries policy
+  pub unbuilt : CannotBeBuilt entries (formulas policy)
   pub gate : LeavesGate call
   pub files : LeavesFiles call
 
@@ -221,12 +221,12 @@ Performs call (Err (endings.Refused why)) = Meets call why
 Performs call (Err (endings.Cut cut)) = IsCut call cut
 
 -- the steps that went out where a run is done, and where it is refused
-abbrev pub steps_done : {Gate : Type 0} (call : Call Gate) → IsFinished call → List OutStep
+abbrev pub steps_done : {Gate : Type 0} (call : Call Gate) → IsFinished call → List ActedStep
 steps_done call (inl (inl done)) = done.ran.answers.out
 steps_done call (inl (inr generated)) = []
 steps_done call (inr checked) = []
 
-abbrev pub steps_met : {Gate : Type 0} (call : Call Gate) (why : Refusal) → Meets call why → List OutStep
+abbrev pub steps_met : {Gate : Type 0} (call : Call Gate) (why : Refusal) → Meets call why → List ActedStep
 steps_met call (refusals.Record number why) met = met.ran.answers.out
 steps_met call refusals.ReadFault (inl missed) = []
 steps_met call refusals.ReadFault (inr broken) = broken.ran.answers.out
@@ -236,7 +236,7 @@ steps_met call (refusals.Policy why) met = []
 steps_met call refusals.NotBuilt met = []
 
 -- and those whose lines are whole on the gate where it is cut
-abbrev pub whole_cut : {Gate : Type 0} (call : Call Gate) (cut : Cut) → IsCut call cut → List OutStep
+abbrev pub whole_cut : {Gate : Type 0} (call : Call Gate) (cut : Cut) → IsCut call cut → List ActedStep
 whole_cut call cuts.WriteFault (inl (inl failed)) = failed.cut.0.0.whole
 whole_cut call cuts.WriteFault (inl (inr generated)) = []
 whole_cut call cuts.WriteFault (inr checked) = []

@@ -2,14 +2,16 @@
 use Rattle.std.specs.Prelude.{List}
 use Rattle.enf_formula.specs.Formulas.{Formula}
 use Rattle.enf_value.specs.declared.steps.Step.{Step}
+use Rattle.enf_value.specs.declared.terms.VarId.{VarId}
 use Rattle.enforce_types.specs.Marks.{is_causable, is_suppressible}
-use Rattle.enforcer_core.specs.Enforcers.{Enforcing, start_of}
+use Rattle.enforce_types.specs.PolicyPlans.{ArePlanned}
+use Rattle.choice_step.specs.Follows.{ActedStep}
+use Rattle.enforcer_core.specs.Enforcers.{Enforcing, out_steps, plans_of, start_of}
 use Rattle.enforcer_core.specs.Follows.{FollowsPolicy, FollowsToEnd}
 use Rattle.log_stream.specs.declared.items.LogMode.{LogMode}
 use Rattle.log_stream.specs.declared.items.LogMode.TheVariants.{Input}
 use Rattle.signature.specs.declared.entries.NameEntry.{NameEntry}
 use Rattle.trace_meaning.specs.Enforced.{Enforced, KeepsUp}
-use Rattle.trace_meaning.specs.OutSteps.{OutStep}
 use Rattle.trace_meaning.specs.Records.{Record}
 use Rattle.trace_meaning.specs.Start.{Start, from_nothing}
 
@@ -24,17 +26,22 @@ pub record Setting : Type 0 where
 abbrev pub anew : List NameEntry → List Formula → Setting
 anew entries policy = record { entries = entries; policy = policy; mode = Input; start = from_nothing }
 
+-- the plans of an enforcer are those of the policy
+abbrev pub HasPlans : List NameEntry → List Formula → Enforcing → Type 0
+HasPlans entries policy enforcer =
+    (guards : List (Formula × List VarId)) × ArePlanned entries policy (plans_of enforcer) guards
+
 -- from where an enforcer stands for a trace
 abbrev pub setting_of : List NameEntry → List Formula → Enforcing → List Step → Setting
 setting_of entries policy enforcer trace =
     record { entries = entries; policy = policy; mode = Input; start = start_of enforcer trace }
 
 -- these steps are owed to the records so far: they keep up with them, and the policy decides just these
-pub record IsOwedSoFar (s : Setting) (records : List Record) (out : List OutStep) : Type 0 where
-  pub keeps_up : KeepsUp (is_causable s.entries) (is_suppressible s.entries) s.policy s.start records out
-  pub decided : FollowsPolicy s.policy s.start records out
+pub record IsOwedSoFar (s : Setting) (records : List Record) (out : List ActedStep) : Type 0 where
+  pub keeps_up : KeepsUp (is_causable s.entries) (is_suppressible s.entries) s.policy s.start records (out_steps out)
+  pub decided : FollowsPolicy s.entries s.policy s.start.trace records out
 
 -- and these in all, once the log has ended: with the drain they satisfy the policy
-pub record IsOwedInAll (s : Setting) (records : List Record) (out : List OutStep) : Type 0 where
-  pub enforced : Enforced (is_causable s.entries) (is_suppressible s.entries) s.policy s.start records out
-  pub decided : FollowsToEnd s.policy s.start records out
+pub record IsOwedInAll (s : Setting) (records : List Record) (out : List ActedStep) : Type 0 where
+  pub enforced : Enforced (is_causable s.entries) (is_suppressible s.entries) s.policy s.start records (out_steps out)
+  pub decided : FollowsToEnd s.entries s.policy s.start.trace records out

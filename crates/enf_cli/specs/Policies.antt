@@ -1,12 +1,12 @@
--- The text of a policy, which policies are accepted, and which rules are built.
-use Rattle.std.specs.Prelude.{ℕ, ◌≤◌, IsTrue, List, length, map, Contains, Ok, Err}
+-- The text of a policy, which policies are accepted, and which can be built.
+use Rattle.std.specs.Prelude.{◌≡◌, ℕ, ◌≤◌, Bool, true, false, List, length, map, Ok, Err}
+use Rattle.std.specs.List.{list_any}
 use Rattle.enf_formula.specs.Formulas.{Formula}
 use Rattle.enf_value.specs.declared.limits.TheConstants.{MOST_FILE_BYTES}
-use Rattle.enforce_types.specs.Accepted.{IsAccepted, RefusesPolicy}
-use Rattle.enforce_types.specs.Marks.{is_causable}
+use Rattle.enforce_types.specs.Accepted.{IsAccepted, PlansAre, RefusesPolicy}
 use Rattle.enforce_types.specs.declared.refusals.TypeRefusal.{TypeRefusal}
-use Rattle.enforcer_core.specs.Rules.{IsBuilt}
-use Rattle.enforcer_core.specs.declared.enforcer.CauseRule.{CauseRule}
+use Rattle.obligations.specs.Begun.{has_future}
+use Rattle.plan_terms.specs.Plans.{Plan}
 use Rattle.formula_reader.specs.Reading.{IsTextAnswer}
 use Rattle.formula_reader.specs.Resolution.{Rule}
 use Rattle.formula_reader.specs.declared.policies.PolicyRefusal.{PolicyRefusal}
@@ -16,11 +16,17 @@ use Rattle.signature.specs.declared.entries.NameEntry.{NameEntry}
 abbrev pub formulas : List Rule → List Formula
 formulas policy = map (λ rule. rule.formula) policy
 
--- a formula that is built: `forall x. guard(x) -> cause()`, where the cause may be caused
-pub record CanBeBuilt (entries : List NameEntry) (formula : Formula) : Type 0 where
-  pub rule : CauseRule
-  pub built : IsBuilt formula rule
-  pub causable : IsTrue (is_causable entries rule.cause)
+-- whether a node of some plan is an operator on the future
+abbrev pub look_ahead : List Plan → Bool
+look_ahead plans = list_any has_future plans
+
+-- a policy can be built where no plan of it looks ahead
+abbrev pub CanBeBuilt : List NameEntry → List Formula → Type 0
+CanBeBuilt entries policy = PlansAre entries policy (λ plans. look_ahead plans ≡ false)
+
+-- one that has plans, of which some look ahead, cannot
+abbrev pub CannotBeBuilt : List NameEntry → List Formula → Type 0
+CannotBeBuilt entries policy = PlansAre entries policy (λ plans. look_ahead plans ≡ true)
 
 -- the bytes are a policy of these rules, no more than a file may have
 pub record ReadsPolicy (entries : List NameEntry) (bytes : List ℕ) (policy : List Rule) : Type 0 where
@@ -42,9 +48,3 @@ pub record SpellsRefused (entries : List NameEntry) (bytes : List ℕ) (why : Ty
   pub policy : List Rule
   pub reads : ReadsPolicy entries bytes policy
   pub refused : RefusesPolicy entries (formulas policy) why
-
--- a rule of the policy cannot be built
-pub record HasUnbuilt (entries : List NameEntry) (policy : List Rule) : Type 0 where
-  pub formula : Formula
-  pub of_policy : Contains (formulas policy) formula
-  pub not_built : CanBeBuilt entries formula → ⊥

@@ -1,12 +1,14 @@
 -- What one turn of the run of a log does.
-use Rattle.std.specs.Prelude.{◌≡◌, ℕ, ◌+◌, ◌-◌, ◌<◌, ◌≤◌, List, [], ◌∷◌, ◌++◌, length}
+use Rattle.std.specs.Prelude.{◌≡◌, ℕ, ◌+◌, ◌-◌, ◌^◌, ◌<◌, ◌≤◌, List, [], ◌∷◌, ◌++◌, length}
 use Rattle.std.specs.Prelude.{Option, None, Some, ◌⊎◌, Ok, false}
 use Rattle.enf_io.specs.Counts.{one_more}
 use Rattle.enf_io.specs.Exchange.{Exchange, Gave, IsAtEnd, Marked, Took}
 use Rattle.enf_io.specs.Streams.{Stream}
 use Rattle.enforcer_core.specs.Answered.{Answered, ChangesLawfully}
-use Rattle.enforcer_core.specs.Enforcers.{Enforcing, out_steps}
+use Rattle.enforcer_core.specs.Enforcers.{Enforcing, acted_steps, out_steps, plans_of}
 use Rattle.enforcer_core.specs.Follows.{FollowsDrainFrom, FollowsFrom}
+use Rattle.enforcer_core.specs.Laws.{CourseBegins, CourseEnforces, CourseFollows, CourseFollowsToEnd, CourseGoesOn}
+use Rattle.enforcer_core.specs.Laws.{CourseKeepsUp, PlannedAreSatisfied}
 use Rattle.enforcer_core.specs.Stands.{KeepsStanding, SatisfiesBehind}
 use Rattle.enforcer_core.specs.declared.steps.StepOut.{StepOut}
 use Rattle.log_stream.specs.Lines.{text_of}
@@ -17,7 +19,9 @@ use Rattle.log_stream.specs.declared.items.LogMode.TheVariants.{Input}
 use Rattle.log_stream.specs.declared.items.LogRefusal.TheVariants as refusals
 use Rattle.signature.specs.Grammar.{names as names_of}
 use Rattle.signature.specs.declared.entries.NameEntry.{NameEntry}
-use Rattle.trace_meaning.specs.Records.{Record, time_of}
+use Rattle.trace_meaning.specs.Laws.{FrontIsGood, SatisfyingIsGood}
+use Rattle.trace_meaning.specs.Records.{Record, most_time, time_of}
+use Rattle.trace_meaning.specs.declared.kinds.StepKind.TheVariants.{System}
 use Rattle.enf_cli.specs.Accepted.{record_of}
 use Rattle.enf_cli.specs.Limits.{most_log_bytes, most_read_bytes}
 use Rattle.enf_cli.specs.Endings.{GaveLines}
@@ -38,10 +42,12 @@ use Rattle.enf_cli.specs.declared.refusals.RecordRefusal.TheVariants as records
 abbrev pub reads_on : List NameEntry → List ℕ → Reader
 reads_on entries rest = record { entries = entries; mode = Input; rest = rest; refused = None }
 
--- a log of which nothing was taken yet, under these entries
+-- a log of which nothing was taken yet, under these entries, and an enforcer within the limits of saved states
 pub record IsNew (entries : List NameEntry) (log : Enforcement) : Type 0 where
   pub reader : log.reader ≡ reads_on entries []
   pub going : log.enforcer.stopped ≡ false
+  pub clock : log.enforcer.clock ≤ most_time System
+  pub position : log.enforcer.position < 2 ^ 63
   pub accepted : log.accepted ≡ 0
   pub taken : log.taken ≡ 0
   pub room : length log.piece.items ≡ most_read_bytes
@@ -62,23 +68,36 @@ pub record Front : Type 0 where
 abbrev pub front : Reader → Enforcing → Stream → Front
 front reader enforcer gate = record { reader = reader; now = moment enforcer gate }
 
+-- the laws of what an enforcer does for records, on which the run of a log rests
+pub record Laws : Type 0 where
+  pub begins : CourseBegins
+  pub goes_on : CourseGoesOn
+  pub keeps_up : CourseKeepsUp
+  pub enforces : CourseEnforces
+  pub follows : CourseFollows
+  pub follows_to_end : CourseFollowsToEnd
+  pub planned : PlannedAreSatisfied
+  pub front : FrontIsGood
+  pub satisfying : SatisfyingIsGood
+
 -- the enforcer took the record, and this is what it lets out for it
 pub record TakesRecord (before : Enforcing) (next : Record) (made : StepOut) (after : Enforcing) : Type 0 where
   pub answered : Answered before (time_of next) (Ok made) after
-  pub stands : KeepsStanding before after (out_steps made.steps)
-  pub changed : ChangesLawfully before.rules before.clock (time_of next) (next ∷ []) (out_steps made.steps)
-  pub decided : FollowsFrom before (next ∷ []) (out_steps made.steps)
+  pub few : length made.steps ≤ 1 + (time_of next - before.clock)
+  pub stands : KeepsStanding before after (acted_steps made.steps)
+  pub changed : ChangesLawfully (plans_of before) before.clock (time_of next) (next ∷ []) (acted_steps made.steps)
+  pub decided : FollowsFrom before (next ∷ []) (acted_steps made.steps)
 
 -- it drained, and this is what it lets out for that
 pub record Drains (before : Enforcing) (made : StepOut) (after : Enforcing) : Type 0 where
-  pub stands : KeepsStanding before after (out_steps made.steps)
-  pub changed : ChangesLawfully before.rules before.clock after.clock [] (out_steps made.steps)
-  pub decided : FollowsDrainFrom before (out_steps made.steps)
-  pub satisfied : SatisfiesBehind before (out_steps made.steps)
+  pub stands : KeepsStanding before after (acted_steps made.steps)
+  pub changed : ChangesLawfully (plans_of before) before.clock after.clock [] (acted_steps made.steps)
+  pub decided : FollowsDrainFrom before (acted_steps made.steps)
+  pub satisfied : SatisfiesBehind before (acted_steps made.steps)
 
 -- the lines of what is let out
 abbrev pub lines_of : List NameEntry → StepOut → List ℕ
-lines_of entries made = text_of (names_of entries) (out_steps made.steps)
+lines_of entries made = text_of (names_of entries) (out_steps (acted_steps made.steps))
 
 -- the record was taken, and what is let out for it is given; or its time is below the clock
 pub record TakesItem (entries : List NameEntry) (next : Record) (from to : Moment) : Type 0 where
@@ -101,7 +120,7 @@ pub record CutsLines (entries : List NameEntry) (next : Record) (from : Moment) 
   pub made : StepOut
   pub after : Enforcing
   pub takes : TakesRecord from.enforcer next made after
-  pub given : GaveLines (names_of entries) (out_steps made.steps) from.told told
+  pub given : GaveLines (names_of entries) (acted_steps made.steps) from.told told
 
 abbrev pub CutsItem : List NameEntry → Record → Moment → Option Exchange → Cut → Type 0
 CutsItem entries next from told cuts.WriteFault = CutsLines entries next from told
@@ -262,7 +281,7 @@ pub record CutsDrainLines (entries : List NameEntry) (from : Moment) (told : Opt
   pub made : StepOut
   pub after : Enforcing
   pub drains : Drains from.enforcer made after
-  pub given : GaveLines (names_of entries) (out_steps made.steps) from.told told
+  pub given : GaveLines (names_of entries) (acted_steps made.steps) from.told told
 
 abbrev pub CutsDrain : List NameEntry → Moment → Option Exchange → Cut → Type 0
 CutsDrain entries from told cuts.WriteFault = CutsDrainLines entries from told

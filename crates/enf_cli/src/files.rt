@@ -5,6 +5,7 @@ ghost use Rattle.enf_cli.specs.Files.{HoldsSignature, IsLong, IsNotRead, IsRefus
 ghost use Rattle.enf_cli.specs.Files.{word_from};
 ghost use Rattle.enf_cli.specs.Policies.{SpellsRefused, formulas};
 ghost use Rattle.enforce_types.specs.Accepted.{IsTyped};
+ghost use Rattle.enforce_types.specs.PolicyLaws.{KeepsToSignature};
 ghost use Rattle.enforce_types.specs.Typed.{typed_of};
 ghost use Rattle.formula_reader.specs.Canonical.{name_text};
 ghost use Rattle.formula_reader.specs.Reading.{GivesTextAnswer};
@@ -59,6 +60,8 @@ pub fn read_policy<F: Files>(
         HoldsPolicy (F.seen files.old).contents name.now signature.now (rules_of accepted.policy)) }
     ensures typed { IfOk result (λ accepted.
         IsTyped signature.now (formulas (rules_of accepted.policy)) (typed_of accepted.typed)) }
+    ensures kept { IfOk result (λ accepted. KeepsToSignature signature.now
+        (typed_of accepted.typed).plans (typed_of accepted.typed).guards) }
     ensures same { OnOk result (F.seen files.new ≡ F.seen files.old) }
     ensures ends { IfErr result (EndsFile
         (HoldsRefusedPolicy (F.seen files.old).contents name.now signature.now)

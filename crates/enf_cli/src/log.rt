@@ -1,20 +1,25 @@
 //! The log: it is taken from the gate piece by piece, and all records that a piece completes are
 //! enforced, and their lines given, before the next read.
-ghost use Rattle.std.specs.Prelude.{◌≡◌, ◌≢◌, ◌<◌, ◌≤◌, ◌^◌, IfOk, IfErr, IsTrue, List, [], All, OnOk, OnErr};
+ghost use Rattle.std.specs.Prelude.{◌≡◌, ◌≢◌, ◌<◌, ◌≤◌, ◌^◌, IfOk, IfErr, List, [], OnOk, OnErr};
 ghost use Rattle.std.specs.Prelude.{None, false, length};
 ghost use Rattle.enf_formula.specs.Formulas.{Formula as Tree};
 ghost use Rattle.enf_value.specs.declared.steps.Step.{Step};
-ghost use Rattle.enforcer_core.specs.Rules.{AreBuilt};
+ghost use Rattle.enforcer_core.specs.Answered.{IsNewOf, Leaves, Permits, Refuses};
+ghost use Rattle.enforcer_core.specs.Enforcers.{plans_in, plans_of};
+ghost use Rattle.enforcer_core.specs.Laws.{StandAtNow};
+ghost use Rattle.enforcer_core.specs.Remembering.{most_positions};
 ghost use Rattle.enforcer_core.specs.Stands.{Stands};
-ghost use Rattle.enf_cli.specs.Owed.{setting_of};
+ghost use Rattle.obligations.specs.Traces.{LooksAtNow};
+ghost use Rattle.std.specs.List.{AllByRecursion};
+ghost use Rattle.enf_cli.specs.Owed.{HasPlans, setting_of};
 ghost use Rattle.enf_cli.specs.Limits.{most_log_bytes, most_read_bytes};
 ghost use Rattle.enf_cli.specs.Accepted.{record_of};
 ghost use Rattle.enf_cli.specs.Endings.{write_faults_behind};
-ghost use Rattle.enforce_types.specs.Marks.{is_causable};
+ghost use Rattle.enforce_types.specs.Marks.{is_causable, is_suppressible};
 ghost use Rattle.enf_cli.specs.Logs.{CutsRun, RanAsJudged};
 ghost use Rattle.enf_cli.specs.Progress.{AnswersItem, AnswersNext, AnswersTurn, CutsDrain, CutsItem, CutsNext};
-ghost use Rattle.enf_cli.specs.Progress.{CutsTurn, GivesDrain, IsNew, JudgesEnd, LosesPiece, ReadsPiece, reads_on};
-ghost use Rattle.enf_cli.specs.Progress.{front, moment};
+ghost use Rattle.enf_cli.specs.Progress.{CutsTurn, GivesDrain, IsNew, JudgesEnd, Laws, LosesPiece, ReadsPiece};
+ghost use Rattle.enf_cli.specs.Progress.{TakesRecord, front, moment, reads_on};
 ghost use Rattle.enf_cli.specs.declared.refusals.RecordRefusal.TheVariants.{Log};
 ghost use Rattle.log_stream.specs.Logs.{IsPending};
 ghost use Rattle.log_stream.specs.declared.items.LogRefusal.TheVariants.{NoMemory as OutOfMemory};
@@ -26,9 +31,10 @@ use crate::lines::write_steps;
 use crate::refusals::RecordRefusal;
 use enf_io::devices::{Gate, IoRefusal, Sink};
 use enf_value::{Duplicate, NoMemory};
-use enforcer_core::enforcer::{CauseRule, Enforcer};
+use enforce_types::TypedPolicy;
+use enforcer_core::enforcer::Enforcer;
 use enforcer_core::laws;
-use enforcer_core::steps::StepRefusal;
+use enforcer_core::steps::{StepOut, StepRefusal};
 use log_stream::{Found, LogItem, LogMode, LogReader, LogRefusal};
 use signature::Signature;
 use std::alloc::Global;
@@ -83,20 +89,21 @@ pub struct Enforcement {
 }
 
 impl Enforcement {
-    /// A log of which nothing was taken yet, to be enforced by these rules.
+    /// A log of which nothing was taken yet, to be enforced by this policy, no plan of which looks ahead.
     pub fn new(
         alloc: Global,
         signature: &Signature,
-        rules: Vec<CauseRule>,
+        policy: TypedPolicy,
     ) -> Result<Enforcement, NoMemory>
+        requires { AllByRecursion LooksAtNow (plans_in policy) }
         ensures new { IfOk result (IsNew signature.now) }
-        ensures enforcer { IfOk result
-            (λ log. log.enforcer ≡ record { rules = rules.items; clock = 0; stopped = false }) }
+        ensures enforcer { IfOk result (λ log. IsNewOf policy log.enforcer) }
+        ensures at_now { IfOk result (λ log. StandAtNow (plans_of log.enforcer)) }
         ensures stands { IfOk result (λ log. Stands log.enforcer []) }
     {
         Ok(Enforcement {
             reader: LogReader::new(alloc, signature.duplicate(alloc)?, LogMode::Input),
-            enforcer: Enforcer::new(rules)?,
+            enforcer: Enforcer::new(alloc, policy)?,
             piece: vec![in alloc; 0; MOST_READ_BYTES]?,
             accepted: 0,
             taken: 0,
@@ -113,19 +120,18 @@ pub fn enforce_log<G: Gate>(
     gate: &mut G,
 ) -> Result<Judged, Cut>
     requires new { IsNew signature.now log }
-    requires causable { All (λ rule. IsTrue (is_causable signature.now rule.cause)) log.enforcer.rules }
-    ensures ran { (policy : List Tree) (trace : List Step) → AreBuilt policy log.enforcer.rules →
+    requires permits { Permits (is_causable signature.now) (is_suppressible signature.now) (plans_of log.enforcer) }
+    requires at_now { StandAtNow (plans_of log.enforcer) }
+    ensures ran { (policy : List Tree) (trace : List Step) → HasPlans signature.now policy log.enforcer →
         Stands log.enforcer trace → IfOk result
         (λ judged. RanAsJudged (setting_of signature.now policy log.enforcer trace) judged
         (G.seen gate.old) (G.seen gate.new)) }
     ensures few { IfOk result (λ judged. judged.accepted < 2 ^ 63) }
-    ensures cut { (policy : List Tree) (trace : List Step) → AreBuilt policy log.enforcer.rules →
+    ensures cut { (policy : List Tree) (trace : List Step) → HasPlans signature.now policy log.enforcer →
         Stands log.enforcer trace → IfErr result
         (CutsRun (setting_of signature.now policy log.enforcer trace) (G.seen gate.old) (G.seen gate.new)) }
 {
-    laws::course();
-    laws::built();
-    trace_meaning::laws::good();
+    enforcer_laws();
     loop {
         if let Some(verdict) = go_on(alloc, signature, &mut log, gate)? {
             drain(alloc, signature, &mut log.enforcer, gate)?;
@@ -135,6 +141,15 @@ pub fn enforce_log<G: Gate>(
             });
         }
     }
+}
+
+// The laws of enforcers on which the run of a log rests.
+fn enforcer_laws()
+    ensures { Laws }
+{
+    laws::course();
+    laws::planned();
+    trace_meaning::laws::good();
 }
 
 // Gives the lines of what is still owed at the end of the log.
@@ -172,6 +187,7 @@ fn go_on<G: Gate>(
     requires going { log.old.reader ≡ reads_on signature.now log.old.reader.rest }
     requires taken { log.old.taken ≤ most_log_bytes }
     requires count { log.old.accepted < 2 ^ 63 }
+    requires position { log.old.enforcer.position < most_positions }
     requires room { length log.old.piece.items ≡ most_read_bytes }
     ensures room { length log.new.piece.items ≡ most_read_bytes }
     ensures turn { IfOk result (λ verdict. AnswersTurn signature.now verdict log.old log.new
@@ -250,7 +266,8 @@ fn enforce_next<S: Sink>(
     enforcer: &mut Enforcer,
     sink: &mut S,
 ) -> Result<Next, Cut>
-    requires { reader.old ≡ reads_on signature.now reader.old.rest }
+    requires going { reader.old ≡ reads_on signature.now reader.old.rest }
+    requires room { enforcer.old.position < most_positions }
     ensures next { IfOk result
         (λ next. AnswersNext signature.now next (front reader.old enforcer.old (S.seen sink.old))
         (front reader.new enforcer.new (S.seen sink.new))) }
@@ -278,7 +295,8 @@ fn enforce_item<S: Sink>(
     item: LogItem,
     sink: &mut S,
 ) -> Result<Option<RecordRefusal>, Cut>
-    requires { time_of (record_of item) ≤ most_time System }
+    requires time { time_of (record_of item) ≤ most_time System }
+    requires room { enforcer.old.position < most_positions }
     ensures answer { IfOk result
         (λ refused. AnswersItem signature.now (record_of item) refused
         (moment enforcer.old (S.seen sink.old)) (moment enforcer.new (S.seen sink.new))) }
@@ -288,11 +306,7 @@ fn enforce_item<S: Sink>(
         write_faults_behind result (S.seen sink.old).write_faults }
     ensures reads { (S.seen sink.new).read_faults ≡ (S.seen sink.old).read_faults }
 {
-    let made = match item {
-        LogItem::Step { time, events, .. } => enforcer.step(alloc, time, events),
-        LogItem::Tick { time } => enforcer.tick(alloc, time),
-    };
-    match made {
+    match take_item(alloc, enforcer, item) {
         Ok(out) => {
             write_steps(alloc, signature, out.steps.as_slice(), sink)?;
             Ok(None)
@@ -302,6 +316,20 @@ fn enforce_item<S: Sink>(
             clock,
         })),
         Err(StepRefusal::Stopped | StepRefusal::NoMemory) => Err(Cut::NoMemory),
+    }
+}
+
+// Takes a record to the enforcer.
+fn take_item(alloc: Global, enforcer: &mut Enforcer, item: LogItem) -> Result<StepOut, StepRefusal>
+    requires time { time_of (record_of item) ≤ most_time System }
+    requires room { enforcer.old.position < most_positions }
+    ensures taken { IfOk result (λ made. TakesRecord enforcer.old (record_of item) made enforcer.new) }
+    ensures refused { IfErr result (λ why. Refuses enforcer.old (time_of (record_of item)) why
+        × Leaves why enforcer.old enforcer.new) }
+{
+    match item {
+        LogItem::Step { time, events, .. } => enforcer.step(alloc, time, events),
+        LogItem::Tick { time } => enforcer.tick(alloc, time),
     }
 }
 

@@ -258,7 +258,7 @@ pub enum Refusal {
     Words,
     Signature(SignatureRefusal),
     Policy(PolicyRefusal),
-    /// The policy is accepted, but a rule is not `forall x. guard(x) -> cause()` with a causable cause.
+    /// The policy is accepted, but a plan of it looks ahead.
     NotBuilt,
     /// The record's number is counted from 1.
     Record { number: u64, why: RecordRefusal },

@@ -1,5 +1,6 @@
-//! The limits of the definitions, which are those of the code, and what is said of small policies.
+//! The limits of the definitions, which are those of the code, what is said of small policies, and fronts of a report.
 ghost use Rattle.std.specs.Prelude.{◌≡◌, ◌≢◌, ◌∷◌, ◌++◌, [], codes};
+ghost use Rattle.enf_cli.specs.Actions.{IsFrontOf};
 ghost use Rattle.enf_cli.specs.Cases.{erase, erase_ranked, other_ranked};
 ghost use Rattle.enf_cli.specs.Checking.{check_text};
 ghost use Rattle.enf_cli.specs.Limits.{most_log_bytes, most_read_bytes};
@@ -44,4 +45,13 @@ pub fn checked()
         ≡ codes "transparent no\nhorizon 0\nsuppress consent\ncause use\n" }
     ensures order { check_text sample_entries [] other_ranked
         ≢ codes "transparent no\nhorizon 0\ncause use\nsuppress consent\n" }
+{}
+
+/// What a report that was cut may have: of the last piece something may be missing, and of no other.
+pub fn fronts()
+    ensures all { IsFrontOf (codes "ab" ∷ codes "cd" ∷ []) (codes "abcd") [] }
+    ensures within_the_last { IsFrontOf (codes "ab" ∷ codes "cd" ∷ []) (codes "abc") (codes "d") }
+    ensures without_the_last { IsFrontOf (codes "ab" ∷ codes "cd" ∷ []) (codes "ab") (codes "cd") }
+    ensures not_within_another { IsFrontOf (codes "ab" ∷ codes "cd" ∷ []) (codes "a") (codes "bcd") → ⊥ }
+    ensures nothing_of_one { IsFrontOf (codes "ab" ∷ []) [] (codes "ab") }
 {}

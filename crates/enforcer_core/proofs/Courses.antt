@@ -1,178 +1,205 @@
--- What an enforcer has done, one record more, and that the rules leave no choice.
-use Rattle.std.proofs.Common.{◌≡◌, ◌≤◌, List, [], ◌∷◌, ◌++◌, map, refl, sym, ap, subst, ◌∙◌, append_assoc, arith, ⊎_elim, Bool, true, false, Decides as IsTold, Contains}
-use Rattle.std.specs.List.{All, list_any}
-use Rattle.std.specs.Prelude.{IsTrue}
-use Rattle.enf_value.specs.declared.events.Event.{Event}
-use Rattle.enf_value.specs.declared.steps.Step.{Step}
-use Rattle.std.proofs.lemmas.List.{append-nil}
+-- What an enforcer has done, one record more, and at the end.
+use Rattle.std.proofs.Common.{◌≡◌, ℕ, ◌+◌, ◌<◌, ◌≤◌, List, [], ◌∷◌, ◌++◌, length, map, refl, sym, ap, subst, ◌∙◌, append_assoc, arith, Bool}
+use Rattle.std.specs.List.{AllByRecursion, AllZip}
+use Rattle.std.proofs.lemmas.List.{append-nil, map-append}
+use Rattle.std.proofs.lemmas.List.Elements.{All-from_recursion, All-nil, recursion_from_All}
 use Rattle.enf_value.specs.Data.{IsTrace}
+use Rattle.enf_value.specs.Membership.{HasNoRepeats}
+use Rattle.enf_value.specs.Valuations.{no_values}
 use Rattle.enf_value.specs.declared.events.NameId.{NameId}
-use Rattle.trace_meaning.specs.Enforced.{Enforced}
+use Rattle.enf_value.specs.declared.steps.Step.{Step}
+use Rattle.enf_formula.specs.Formulas.{Formula}
+use Rattle.enf_formula.specs.Satisfaction.{Sat}
+use Rattle.trace_meaning.specs.Enforced.{Enforced, KeepsUp}
 use Rattle.trace_meaning.specs.Good.{Good}
-use Rattle.trace_meaning.specs.Lawful.{Lawful}
-use Rattle.trace_meaning.specs.Start.{Start, start_behind}
+use Rattle.trace_meaning.specs.Lawful.{IsInsertedLawfully, Lawful}
 use Rattle.trace_meaning.specs.Laws.{ClockRises, LawfulJoins, RecordsJoin, SatisfyingIsGood, WithinJoins}
-use Rattle.trace_meaning.specs.OutSteps.{Cause, IsWithin, OutStep, trace_of}
-use Rattle.trace_meaning.specs.Records.{Record, StepRecord, Tick, NeverFall, time_of}
+use Rattle.trace_meaning.specs.OutSteps.{IsUntil, IsWithin, OutStep, event_of, trace_of}
+use Rattle.trace_meaning.specs.Records.{Record, NeverFall, time_of}
 use Rattle.trace_meaning.specs.Satisfies.{Satisfies}
-use Rattle.enforcer_core.specs.Answered.{ChangesLawfully}
+use Rattle.plan_terms.specs.Plans.{Plan}
+use Rattle.enforce_types.specs.PolicyLaws.{MeansSame, PolicyKeepsMeaning}
+use Rattle.obligations.specs.Pending.{IsClean, Pend}
+use Rattle.obligations.specs.Residuals.{Residual}
+use Rattle.obligations.specs.Traces.{AllHold, NothingIsPending, PendingIsEnough}
+use Rattle.obligations.specs.declared.instances.Instance.{Instance}
+use Rattle.choice_step.specs.Follows as choice
+use Rattle.choice_step.specs.Follows.{ActedStep, Follows, FollowsDrain, steps_of}
+use Rattle.enforcer_core.specs.Answered.{ChangesLawfully, Permits}
 use Rattle.enforcer_core.specs.Course.{Course}
-use Rattle.enforcer_core.specs.Enforcers.{Enforcing, out_steps, start_of}
-use Rattle.enforcer_core.specs.Follows.{Follows, FollowsDrain, FollowsFrom}
-use Rattle.enforcer_core.specs.Laws.{CourseFollows, CourseFollowsToEnd, CourseKeepsUp, OneDecision, OneDrain, SomeDecision, SomeDrain, StandsForGood}
-use Rattle.enforcer_core.specs.Reactions.{Decides, Reacts, ReactAll, IsTriggered, caused, is_guard}
-use Rattle.enforcer_core.proofs.ReactionLemmas.{Reacts-adds, Reacts-present, Reacts-untriggered}
-use Rattle.enforcer_core.proofs.Triggers.{triggered-Decides}
-use Rattle.enf_value.specs.Decided.{has_event, has_event-Decides}
-use Rattle.std.proofs.lemmas.Bool.Decides.{not_from_Decides}
-use Rattle.trace_meaning.specs.declared.kinds.StepKind.TheVariants.{System}
-use Rattle.enforcer_core.specs.Rules.{policy_of}
+use Rattle.enforcer_core.specs.Enforcers.{Enforcing, acted_steps, formulas_for, out_steps, plans_in, plans_of, start_of}
+use Rattle.enforcer_core.specs.Follows.{FollowsFrom}
+use Rattle.enforcer_core.specs.Laws.{CourseBegins, CourseFollows, CourseFollowsToEnd, PlannedAreSatisfied, StandAtNow, StandsForGood}
 use Rattle.enforcer_core.specs.Stands.{KeepsStanding, SatisfiesBehind, Stands}
-use Rattle.enforcer_core.specs.declared.enforcer.CauseRule.{CauseRule}
 
-follows_join : (rules : List CauseRule) (start later : Start) (records more : List Record) (out out' : List OutStep) → Follows rules start records out → Follows rules later more out' → Follows rules start (records ++ more) (out ++ out')
-follows_join rules start later [] more [] out' a b = b
-follows_join rules start later [] more (o ∷ out) out' a b = absurd a
-follows_join rules start later (StepRecord step ∷ records) more [] out' a b = absurd a
-follows_join rules start later (StepRecord step ∷ records) more (o ∷ out) out' a b = (a.0, follows_join rules start later records more out out' a.1 b)
-follows_join rules start later (Tick time ∷ records) more out out' a b = follows_join rules start later records more out out' a b
+steps_join : (out more : List ActedStep) → steps_of (out ++ more) ≡ steps_of out ++ steps_of more
+steps_join out more = map-append (λ (o : ActedStep). o.step) out more
 
-trace_join : (out out' : List OutStep) → trace_of (out ++ out') ≡ trace_of out ++ trace_of out'
-trace_join [] out' = refl
-trace_join (o ∷ out) out' = ap (λ steps. o.step ∷ steps) (trace_join out out')
+out_join : (out more : List ActedStep) → out_steps (out ++ more) ≡ out_steps out ++ out_steps more
+out_join out more = map-append choice.out_step out more
 
-module _ (start : Enforcing) (trace : List Step) (records : List Record) (out : List OutStep) (now : Enforcing) (c : Course start trace records out now)
-    (next : Record) (out' : List OutStep) (after : Enforcing) (rules : after.rules ≡ now.rules) (clock : after.clock ≡ time_of next) (later : now.clock ≤ time_of next) where
-  pub more_stands : KeepsStanding now after out' → Stands after (trace ++ trace_of (out ++ out'))
-  more_stands keeps =
-      subst (Stands after) (append_assoc trace (trace_of out) (trace_of out') ∙ ap (λ more. trace ++ more) (sym (trace_join out out'))) (keeps (trace ++ trace_of out) c.stands)
+-- the trace of the steps that went out
+pub trace_is : (out : List ActedStep) → trace_of (out_steps out) ≡ steps_of out
+trace_is [] = refl
+trace_is (o ∷ out) = ap (λ (steps : List Step). o.step ∷ steps) (trace_is out)
 
-  pub more_in_time : RecordsJoin → NeverFall start.clock (records ++ next ∷ [])
-  more_in_time join = join start.clock records (next ∷ []) c.in_time (subst (λ clock. clock ≤ time_of next) c.clock later, tt)
+behind : (trace : List Step) (out more : List ActedStep)
+    → (trace ++ steps_of out) ++ steps_of more ≡ trace ++ steps_of (out ++ more)
+behind trace out more =
+    append_assoc trace (steps_of out) (steps_of more) ∙ ap (λ (steps : List Step). trace ++ steps) (sym (steps_join out more))
 
-  pub more_changes : ClockRises → WithinJoins → LawfulJoins → ChangesLawfully now.rules now.clock (time_of next) (next ∷ []) out' → ChangesLawfully start.rules start.clock after.clock (records ++ next ∷ []) (out ++ out')
-  more_changes rises within lawful changed =
-      let from : start.clock ≤ now.clock = omega (arith, rises start.clock records c.in_time, c.clock) in
-      subst (λ clock. ChangesLawfully start.rules start.clock clock (records ++ next ∷ []) (out ++ out')) (sym clock)
-      (record {
-        lawful = λ causable suppressible may. lawful causable suppressible start.clock now.clock (time_of next) records (next ∷ []) out out' c.changed.within changed.within (c.changed.lawful causable suppressible may)
-            (changed.lawful causable suppressible (subst (λ (rules : List CauseRule). All (λ rule. IsTrue (causable rule.cause)) rules) (sym c.rules) may));
-        within = within start.clock now.clock (time_of next) out out' from later c.changed.within changed.within;
-      })
+follows_join : (plans : List Plan) (trace : List Step) (records more : List Record) (out others : List ActedStep)
+    → Follows plans trace records out → Follows plans (trace ++ steps_of out) more others
+    → Follows plans trace (records ++ more) (out ++ others)
+follows_join plans trace [] more out others none then =
+    subst (λ (first : List ActedStep). Follows plans trace more (first ++ others)) (sym none)
+    (subst (λ (steps : List Step). Follows plans steps more others) (append-nil trace)
+    (subst (λ (first : List ActedStep). Follows plans (trace ++ steps_of first) more others) none then))
+follows_join plans trace (next ∷ records) more out others (inserted, answer, rest, inserts, answers, follows, are) then = (
+  inserted,
+  answer,
+  rest ++ others,
+  inserts,
+  answers,
+  follows_join plans (trace ++ steps_of (inserted ++ answer)) records more rest others follows
+      (subst (λ (steps : List Step). Follows plans steps more others) (ap (λ (steps : List ActedStep). trace ++ steps_of steps) are ∙ sym (behind trace (inserted ++ answer) rest)) then),
+  ap (λ (steps : List ActedStep). steps ++ others) are ∙ append_assoc (inserted ++ answer) rest others,
+)
 
-  pub more_decided : FollowsFrom now (next ∷ []) out' → Follows start.rules (start_of start trace) (records ++ next ∷ []) (out ++ out')
-  more_decided decided =
-      let later = start_of now (trace ++ trace_of out) in
-      follows_join start.rules (start_of start trace) later records (next ∷ []) out out' c.decided
-      (subst (λ rules. Follows rules later (next ∷ []) out') c.rules (decided (trace ++ trace_of out) c.stands))
+module _ (start : Enforcing) (trace : List Step) (records : List Record) (out : List ActedStep) (now : Enforcing)
+    (c : Course start trace records out now) where
+  same_plans : plans_of now ≡ plans_of start
+  same_plans = ap plans_in c.policy
 
-pub stands_good : SatisfyingIsGood → StandsForGood
-stands_good good enforcer trace stands = good (policy_of enforcer.rules) trace enforcer.clock stands.is_trace stands.satisfied
+  module _ (next : Record) (more : List ActedStep) (after : Enforcing) (policy : after.policy ≡ now.policy)
+      (clock : after.clock ≡ time_of next) (later : now.clock ≤ time_of next) where
+    pub more_stands : KeepsStanding now after more → Stands after (trace ++ steps_of (out ++ more))
+    more_stands keeps = subst (Stands after) (behind trace out more) (keeps (trace ++ steps_of out) c.stands)
 
-pub course_keeps_up : StandsForGood → CourseKeepsUp
-course_keeps_up good causable suppressible start trace records out now may c = record {
-  lawful = c.changed.lawful causable suppressible may;
-  within = subst (λ clock. IsWithin start.clock clock out) c.clock c.changed.within;
-  good = subst (λ clock. Good (policy_of start.rules) (trace ++ trace_of out) clock) c.clock
-      (subst (λ rules. Good (policy_of rules) (trace ++ trace_of out) now.clock) c.rules (good now (trace ++ trace_of out) c.stands));
-}
+    pub more_in_time : RecordsJoin → NeverFall start.clock (records ++ next ∷ [])
+    more_in_time join =
+        join start.clock records (next ∷ []) c.in_time (subst (λ (clock : ℕ). clock ≤ time_of next) c.clock later, tt)
 
-module _ (start : Enforcing) (trace : List Step) (records : List Record) (out : List OutStep) (now : Enforcing) (c : Course start trace records out now)
-    (out' : List OutStep) (after : Enforcing) where
-  joined : (trace ++ trace_of out) ++ trace_of out' ≡ trace ++ trace_of (out ++ out')
-  joined = append_assoc trace (trace_of out) (trace_of out') ∙ ap (λ more. trace ++ more) (sym (trace_join out out'))
+    pub more_changes : ClockRises → WithinJoins → LawfulJoins
+        → ChangesLawfully (plans_of now) now.clock (time_of next) (next ∷ []) more
+        → ChangesLawfully (plans_of start) start.clock after.clock (records ++ next ∷ []) (out ++ more)
+    more_changes rises within lawful changed =
+        let from : start.clock ≤ now.clock = omega (arith, rises start.clock records c.in_time, c.clock) in
+        let joined : ChangesLawfully (plans_of start) start.clock (time_of next) (records ++ next ∷ []) (out ++ more) = record {
+          lawful = λ causable suppressible may. subst (Lawful causable suppressible (records ++ next ∷ [])) (sym (out_join out more))
+              (lawful causable suppressible start.clock now.clock (time_of next) records (next ∷ []) (out_steps out) (out_steps more) c.changed.within changed.within
+              (c.changed.lawful causable suppressible may)
+              (changed.lawful causable suppressible (subst (Permits causable suppressible) (sym same_plans) may)));
+          within = subst (IsWithin start.clock (time_of next)) (sym (out_join out more))
+              (within start.clock now.clock (time_of next) (out_steps out) (out_steps more) from later c.changed.within changed.within);
+        } in
+        subst (λ (clock : ℕ). ChangesLawfully (plans_of start) start.clock clock (records ++ next ∷ []) (out ++ more)) (sym clock) joined
 
-  pub course_ends : LawfulJoins → (causable suppressible : NameId → Bool) → All (λ rule. IsTrue (causable rule.cause)) start.rules → KeepsStanding now after out' → SatisfiesBehind now out'
-      → ChangesLawfully now.rules now.clock after.clock [] out' → Enforced causable suppressible (policy_of start.rules) (start_of start trace) records (out ++ out')
-  course_ends joins causable suppressible may keeps satisfies changed = record {
-    lawful = subst (λ rs. Lawful causable suppressible rs (out ++ out')) (append-nil records)
-        (joins causable suppressible start.clock now.clock after.clock records [] out out' c.changed.within changed.within (c.changed.lawful causable suppressible may)
-        (changed.lawful causable suppressible (subst (λ (rules : List CauseRule). All (λ rule. IsTrue (causable rule.cause)) rules) (sym c.rules) may)));
-    is_trace = subst IsTrace joined (keeps (trace ++ trace_of out) c.stands).is_trace;
-    satisfied = subst (λ steps. Satisfies steps (policy_of start.rules)) joined
-        (subst (λ rules. Satisfies ((trace ++ trace_of out) ++ trace_of out') (policy_of rules)) c.rules (satisfies (trace ++ trace_of out) c.stands));
+    pub more_decided : FollowsFrom now (next ∷ []) more → Follows (plans_of start) trace (records ++ next ∷ []) (out ++ more)
+    more_decided decided =
+        follows_join (plans_of start) trace records (next ∷ []) out more c.decided
+        (subst (λ (plans : List Plan). Follows plans (trace ++ steps_of out) (next ∷ []) more) same_plans (decided (trace ++ steps_of out) c.stands))
+
+  pub course_keeps_up : StandsForGood → (causable suppressible : NameId → Bool) → Permits causable suppressible (plans_of start)
+      → StandAtNow (plans_of start)
+      → KeepsUp causable suppressible (formulas_for (plans_of start)) (start_of start trace) records (out_steps out)
+  course_keeps_up good causable suppressible may at_now = record {
+    lawful = c.changed.lawful causable suppressible may;
+    within = subst (λ (clock : ℕ). IsWithin start.clock clock (out_steps out)) c.clock c.changed.within;
+    good = subst (λ (clock : ℕ). Good (formulas_for (plans_of start)) (trace ++ trace_of (out_steps out)) clock) c.clock
+        (subst (λ (steps : List Step). Good (formulas_for (plans_of start)) (trace ++ steps) now.clock) (sym (trace_is out))
+        (subst (λ (plans : List Plan). Good (formulas_for plans) (trace ++ steps_of out) now.clock) same_plans
+        (good now (trace ++ steps_of out) (subst StandAtNow (sym same_plans) at_now) c.stands)));
   }
 
+  module _ (more : List ActedStep) (after : Enforcing) where
+    joined : (trace ++ steps_of out) ++ steps_of more ≡ trace ++ trace_of (out_steps (out ++ more))
+    joined = behind trace out more ∙ ap (λ (steps : List Step). trace ++ steps) (sym (trace_is (out ++ more)))
+
+    pub course_ends : LawfulJoins → (causable suppressible : NameId → Bool) → Permits causable suppressible (plans_of start)
+        → KeepsStanding now after more → SatisfiesBehind now more
+        → ChangesLawfully (plans_of now) now.clock after.clock [] more
+        → Enforced causable suppressible (formulas_for (plans_of start)) (start_of start trace) records (out_steps (out ++ more))
+    course_ends joins causable suppressible may keeps satisfies changed = record {
+      lawful = subst (λ (rs : List Record). Lawful causable suppressible rs (out_steps (out ++ more))) (append-nil records)
+          (subst (Lawful causable suppressible (records ++ [])) (sym (out_join out more))
+          (joins causable suppressible start.clock now.clock after.clock records [] (out_steps out) (out_steps more) c.changed.within changed.within
+          (c.changed.lawful causable suppressible may)
+          (changed.lawful causable suppressible (subst (Permits causable suppressible) (sym same_plans) may))));
+      is_trace = subst IsTrace joined (keeps (trace ++ steps_of out) c.stands).is_trace;
+      satisfied = subst (λ (steps : List Step). Satisfies steps (formulas_for (plans_of start))) joined
+          (subst (λ (plans : List Plan). Satisfies ((trace ++ steps_of out) ++ steps_of more) (formulas_for plans)) same_plans (satisfies (trace ++ steps_of out) c.stands));
+    }
+
+-- where all plans hold at each position, the trace satisfies them
+satisfied_by : (plans : List Plan) (trace : List Step) → ((i : ℕ) → i < length trace → AllHold trace i plans)
+    → AllByRecursion (λ rule. (i : ℕ) → i < length trace → Sat trace i no_values rule) (formulas_for plans)
+satisfied_by [] trace each = tt
+satisfied_by (plan ∷ plans) trace each = ((λ i within. (each i within).0), satisfied_by plans trace (λ i within. (each i within).1))
+
+pub stands_satisfied : NothingIsPending → PendingIsEnough → (plans : List Plan) (trace : List Step) (pending : List Instance)
+    → StandAtNow plans → IsTrace trace → IsClean plans trace → Pend plans trace pending
+    → Satisfies trace (formulas_for plans)
+stands_satisfied nothing enough plans trace pending at_now is_trace clean pend =
+    let none : pending ≡ [] = nothing plans trace pending at_now.now pend in
+    let residuals : AllByRecursion (Residual plans (trace ++ []) (length trace)) pending = subst (AllByRecursion (Residual plans (trace ++ []) (length trace))) (sym none) tt in
+    let each : (i : ℕ) → i < length trace → AllHold trace i plans = λ i within.
+    subst (λ (steps : List Step). AllHold steps i plans) (append-nil trace)
+    (enough plans trace [] pending at_now.stand (subst IsTrace (sym (append-nil trace)) is_trace) clean pend residuals i within) in
+    All-from_recursion (λ rule. (i : ℕ) → i < length trace → Sat trace i no_values rule) (formulas_for plans) (satisfied_by plans trace each)
+
+pub stands_good : NothingIsPending → PendingIsEnough → SatisfyingIsGood → StandsForGood
+stands_good nothing enough good enforcer trace at_now stands =
+    good (formulas_for (plans_of enforcer)) trace enforcer.clock stands.is_trace
+    (stands_satisfied nothing enough (plans_of enforcer) trace enforcer.pending.instances at_now stands.is_trace stands.ready.clean stands.pending)
+
 pub course_follows : CourseFollows
-course_follows policy start trace records out now built c = record { rules = start.rules; built = built; follows = c.decided }
+course_follows entries policy guards start trace records out now planned c =
+    record { plans = plans_of start; guards = guards; planned = planned; follows = c.decided }
 
 pub course_follows_to_end : CourseFollowsToEnd
-course_follows_to_end policy start trace records out now made built c drained = record {
-  rules = start.rules;
-  built = built;
+course_follows_to_end entries policy guards start trace records out now made planned c drained = record {
+  plans = plans_of start;
+  guards = guards;
+  planned = planned;
   first = out;
-  last = out_steps made.steps;
+  last = acted_steps made.steps;
   split = refl;
   follows = c.decided;
-  drained = subst (λ rules. FollowsDrain rules (start_behind (start_of start trace) records out) (out_steps made.steps)) c.rules
-      (subst (λ clock. FollowsDrain now.rules (record { trace = trace ++ trace_of out; clock = clock }) (out_steps made.steps)) c.clock (drained (trace ++ trace_of out) c.stands));
+  drained = subst (λ (plans : List Plan). FollowsDrain plans (trace ++ steps_of out) (acted_steps made.steps)) (same_plans start trace records out now c)
+      (drained (trace ++ steps_of out) c.stands);
 }
 
-one_reaction : (rule : CauseRule) (events added other : List Event) → Reacts rule events added → Reacts rule events other → added ≡ other
-one_reaction rule events added other r s =
-    ⊎_elim
-    (λ a. ⊎_elim (λ b. a.0 ∙ sym b.0) (λ b. absurd (a.2 (b.1 a.1))) s)
-    (λ a. ⊎_elim (λ b. absurd (b.2 (a.1 b.1))) (λ b. a.0 ∙ sym b.0) s)
-    r
+pub course_begins : CourseBegins
+course_begins start trace stands = record {
+  policy = refl;
+  clock = refl;
+  in_time = tt;
+  stands = subst (Stands start) (sym (append-nil trace)) stands;
+  changed = record {
+    lawful = λ causable suppressible may. record {
+      changed = tt;
+      inserted = All-nil (λ (o : OutStep). IsInsertedLawfully causable suppressible o o.kind);
+      once = All-nil (λ (o : OutStep). HasNoRepeats (map event_of o.changes));
+      in_order = tt;
+    };
+    within = record { from = All-nil (λ (o : OutStep). start.clock ≤ o.step.time); until = All-nil (λ (o : OutStep). IsUntil start.clock o.kind o.step.time) };
+  };
+  decided = refl;
+}
 
-one_addition : (rules : List CauseRule) (events added other : List Event) → ReactAll rules events added → ReactAll rules events other → added ≡ other
-one_addition [] events added other r s = r ∙ sym s
-one_addition (rule ∷ rules) events added other r s =
-    let first : r.0 ≡ s.0 = one_reaction rule events r.0 s.0 r.2 s.2 in
-    let rest : r.1 ≡ s.1 = one_addition rules (events ++ r.0) r.1 s.1 r.3 (subst (λ (first : List Event). ReactAll rules (events ++ first) s.1) (sym first) s.3) in
-    r.4 ∙ ap (λ first. first ++ r.1) first ∙ ap (λ rest. s.0 ++ rest) rest ∙ sym s.4
+-- ---- policies
 
-one_step : (rules : List CauseRule) (before : Step) (o p : OutStep) → Decides rules before o → Decides rules before p → o ≡ p
-one_step rules before o p d e =
-    let added : d.added ≡ e.added = one_addition rules before.events d.added e.added d.reacted e.reacted in
-    let kind : o.kind ≡ p.kind = d.kind ∙ sym e.kind in
-    let step : o.step ≡ p.step = d.step ∙ ap (λ (added : List Event). record { time = before.time; events = before.events ++ added }) added ∙ sym e.step in
-    let changes : o.changes ≡ p.changes = d.changes ∙ ap (map Cause) added ∙ sym e.changes in
-    λ i. record { kind = kind i; step = step i; changes = changes i }
+meant : (policy : List Formula) (plans : List Plan) (trace : List Step) → AllZip MeansSame policy plans
+    → AllByRecursion (λ rule. (i : ℕ) → i < length trace → Sat trace i no_values rule) (formulas_for plans)
+    → AllByRecursion (λ rule. (i : ℕ) → i < length trace → Sat trace i no_values rule) policy
+meant [] plans trace same each = tt
+meant (f ∷ policy) [] trace same each = absurd same
+meant (f ∷ policy) (plan ∷ plans) trace same each =
+    ((λ i within. (same.0 trace i no_values).0 (each.0 i within)), meant policy plans trace same.1 each.1)
 
-pub one_decision : OneDecision
-one_decision rules start [] [] [] a b = refl
-one_decision rules start [] [] (p ∷ other) a b = absurd b
-one_decision rules start [] (o ∷ out) other a b = absurd a
-one_decision rules start (StepRecord step ∷ records) [] other a b = absurd a
-one_decision rules start (StepRecord step ∷ records) (o ∷ out) [] a b = absurd b
-one_decision rules start (StepRecord step ∷ records) (o ∷ out) (p ∷ other) a b =
-    let first : o ≡ p = one_step rules step o p a.0 b.0 in
-    let rest : out ≡ other = one_decision rules start records out other a.1 b.1 in
-    λ i. first i ∷ rest i
-one_decision rules start (Tick time ∷ records) out other a b = one_decision rules start records out other a b
-
-pub one_drain : OneDrain
-one_drain rules start out other a b = a ∙ sym b
-
--- a rule reacts to any events, since it can be told whether it is triggered and whether what it causes is there
-some_reaction : (rule : CauseRule) (events : List Event) → (added : List Event) × Reacts rule events added
-some_reaction rule events = by (list_any (is_guard rule) events) (triggered-Decides rule events) (has_event events (caused rule)) (has_event-Decides events (caused rule))
-  where
-    by : (t : Bool) → IsTold t (IsTriggered rule events) → (h : Bool) → IsTold h (Contains events (caused rule)) → (added : List Event) × Reacts rule events added
-    by t d true h = ([], Reacts-present rule events (h.0 refl))
-    by false d false h = ([], Reacts-untriggered rule events (not_from_Decides false d refl))
-    by true d false h = (caused rule ∷ [], Reacts-adds rule events (d.0 refl) (not_from_Decides false h refl))
-
-some_addition : (rules : List CauseRule) (events : List Event) → (added : List Event) × ReactAll rules events added
-some_addition [] events = ([], refl)
-some_addition (rule ∷ rules) events =
-    let first = some_reaction rule events in
-    let rest = some_addition rules (events ++ first.0) in
-    (first.0 ++ rest.0, (first.0, rest.0, first.1, rest.1, refl))
-
-some_step : (rules : List CauseRule) (before : Step) → (o : OutStep) × Decides rules before o
-some_step rules before =
-    let a = some_addition rules before.events in
-    (record { kind = System; step = record { time = before.time; events = before.events ++ a.0 }; changes = map Cause a.0 }, record { added = a.0; reacted = a.1; kind = refl; step = refl; changes = refl })
-
-pub some_decision : SomeDecision
-some_decision rules start [] = ([], tt)
-some_decision rules start (StepRecord step ∷ records) =
-    let first = some_step rules step in
-    let rest = some_decision rules start records in
-    (first.0 ∷ rest.0, (first.1, rest.1))
-some_decision rules start (Tick time ∷ records) = some_decision rules start records
-
-pub some_drain : SomeDrain
-some_drain rules start = ([], refl)
+pub planned_satisfied : PolicyKeepsMeaning → PlannedAreSatisfied
+planned_satisfied keeps entries policy plans guards trace planned satisfied =
+    All-from_recursion (λ rule. (i : ℕ) → i < length trace → Sat trace i no_values rule) policy
+    (meant policy plans trace (keeps entries policy plans guards planned)
+    (recursion_from_All (λ rule. (i : ℕ) → i < length trace → Sat trace i no_values rule) (formulas_for plans) satisfied))

@@ -1,7 +1,2 @@
-pub mod Triggers
-pub mod ReactionLemmas
-pub mod KeptRules
-pub mod LawfulReactions
-pub mod OneStep
 pub mod Courses
-pub mod Built
+pub mod StepLemmas

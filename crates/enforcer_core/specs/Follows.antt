@@ -1,49 +1,41 @@
--- What cause rules decide for the records of a log, and at its end.
-use Rattle.std.specs.Prelude.{◌≡◌, List, [], ◌++◌}
-use Rattle.std.specs.List.{AllZip}
+-- What is decided for the records of a log, and at its end.
+use Rattle.std.specs.Prelude.{◌≡◌, List, ◌++◌}
 use Rattle.enf_formula.specs.Formulas.{Formula}
 use Rattle.enf_value.specs.declared.steps.Step.{Step}
-use Rattle.trace_meaning.specs.OutSteps.{OutStep}
-use Rattle.trace_meaning.specs.Records.{Record, recorded}
-use Rattle.trace_meaning.specs.Start.{Start, start_behind}
-use Rattle.enforcer_core.specs.Enforcers.{Enforcing, start_of}
-use Rattle.enforcer_core.specs.Reactions.{Decides}
-use Rattle.enforcer_core.specs.Rules.{AreBuilt}
+use Rattle.enf_value.specs.declared.terms.VarId.{VarId}
+use Rattle.trace_meaning.specs.Records.{Record}
+use Rattle.plan_terms.specs.Plans.{Plan}
+use Rattle.signature.specs.declared.entries.NameEntry.{NameEntry}
+use Rattle.enforce_types.specs.PolicyPlans.{ArePlanned}
+use Rattle.choice_step.specs.Follows.{ActedStep, Follows, FollowsDrain, steps_of}
+use Rattle.enforcer_core.specs.Enforcers.{Enforcing, plans_of}
 use Rattle.enforcer_core.specs.Stands.{Stands}
-use Rattle.enforcer_core.specs.declared.enforcer.CauseRule.{CauseRule}
 
--- from a start on, one step for each step record, which the rules decide, and none for a tick: rules of this form owe
--- nothing to a later step, so what went out before changes nothing
-abbrev pub Follows : List CauseRule → Start → List Record → List OutStep → Type 0
-Follows rules start records out = AllZip (Decides rules) (recorded records) out
-
--- and a drain lets out what is still owed: nothing
-abbrev pub FollowsDrain : List CauseRule → Start → List OutStep → Type 0
-FollowsDrain rules start out = out ≡ []
-
--- so it is from whatever trace an enforcer stands for
-abbrev pub FollowsFrom : Enforcing → List Record → List OutStep → Type 0
+-- from whatever trace an enforcer stands for, this goes out for the records, and where all is served
+abbrev pub FollowsFrom : Enforcing → List Record → List ActedStep → Type 0
 FollowsFrom before records out =
-    (trace : List Step) → Stands before trace → Follows before.rules (start_of before trace) records out
+    (trace : List Step) → Stands before trace → Follows (plans_of before) trace records out
 
-abbrev pub FollowsDrainFrom : Enforcing → List OutStep → Type 0
+abbrev pub FollowsDrainFrom : Enforcing → List ActedStep → Type 0
 FollowsDrainFrom before out =
-    (trace : List Step) → Stands before trace → FollowsDrain before.rules (start_of before trace) out
+    (trace : List Step) → Stands before trace → FollowsDrain (plans_of before) trace out
 
--- rules that are built from the policy decide so
-pub record FollowsPolicy (policy : List Formula) (start : Start) (records : List Record)
-    (out : List OutStep) : Type 0 where
-  pub rules : List CauseRule
-  pub built : AreBuilt policy rules
-  pub follows : Follows rules start records out
+-- the plans of a policy decide so behind a trace
+pub record FollowsPolicy (entries : List NameEntry) (policy : List Formula) (trace : List Step)
+    (records : List Record) (out : List ActedStep) : Type 0 where
+  pub plans : List Plan
+  pub guards : List (Formula × List VarId)
+  pub planned : ArePlanned entries policy plans guards
+  pub follows : Follows plans trace records out
 
 -- and behind the records they drain
-pub record FollowsToEnd (policy : List Formula) (start : Start) (records : List Record)
-    (out : List OutStep) : Type 0 where
-  pub rules : List CauseRule
-  pub built : AreBuilt policy rules
-  pub first : List OutStep
-  pub last : List OutStep
+pub record FollowsToEnd (entries : List NameEntry) (policy : List Formula) (trace : List Step)
+    (records : List Record) (out : List ActedStep) : Type 0 where
+  pub plans : List Plan
+  pub guards : List (Formula × List VarId)
+  pub planned : ArePlanned entries policy plans guards
+  pub first : List ActedStep
+  pub last : List ActedStep
   pub split : out ≡ first ++ last
-  pub follows : Follows rules start records first
-  pub drained : FollowsDrain rules (start_behind start records first) last
+  pub follows : Follows plans trace records first
+  pub drained : FollowsDrain plans (trace ++ steps_of first) last

@@ -8,7 +8,7 @@ pub mod Answered
 pub mod Course
 pub mod Enforcers
 pub mod Follows
+pub mod Keeping
 pub mod Laws
-pub mod Reactions
-pub mod Rules
+pub mod Remembering
 pub mod Stands

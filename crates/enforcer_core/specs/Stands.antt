@@ -1,32 +1,30 @@
 -- For which traces an enforcer stands.
-use Rattle.std.specs.Prelude.{ℕ, ◌≤◌, false, List, ◌++◌}
+use Rattle.std.specs.Prelude.{◌≡◌, List, ◌++◌, length}
 use Rattle.enf_value.specs.Data.{IsTrace}
 use Rattle.enf_value.specs.declared.steps.Step.{Step}
-use Rattle.trace_meaning.specs.Continuation.{last_time}
-use Rattle.trace_meaning.specs.OutSteps.{OutStep, trace_of}
 use Rattle.trace_meaning.specs.Satisfies.{Satisfies}
-use Rattle.enforcer_core.specs.Enforcers.{Enforcing}
-use Rattle.enforcer_core.specs.Rules.{policy_of}
-use Rattle.enforcer_core.specs.declared.enforcer.CauseRule.{CauseRule}
+use Rattle.obligations.specs.Pending.{IsReady, Pend}
+use Rattle.obligations.specs.Waiting.{KeepsDeadlines}
+use Rattle.past_state.specs.Past.{PastStands}
+use Rattle.choice_step.specs.Follows.{ActedStep, steps_of}
+use Rattle.enforcer_core.specs.Enforcers.{Enforcing, formulas_for, plans_of}
 
--- a trace up to the clock that satisfies the rules
+-- a trace that is ready for the clock, so that nothing is missing anywhere; what the guards remember stands for it, and
+-- what is pending is what it leaves pending, with its deadlines
 pub record Stands (enforcer : Enforcing) (trace : List Step) : Type 0 where
   pub is_trace : IsTrace trace
-  pub not_later : last_time trace ≤ enforcer.clock
-  pub satisfied : Satisfies trace (policy_of enforcer.rules)
+  pub ready : IsReady (plans_of enforcer) trace enforcer.clock
+  pub position : enforcer.position ≡ length trace
+  pub past : PastStands trace enforcer.past
+  pub pending : Pend (plans_of enforcer) trace enforcer.pending.instances
+  pub deadlines : KeepsDeadlines (plans_of enforcer) enforcer.pending
 
 -- whatever it stood for, it now stands for that with these steps at its end
-abbrev pub KeepsStanding : Enforcing → Enforcing → List OutStep → Type 0
+abbrev pub KeepsStanding : Enforcing → Enforcing → List ActedStep → Type 0
 KeepsStanding before after out =
-    (trace : List Step) → Stands before trace → Stands after (trace ++ trace_of out)
+    (trace : List Step) → Stands before trace → Stands after (trace ++ steps_of out)
 
--- a trace up to the time that satisfies the rules does so with these steps at its end
-abbrev pub KeepsRules : List CauseRule → ℕ → List OutStep → Type 0
-KeepsRules rules time out =
-    (trace : List Step) → IsTrace trace → last_time trace ≤ time → Satisfies trace (policy_of rules)
-    → Stands (record { rules = rules; clock = time; stopped = false }) (trace ++ trace_of out)
-
--- and that satisfies the rules
-abbrev pub SatisfiesBehind : Enforcing → List OutStep → Type 0
+-- and that satisfies the policy
+abbrev pub SatisfiesBehind : Enforcing → List ActedStep → Type 0
 SatisfiesBehind before out =
-    (trace : List Step) → Stands before trace → Satisfies (trace ++ trace_of out) (policy_of before.rules)
+    (trace : List Step) → Stands before trace → Satisfies (trace ++ steps_of out) (formulas_for (plans_of before))

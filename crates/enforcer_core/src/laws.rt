@@ -1,8 +1,9 @@
 //! Laws of enforcers, each the contract of a function that does nothing.
 ghost use Rattle.enforcer_core.specs.Laws.{CourseBegins, CourseGoesOn, CourseKeepsUp, CourseEnforces};
-ghost use Rattle.enforcer_core.specs.Laws.{CourseFollows, CourseFollowsToEnd, StandsForGood};
-ghost use Rattle.enforcer_core.specs.Laws.{SomeDecision, SomeDrain, OneDecision, OneDrain, BuiltAreSatisfied, OneRule};
+ghost use Rattle.enforcer_core.specs.Laws.{CourseFollows, CourseFollowsToEnd, PlannedAreSatisfied, StandsForGood};
 
+use enforce_types::laws::policy_plans_keep_meaning;
+use obligations::laws::pending_is_enough;
 use trace_meaning::laws;
 
 /// What an enforcer does for records, one after another.
@@ -17,6 +18,7 @@ pub fn course()
     laws::records_join();
     laws::lawful_joins();
     laws::good();
+    pending_is_enough();
 }
 
 /// What an enforcer stands for can be continued well.
@@ -24,18 +26,12 @@ pub fn stands_for_good()
     ensures { StandsForGood }
 {
     laws::good();
+    pending_is_enough();
 }
 
-/// The rules leave no choice.
-pub fn one_decision()
-    ensures some { SomeDecision }
-    ensures some_drain { SomeDrain }
-    ensures one { OneDecision }
-    ensures one_drain { OneDrain }
-{}
-
-/// Policies, and the rules that are built from them.
-pub fn built()
-    ensures satisfied { BuiltAreSatisfied }
-    ensures one { OneRule }
-{}
+/// The plans of a policy mean what it means.
+pub fn planned()
+    ensures { PlannedAreSatisfied }
+{
+    policy_plans_keep_meaning();
+}

@@ -1,11 +1,12 @@
-//! The enforcer: it takes step after step, and adds to each what its rules want, so that every rule
-//! holds at every position of what goes out. It stands on `enf_value`, on the satisfaction of
-//! `enf_formula` and on lawful change and good prefixes of `trace_meaning`.
+//! The enforcer: it takes step after step, and changes each as its policy wants, so that every rule holds at every
+//! position of what goes out. It stands on the choice loop of `choice_step`, on what `obligations` leaves pending, on
+//! what `past_state` remembers, on the policies of `enforce_types` and on the lawful change of `trace_meaning`.
 #![tactic(auto)]
 
 pub mod enforcer;
 pub mod laws;
+mod remembered;
 pub mod steps;
 
-pub use enforcer::{CauseRule, Enforcer};
-pub use steps::{Change, Changes, OutStep, OutSteps, StepOut, StepRefusal};
+pub use enforcer::Enforcer;
+pub use steps::{OutStep, OutSteps, StepOut, StepRefusal};

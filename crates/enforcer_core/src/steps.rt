@@ -3,29 +3,19 @@ ghost use Rattle.enforcer_core.specs.declared.steps.StepRefusal.TheVariants.{NoM
 ghost use Rattle.enforcer_core.specs.Answered.{refused_as};
 ghost use Rattle.std.specs.Prelude.{◌≡◌};
 
+use choice_step::Actions;
 use enf_value::event_sets::EventSet;
-use enf_value::events::Event;
 use enf_value::items::Items;
 use enf_value::memory::NoMemory;
 use trace_meaning::kinds::StepKind;
 
-/// An event that was added to a step, or one that was taken out.
-#[derive(Drop)]
-pub enum Change {
-    Cause(Event),
-    Suppress(Event),
-}
-
-/// A list of changes.
-pub type Changes = Items<Change>;
-
-/// A step that goes out, with the changes that made it, in their order.
+/// A step that goes out, with the actions that made it, in their order.
 #[derive(Drop)]
 pub struct OutStep {
     pub kind: StepKind,
     pub time: u64,
     pub events: EventSet,
-    pub changes: Changes,
+    pub actions: Actions,
 }
 
 /// A list of steps that go out.

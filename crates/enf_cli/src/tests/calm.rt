@@ -20,6 +20,9 @@ pub const SIGNATURE: &[u8] =
 /// The policy `raise` of the worked rows.
 pub const RAISE: &[u8] = b"rule raise: forall u. request(u) -> alarm();\n";
 
+/// The policy `consent` of the worked rows.
+pub const CONSENT: &[u8] = b"rule consent: forall u. use(u) -> once[0,*] consent(u);";
+
 /// What a run answered, and what it left on the gate and the report.
 #[derive(Drop)]
 pub struct Outcome {

@@ -74,7 +74,7 @@ fn policies_are_checked(rt: HostRuntime) -> Result<(), Fail> {
             b"rule two: forall u. (request(u) -> ((eventually[0,5] delete(u)) or (eventually[0,5] unlock(u))));\ntransparent no\nhorizon 50\ncause delete\ncause unlock\n",
         ),
         (
-            "not built",
+            "barred",
             SIGNATURE,
             b"rule bar: alarm() -> not use(\"x\");",
             b"rule bar: alarm() -> (not use(\"x\"));\ntransparent yes\nhorizon 0\nsuppress use\n",

@@ -1,5 +1,5 @@
 //! Worked runs, with the bytes that they are to give.
-use super::calm::{RAISE, SIGNATURE, enforced};
+use super::calm::{CONSENT, RAISE, SIGNATURE, enforced};
 use crate::refusals::Status;
 use std::test::Fail;
 
@@ -75,6 +75,48 @@ fn rules_act_in_the_order_of_the_policy(rt: HostRuntime) -> Result<(), Fail> {
 }
 
 #[test]
+fn what_is_barred_goes(rt: HostRuntime) -> Result<(), Fail> {
+    let alloc = rt.alloc();
+    for (name, policy, log, want) in [
+        (
+            "consent missing",
+            CONSENT,
+            b"@1 use(\"a\");".as_slice(),
+            b"@1;\n".as_slice(),
+        ),
+        (
+            "consent at the same step",
+            CONSENT,
+            b"@1 use(\"a\") consent(\"a\");",
+            b"@1 use(\"a\") consent(\"a\");\n",
+        ),
+        (
+            "consent before, and another's",
+            CONSENT,
+            b"@1 consent(\"a\"); @9 use(\"a\") use(\"b\") note(\"a\");",
+            b"@1 consent(\"a\");\n@9 use(\"a\") note(\"a\");\n",
+        ),
+        ("equal times", CONSENT, b"@1; @1; @2;", b"@1;\n@1;\n@2;\n"),
+        (
+            "raise and bar",
+            b"rule raise: forall u. request(u) -> alarm(); rule bar: alarm() -> not use(\"x\");",
+            b"@1 request(\"a\") use(\"x\");",
+            b"@1 request(\"a\") alarm();\n",
+        ),
+        (
+            "an earlier rule is woken",
+            b"rule bar: alarm() -> not use(\"x\"); rule raise: forall u. request(u) -> alarm();",
+            b"@1 request(\"a\") use(\"x\");",
+            b"@1 request(\"a\") alarm();\n",
+        ),
+    ] {
+        let outcome = enforced(alloc, SIGNATURE, policy, log, Vec::new(alloc))?;
+        outcome.assert_is(&rt, name, Status::Done, want, b"");
+    }
+    Ok(())
+}
+
+#[test]
 fn a_guard_may_have_a_column_of_numbers(rt: HostRuntime) -> Result<(), Fail> {
     let alloc = rt.alloc();
     let signature = b"request(int); alarm() +;";
@@ -132,7 +174,7 @@ fn a_refused_file_leaves_the_gate_alone(rt: HostRuntime) -> Result<(), Fail> {
         ),
         (
             SIGNATURE,
-            b"rule bar: alarm() -> not use(\"x\");",
+            b"rule erase: forall u. request(u) -> eventually[0,30] delete(u);",
             b"policy: not built\n",
         ),
         (

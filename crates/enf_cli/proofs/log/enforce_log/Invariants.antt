@@ -1,7 +1,7 @@
 use Rattle.std.proofs.Common.{◌≡◌, ◌+◌, ◌*◌, ◌-◌, ◌≤◌, List, ℕ, length}
 use Rattle.enf_cli.specs.Limits.{most_log_bytes, most_read_bytes}
 use Rattle.enf_cli.specs.Progress.{reads_on}
-use Rattle.enf_cli.proofs.LogTurns.{Done}
+use Rattle.enf_cli.proofs.LogTurns.{Done, IsWithinLimits}
 use Rattle.enf_cli.proofs.log.enforce_log.Given as goal
 
 abbrev pub invariant-loop-log : goal.invariant-loop-log
@@ -14,6 +14,7 @@ invariant-loop-log g l =
       left : l.log.accepted + length l.log.reader.rest ≤ l.log.taken;
       reader : l.log.reader ≡ reads_on l.signature l.log.reader.rest;
       room : length l.log.piece.items ≡ most_read_bytes;
+      limits : IsWithinLimits l.log;
       done : Done l.signature l.fn.log.enforcer (seen l.fn.gate) bytes l.log (seen l.gate);
     }
 

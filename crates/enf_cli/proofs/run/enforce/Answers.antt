@@ -1,15 +1,29 @@
-use Rattle.std.proofs.Common.{◌∙◌, [], ap, inl, refl, subst, sym}
+use Rattle.std.proofs.Common.{◌≡◌, ◌∙◌, List, [], ap, false, inl, map, refl, subst, sym}
 use Rattle.std.proofs.lemmas.Result.{err_from_is_err_and}
 use Rattle.enf_io.specs.FileCalls.{FileView}
-use Rattle.enforcer_core.specs.Enforcers.{Enforcing}
-use Rattle.enforcer_core.specs.Rules.{AreBuilt}
+use Rattle.enforce_types.specs.PolicyPlans.{ArePlanned}
+use Rattle.enforce_types.specs.Marks.{is_causable, is_suppressible}
+use Rattle.enforce_types.specs.Typed.{StoredTyped, typed_of}
+use Rattle.enforcer_core.specs.Answered.{Permits}
 use Rattle.formula_reader.specs.Resolution.{rules_of}
-use Rattle.enf_cli.specs.Policies.{formulas}
+use Rattle.plan_terms.specs.Plans.{plan_of}
+use Rattle.plan_terms.specs.declared.plans.Plan.{Plan as StoredPlan}
+use Rattle.enf_cli.specs.Owed.{HasPlans}
+use Rattle.enf_cli.specs.Policies.{CanBeBuilt, formulas, look_ahead}
 use Rattle.enf_cli.specs.Files.{EndsFile, HoldsPolicy, HoldsRefusedPolicy}
-use Rattle.enf_cli.proofs.BuildingLemmas.{all_can_be_built}
 use Rattle.enf_cli.specs.Logs.{CutsRun, RanAsJudged}
-use Rattle.enf_cli.proofs.RunLemmas.{from_the_start, log_done, log_ends, log_refused, memory_ends, policy_ends, signature_ends}
+use Rattle.enf_cli.proofs.RunLemmas.{from_the_start, log_done, log_ends, log_refused, memory_ends, none_ahead, policy_ends, signature_ends}
 use Rattle.enf_cli.proofs.run.enforce.Goals as goal
+
+pub new-requires : goal.new-requires
+new-requires g c =
+    none_ahead (typed_of c.in_ok-accepted.accepted.typed).plans (ap (λ (ps : List StoredPlan). look_ahead (map plan_of ps)) (sym c.plans.ensures.plans) ∙ sym c.looks_ahead.ensures ∙ c.if-looks_ahead.false)
+
+pub enforce_log-requires-clause-permits : goal.enforce_log-requires-clause-permits
+enforce_log-requires-clause-permits g c =
+    let kept = c.in_ok-accepted.ensures.kept in
+    subst (λ (stored : StoredTyped). Permits (is_causable c.in_ok-signature.signature) (is_suppressible c.in_ok-signature.signature) (map plan_of stored.plans)) (sym c.in_ok-log.ensures.enforcer.policy)
+    (record { caused = kept.caused; suppressed = kept.suppressed })
 
 pub returns-in_err-signature : goal.returns-in_err-signature
 returns-in_err-signature g c words report report' form =
@@ -24,11 +38,6 @@ returns-in_err-accepted g c words report report' form =
     let ends = subst (λ (v : FileView). EndsFile (HoldsRefusedPolicy v.contents name entries) name v (g.F.Files.seen c.read_policy.new.files) c.in_err-accepted.field-0.0) c.in_ok-signature.ensures.same c.in_err-accepted.ensures.ends in
     rw (p.1, p.2) (policy_ends _ c.args.signature_file.now name (inl form) entries c.in_err-accepted.field-0.0 refl refl c.in_ok-signature.ensures.held ends)
 
-pub returns-in_err-built : goal.returns-in_err-built
-returns-in_err-built g c words report report' form =
-    let p = err_from_is_err_and c.from_residual-in_err-built.result c.from_residual-in_err-built.ensures.1 in
-    rw (p.1, p.2) (memory_ends _ c.args.signature_file.now c.args.policy_file.now (inl form) refl refl (c.in_ok-accepted.ensures.same ∙ c.in_ok-signature.ensures.same))
-
 pub returns-in_err-log : goal.returns-in_err-log
 returns-in_err-log g c words report report' form =
     let p = err_from_is_err_and c.from_residual-in_err-log.result c.from_residual-in_err-log.ensures.1 in
@@ -40,13 +49,15 @@ returns-in_err-judged g c words report report' form =
     let first = c.in_ok-signature.ensures.same in
     let entries = c.in_ok-signature.signature in
     let policy = rules_of c.in_ok-accepted.accepted.policy in
+    let typed = typed_of c.in_ok-accepted.accepted.typed in
+    let planned = c.in_ok-accepted.ensures.typed.planned in
     let holds = subst (λ (v : FileView). HoldsPolicy v.contents c.args.policy_file.now entries policy) first c.in_ok-accepted.ensures.held in
-    let are_built : AreBuilt (formulas policy) c.in-Some.built.items = rw c.as_slice-rules.ensures at (rw c.in-Some.is at c.in_ok-built.ensures.built) in
-    let can = all_can_be_built entries (formulas policy) c.in-Some.built.items are_built (rw c.in-Some.is at c.in_ok-built.ensures.causable) in
+    let ahead : look_ahead typed.plans ≡ false = ap (λ (ps : List StoredPlan). look_ahead (map plan_of ps)) (sym c.plans.ensures.plans) ∙ sym c.looks_ahead.ensures ∙ c.if-looks_ahead.false in
+    let can : CanBeBuilt entries (formulas policy) = (typed.plans, typed.guards, planned, ahead) in
     let log = c.in_ok-log.ensures in
-    let built = subst (AreBuilt (formulas policy)) (sym (ap (λ (e : Enforcing). e.rules) log.enforcer)) are_built in
+    let built : HasPlans entries (formulas policy) c.in_ok-log.log.enforcer = (typed.guards, subst (λ (stored : StoredTyped). ArePlanned entries (formulas policy) (typed_of stored).plans typed.guards) (sym log.enforcer.policy) planned) in
     let cut = c.in_err-judged.field-0.0 in
-    let short = from_the_start entries (formulas policy) c.in_ok-log.log.enforcer c.in-Some.built.items log.enforcer (λ s. CutsRun s (g.G.Sink.seen c.args.gate.now) (g.G.Sink.seen c.enforce_log.new.gate) cut) (c.in_err-judged.ensures.cut (formulas policy) [] built log.stands) in
+    let short = from_the_start entries (formulas policy) c.in_ok-log.log.enforcer log.enforcer.clock (λ s. CutsRun s (g.G.Sink.seen c.args.gate.now) (g.G.Sink.seen c.enforce_log.new.gate) cut) (c.in_err-judged.ensures.cut (formulas policy) [] built log.stands) in
     rw (p.1, p.2) (log_ends _ c.args.signature_file.now c.args.policy_file.now form entries policy c.in_ok-signature.ensures.held holds can (c.in_ok-accepted.ensures.same ∙ first) cut short)
 
 pub returns-in_err-conclude : goal.returns-in_err-conclude
@@ -55,13 +66,15 @@ returns-in_err-conclude g c words report report' form =
     let first = c.in_ok-signature.ensures.same in
     let entries = c.in_ok-signature.signature in
     let policy = rules_of c.in_ok-accepted.accepted.policy in
+    let typed = typed_of c.in_ok-accepted.accepted.typed in
+    let planned = c.in_ok-accepted.ensures.typed.planned in
     let holds = subst (λ (v : FileView). HoldsPolicy v.contents c.args.policy_file.now entries policy) first c.in_ok-accepted.ensures.held in
-    let are_built : AreBuilt (formulas policy) c.in-Some.built.items = rw c.as_slice-rules.ensures at (rw c.in-Some.is at c.in_ok-built.ensures.built) in
-    let can = all_can_be_built entries (formulas policy) c.in-Some.built.items are_built (rw c.in-Some.is at c.in_ok-built.ensures.causable) in
+    let ahead : look_ahead typed.plans ≡ false = ap (λ (ps : List StoredPlan). look_ahead (map plan_of ps)) (sym c.plans.ensures.plans) ∙ sym c.looks_ahead.ensures ∙ c.if-looks_ahead.false in
+    let can : CanBeBuilt entries (formulas policy) = (typed.plans, typed.guards, planned, ahead) in
     let log = c.in_ok-log.ensures in
-    let built = subst (AreBuilt (formulas policy)) (sym (ap (λ (e : Enforcing). e.rules) log.enforcer)) are_built in
+    let built : HasPlans entries (formulas policy) c.in_ok-log.log.enforcer = (typed.guards, subst (λ (stored : StoredTyped). ArePlanned entries (formulas policy) (typed_of stored).plans typed.guards) (sym log.enforcer.policy) planned) in
     let judged = c.in_ok-judged.judged in
-    let ran = from_the_start entries (formulas policy) c.in_ok-log.log.enforcer c.in-Some.built.items log.enforcer (λ s. RanAsJudged s judged (g.G.Sink.seen c.args.gate.now) (g.G.Sink.seen c.enforce_log.new.gate)) (c.in_ok-judged.ensures.ran (formulas policy) [] built log.stands) in
+    let ran = from_the_start entries (formulas policy) c.in_ok-log.log.enforcer log.enforcer.clock (λ s. RanAsJudged s judged (g.G.Sink.seen c.args.gate.now) (g.G.Sink.seen c.enforce_log.new.gate)) (c.in_ok-judged.ensures.ran (formulas policy) [] built log.stands) in
     rw (p.1, p.2) (log_refused _ c.args.signature_file.now c.args.policy_file.now form entries policy c.in_ok-signature.ensures.held holds can (c.in_ok-accepted.ensures.same ∙ first) judged.accepted judged.verdict ran.ran c.in_err-conclude.field-0.0 ran.count c.in_err-conclude.ensures)
 
 pub returns : goal.returns
@@ -69,11 +82,13 @@ returns g c words report report' form =
     let first = c.in_ok-signature.ensures.same in
     let entries = c.in_ok-signature.signature in
     let policy = rules_of c.in_ok-accepted.accepted.policy in
+    let typed = typed_of c.in_ok-accepted.accepted.typed in
+    let planned = c.in_ok-accepted.ensures.typed.planned in
     let holds = subst (λ (v : FileView). HoldsPolicy v.contents c.args.policy_file.now entries policy) first c.in_ok-accepted.ensures.held in
-    let are_built : AreBuilt (formulas policy) c.in-Some.built.items = rw c.as_slice-rules.ensures at (rw c.in-Some.is at c.in_ok-built.ensures.built) in
-    let can = all_can_be_built entries (formulas policy) c.in-Some.built.items are_built (rw c.in-Some.is at c.in_ok-built.ensures.causable) in
+    let ahead : look_ahead typed.plans ≡ false = ap (λ (ps : List StoredPlan). look_ahead (map plan_of ps)) (sym c.plans.ensures.plans) ∙ sym c.looks_ahead.ensures ∙ c.if-looks_ahead.false in
+    let can : CanBeBuilt entries (formulas policy) = (typed.plans, typed.guards, planned, ahead) in
     let log = c.in_ok-log.ensures in
-    let built = subst (AreBuilt (formulas policy)) (sym (ap (λ (e : Enforcing). e.rules) log.enforcer)) are_built in
+    let built : HasPlans entries (formulas policy) c.in_ok-log.log.enforcer = (typed.guards, subst (λ (stored : StoredTyped). ArePlanned entries (formulas policy) (typed_of stored).plans typed.guards) (sym log.enforcer.policy) planned) in
     let judged = c.in_ok-judged.judged in
-    let ran = from_the_start entries (formulas policy) c.in_ok-log.log.enforcer c.in-Some.built.items log.enforcer (λ s. RanAsJudged s judged (g.G.Sink.seen c.args.gate.now) (g.G.Sink.seen c.enforce_log.new.gate)) (c.in_ok-judged.ensures.ran (formulas policy) [] built log.stands) in
+    let ran = from_the_start entries (formulas policy) c.in_ok-log.log.enforcer log.enforcer.clock (λ s. RanAsJudged s judged (g.G.Sink.seen c.args.gate.now) (g.G.Sink.seen c.enforce_log.new.gate)) (c.in_ok-judged.ensures.ran (formulas policy) [] built log.stands) in
     inl (inl (log_done _ c.args.signature_file.now c.args.policy_file.now form entries policy c.in_ok-signature.ensures.held holds can (c.in_ok-accepted.ensures.same ∙ first) judged.accepted judged.verdict ran.ran c.in_ok-conclude.ensures))
