@@ -1,3 +1,4 @@
 pub mod Beginning
 pub mod Beside
+pub mod Enforcing
 pub mod Running

@@ -1,5 +1,5 @@
-//! From the bytes of a policy to a past state before the first step, with no test on the way: what is read is well-formed,
-//! so its plans and guards are, and these are all that a past state asks for.
+//! From the bytes of a policy to a past state before the first step, with no test on the way: what is read is
+//! well-formed, so its plans and guards are, and these are all that a past state asks for.
 ghost use Rattle.std.specs.Prelude.{◌≤◌, ◌^◌, [], IfErr, IfOk, OnOk, length};
 ghost use Rattle.enf_cases.specs.Beginning.{IsAcceptedText, IsWantOfMemory, RefusesText};
 ghost use Rattle.past_state.specs.Guarded.{AreCopies};
@@ -66,8 +66,8 @@ pub fn begin(alloc: Global, signature: &Signature, bytes: &[u8]) -> Result<PastS
     }
 }
 
-/// How many windows and slots the past state of a policy has, or its first refusal. Reads a signature and, behind a byte
-/// 1, a policy under it.
+/// How many windows and slots the past state of a policy has, or its first refusal. Reads a signature and, behind a
+/// byte 1, a policy under it.
 pub fn answer(alloc: Global, input: &[u8], out: &mut Output) -> Result<(), CaseError> {
     let (signature, text) = two(input)?;
     let signature = read_signature(alloc, signature)?;

@@ -5,8 +5,8 @@ use crate::output::Output;
 use crate::parts::find;
 use crate::running::Way;
 use crate::{
-    arguments, beginnings, evaluations, event_sets, guards, holds, intervals, logs, long_runs,
-    past, policies, signatures, tables, typing, values, window_runs,
+    arguments, beginnings, enforcing, evaluations, event_sets, guards, holds, intervals, logs,
+    long_runs, past, policies, signatures, tables, typing, values, window_runs,
 };
 use log_stream::LogMode;
 use std::alloc::Global;
@@ -23,6 +23,7 @@ pub enum Kind {
     Policy,
     Check,
     Begun,
+    Steps,
     Log(LogMode),
     Arguments,
     Table,
@@ -36,7 +37,7 @@ pub enum Kind {
     Long,
 }
 
-static KINDS: [(&[u8], Kind); 25] = [
+static KINDS: [(&[u8], Kind); 26] = [
     (b"text", Kind::Text),
     (b"value", Kind::Value),
     (b"compare", Kind::Compare),
@@ -46,6 +47,7 @@ static KINDS: [(&[u8], Kind); 25] = [
     (b"policy", Kind::Policy),
     (b"check", Kind::Check),
     (b"begun", Kind::Begun),
+    (b"steps", Kind::Steps),
     (b"log", Kind::Log(LogMode::Input)),
     (b"trace", Kind::Log(LogMode::TraceLog)),
     (b"arguments", Kind::Arguments),
@@ -86,6 +88,7 @@ pub fn answer_kind(
         Kind::Policy => policies::answer(alloc, input, out),
         Kind::Check => typing::answer(alloc, input, out),
         Kind::Begun => beginnings::answer(alloc, input, out),
+        Kind::Steps => enforcing::answer(alloc, input, out),
         Kind::Log(mode) => logs::answer(alloc, mode, input, out),
         Kind::Arguments => arguments::answer(alloc, input, out),
         Kind::Table => tables::answer(alloc, input, out),

@@ -33,10 +33,11 @@ struct Counts {
     most: usize,
 }
 
-/// At how many steps of a run a guard has rows, how many rows are kept at its end, and the most behind a step. The input
-/// is the numbers of steps and of users and how many steps pass between two counts, a byte 1, and a policy of one rule:
-/// the guard is what stands below its first `exists`. With u being i modulo the users, step i is at time i and has
-/// `p(u)`, `q` of the user as far from the last as u from the first, and `r` of the user half of all further on.
+/// At how many steps of a run a guard has rows, how many rows are kept at its end, and the most behind a step. The
+/// input is the numbers of steps and of users and how many steps pass between two counts, a byte 1, and a policy of
+/// one rule: the guard is what stands below its first `exists`. With u being i modulo the users, step i is at time i
+/// and has `p(u)`, `q` of the user as far from the last as u from the first, and `r` of the user half of all further
+/// on.
 pub fn answer(alloc: Global, input: &[u8], out: &mut Output) -> Result<(), CaseError> {
     let (numbers, policy) = two(input)?;
     let run = read_run(numbers)?;

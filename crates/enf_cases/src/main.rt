@@ -7,6 +7,7 @@
 mod arguments;
 mod beginnings;
 mod case;
+mod enforcing;
 mod escapes;
 mod evaluations;
 mod event_sets;
