@@ -58,7 +58,7 @@ is_enforced() {
 
 # compare WHAT MORE FEW: how many times the one is as much as the other.
 compare() {
-    awk -v what="$1" -v more="$2" -v few="$3" 'BEGIN { printf "%s: %d, %.2f times %d\n", what, more, more / few, few }'
+    awk -v what="$1" -v more="$2" -v few="$3" 'BEGIN { printf "%s: %.0f, %.2f times %.0f\n", what, more, more / few, few }'
 }
 
 for policy in empty raise; do
