@@ -14,7 +14,6 @@ use Rattle.obligations.specs.Rows.{HoldsLast, last_position}
 use Rattle.obligations.specs.declared.actions.Action.{Action}
 use Rattle.obligations.specs.declared.instances.Instance.{Instance}
 use Rattle.choice_step.specs.Choice.{with_step}
-use Rattle.choice_step.specs.Laws.{StepIsNow}
 use Rattle.choice_step.specs.Looking.{IsKnownBehind, IsKnownFor, IsStepOf, IsWantedAt, IsWantedBehind}
 use Rattle.choice_step.proofs.ChoiceLemmas.{last_step}
 
@@ -32,21 +31,6 @@ step_of past time position events tables trace hold stands long later =
       guards = λ number g is v binds.
           subst (λ n. HoldsNow events (tables_of g tables) v (formula_of g) ↔ Sat (trace ++ step ∷ []) n v (formula_of g)) last
           (hold trace step refl refl later stands number g is v binds);
-    }
-
-pub step_is_now : StepIsNow
-step_is_now past trace now hold same stands long later =
-    let of = step_of past now.time now.position now.events.now now.tables.now trace
-    (subst (λ l. GuardsWillHold past now.time l now.tables.now) (sym same) hold) stands long later
-    in
-    record {
-      some = of.some;
-      position = of.position_is;
-      time = of.time_is;
-      events = of.events_are;
-      guards = λ number g is v binds.
-          subst (λ l. HoldsNow l (tables_of g now.tables.now) v (formula_of g) ↔ HoldsLast (with_step trace now.time now.events.now) v (formula_of g)) same
-          (of.guards number g is v binds);
     }
 
 known_behind : (plans : List Plan) (pending : List Instance) (past : Past) (time : ℕ) (events : List Event) (tables : PastTables)

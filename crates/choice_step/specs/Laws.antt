@@ -1,20 +1,16 @@
 -- The statements of laws on what is done at a step and on what goes out.
-use Rattle.std.specs.Prelude.{◌≡◌, ℕ, ◌≤◌, Bool, IsTrue, List, [], length, map, All}
+use Rattle.std.specs.Prelude.{◌≡◌, ℕ, Bool, IsTrue, List, [], map, All}
 use Rattle.std.specs.List.{AllByRecursion}
 use Rattle.enf_value.specs.Membership.{HasNoRepeats}
 use Rattle.enf_value.specs.declared.events.Event.{Event}
 use Rattle.enf_value.specs.declared.events.NameId.{NameId}
 use Rattle.enf_value.specs.declared.steps.Step.{Step}
-use Rattle.trace_meaning.specs.Continuation.{last_time}
 use Rattle.trace_meaning.specs.Lawful.{IsCause, Leads}
 use Rattle.trace_meaning.specs.OutSteps.{event_of}
 use Rattle.trace_meaning.specs.Records.{Record, recorded}
 use Rattle.plan_terms.specs.Changes.{IsCaused, IsSuppressed, NothingClashes}
 use Rattle.plan_terms.specs.Plans.{Plan}
-use Rattle.past_state.specs.Past.{GuardsWillHold, Past, PastStands}
-use Rattle.obligations.specs.Asked.{IsNowOf}
 use Rattle.obligations.specs.declared.instances.Instance.{Instance}
-use Rattle.obligations.specs.declared.now.Now.{Now}
 use Rattle.choice_step.specs.Choice.{Decides, MissesNothing, all_asked, with_step}
 use Rattle.choice_step.specs.Choosing.{ActsFrom}
 use Rattle.choice_step.specs.Follows.{ActedStep, Follows, FollowsDrain, change_of}
@@ -66,11 +62,3 @@ EventsAreActedOnOnce = (plans : List Plan) (before : List Event) (actions : List
 abbrev pub CausesAlone : Type 0
 CausesAlone = (plans : List Plan) (actions : List Action) (after : List Event) → NothingClashes plans
     → ActsFrom plans [] actions after → All IsCause (map change_of actions)
-
--- a step stands for each trace for which the past state stands, with the step behind it, where guards hold by its
--- tables if they are satisfied
-abbrev pub StepIsNow : Type 0
-StepIsNow = (past : Past) (trace : List Step) (now : Now)
-    → GuardsWillHold past now.time now.ordered.now now.tables.now → now.events.now ≡ now.ordered.now
-    → PastStands trace past → length trace ≡ now.position → last_time trace ≤ now.time
-    → IsNowOf now (with_step trace now.time now.events.now)

@@ -1,6 +1,6 @@
 //! Laws of what is done at a step and of what goes out, each the contract of a function that does nothing.
 ghost use Rattle.choice_step.specs.Laws.{ActionsAreLawful, CausesAlone, EventsAreActedOnOnce};
-ghost use Rattle.choice_step.specs.Laws.{DecidedMissesNothing, DecidesIsOne, DrainIsOne, FollowsIsOne, StepIsNow};
+ghost use Rattle.choice_step.specs.Laws.{DecidedMissesNothing, DecidesIsOne, DrainIsOne, FollowsIsOne};
 
 use obligations::laws::{missing_is_one, pending_is_one};
 
@@ -17,11 +17,6 @@ pub fn follows_is_one()
 /// What is done at a step leaves nothing missing there.
 pub fn decided_misses_nothing()
     ensures { DecidedMissesNothing }
-{}
-
-/// What a step stands for that is decided behind a trace.
-pub fn step_is_now()
-    ensures { StepIsNow }
 {}
 
 /// Actions are lawful changes of the events of a step: no event is acted on twice, and a step that begins without

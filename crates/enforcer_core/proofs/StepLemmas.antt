@@ -28,7 +28,7 @@ use Rattle.obligations.specs.declared.instances.Instance.{Instance}
 use Rattle.choice_step.specs.Choice.{Decides, MissesNothing, all_asked, roots_from, with_step}
 use Rattle.choice_step.specs.Follows.{ActedStep, Follows, FollowsDrain, GoesOut, NoneIsPassed, is_inserted, out_step, steps_of}
 use Rattle.choice_step.specs.Choosing.{ActsFrom}
-use Rattle.choice_step.specs.Laws.{ActionsAreLawful, EventsAreActedOnOnce}
+use Rattle.choice_step.specs.Laws.{ActionsAreLawful, DecidedMissesNothing, EventsAreActedOnOnce}
 use Rattle.enforcer_core.specs.Answered.{ChangesLawfully, Permits}
 use Rattle.enforcer_core.specs.Enforcers.{Enforcing, acted_step, acted_steps, out_steps, plans_in, plans_of}
 use Rattle.enforcer_core.specs.Keeping.{remembered_in}
@@ -73,17 +73,7 @@ roots_lack : (plans : List Plan) (inserted : Bool) (trace : List Step) (rule : �
 roots_lack plans inserted trace rule [] all = tt
 roots_lack plans inserted trace rule (plan ∷ others) all = (all.0, roots_lack plans inserted trace (suc rule) others all.1)
 
--- what is decided leaves nothing missing
-decided_misses_nothing : (plans : List Plan) (trace : List Step) (pending : List Instance) (inserted : Bool) (time : ℕ)
-    (before : List Event) (actions : List Action) (after : List Event)
-    → Decides plans trace pending inserted time before actions after
-    → AllByRecursion (MissesNothing plans inserted (with_step trace time after)) (all_asked plans pending)
-decided_misses_nothing plans trace pending inserted time before [] after (same, none) =
-    subst (λ (events : List Event). AllByRecursion (MissesNothing plans inserted (with_step trace time events)) (all_asked plans pending)) (sym same) none
-decided_misses_nothing plans trace pending inserted time before (action ∷ actions) after (asked, literal, between, first, is, applies, rest) =
-    decided_misses_nothing plans trace pending inserted time between actions after rest
-
-module _ (nothing : NothingIsPending) (grows : TraceGrows) (newest : LastIsTheNew) (cleans : CleanGrows)
+module _ (missed : DecidedMissesNothing) (nothing : NothingIsPending) (grows : TraceGrows) (newest : LastIsTheNew) (cleans : CleanGrows)
     (before after : Enforcing) (policy : after.policy ≡ before.policy) (at_now : StandAtNow (plans_of before))
     (trace : List Step) (stands : Stands before trace) where
   abbrev plans : List Plan
@@ -109,7 +99,7 @@ module _ (nothing : NothingIsPending) (grows : TraceGrows) (newest : LastIsTheNe
         subst (λ (step : Step). AllByRecursion (λ plan. LacksNothing (trace ++ step ∷ []) plan no_values) plans) step_is
         (roots_lack plans (is_inserted kind) (with_step trace time o.step.events) 0 plans
         (subst (λ (l : List Instance). AllByRecursion (MissesNothing plans (is_inserted kind) (with_step trace time o.step.events)) (all_asked plans l)) none_now
-        (decided_misses_nothing plans trace goes.pending (is_inserted kind) time events o.actions o.step.events goes.decided)))
+        (missed plans trace goes.pending (is_inserted kind) time events o.actions o.step.events goes.decided)))
 
     clean_at : IsCleanAt plans (trace ++ o.step ∷ []) before.pending.instances
     clean_at = record {
@@ -221,11 +211,11 @@ module _ (nothing : NothingIsPending) (before after : Enforcing) (policy : after
   goes : (trace : List Step) → Stands before trace → GoesOut (plans_of before) trace System time events (acted_step d.step)
   goes trace stands = d.decided.goes_out trace (of_trace trace stands) (not_later trace stands)
 
-  pub lets_out_stands : TraceGrows → LastIsTheNew → CleanGrows → (trace : List Step) → Stands before trace
+  pub lets_out_stands : DecidedMissesNothing → TraceGrows → LastIsTheNew → CleanGrows → (trace : List Step) → Stands before trace
       → Stands after (trace ++ steps_of (acted_steps out))
-  lets_out_stands grows newest cleans trace stands =
+  lets_out_stands missed grows newest cleans trace stands =
       subst (λ (l : List step.OutStep). Stands after (trace ++ steps_of (acted_steps l))) (sym d.only)
-      (stands_after nothing grows newest cleans before after policy at_now trace stands System time later clock (acted_step d.step) events (goes trace stands) d.decided.distinct
+      (stands_after missed nothing grows newest cleans before after policy at_now trace stands System time later clock (acted_step d.step) events (goes trace stands) d.decided.distinct
       (d.decided.remembers trace (of_trace trace stands) (not_later trace stands)) d.decided.deadlines)
 
   pub lets_out_follows : (trace : List Step) → Stands before trace

@@ -15,7 +15,7 @@ ghost use Rattle.enforcer_core.specs.Stands.{KeepsStanding, SatisfiesBehind, Sta
 use crate::remembered::Remembered;
 use crate::steps::{OutSteps, StepOut, StepRefusal, Untaken};
 use choice_step::Wakes;
-use choice_step::laws::actions_are_lawful;
+use choice_step::laws::{actions_are_lawful, decided_misses_nothing};
 use enf_value::event_sets::EventSet;
 use enf_value::memory::NoMemory;
 use enforce_types::TypedPolicy;
@@ -149,6 +149,7 @@ impl Enforcer {
         pending_is_enough();
         traces_grow();
         actions_are_lawful();
+        decided_misses_nothing();
         self.admit(time)?;
         // Its clause says that no event stands twice.
         let _given = events.as_slice();

@@ -42,14 +42,6 @@ placed_guard g = (formula_of g, g.guard.bound)
 abbrev pub guards_at : PastTables → List (Formula × List VarId)
 guards_at tables = map placed_guard tables.guards
 
--- the tables of the guard with a number
-abbrev pub tables_found : PastTables → Option PlacedGuard → List Relation
-tables_found tables None = []
-tables_found tables (Some g) = tables_of g tables
-
-abbrev pub tables_for : PastTables → ℕ → List Relation
-tables_for tables guard = tables_found tables (slice_get tables.guards guard)
-
 -- v binds each free variable of the formula
 abbrev pub BindsFree : Valuation → Formula → Type 0
 BindsFree v f = (x : VarId) → IsFree x f → IsSome (value_at v x)

@@ -19,7 +19,8 @@ use plan_terms::Plan;
 use std::alloc::Global;
 use valuations::Valuation;
 
-/// The instances that the plan of a rule begins where it is begun at the step.
+/// The instances that the plan of a rule begins where it is begun at the step. Of a plan that looks ahead they are not
+/// told yet: it answers want of memory.
 pub fn take(
     alloc: Global,
     rule: u32,

@@ -19,8 +19,8 @@ use plan_terms::Plan;
 use std::alloc::Global;
 use valuations::{Frame, Valuation};
 
-/// The first literal that the plan misses where it is begun at the step, if it misses any. No list is made, and no
-/// valuation is copied for a row.
+/// The first literal that the plan misses where it is begun at the step, if it misses any. No valuation is copied for a
+/// row, and a list is made of what a side of an Either or an Until misses alone.
 pub fn first_missing(
     alloc: Global,
     plan: &Plan,

@@ -76,7 +76,7 @@ impl Pending {
     }
 
     /// Each instance becomes what it becomes behind the step, in its place, and what the roots of the rules begin comes
-    /// last. After want of memory it is fit to be dropped.
+    /// last. Of plans that look ahead it is not told yet: it answers want of memory, after which it is fit to be dropped.
     pub fn progress(&mut self, alloc: Global, plans: &[Plan], now: &Now<'_>) -> Result<(), NoMemory>
         requires roots { CanAskRoots (guards_at now.now.tables.now) (map plan_of plans.now) }
         requires named { PlansStand (map plan_of plans.now) }

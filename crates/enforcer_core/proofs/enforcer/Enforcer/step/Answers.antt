@@ -38,7 +38,7 @@ returns-clause-stands c trace stands =
     let later : c.self.inside.clock ≤ c.args.time = subst (λ (e : Enforcing). e.clock ≤ c.args.time) (sym c.self.view_is) c.in_ok-admit.ensures.not_over in
     lets_out_stands c.pending_is_enough.ensures.nothing _ _ refl c.self.invariant.0.at_now c.args.time later refl c.args.events c.in_ok-steps.steps
     (subst (λ (l : List StoredPlan). LetsOut (map plan_of l) c.self.inside.remembered c.args.time c.args.events c.in_ok-steps.steps c.let_out.new.self) c.plans.ensures.plans c.in_ok-steps.ensures.decided)
-    c.trace_grows.ensures.trace c.trace_grows.ensures.last c.traces_grow.ensures.clean trace (subst (λ (e : Enforcing). Stands e trace) (sym c.self.view_is) stands)
+    c.decided_misses_nothing.ensures c.trace_grows.ensures.trace c.trace_grows.ensures.last c.traces_grow.ensures.clean trace (subst (λ (e : Enforcing). Stands e trace) (sym c.self.view_is) stands)
 
 pub returns-clause-changed : goal.returns-clause-changed
 returns-clause-changed c =
