@@ -8,7 +8,7 @@ use Rattle.enf_value.specs.declared.intervals.Interval.{Interval}
 use Rattle.enf_value.specs.declared.terms.VarId.{VarId}
 use Rattle.valuations.specs.Columns.{here, not_shared_in}
 use Rattle.valuations.specs.Tables.{Relation, Has, not_shared, AreSameColumns}
-use Rattle.windows.specs.Answers.{Answers, HasColumns}
+use Rattle.windows.specs.CommittedSteps.{StepsAnswer, HasColumns}
 use Rattle.windows.specs.declared.steps.CommittedStep.{CommittedStep}
 use Rattle.windows.proofs.HeldLemmas.{held_more, nothing_at_first}
 
@@ -47,9 +47,9 @@ without_right counts held surviving right lasting is_not lasts v = (
 -- one step of the walk
 pub walked : (interval : Interval) (time : ℕ) (steps : List CommittedStep) (step : CommittedStep) (counts : Bool) (held t : Relation)
     → (IsTrue counts ↔ IsIn interval (time - step.time))
-    → ((v : Valuation) → Has held v ↔ Answers interval time steps v)
+    → ((v : Valuation) → Has held v ↔ StepsAnswer interval time steps v)
     → ((v : Valuation) → Has t v ↔ ((IsTrue counts × Has step.right v) ⊎ (Has held v × Has step.surviving v)))
-    → (v : Valuation) → Has t v ↔ Answers interval time (steps ++ step ∷ []) v
+    → (v : Valuation) → Has t v ↔ StepsAnswer interval time (steps ++ step ∷ []) v
 walked interval time steps step counts held t counted before has v =
     let more = held_more (λ earlier. IsIn interval (time - earlier)) steps step v in (
       λ h. more.1 (⊎_elim (λ now. inl (counted.0 now.0, now.1)) (λ earlier. inr ((before v).0 earlier.0, earlier.1)) ((has v).0 h)),
@@ -60,20 +60,20 @@ walked interval time steps step counts held t counted before has v =
 pub walked_at : (interval : Interval) (time : ℕ) (steps : List CommittedStep) (i : ℕ) (step : CommittedStep) (counts : Bool) (held t : Relation)
     → i < length steps → step ≡ get_or steps i step
     → (IsTrue counts ↔ IsIn interval (time - step.time))
-    → ((v : Valuation) → Has held v ↔ Answers interval time (take i steps) v)
+    → ((v : Valuation) → Has held v ↔ StepsAnswer interval time (take i steps) v)
     → ((v : Valuation) → Has t v ↔ ((IsTrue counts × Has step.right v) ⊎ (Has held v × Has step.surviving v)))
-    → (v : Valuation) → Has t v ↔ Answers interval time (take (i + 1) steps) v
+    → (v : Valuation) → Has t v ↔ StepsAnswer interval time (take (i + 1) steps) v
 walked_at interval time steps i step counts held t within is counted before has v =
-    subst (λ l. Has t v ↔ Answers interval time l v) (ap (λ s. take i steps ++ s ∷ []) is ∙ sym (take_more steps i step within))
+    subst (λ l. Has t v ↔ StepsAnswer interval time l v) (ap (λ s. take i steps ++ s ∷ []) is ∙ sym (take_more steps i step within))
     (walked interval time (take i steps) step counts held t counted before has v)
 
 pub walked_all : (interval : Interval) (time : ℕ) (steps : List CommittedStep) (i : ℕ) (t : Relation) → length steps ≤ i
-    → ((v : Valuation) → Has t v ↔ Answers interval time (take i steps) v)
-    → (v : Valuation) → Has t v ↔ Answers interval time steps v
-walked_all interval time steps i t within walked v = subst (λ l. Has t v ↔ Answers interval time l v) (take_all i steps within) (walked v)
+    → ((v : Valuation) → Has t v ↔ StepsAnswer interval time (take i steps) v)
+    → (v : Valuation) → Has t v ↔ StepsAnswer interval time steps v
+walked_all interval time steps i t within walked v = subst (λ l. Has t v ↔ StepsAnswer interval time l v) (take_all i steps within) (walked v)
 
 pub nothing_walked : (interval : Interval) (time : ℕ) (t : Relation) → ((v : Valuation) → Has t v → ⊥)
-    → (v : Valuation) → Has t v ↔ Answers interval time [] v
+    → (v : Valuation) → Has t v ↔ StepsAnswer interval time [] v
 nothing_walked interval time t none v = (λ h. absurd (none v h), λ h. absurd (nothing_at_first interval time v h))
 
 -- the tables of a step of a list whose steps have these columns

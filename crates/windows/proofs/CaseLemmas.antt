@@ -16,7 +16,7 @@ use Rattle.valuations.specs.Columns.{none_in_nil, here, later, first_or_later}
 use Rattle.valuations.specs.RowLaws.{agrees_itself, agrees_once}
 use Rattle.enf_value.specs.Valuations.{Valuation}
 use Rattle.valuations.specs.Tables.{Agrees, Has}
-use Rattle.windows.specs.Answers.{Answers, IsHeld}
+use Rattle.windows.specs.CommittedSteps.{StepsAnswer, IsHeld}
 use Rattle.windows.specs.Cases.{columns, row, number, table, Entry, IsKept, step_of, last_at, with_1}
 use Rattle.windows.specs.Kept.{ChosenBy, HasPair}
 use Rattle.windows.specs.Slots.{GivesLast}
@@ -88,7 +88,7 @@ module _ (C : ℕ → Type 0) (counts : ℕ → Bool) (decided : (t : ℕ) → D
   held-Decides entries = walk-Decides false [] entries (λ e. absurd (false≢true e), λ h. absurd (none_held C (number n) h))
 
 pub given-Decides : (interval : Interval) (time n : ℕ) (entries : List Entry)
-    → Decides (walk (λ t. is_in interval (time - t)) n false entries) (Answers interval time (map step_of entries) (number n))
+    → Decides (walk (λ t. is_in interval (time - t)) n false entries) (StepsAnswer interval time (map step_of entries) (number n))
 given-Decides interval time n entries = held-Decides (λ t. IsIn interval (time - t)) (λ t. is_in interval (time - t)) (λ t. is_in-Decides interval (time - t)) n entries
 
 -- ---- what has to be kept

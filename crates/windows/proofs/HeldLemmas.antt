@@ -4,7 +4,7 @@ use Rattle.std.proofs.lemmas.List.Elements.{All-push, All-nil, All-contains, Con
 use Rattle.enf_value.specs.Membership.{IsIn}
 use Rattle.enf_value.specs.Valuations.{Valuation}
 use Rattle.valuations.specs.Tables.{Has}
-use Rattle.windows.specs.Answers.{IsHeld}
+use Rattle.windows.specs.CommittedSteps.{IsHeld}
 use Rattle.windows.specs.Laws.{NothingAtFirst, OneStepMore}
 use Rattle.windows.specs.declared.steps.CommittedStep.{CommittedStep}
 

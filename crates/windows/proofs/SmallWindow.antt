@@ -4,7 +4,7 @@ use Rattle.std.proofs.lemmas.List.Elements.{All-nil}
 use Rattle.enf_value.specs.Valuations.{Valuation}
 use Rattle.valuations.specs.Columns.{here, first_or_later, none_in_nil}
 use Rattle.valuations.specs.Tables.{Agrees, Has}
-use Rattle.windows.specs.Answers.{to_the_end}
+use Rattle.windows.specs.CommittedSteps.{to_the_end}
 use Rattle.windows.specs.Cases.{columns, row, table, right_at_3, with_1, within}
 use Rattle.windows.specs.Times.{IsEnded, IsLeast, IsServed, RiseTo}
 use Rattle.windows.specs.Windows.{Window, GoesOn, HasLeast, HasRow, IsCommittedBy, KeepsLeast, StandsFor}

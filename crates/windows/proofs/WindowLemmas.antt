@@ -11,7 +11,7 @@ use Rattle.valuations.specs.Columns.{later, first_or_later, none_in_nil}
 use Rattle.valuations.specs.RowLaws.{fits, same_row}
 use Rattle.valuations.specs.SearchLaws.{Contains-from_map, Contains-map}
 use Rattle.valuations.specs.Tables.{Relation, IsTable, Agrees, Has}
-use Rattle.windows.specs.Answers.{Answers, AreUpTo, HasColumns, at, to_the_end, with_step}
+use Rattle.windows.specs.CommittedSteps.{StepsAnswer, AreUpTo, HasColumns, at, to_the_end, with_step}
 use Rattle.windows.specs.Kept.{ChosenBy, HasPair, Kept}
 use Rattle.windows.specs.Laws.{RememberedIsKept, CommittedStands, AnsweredIsWalked}
 use Rattle.windows.specs.Pairs.{AddAtMost, AddsTimes, AreKept, AreLeast, Forgets, Gives, HasGiven, HasTime, IsAnyRow, IsSomeIn, KeepsRows, Survives}
@@ -36,8 +36,8 @@ pub remembered_is_kept : RememberedIsKept
 remembered_is_kept window time v later h = (h.0, (omega arith, nearer window.interval.high window.last time h.0 later h.1.1), h.2)
 
 -- what goes on by one step is the walk over one step more
-walked_more : (interval : Interval) (time later : ℕ) (steps : List CommittedStep) (surviving right : Relation) (v : Valuation) (Before : Type 0) → Before ↔ Answers interval later steps v
-    → ((IsIn interval (later - time) × Has right v) ⊎ (Before × Has surviving v)) ↔ Answers interval later (with_step steps time surviving right) v
+walked_more : (interval : Interval) (time later : ℕ) (steps : List CommittedStep) (surviving right : Relation) (v : Valuation) (Before : Type 0) → Before ↔ StepsAnswer interval later steps v
+    → ((IsIn interval (later - time) × Has right v) ⊎ (Before × Has surviving v)) ↔ StepsAnswer interval later (with_step steps time surviving right) v
 walked_more interval time later steps surviving right v Before before =
     let more = one_step_more interval later steps (at time surviving right) v in (
       λ either. more.1 (⊎_elim (λ now. inl now) (λ earlier. inr (before.0 earlier.0, earlier.1)) either),
@@ -103,14 +103,14 @@ module _ (before : Window) (time : ℕ) (S : Valuation → Type 0) (surviving ri
     remembers = λ from past v.
         let here : time ≤ from = subst (λ t. t ≤ from) committed.last_is past in
         let below : before.last ≤ from = omega (arith, here, later) in
-        subst (λ i. Remembers after from v ↔ Answers i from (with_step steps time surviving right) v) (sym committed.interval_is)
+        subst (λ i. Remembers after from v ↔ StepsAnswer i from (with_step steps time surviving right) v) (sym committed.interval_is)
         (then (committed.remembers from here v)
         (then (by_table (IsIn before.interval (from - time) × Has right v) (Remembers before from v) (S v) (Has surviving v) (λ h. tells v (remembered_is_kept before from v below h)))
         (walked_more before.interval time from steps surviving right v (Remembers before from v) (stands.remembers from below v))));
     keeps = λ from past v.
         let here : time ≤ from = subst (λ t. t ≤ from) committed.last_is past in
         let below : before.last ≤ from = omega (arith, here, later) in
-        subst (λ i. Keeps after from v ↔ Answers (to_the_end i) from (with_step steps time surviving right) v) (sym committed.interval_is)
+        subst (λ i. Keeps after from v ↔ StepsAnswer (to_the_end i) from (with_step steps time surviving right) v) (sym committed.interval_is)
         (then (committed.keeps from here v)
         (then (by_table (IsIn (to_the_end before.interval) (from - time) × Has right v) (Keeps before from v) (S v) (Has surviving v) (λ h. tells v (kept_earlier before from v below h)))
         (walked_more (to_the_end before.interval) time from steps surviving right v (Keeps before from v) (stands.keeps from below v))));
@@ -148,7 +148,7 @@ pub walked_now : (window : Window) (time : ℕ) (surviving right t : Relation) �
 walked_now window time surviving right t later has steps stands v =
     let same : 0 ≡ time - time = omega arith in
     then (has v)
-    (subst (λ d. ((IsIn window.interval d × Has right v) ⊎ (Remembers window time v × Has surviving v)) ↔ Answers window.interval time (with_step steps time surviving right) v) (sym same)
+    (subst (λ d. ((IsIn window.interval d × Has right v) ⊎ (Remembers window time v × Has surviving v)) ↔ StepsAnswer window.interval time (with_step steps time surviving right) v) (sym same)
     (walked_more window.interval time time steps surviving right v (Remembers window time v) (stands.remembers time later v)))
 
 pub answered_is_walked : AnsweredIsWalked

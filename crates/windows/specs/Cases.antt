@@ -6,7 +6,7 @@ use Rattle.enf_value.specs.declared.terms.VarId.{VarId}
 use Rattle.enf_value.specs.declared.values.Value.{Value}
 use Rattle.enf_value.specs.declared.values.Value.TheVariants.{Num}
 use Rattle.valuations.specs.Tables.{Relation, valuation_of}
-use Rattle.windows.specs.Answers.{Answers, at}
+use Rattle.windows.specs.CommittedSteps.{StepsAnswer, at}
 use Rattle.windows.specs.Kept.{Kept}
 use Rattle.windows.specs.Slots.{GivesLast, with_rows}
 use Rattle.windows.specs.Windows.{Window, Keeps, Remembers}
@@ -51,7 +51,7 @@ step_of e = at e.time (table e.surviving) (table e.right)
 
 -- the steps answer the number at the time, by the interval
 abbrev pub IsGiven : Interval → ℕ → List Entry → ℕ → Type 0
-IsGiven interval time entries n = Answers interval time (map step_of entries) (number n)
+IsGiven interval time entries n = StepsAnswer interval time (map step_of entries) (number n)
 
 abbrev pub IsNotGiven : Interval → ℕ → List Entry → ℕ → Type 0
 IsNotGiven interval time entries n = IsGiven interval time entries n → ⊥

@@ -2,7 +2,7 @@
 use Rattle.std.specs.Prelude.{◌≡◌, ℕ, ◌-◌, ◌≤◌, List, Option, None, Some}
 use Rattle.enf_value.specs.Valuations.{Valuation}
 use Rattle.enf_value.specs.declared.intervals.Interval.{Interval}
-use Rattle.windows.specs.Answers.{IsHeld}
+use Rattle.windows.specs.CommittedSteps.{IsHeld}
 use Rattle.windows.specs.declared.steps.CommittedStep.{CommittedStep}
 
 -- the valuation was right at a step of this time, and survives each step behind it

@@ -4,7 +4,7 @@ use Rattle.enf_value.specs.Membership.{IsIn}
 use Rattle.enf_value.specs.Valuations.{Valuation}
 use Rattle.enf_value.specs.declared.intervals.Interval.{Interval}
 use Rattle.valuations.specs.Tables.{Has, Relation}
-use Rattle.windows.specs.Answers.{Answers, HasColumns, at}
+use Rattle.windows.specs.CommittedSteps.{StepsAnswer, HasColumns, at}
 use Rattle.windows.specs.Kept.{ChosenBy}
 use Rattle.windows.specs.Windows.{Window, HasRow, KeepsLeast, Remembers, Keeps}
 use Rattle.windows.specs.Windows.{AnswersBy, IsCommittedBy, IsWalkedNow, GoesOnStanding, SurvivesFor, TellsFor}
@@ -13,13 +13,14 @@ use Rattle.windows.specs.declared.surviving.Surviving.{Surviving}
 
 -- no step answers nothing
 abbrev pub NothingAtFirst : Type 0
-NothingAtFirst = (interval : Interval) (time : ℕ) (v : Valuation) → Answers interval time [] v → ⊥
+NothingAtFirst = (interval : Interval) (time : ℕ) (v : Valuation) → StepsAnswer interval time [] v → ⊥
 
 -- with one step more: what is right at it, where its distance is in the interval, and what was held and survives it
 abbrev pub OneStepMore : Type 0
 OneStepMore = (interval : Interval) (time : ℕ) (steps : List CommittedStep) (step : CommittedStep) (v : Valuation)
-    → Answers interval time (steps ++ step ∷ []) v
-    ↔ ((IsIn interval (time - step.time) × Has step.right v) ⊎ (Answers interval time steps v × Has step.surviving v))
+    → StepsAnswer interval time (steps ++ step ∷ []) v
+    ↔ ((IsIn interval (time - step.time) × Has step.right v)
+    ⊎ (StepsAnswer interval time steps v × Has step.surviving v))
 
 -- what a window remembers at a time from its last one on it kept at the last one
 abbrev pub RememberedIsKept : Type 0

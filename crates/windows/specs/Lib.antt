@@ -1,4 +1,4 @@
-pub mod Answers
+pub mod CommittedSteps
 pub mod Cases
 pub mod Given
 pub mod GivenLaws

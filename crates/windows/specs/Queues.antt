@@ -48,8 +48,8 @@ pub record KeepsSteps (before after : Queue) : Type 0 where
   pub waits : (row : List Value) (time : ℕ) → IsInStep (waiting_of before) row time
       → IsInStep (waiting_of after) row time
 
--- steps go out for which Gone holds, and others wait no longer for which Passed holds: each row of the rest stays where it
--- is
+-- steps go out for which Gone holds, and others wait no longer for which Passed holds: each row of the rest stays where
+-- it is
 pub record LetsGo (Gone Passed : ℕ → Type 0) (before after : Queue) : Type 0 where
   pub among : (step : LastStep) → Contains after.steps step → Contains before.steps step
   pub stays : (row : List Value) (time : ℕ) → IsInStep before.steps row time

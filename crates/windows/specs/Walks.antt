@@ -3,7 +3,7 @@ use Rattle.std.specs.Prelude.{ℕ, List, All}
 use Rattle.enf_value.specs.Membership.{HasNoRepeats}
 use Rattle.enf_value.specs.declared.intervals.Interval.{Interval}
 use Rattle.enf_value.specs.declared.terms.VarId.{VarId}
-use Rattle.windows.specs.Answers.{HasColumns}
+use Rattle.windows.specs.CommittedSteps.{HasColumns}
 use Rattle.windows.specs.declared.steps.CommittedStep.{CommittedStep}
 
 -- the last time is 0 where no step is committed

@@ -7,7 +7,7 @@ use Rattle.enf_value.specs.declared.intervals.Interval.{Interval}
 use Rattle.enf_value.specs.declared.terms.VarId.{VarId}
 use Rattle.enf_value.specs.declared.values.Value.{Value}
 use Rattle.valuations.specs.Tables.{Relation, IsTable, Agrees, Has}
-use Rattle.windows.specs.Answers.{Answers, AreUpTo, HasColumns, to_the_end, with_step}
+use Rattle.windows.specs.CommittedSteps.{StepsAnswer, AreUpTo, HasColumns, to_the_end, with_step}
 use Rattle.windows.specs.Kept.{HasPair, Kept}
 use Rattle.windows.specs.Pairs.{AreKept, AreLeast}
 use Rattle.windows.specs.Queues.{Queue, AreInReach, AreQueued, AreUpToTime}
@@ -96,9 +96,9 @@ pub record StandsFor (window : Window) (steps : List CommittedStep) : Type 0 whe
   pub fits : All (HasColumns window.columns) steps
   pub up_to : AreUpTo window.last steps
   pub remembers : (time : ℕ) → window.last ≤ time → (v : Valuation)
-      → Remembers window time v ↔ Answers window.interval time steps v
+      → Remembers window time v ↔ StepsAnswer window.interval time steps v
   pub keeps : (time : ℕ) → window.last ≤ time → (v : Valuation)
-      → Keeps window time v ↔ Answers (to_the_end window.interval) time steps v
+      → Keeps window time v ↔ StepsAnswer (to_the_end window.interval) time steps v
   pub kept : (v : Valuation) (time : ℕ) → HasRow window v time ↔ Kept window.interval window.last steps v time
   pub served : (v : Valuation) (time : ℕ) → HasPair steps v time
       → IsServed window.interval.high window.interval.low window.last (HasRow window v) time
@@ -147,12 +147,12 @@ pub record IsSameKind (before after : Window) : Type 0 where
 -- the table is that of the walk over each list of steps for which the window stands, with this step more
 abbrev pub IsWalkedNow : Window → ℕ → Relation → Relation → Relation → Type 0
 IsWalkedNow window time surviving right t = (steps : List CommittedStep) → StandsFor window steps → (v : Valuation)
-    → Has t v ↔ Answers window.interval time (with_step steps time surviving right) v
+    → Has t v ↔ StepsAnswer window.interval time (with_step steps time surviving right) v
 
 -- it has the rows that a step at the last time or later can answer by a step of such a list
 abbrev pub IsWalkedLater : Window → Relation → Type 0
 IsWalkedLater window t = (steps : List CommittedStep) → StandsFor window steps → (v : Valuation)
-    → Has t v ↔ Answers (to_the_end window.interval) window.last steps v
+    → Has t v ↔ StepsAnswer (to_the_end window.interval) window.last steps v
 
 -- the window stands for such a list with this step more
 abbrev pub GoesOnStanding : Window → ℕ → Relation → Relation → Window → Type 0

@@ -3,7 +3,7 @@ ghost use Rattle.std.specs.Prelude.{◌≡◌, ◌↔◌, ◌⊎◌, IsTrue, IfO
 ghost use Rattle.enf_value.specs.Membership.{HasNoRepeats};
 ghost use Rattle.enf_value.specs.Valuations.{Valuation as Bound};
 ghost use Rattle.valuations.specs.Tables.{IsTable, Has};
-ghost use Rattle.windows.specs.Answers.{Answers, HasColumns};
+ghost use Rattle.windows.specs.CommittedSteps.{StepsAnswer, HasColumns};
 
 use crate::steps::CommittedStep;
 use enf_value::intervals::Interval;
@@ -57,7 +57,7 @@ pub fn held(
     requires fits { All (HasColumns columns.now) steps.now }
     ensures table { IfOk result IsTable }
     ensures columns { IfOk result (λ t. t.columns ≡ columns.now) }
-    ensures rows { IfOk result (λ t. (v : Bound) → Has t v ↔ Answers interval time steps.now v) }
+    ensures rows { IfOk result (λ t. (v : Bound) → Has t v ↔ StepsAnswer interval time steps.now v) }
 {
     let mut held = no_rows(alloc, columns)?;
     for step in steps {

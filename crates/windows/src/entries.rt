@@ -4,7 +4,8 @@ ghost use Rattle.enf_value.specs.Membership.{IsIn};
 ghost use Rattle.enf_value.specs.declared.values.Value.{Value as AnyValue};
 ghost use Rattle.valuations.specs.Tables.{IsTable};
 ghost use Rattle.windows.specs.Windows.{AreTables};
-ghost use Rattle.windows.specs.Pairs.{AddAtMost, AddsTimes, AreKept, AreLeast, Forgets, Gives, HasGiven, IsAnyRow, IsSettled, IsSomeIn, KeepsRows, Survives};
+ghost use Rattle.windows.specs.Pairs.{AddAtMost, AddsTimes, AreKept, AreLeast, Forgets, Gives, HasGiven, IsAnyRow};
+ghost use Rattle.windows.specs.Pairs.{IsSettled, IsSomeIn, KeepsRows, Survives};
 
 use crate::surviving::Surviving;
 use crate::times::{Times, add_time, are_ended, has_in, settle};
@@ -187,8 +188,8 @@ pub fn push_now(
     Ok(())
 }
 
-// Leaves the row just the times that are not past the end, and of those that are far enough the latest; where it has none
-// it goes out.
+// Leaves the row just the times that are not past the end, and of those that are far enough the latest; where it has
+// none it goes out.
 fn settle_row(entries: &mut Entries, row: &Row, interval: Interval, high: u64, now: u64)
     requires high { interval.high ≡ Some high }
     requires kept { (long : ℕ) × AreKept long now entries.old.entries }

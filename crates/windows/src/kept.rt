@@ -1,11 +1,13 @@
 //! What windows and slots keep, as pairs of a row and a time.
-ghost use Rattle.std.specs.Prelude.{◌≡◌, ◌↔◌, [], ◌∷◌, ◌++◌, ℕ, List, None, Some, All, Contains, IfOk, OnOk, is_some, length, map, nat_eq};
+ghost use Rattle.std.specs.Prelude.{◌≡◌, ◌↔◌, [], ◌∷◌, ◌++◌, ℕ, List, None, Some, All, Contains, IfOk, OnOk, is_some};
+ghost use Rattle.std.specs.Prelude.{length, map, nat_eq};
 ghost use Rattle.std.specs.List.{list_any};
 ghost use Rattle.std.specs.Option.{option_map_or};
 ghost use Rattle.indexmap.specs.IndexMap.{get};
 ghost use Rattle.enf_value.specs.Membership.{HasNoRepeats};
 ghost use Rattle.enf_value.specs.declared.values.Value.{Value as AnyValue};
-ghost use Rattle.windows.specs.KeptPairs.{pair, AreBefore, AreEntriesOf, AreRising, AreTimesOf, HaveStepsOf, HaveTimesOf, rows_at};
+ghost use Rattle.windows.specs.KeptPairs.{pair, AreBefore, AreEntriesOf, AreRising, AreTimesOf, HaveStepsOf};
+ghost use Rattle.windows.specs.KeptPairs.{HaveTimesOf, rows_at};
 ghost use Rattle.windows.specs.Pairs.{AreKept};
 ghost use Rattle.windows.specs.declared.kept.KeptPair.{KeptPair as Pair};
 
@@ -101,8 +103,8 @@ impl PrevSlot {
         Ok(pairs)
     }
 
-    /// The slot whose last step, where there is one, has the rows of these pairs. The columns are distinct, and there are
-    /// no pairs without a last step.
+    /// The slot whose last step, where there is one, has the rows of these pairs. The columns are distinct, and there
+    /// are no pairs without a last step.
     pub fn from_kept(
         alloc: Global,
         interval: Interval,

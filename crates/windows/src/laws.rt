@@ -1,6 +1,8 @@
 //! Laws of what windows answer, each the contract of a function with an empty body.
-ghost use Rattle.windows.specs.Given.{AllAreGiven, AmongAreGiven, OutsideAreGiven, LastIsGiven, GivenIsKept, GivenLastIsKept};
-ghost use Rattle.windows.specs.Laws.{NothingAtFirst, OneStepMore, RememberedIsKept, CommittedStands, AnsweredIsWalked, LeastIsChosen};
+ghost use Rattle.windows.specs.Given.{AllAreGiven, AmongAreGiven, OutsideAreGiven, LastIsGiven, GivenIsKept};
+ghost use Rattle.windows.specs.Given.{GivenLastIsKept};
+ghost use Rattle.windows.specs.Laws.{NothingAtFirst, OneStepMore, RememberedIsKept, CommittedStands, AnsweredIsWalked};
+ghost use Rattle.windows.specs.Laws.{LeastIsChosen};
 
 /// What a list of steps answers, step by step.
 pub fn step_by_step()

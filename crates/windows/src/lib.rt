@@ -1,5 +1,5 @@
-//! What the operators on the past remember between two steps, as tables of rows. A window keeps what `since`, `once` and
-//! `historically` need, a slot what `prev` needs. It stands on `valuations`.
+//! What the operators on the past remember between two steps, as tables of rows. A window keeps what `since`, `once`
+//! and `historically` need, a slot what `prev` needs. It stands on `valuations`.
 #![tactic(auto)]
 
 mod asking;

@@ -29,7 +29,8 @@ impl<V> Copy for RowQuery<'_, V> {}
 impl<V: Lookup> PartialEq for RowQuery<'_, V> {
     ghost use Rattle.windows.specs.Queries.{cells, cells_eq, cells_eq_per};
 
-    ghost eq = { λ a b. cells_eq (cells a.columns.now (V.valuation a.values.now)) (cells b.columns.now (V.valuation b.values.now)) };
+    ghost eq = { λ a b. cells_eq (cells a.columns.now (V.valuation a.values.now))
+        (cells b.columns.now (V.valuation b.values.now)) };
 
     ghost laws = { cells_eq_per (λ q. cells q.columns.now (V.valuation q.values.now)) };
 
@@ -50,7 +51,8 @@ impl<V: Lookup> Hash for RowQuery<'_, V> {
 
     ghost hash_input = { λ q. fed.slice cell_fed (cells q.columns.now (V.valuation q.values.now)) };
 
-    ghost respects_eq = { λ a b. same_fed (cells a.columns.now (V.valuation a.values.now)) (cells b.columns.now (V.valuation b.values.now)) };
+    ghost respects_eq = { λ a b. same_fed (cells a.columns.now (V.valuation a.values.now))
+        (cells b.columns.now (V.valuation b.values.now)) };
 
     fn hash<H: Hasher>(&self, state: &mut H) {
         state.write_usize(self.columns.len());

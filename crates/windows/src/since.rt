@@ -46,7 +46,9 @@ impl Model for SinceWindow {
 }
 
 impl SinceWindow {
-    ghost use Rattle.windows.specs.Windows.{StandsFor, HasRow, Keeps, KeepsLeast, AnswersBy, AnswersNow, FitsColumns, IsWalkedNow, IsWalkedLater, IsCommitted, IsCommittedBy, IsSameKind, GoesOnStanding, SurvivesFor};
+    ghost use Rattle.windows.specs.Windows.{StandsFor, HasRow, Keeps, KeepsLeast, AnswersBy, AnswersNow, FitsColumns};
+    ghost use Rattle.windows.specs.Windows.{IsWalkedNow, IsWalkedLater, IsCommitted, IsCommittedBy, IsSameKind};
+    ghost use Rattle.windows.specs.Windows.{GoesOnStanding, SurvivesFor};
 
     /// No step is committed. The columns are distinct.
     pub fn new(alloc: Global, interval: Interval, columns: Vars) -> SinceWindow

@@ -39,7 +39,7 @@ impl Model for SinceWalk {
 }
 
 impl SinceWalk {
-    ghost use Rattle.windows.specs.Answers.{Answers, to_the_end, with_step};
+    ghost use Rattle.windows.specs.CommittedSteps.{StepsAnswer, to_the_end, with_step};
 
     /// No step is committed. The columns are distinct.
     pub fn new(alloc: Global, interval: Interval, columns: Vars) -> SinceWalk
@@ -60,7 +60,7 @@ impl SinceWalk {
         ensures table { IfOk result IsTable }
         ensures columns { IfOk result (λ t. t.columns ≡ self.now.columns) }
         ensures rows { IfOk result (λ t. (v : Bound) → Has t v
-            ↔ Answers (to_the_end self.now.interval) self.now.last self.now.steps v) }
+            ↔ StepsAnswer (to_the_end self.now.interval) self.now.last self.now.steps v) }
     {
         let to_the_end = Interval {
             low: 0,
@@ -91,7 +91,7 @@ impl SinceWalk {
         ensures table { IfOk result IsTable }
         ensures columns { IfOk result (λ t. t.columns ≡ self.now.columns) }
         ensures rows { IfOk result (λ t. (v : Bound) → Has t v
-            ↔ Answers self.now.interval time (with_step self.now.steps time surviving.now right.now) v) }
+            ↔ StepsAnswer self.now.interval time (with_step self.now.steps time surviving.now right.now) v) }
     {
         let past = held(
             alloc,

@@ -1,5 +1,6 @@
 //! The times at which one row was right, of which only those are kept that a later step can ask for.
-ghost use Rattle.std.specs.Prelude.{◌≡◌, ◌↔◌, ◌-◌, ◌<◌, ◌≤◌, ◌⊎◌, ℕ, OnOk, IsTrue, IsFalse, Some, Contains, drop, length};
+ghost use Rattle.std.specs.Prelude.{◌≡◌, ◌↔◌, ◌-◌, ◌<◌, ◌≤◌, ◌⊎◌, ℕ, OnOk, IsTrue, IsFalse, Some, Contains, drop};
+ghost use Rattle.std.specs.Prelude.{length};
 ghost use Rattle.windows.specs.Pairs.{AddsAtMost, AddsTime, ForgetsTimes, IsSomeIn};
 ghost use Rattle.windows.specs.Times.{IsEnded, IsLeast, RiseTo};
 

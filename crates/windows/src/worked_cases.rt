@@ -2,7 +2,8 @@
 ghost use Rattle.std.specs.Prelude.{[], ◌∷◌, None};
 ghost use Rattle.windows.specs.Cases.{IsGiven, IsNotGiven, IsGivenFor3, within, from_on, entry};
 ghost use Rattle.windows.specs.Cases.{right_at_0, again_at_2, at_0_and_2, at_one_time, right_now};
-ghost use Rattle.windows.specs.Cases.{IsKept, IsNotKept, IsRemembered, IsNotRemembered, IsKeptFor, IsNotKeptFor, dies_at_once};
+ghost use Rattle.windows.specs.Cases.{IsKept, IsNotKept, IsRemembered, IsNotRemembered, IsKeptFor, IsNotKeptFor};
+ghost use Rattle.windows.specs.Cases.{dies_at_once};
 ghost use Rattle.windows.specs.Cases.{right_at_3, at_last, with_1};
 ghost use Rattle.windows.specs.Windows.{StandsFor};
 ghost use Rattle.windows.specs.Cases.{IsGivenBy, IsNotGivenBy, last_at};

@@ -1,6 +1,6 @@
 use Rattle.std.proofs.Common.{[], ◌∷◌, ◌≡◌, refl, arith}
 use Rattle.std.proofs.lemmas.Bool.Decides.{not_from_Decides}
-use Rattle.windows.specs.Answers.{to_the_end}
+use Rattle.windows.specs.CommittedSteps.{to_the_end}
 use Rattle.valuations.specs.RowLaws.{agrees_itself}
 use Rattle.windows.specs.Cases.{columns, entry, from_on, number, row, within}
 use Rattle.windows.proofs.CaseLemmas.{distinct, pair-Decides, remembered-Decides}

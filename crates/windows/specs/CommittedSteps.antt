@@ -19,8 +19,8 @@ pub record IsHeld (Counts : ℕ → Type 0) (steps : List CommittedStep) (v : Va
   pub survives : All (λ later. Has later.surviving v) after
 
 -- a step counts whose distance from the time is in the interval
-abbrev pub Answers : Interval → ℕ → List CommittedStep → Valuation → Type 0
-Answers interval time steps v = IsHeld (λ earlier. IsIn interval (time - earlier)) steps v
+abbrev pub StepsAnswer : Interval → ℕ → List CommittedStep → Valuation → Type 0
+StepsAnswer interval time steps v = IsHeld (λ earlier. IsIn interval (time - earlier)) steps v
 
 -- from 0 to the end of the interval: what is at such a distance from a time is in the interval then or later
 abbrev pub to_the_end : Interval → Interval
