@@ -19,9 +19,15 @@ pub fn one_answer()
 
 /// Worked cases of the grammar.
 pub fn worked_cases()
-    ensures no_arrow { signature_tokens (codes "a->b") ≡ (0, Word (codes "a")) ∷ (1, Mark mark.Minus) ∷ (2, Wrong) ∷ [] }
+    ensures no_arrow { signature_tokens (codes "a->b")
+        ≡ (0, Word (codes "a")) ∷ (1, Mark mark.Minus) ∷ (2, Wrong) ∷ [] }
     ensures no_column { kinds (signature_tokens (codes "alarm()+;"))
         ≡ tokens_of (record { text = codes "alarm"; sorts = []; causable = true; suppressible = false } ∷ []) }
     ensures two_columns { kinds (signature_tokens (codes "request(text, int);"))
-        ≡ tokens_of (record { text = codes "request"; sorts = sort.Text ∷ sort.Int ∷ []; causable = false; suppressible = false } ∷ []) }
+        ≡ tokens_of (record {
+          text = codes "request";
+          sorts = sort.Text ∷ sort.Int ∷ [];
+          causable = false;
+          suppressible = false;
+        } ∷ []) }
 {}

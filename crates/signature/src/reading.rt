@@ -116,7 +116,8 @@ fn take_comma(
     token: Token<'_>,
     place: Place,
 ) -> Result<Part, SignatureRefusal>
-    ensures { (entries : List NameEntry) → Takes entries (Part.Sorts name sorts) place (token_of token.entry) entries result }
+    ensures { (entries : List NameEntry)
+        → Takes entries (Part.Sorts name sorts) place (token_of token.entry) entries result }
 {
     match token {
         Token::Mark(Mark::Comma) => Ok(Part::Comma(name, sorts)),
@@ -131,7 +132,8 @@ fn take_sort(
     token: Token<'_>,
     place: Place,
 ) -> Result<Part, SignatureRefusal>
-    ensures { (entries : List NameEntry) → Takes entries (Part.Comma name sorts) place (token_of token.entry) entries result }
+    ensures { (entries : List NameEntry)
+        → Takes entries (Part.Comma name sorts) place (token_of token.entry) entries result }
 {
     let Token::Word(word) = token else {
         return Err(SignatureRefusal::Syntax { place });
@@ -244,7 +246,8 @@ fn arrow_refusal(
 pub(crate) fn read(alloc: Global, bytes: &[u8]) -> Result<Signature, SignatureRefusal>
     requires { length bytes.now ≤ MOST_FILE_BYTES }
     ensures answer { GivesAnswer bytes.now result }
-    ensures only { (answer : Result (List NameEntry) SignatureRefusal) → IsAnswer bytes.now answer → Gives result answer }
+    ensures only { (answer : Result (List NameEntry) SignatureRefusal) → IsAnswer bytes.now answer
+        → Gives result answer }
 {
     let mut signature = Signature::new(alloc);
     let mut part = Part::Nothing;

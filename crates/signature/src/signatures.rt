@@ -1,5 +1,6 @@
 //! The names of a log, each found without a look at the others.
-ghost use Rattle.std.specs.Prelude.{◌≡◌, ◌≤◌, ◌++◌, ◌∷◌, [], Contains, IfNone, IfOk, IfSome, List, OnErr, OnOk, Result, Some, length, slice_get};
+ghost use Rattle.std.specs.Prelude.{◌≡◌, ◌≤◌, ◌++◌, ◌∷◌, [], Contains, IfNone, IfOk, IfSome, List, OnErr, OnOk};
+ghost use Rattle.std.specs.Prelude.{Result, Some, length, slice_get};
 ghost use Rattle.std.specs.Option.{option_copied, option_map};
 ghost use Rattle.enf_value.specs.declared.events.NameId.{NameId as NameNumber};
 ghost use Rattle.signature.specs.Grammar.{IsNew, IsSignature, names, number_of};
@@ -50,7 +51,8 @@ impl Signature {
         // The text's answer, unless there is no memory.
         ensures answer { GivesAnswer bytes.now result }
         // No other answer than the text's.
-        ensures only { (answer : Result (List NameEntry) SignatureRefusal) → IsAnswer bytes.now answer → Gives result answer }
+        ensures only { (answer : Result (List NameEntry) SignatureRefusal) → IsAnswer bytes.now answer
+            → Gives result answer }
     {
         reading::read(alloc, bytes)
     }
@@ -85,8 +87,10 @@ impl Signature {
     /// The name with a text.
     pub fn find(&self, text: &[u8]) -> Option<NameId>
         ensures number { option_map (λ name. name.0) result ≡ number_of self.now text.now }
-        ensures found { IfSome result (λ name. option_map (λ entry. entry.text) (slice_get self.now name.0) ≡ Some text.now) }
-        ensures only { (name : NameNumber) → option_map (λ entry. entry.text) (slice_get self.now name.0) ≡ Some text.now → result ≡ Some name }
+        ensures found { IfSome result
+            (λ name. option_map (λ entry. entry.text) (slice_get self.now name.0) ≡ Some text.now) }
+        ensures only { (name : NameNumber)
+            → option_map (λ entry. entry.text) (slice_get self.now name.0) ≡ Some text.now → result ≡ Some name }
         ensures none { IfNone result (Contains (names self.now) text.now → ⊥) }
     {
         let number = self.entries.get_index_of(text)?;
