@@ -21,8 +21,8 @@ use Rattle.obligations.specs.declared.instances.Instance.{Instance}
 use Rattle.obligations.specs.declared.literals.Literal.{Literal}
 use Rattle.obligations.specs.declared.literals.LiteralKind.{LiteralKind}
 use Rattle.obligations.specs.declared.literals.LiteralKind.TheVariants.{Cause, Suppress}
-use Rattle.choice_step.specs.Choice.{Applies, Asked, Decides, IsFirst, Misses, MissesNothing, Root, Waiting, action_for, all_asked, is_forced, with_step}
-use Rattle.choice_step.specs.Follows.{ActedStep, Answers, Follows, GoesOut, Inserts, IsLeastDeadline, is_inserted, steps_of}
+use Rattle.choice_step.specs.Choice.{Applies, Candidate, Decides, IsFirst, Misses, MissesNothing, Root, Waiting, action_for, all_asked, is_forced, with_step}
+use Rattle.choice_step.specs.Follows.{ActedStep, StepGoesOut, Follows, GoesOut, Inserts, IsLeastDeadline, is_inserted, steps_of}
 use Rattle.choice_step.specs.Laws.{AreDistinct, DecidedMissesNothing, DecidesIsOne, DrainIsOne, FollowsIsOne}
 use Rattle.obligations.specs.declared.actions.Action.{Action}
 use Rattle.choice_step.proofs.ActionLemmas.{distinct_rest}
@@ -64,14 +64,14 @@ last_step trace step =
 -- ---- one step
 
 module _ (missing_one : MissingIsOne) (missing_of_one : MissingOfIsOne) where
-  misses_one : (plans : List Plan) (inserted : Bool) (trace : List Step) (asked : Asked) (literals others : List Literal)
+  misses_one : (plans : List Plan) (inserted : Bool) (trace : List Step) (asked : Candidate) (literals others : List Literal)
       → Misses plans inserted trace asked literals → Misses plans inserted trace asked others → literals ≡ others
   misses_one plans inserted trace (Waiting i) literals others first second =
       missing_of_one plans trace i (is_forced inserted (time_now trace) i) literals others first second
   misses_one plans inserted trace (Root rule plan) literals others first second =
       missing_one trace plan no_values literals others first second
 
-  first_one : (plans : List Plan) (inserted : Bool) (trace : List Step) (all : List Asked) (a b : Asked) (l m : Literal)
+  first_one : (plans : List Plan) (inserted : Bool) (trace : List Step) (all : List Candidate) (a b : Candidate) (l m : Literal)
       → IsFirst plans inserted trace all a l → IsFirst plans inserted trace all b m → (a ≡ b) × (l ≡ m)
   first_one plans inserted trace [] a b l m first second = absurd first
   first_one plans inserted trace (next ∷ others) a b l m first second =
@@ -86,7 +86,7 @@ module _ (missing_one : MissingIsOne) (missing_of_one : MissingOfIsOne) where
       second)
       first
 
-  none_or_first : (plans : List Plan) (inserted : Bool) (trace : List Step) (all : List Asked) (a : Asked) (l : Literal)
+  none_or_first : (plans : List Plan) (inserted : Bool) (trace : List Step) (all : List Candidate) (a : Candidate) (l : Literal)
       → AllByRecursion (MissesNothing plans inserted trace) all → IsFirst plans inserted trace all a l → ⊥
   none_or_first plans inserted trace [] a l none first = first
   none_or_first plans inserted trace (next ∷ others) a l none first =
@@ -95,7 +95,7 @@ module _ (missing_one : MissingIsOne) (missing_of_one : MissingOfIsOne) where
       (λ p. none_or_first plans inserted trace others a l none.1 p.1)
       first
 
-first_is_wanted : (plans : List Plan) (inserted : Bool) (trace : List Step) (all : List Asked) (a : Asked) (l : Literal)
+first_is_wanted : (plans : List Plan) (inserted : Bool) (trace : List Step) (all : List Candidate) (a : Candidate) (l : Literal)
     → IsFirst plans inserted trace all a l → IsWanted trace l
 first_is_wanted plans inserted trace [] a l first = absurd first
 first_is_wanted plans inserted trace (Waiting j ∷ others) a l first =
@@ -213,7 +213,7 @@ module _ (missing_one : MissingIsOne) (missing_of_one : MissingOfIsOne) (pend_on
       λ i. is i ∷ behind i
 
   answers_one : (plans : List Plan) (trace : List Step) (next : Record) (records : List Record) (out others : List ActedStep)
-      → AreDistinct (next ∷ records) → Answers plans trace next out → Answers plans trace next others → out ≡ others
+      → AreDistinct (next ∷ records) → StepGoesOut plans trace next out → StepGoesOut plans trace next others → out ≡ others
   answers_one plans trace (StepRecord step) records out others distinct (o, goes, is) (p, went, too) =
       let same = goes_out_one plans trace System step.time step.events o p distinct.0 goes went in
       is ∙ (λ i. same i ∷ []) ∙ sym too
@@ -229,7 +229,7 @@ module _ (missing_one : MissingIsOne) (missing_of_one : MissingOfIsOne) (pend_on
       let a : inserted ≡ amid = inserts_one plans trace (Some (time_of next)) inserted amid inserts puts in
       let b : answer ≡ reply =
       answers_one plans (trace ++ steps_of inserted) next records answer reply distinct answers
-      (subst (λ l. Answers plans (trace ++ steps_of l) next reply) (sym a) replies)
+      (subst (λ l. StepGoesOut plans (trace ++ steps_of l) next reply) (sym a) replies)
       in
       let both : inserted ++ answer ≡ amid ++ reply = λ i. a i ++ b i in
       let c : rest ≡ behind =

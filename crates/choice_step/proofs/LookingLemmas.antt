@@ -21,12 +21,12 @@ use Rattle.obligations.specs.declared.actions.Action.{Action}
 use Rattle.obligations.specs.declared.instances.Instance.{Instance}
 use Rattle.obligations.specs.declared.literals.Literal.{Literal}
 use Rattle.obligations.specs.declared.now.Now.{Now}
-use Rattle.choice_step.specs.Choice.{Asked, IsFirst, Misses, MissesNothing, Root, Waiting, action_at, action_for, is_forced, roots_from}
+use Rattle.choice_step.specs.Choice.{Candidate, IsFirst, Misses, MissesNothing, Root, Waiting, action_at, action_for, is_forced, roots_from}
 use Rattle.choice_step.specs.Looking.{IsActionFor, IsKnownFor, IsWantedAt}
 use Rattle.choice_step.proofs.FiniteLemmas.{Contains-flat_map}
 
 module _ (plans : List Plan) (inserted : Bool) (trace : List Step) where
-  abbrev pub MissesFirst : Asked → Literal → Type 0
+  abbrev pub MissesFirst : Candidate → Literal → Type 0
   MissesFirst asked literal = (rest : List Literal) × Misses plans inserted trace asked (literal ∷ rest)
 
   abbrev pub NoneBefore : List Instance → ℕ → Type 0
@@ -125,30 +125,30 @@ module _ (plans : List Plan) (inserted : Bool) (trace : List Step) where
       one_more_root xs k x (omega (arith, within)) is (λ i e before. none (suc i) e (omega (arith, before))) this j d (omega (arith, below))
 
   -- those that are asked later change nothing where one was found
-  first_of_more : (xs ys : List Asked) (asked : Asked) (literal : Literal) → IsFirst plans inserted trace xs asked literal
+  first_of_more : (xs ys : List Candidate) (asked : Candidate) (literal : Literal) → IsFirst plans inserted trace xs asked literal
       → IsFirst plans inserted trace (xs ++ ys) asked literal
   first_of_more [] ys asked literal first = absurd first
   first_of_more (x ∷ xs) ys asked literal first =
       ⊎_elim (λ found. inl found) (λ behind. inr (behind.0, first_of_more xs ys asked literal behind.1)) first
 
-  first_behind : (xs ys : List Asked) (asked : Asked) (literal : Literal)
+  first_behind : (xs ys : List Candidate) (asked : Candidate) (literal : Literal)
       → AllByRecursion (MissesNothing plans inserted trace) xs → IsFirst plans inserted trace ys asked literal
       → IsFirst plans inserted trace (xs ++ ys) asked literal
   first_behind [] ys asked literal none first = first
   first_behind (x ∷ xs) ys asked literal none first = inr (none.0, first_behind xs ys asked literal none.1 first)
 
-  pub found_first : (xs ys : List Asked) (action : Action) → IsActionFor plans inserted trace xs (Some action)
+  pub found_first : (xs ys : List Candidate) (action : Action) → IsActionFor plans inserted trace xs (Some action)
       → IsActionFor plans inserted trace (xs ++ ys) (Some action)
   found_first xs ys action (asked, literal, first, is) = (asked, literal, first_of_more xs ys asked literal first, is)
 
-  pub found_behind : (xs ys : List Asked) (found : Option Action) → IsActionFor plans inserted trace xs None
+  pub found_behind : (xs ys : List Candidate) (found : Option Action) → IsActionFor plans inserted trace xs None
       → IsActionFor plans inserted trace ys found → IsActionFor plans inserted trace (xs ++ ys) found
   found_behind xs ys None none behind = AllByRecursion-append (MissesNothing plans inserted trace) xs ys none behind
   found_behind xs ys (Some action) none (asked, literal, first, is) =
       (asked, literal, first_behind xs ys asked literal none first, is)
 
 -- the action at a step is the action for its trace
-pub for_trace : (now : Now) (trace : List Step) (asked : Asked) (literal : Literal) (action : Action) → IsNowOf now trace
+pub for_trace : (now : Now) (trace : List Step) (asked : Candidate) (literal : Literal) (action : Action) → IsNowOf now trace
     → action ≡ action_at now.time now.position asked literal → action ≡ action_for trace asked literal
 for_trace now trace asked literal action of is =
     is ∙ (λ i. action_at (sym of.time i) (sym of.position i) asked literal)

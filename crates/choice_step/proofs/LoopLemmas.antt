@@ -20,7 +20,7 @@ use Rattle.obligations.specs.declared.instances.Instance.{Instance}
 use Rattle.obligations.specs.declared.literals.Literal.{Literal}
 use Rattle.obligations.specs.declared.literals.LiteralKind.{LiteralKind}
 use Rattle.obligations.specs.declared.literals.LiteralKind.TheVariants as kind
-use Rattle.choice_step.specs.Choice.{Applies, Asked, Decides, Root, Waiting, action_at}
+use Rattle.choice_step.specs.Choice.{Applies, Candidate, Decides, Root, Waiting, action_at}
 use Rattle.choice_step.specs.Choosing.{Acts, ActsFrom, HasRole, WillDecide}
 use Rattle.choice_step.specs.Looking.{IsWantedBehind, WillFind}
 use Rattle.choice_step.proofs.ActionLemmas.{in_whole, once}
@@ -84,11 +84,11 @@ acts_more plans given [] action events after is acts =
 acts_more plans given (first ∷ actions) action events after (between, does, more) acts =
     (between, does, acts_more plans between actions action events after more acts)
 
-kind_is : (time position : ℕ) (asked : Asked) (literal : Literal) → (action_at time position asked literal).kind ≡ literal.kind
+kind_is : (time position : ℕ) (asked : Candidate) (literal : Literal) → (action_at time position asked literal).kind ≡ literal.kind
 kind_is time position (Waiting i) literal = refl
 kind_is time position (Root rule plan) literal = refl
 
-event_is : (time position : ℕ) (asked : Asked) (literal : Literal) → (action_at time position asked literal).event ≡ literal.event
+event_is : (time position : ℕ) (asked : Candidate) (literal : Literal) → (action_at time position asked literal).event ≡ literal.event
 event_is time position (Waiting i) literal = refl
 event_is time position (Root rule plan) literal = refl
 

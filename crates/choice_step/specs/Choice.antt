@@ -17,17 +17,17 @@ use Rattle.obligations.specs.declared.literals.LiteralKind.TheVariants.{Cause, S
 use Rattle.obligations.specs.declared.actions.Action.{Action}
 
 -- who is asked at a step: a pending instance, or the root of a rule
-pub data Asked : Type 0 where
-  Waiting : Instance → Asked
-  Root : (rule : ℕ) → Plan → Asked
+pub data Candidate : Type 0 where
+  Waiting : Instance → Candidate
+  Root : (rule : ℕ) → Plan → Candidate
 
 -- the roots of the rules in the order of the policy; the first rule has this number
-abbrev pub roots_from : (rule : ℕ) → List Plan → List Asked
+abbrev pub roots_from : (rule : ℕ) → List Plan → List Candidate
 roots_from rule [] = []
 roots_from rule (plan ∷ plans) = Root rule plan ∷ roots_from (suc rule) plans
 
 -- in which order they are asked: what is pending in its order, and then the roots
-abbrev pub all_asked : List Plan → List Instance → List Asked
+abbrev pub all_asked : List Plan → List Instance → List Candidate
 all_asked plans pending = map Waiting pending ++ roots_from 0 plans
 
 -- at an inserted step at the end of its window an instance is forced
@@ -35,23 +35,23 @@ abbrev pub is_forced : (inserted : Bool) → (time : ℕ) → Instance → Bool
 is_forced inserted time i = inserted && (time == i.high)
 
 -- what one that is asked misses at the last position of a trace
-abbrev pub Misses : List Plan → (inserted : Bool) → List Step → Asked → List Literal → Type 0
+abbrev pub Misses : List Plan → (inserted : Bool) → List Step → Candidate → List Literal → Type 0
 Misses plans inserted trace (Waiting i) literals =
     MissingOf plans trace i (is_forced inserted (time_now trace) i) literals
 Misses plans inserted trace (Root rule plan) literals = Missing trace plan no_values literals
 
-abbrev pub MissesNothing : List Plan → (inserted : Bool) → List Step → Asked → Type 0
+abbrev pub MissesNothing : List Plan → (inserted : Bool) → List Step → Candidate → Type 0
 MissesNothing plans inserted trace asked = Misses plans inserted trace asked []
 
 -- of those that are asked, the first that misses something, and the first literal that it misses
-abbrev pub IsFirst : List Plan → (inserted : Bool) → List Step → List Asked → Asked → Literal → Type 0
+abbrev pub IsFirst : List Plan → (inserted : Bool) → List Step → List Candidate → Candidate → Literal → Type 0
 IsFirst plans inserted trace [] asked literal = ⊥
 IsFirst plans inserted trace (next ∷ others) asked literal =
     ((next ≡ asked) × (rest : List Literal) × Misses plans inserted trace next (literal ∷ rest))
     ⊎ (MissesNothing plans inserted trace next × IsFirst plans inserted trace others asked literal)
 
 -- the action for one that is asked at a step
-abbrev pub action_at : (time position : ℕ) → Asked → Literal → Action
+abbrev pub action_at : (time position : ℕ) → Candidate → Literal → Action
 action_at time position (Waiting i) literal = record {
   kind = literal.kind;
   event = literal.event;
@@ -75,7 +75,7 @@ action_at time position (Root rule plan) literal = record {
   valuation = no_values;
 }
 
-abbrev pub action_for : List Step → Asked → Literal → Action
+abbrev pub action_for : List Step → Candidate → Literal → Action
 action_for trace = action_at (time_now trace) (last_position trace)
 
 -- an event that is caused goes last; one that is suppressed is taken out, and the rest keeps its order
@@ -95,7 +95,7 @@ Decides plans trace pending inserted time before [] after =
     (after ≡ before)
     × AllByRecursion (MissesNothing plans inserted (with_step trace time before)) (all_asked plans pending)
 Decides plans trace pending inserted time before (action ∷ actions) after =
-    (asked : Asked) × (literal : Literal) × (between : List Event)
+    (asked : Candidate) × (literal : Literal) × (between : List Event)
     × IsFirst plans inserted (with_step trace time before) (all_asked plans pending) asked literal
     × (action ≡ action_for (with_step trace time before) asked literal)
     × Applies literal.kind literal.event before between

@@ -79,10 +79,10 @@ Inserts plans trace until (o ∷ out) =
     × Inserts plans (trace ++ o.step ∷ []) until out
 
 -- the step of a record goes out behind a trace, and none for a tick
-abbrev pub Answers : List Plan → List Step → Record → List ActedStep → Type 0
-Answers plans trace (StepRecord step) out =
+abbrev pub StepGoesOut : List Plan → List Step → Record → List ActedStep → Type 0
+StepGoesOut plans trace (StepRecord step) out =
     (o : ActedStep) × GoesOut plans trace System step.time step.events o × (out ≡ o ∷ [])
-Answers plans trace (Tick time) out = out ≡ []
+StepGoesOut plans trace (Tick time) out = out ≡ []
 
 -- what goes out behind a trace for the records, one after another: first what their times let pass, then their steps
 abbrev pub Follows : List Plan → List Step → List Record → List ActedStep → Type 0
@@ -90,7 +90,7 @@ Follows plans trace [] out = out ≡ []
 Follows plans trace (next ∷ records) out =
     (inserted answer rest : List ActedStep)
     × Inserts plans trace (Some (time_of next)) inserted
-    × Answers plans (trace ++ steps_of inserted) next answer
+    × StepGoesOut plans (trace ++ steps_of inserted) next answer
     × Follows plans (trace ++ steps_of (inserted ++ answer)) records rest
     × (out ≡ (inserted ++ answer) ++ rest)
 

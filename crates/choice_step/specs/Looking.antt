@@ -23,16 +23,16 @@ use Rattle.obligations.specs.declared.actions.Action.{Action}
 use Rattle.obligations.specs.declared.instances.Instance.{Instance}
 use Rattle.obligations.specs.declared.literals.Literal.{Literal}
 use Rattle.obligations.specs.declared.now.Now.{Now}
-use Rattle.choice_step.specs.Choice.{Asked, IsFirst, MissesNothing, action_for, all_asked, with_step}
+use Rattle.choice_step.specs.Choice.{Candidate, IsFirst, MissesNothing, action_for, all_asked, with_step}
 
 -- the action for the first of those that are asked at the last position of a trace, and none where none misses anything
-abbrev pub IsActionFor : List Plan → (inserted : Bool) → List Step → List Asked → Option Action → Type 0
+abbrev pub IsActionFor : List Plan → (inserted : Bool) → List Step → List Candidate → Option Action → Type 0
 IsActionFor plans inserted trace all None = AllByRecursion (MissesNothing plans inserted trace) all
-IsActionFor plans inserted trace all (Some action) = (asked : Asked) × (literal : Literal)
+IsActionFor plans inserted trace all (Some action) = (asked : Candidate) × (literal : Literal)
     × IsFirst plans inserted trace all asked literal × (action ≡ action_for trace asked literal)
 
 -- so it is for each trace whose last step is this one
-abbrev pub IsActionAt : List Plan → (inserted : Bool) → Now → List Asked → Option Action → Type 0
+abbrev pub IsActionAt : List Plan → (inserted : Bool) → Now → List Candidate → Option Action → Type 0
 IsActionAt plans inserted now all found =
     (trace : List Step) → IsNowOf now trace → IsActionFor plans inserted trace all found
 

@@ -8,7 +8,7 @@ use Rattle.enf_io.specs.Streams.{Stream}
 use Rattle.enforcer_core.specs.Enforcers.{Enforcing}
 use Rattle.log_stream.specs.LogLaws.{IsPending-blanks, Spells-blanks}
 use Rattle.log_stream.specs.Logs.{BeginsWith, IsPending, IsTruncated, Refuses, behind_blanks}
-use Rattle.log_stream.specs.Readers.{Answers, Reader, ReadsNext, fed}
+use Rattle.log_stream.specs.Readers.{RefusesOnce, Reader, ReadsNext, fed}
 use Rattle.log_stream.specs.declared.items.Found.TheVariants.{Item}
 use Rattle.log_stream.specs.declared.items.LogItem.{LogItem}
 use Rattle.log_stream.specs.declared.items.LogMode.{LogMode}
@@ -47,7 +47,7 @@ module _ (entries : List NameEntry) (before after : Reader) (going : before ≡ 
   )
 
   -- a refusal that was not answered before has its cause
-  first_cause : (refusal : LogRefusal) → Answers before refusal (Refuses before.entries before.mode before.rest refusal) after → Refuses entries Input before.rest refusal
+  first_cause : (refusal : LogRefusal) → RefusesOnce before refusal (Refuses before.entries before.mode before.rest refusal) after → Refuses entries Input before.rest refusal
   first_cause refusal (inl again) = cc (sym again.0 ∙ same_refused)
   first_cause refusal (inr first) =
       subst (λ (es : List NameEntry). Refuses es Input before.rest refusal) same_entries (subst (λ (m : LogMode). Refuses before.entries m before.rest refusal) same_mode first.1)

@@ -1,6 +1,5 @@
 pub mod Answers
 pub mod Elab
-pub mod Given
 pub mod Joined
 pub mod Marks
 pub mod Laws

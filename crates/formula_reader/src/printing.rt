@@ -40,7 +40,7 @@ struct Printer<'a> {
 
 // An operator, with the interval of one that has an interval.
 #[derive(Clone, Copy)]
-struct Operator<'a> {
+struct OperatorWord<'a> {
     word: &'a [u8],
     interval: Option<&'a Interval>,
 }
@@ -157,51 +157,51 @@ impl Printer<'_> {
             Formula::Equal(_, s, t) => self.print_comparison(s, b" = ", t, out),
             Formula::Less(_, s, t) => self.print_comparison(s, b" < ", t, out),
             Formula::AtMost(_, s, t) => self.print_comparison(s, b" <= ", t, out),
-            Formula::Not(_, f) => self.print_prefix(&Operator::plain(b"not"), f, out),
-            Formula::And(_, f, g) => self.print_infix(f, &Operator::plain(b"and"), g, out),
-            Formula::Or(_, f, g) => self.print_infix(f, &Operator::plain(b"or"), g, out),
-            Formula::Implies(_, f, g) => self.print_infix(f, &Operator::plain(b"->"), g, out),
+            Formula::Not(_, f) => self.print_prefix(&OperatorWord::plain(b"not"), f, out),
+            Formula::And(_, f, g) => self.print_infix(f, &OperatorWord::plain(b"and"), g, out),
+            Formula::Or(_, f, g) => self.print_infix(f, &OperatorWord::plain(b"or"), g, out),
+            Formula::Implies(_, f, g) => self.print_infix(f, &OperatorWord::plain(b"->"), g, out),
             Formula::Exists(_, xs, f) => self.print_quantified(b"exists ", xs.as_slice(), f, out),
             Formula::Forall(_, xs, f) => self.print_quantified(b"forall ", xs.as_slice(), f, out),
             Formula::Prev(_, interval, f) => self.print_prefix(
-                &Operator::timed(b"prev", interval),
+                &OperatorWord::timed(b"prev", interval),
                 f,
                 out,
             ),
             Formula::Next(_, interval, f) => self.print_prefix(
-                &Operator::timed(b"next", interval),
+                &OperatorWord::timed(b"next", interval),
                 f,
                 out,
             ),
             Formula::Once(_, interval, f) => self.print_prefix(
-                &Operator::timed(b"once", interval),
+                &OperatorWord::timed(b"once", interval),
                 f,
                 out,
             ),
             Formula::Historically(_, interval, f) => self.print_prefix(
-                &Operator::timed(b"historically", interval),
+                &OperatorWord::timed(b"historically", interval),
                 f,
                 out,
             ),
             Formula::Since(_, interval, f, g) => self.print_infix(
                 f,
-                &Operator::timed(b"since", interval),
+                &OperatorWord::timed(b"since", interval),
                 g,
                 out,
             ),
             Formula::Eventually(_, interval, f) => self.print_prefix(
-                &Operator::timed(b"eventually", interval),
+                &OperatorWord::timed(b"eventually", interval),
                 f,
                 out,
             ),
             Formula::Always(_, interval, f) => self.print_prefix(
-                &Operator::timed(b"always", interval),
+                &OperatorWord::timed(b"always", interval),
                 f,
                 out,
             ),
             Formula::Until(_, interval, f, g) => self.print_infix(
                 f,
-                &Operator::timed(b"until", interval),
+                &OperatorWord::timed(b"until", interval),
                 g,
                 out,
             ),
@@ -228,7 +228,7 @@ impl Printer<'_> {
     #[cycle(printing)]
     fn print_prefix(
         &self,
-        operator: &Operator,
+        operator: &OperatorWord,
         formula: &Formula,
         out: &mut Vec<u8>,
     ) -> Result<(), NoMemory>
@@ -249,7 +249,7 @@ impl Printer<'_> {
     fn print_infix(
         &self,
         left: &Formula,
-        operator: &Operator,
+        operator: &OperatorWord,
         right: &Formula,
         out: &mut Vec<u8>,
     ) -> Result<(), NoMemory>
@@ -293,20 +293,20 @@ impl Printer<'_> {
     }
 }
 
-impl<'a> Operator<'a> {
-    fn plain(word: &'a [u8]) -> Operator<'a>
+impl<'a> OperatorWord<'a> {
+    fn plain(word: &'a [u8]) -> OperatorWord<'a>
         ensures { operator_text result ≡ word.now }
     {
-        Operator {
+        OperatorWord {
             word,
             interval: None,
         }
     }
 
-    fn timed(word: &'a [u8], interval: &'a Interval) -> Operator<'a>
+    fn timed(word: &'a [u8], interval: &'a Interval) -> OperatorWord<'a>
         ensures { operator_text result ≡ word.now ++ interval_text interval.now }
     {
-        Operator {
+        OperatorWord {
             word,
             interval: Some(interval),
         }

@@ -1,4 +1,5 @@
--- What a caller needs of a text that is made line by line: what one line more adds, and that it is a front of the whole.
+-- What a caller needs of a text that is made line by line: what one line more adds, and that it is a front of the
+-- whole.
 use Rattle.std.proofs.Common.{◌≡◌, ℕ, zero, suc, ◌+◌, ◌-◌, ◌≤◌, List, [], ◌∷◌, ◌++◌, sym, ap, ◌∙◌, arith, add-one}
 use Rattle.std.proofs.Common.{append_assoc}
 use Rattle.std.proofs.lemmas.List.{append-nil}

@@ -12,7 +12,7 @@ use Rattle.log_stream.specs.declared.scanning.Scan.TheVariants.{Outside}
 use Rattle.log_stream.specs.Judgement.{IsAnswer}
 use Rattle.log_stream.specs.Logs.{IsPending, IsTruncated, behind_blanks, length_to_end, record_bytes}
 use Rattle.log_stream.specs.Readers.{Reader, ReadsNext}
-use Rattle.log_stream.specs.Scanning.{BeginsAt, IsKept, IsReader, IsScanned, IsWholeAt, kept, scan_after}
+use Rattle.log_stream.specs.Scanning.{BeginsAt, IsLasting, IsReader, IsScanned, IsWholeAt, lasting, scan_after}
 use Rattle.log_stream.specs.States.{GivesAnswer}
 use Rattle.log_stream.proofs.Steps.{refusal_judged}
 use Rattle.log_stream.proofs.Windows.{behind_not_blank}
@@ -36,7 +36,7 @@ item_read entries mode bytes front begin end refused item none w answer =
     (none, (w.n, w.whole, subst (λ l. IsAnswer entries mode l (Ok item)) (bytes_found bytes front begin end w) answer, rest_found bytes front begin end w), refl)
 
 pub refusal_read : (entries : List NameEntry) (mode : LogMode) (bytes : List ℕ) (front begin end : ℕ) (refusal : LogRefusal) → IsWholeAt bytes front begin end → GivesAnswer entries mode (take (end - begin) (drop begin bytes)) (Err refusal) →
-    ReadsNext (reader_at entries mode (drop front bytes) None) (Err refusal) (reader_at entries mode (drop front bytes) (kept refusal))
+    ReadsNext (reader_at entries mode (drop front bytes) None) (Err refusal) (reader_at entries mode (drop front bytes) (lasting refusal))
 refusal_read entries mode bytes front begin end NoMemory w answer = (refl, refl)
 refusal_read entries mode bytes front begin end (BadRecord place) w answer =
     inr (refl, (w.n, w.whole, subst (λ l. IsAnswer entries mode l (Err (BadRecord place))) (bytes_found bytes front begin end w) answer), refl)
@@ -56,7 +56,7 @@ pub refusal_kept : (entries : List NameEntry) (mode : LogMode) (rest : List ℕ)
 refusal_kept entries mode rest refused refusal R none reads = subst (λ r. ReadsNext (reader_at entries mode rest r) (Err refusal) R) (sym none) reads
 
 -- what is kept of a pending record
-pub pending_kept : (bytes kept_bytes : List ℕ) (front begin count : ℕ) (scan : Scan) (refused : Option LogRefusal) → IsPending (drop front bytes) → BeginsAt bytes front begin → scan ≡ scan_after Outside (behind_blanks (drop front bytes)) → kept_bytes ≡ drop begin bytes → count ≡ length kept_bytes → IsKept refused → IsReader kept_bytes 0 count scan refused
+pub pending_kept : (bytes kept_bytes : List ℕ) (front begin count : ℕ) (scan : Scan) (refused : Option LogRefusal) → IsPending (drop front bytes) → BeginsAt bytes front begin → scan ≡ scan_after Outside (behind_blanks (drop front bytes)) → kept_bytes ≡ drop begin bytes → count ≡ length kept_bytes → IsLasting refused → IsReader kept_bytes 0 count scan refused
 pending_kept bytes kept_bytes front begin count scan refused pending begins scan_is is counted kept_is =
     let rest = behind_blanks (drop front bytes) in
     let same : kept_bytes ≡ rest = is ∙ begins.rest_is in
@@ -71,7 +71,7 @@ pending_kept bytes kept_bytes front begin count scan refused pending begins scan
         scan_is = scan_is ∙ ap (scan_after Outside) (sym all);
         begun = λ some. behind_not_blank (drop front bytes);
       }));
-      kept = kept_is;
+      lasting = kept_is;
     }
 
 -- a record was begun, or nothing is left

@@ -106,8 +106,8 @@ pub Refuses-append : (entries : List NameEntry) (mode : LogMode) (text more : Li
 Refuses-append entries mode text more TooLong (none, long) =
     let behind : behind_blanks (text ++ more) ≡ behind_blanks text ++ more = behind-append text more
     ∙ behind_some (behind_blanks text) more (omega (arith, long)) in (
-      ap record_length behind ∙ ap (length_to_end Outside) (take-append-le MOST_RECORD_BYTES (behind_blanks text) more long)
-          ∙ none,
+      ap record_length behind
+          ∙ ap (length_to_end Outside) (take-append-le MOST_RECORD_BYTES (behind_blanks text) more long) ∙ none,
       omega (arith, ap length behind, length-append (behind_blanks text) more, long),
     )
 Refuses-append entries mode text more Truncated refused = refused

@@ -24,8 +24,8 @@ abbrev pub fed : Reader → List ℕ → Reader
 fed reader piece = fed_by reader.refused reader piece
 
 -- the refusal that was answered is answered again, or this is the first one
-abbrev pub Answers : Reader → LogRefusal → Type 0 → Reader → Type 0
-Answers before refusal Cause after =
+abbrev pub RefusesOnce : Reader → LogRefusal → Type 0 → Reader → Type 0
+RefusesOnce before refusal Cause after =
     ((before.refused ≡ Some refusal) × (after ≡ before)) ⊎ ((before.refused ≡ None) × Cause
     × (after ≡ record before { refused = Some refusal }))
 
@@ -39,9 +39,9 @@ ReadsNext before (Ok Pending) after =
     (before.refused ≡ None) × IsPending before.rest × (after ≡ record before { rest = behind_blanks before.rest })
 ReadsNext before (Err NoMemory) after = (before.refused ≡ None) × (after ≡ before)
 ReadsNext before (Err refusal) after =
-    Answers before refusal (Refuses before.entries before.mode before.rest refusal) after
+    RefusesOnce before refusal (Refuses before.entries before.mode before.rest refusal) after
 
 -- the end: nothing is left, or a record was begun and not ended
 abbrev pub EndsAt : Reader → Result Unit LogRefusal → Reader → Type 0
 EndsAt before (Ok done) after = (before.refused ≡ None) × (behind_blanks before.rest ≡ []) × (after ≡ before)
-EndsAt before (Err refusal) after = Answers before refusal ((refusal ≡ Truncated) × IsTruncated before.rest) after
+EndsAt before (Err refusal) after = RefusesOnce before refusal ((refusal ≡ Truncated) × IsTruncated before.rest) after

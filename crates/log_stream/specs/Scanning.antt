@@ -7,8 +7,8 @@ use Rattle.log_stream.specs.declared.scanning.Scan.{Scan}
 use Rattle.log_stream.specs.declared.scanning.Scan.TheVariants.{Outside}
 use Rattle.log_stream.specs.declared.scanning.Scanned.{Scanned}
 use Rattle.log_stream.specs.declared.scanning.Scanned.TheVariants.{Ends, Open}
-use Rattle.log_stream.specs.declared.scanning.Turn.{Turn}
-use Rattle.log_stream.specs.declared.scanning.Turn.TheVariants as turns
+use Rattle.log_stream.specs.declared.scanning.Move.{Move}
+use Rattle.log_stream.specs.declared.scanning.Move.TheVariants as moves
 use Rattle.log_stream.specs.declared.items.LogRefusal.{LogRefusal}
 use Rattle.log_stream.specs.declared.items.LogRefusal.TheVariants.{NoMemory}
 use Rattle.log_stream.specs.declared.fronts.Front.{Front}
@@ -28,12 +28,12 @@ pub record GoesOn (scan : Scan) (bytes : List ℕ) (after : Scan) (passed : ℕ)
   pub end : length_to_end scan bytes ≡ option_map (λ n. n + passed) (length_to_end after (drop passed bytes))
   pub scan_is : scan_after scan bytes ≡ scan_after after (drop passed bytes)
 
--- where the scan turns first
-abbrev pub Turns : Scan → List ℕ → Turn → Type 0
-Turns scan bytes (turns.Ends passed) =
+-- where a scan goes first
+abbrev pub Moves : Scan → List ℕ → Move → Type 0
+Moves scan bytes (moves.Ends passed) =
     (0 < passed) × (passed ≤ length bytes) × (length_to_end scan bytes ≡ Some passed)
-Turns scan bytes (turns.To after passed) = GoesOn scan bytes after passed
-Turns scan bytes turns.Stays = (length_to_end scan bytes ≡ None) × (scan_after scan bytes ≡ scan)
+Moves scan bytes (moves.To after passed) = GoesOn scan bytes after passed
+Moves scan bytes moves.Stays = (length_to_end scan bytes ≡ None) × (scan_after scan bytes ≡ scan)
 
 -- what a scan of some bytes finds, from a place on that counts the end
 abbrev pub Scans : Scan → List ℕ → (from : ℕ) → Scanned → Type 0
@@ -73,19 +73,19 @@ FindsFront bytes from (fronts.Pending begin scan) =
     IsPending (drop from bytes) × BeginsAt bytes from begin
     × (scan ≡ scan_after Outside (behind_blanks (drop from bytes)))
 
--- a refusal that is kept: want of memory is not
-abbrev pub IsKept : Option LogRefusal → Type 0
-IsKept None = Unit {0}
-IsKept (Some NoMemory) = ⊥
-IsKept (Some refusal) = Unit {0}
+-- a refusal that lasts: want of memory does not
+abbrev pub IsLasting : Option LogRefusal → Type 0
+IsLasting None = Unit {0}
+IsLasting (Some NoMemory) = ⊥
+IsLasting (Some refusal) = Unit {0}
 
--- the refusal that is kept of an answer
-abbrev pub kept : LogRefusal → Option LogRefusal
-kept NoMemory = None
-kept refusal = Some refusal
+-- what lasts of an answer
+abbrev pub lasting : LogRefusal → Option LogRefusal
+lasting NoMemory = None
+lasting refusal = Some refusal
 
 -- what a reader keeps
 pub record IsReader (bytes : List ℕ) (front scanned : ℕ) (scan : Scan) (refused : Option LogRefusal) : Type 0 where
   pub within : front ≤ length bytes
   pub scanned_is : IsScanned (drop front bytes) scanned scan
-  pub kept : IsKept refused
+  pub lasting : IsLasting refused

@@ -2,7 +2,7 @@
 ghost use Rattle.std.specs.Prelude.{◌≡◌, ◌≤◌, ◌++◌, [], None, OnErr, OnOk, drop, length};
 ghost use Rattle.log_stream.specs.Logs.{IsPending};
 ghost use Rattle.log_stream.specs.Readers.{EndsAt, ReadsNext, fed};
-ghost use Rattle.log_stream.specs.Scanning.{kept};
+ghost use Rattle.log_stream.specs.Scanning.{lasting};
 
 use crate::cursor::skip_blanks;
 use crate::fronts::{Front, front_at};
@@ -53,14 +53,14 @@ fn let_go(bytes: &mut Vec<u8>, count: usize)
     if count == 0 {
         return;
     }
-    let kept = bytes.len() - count;
+    let left = bytes.len() - count;
     bytes.copy_within(count.., 0);
-    bytes.truncate(kept);
+    bytes.truncate(left);
 }
 
 // The refusal that every later call answers again: want of memory is none.
-fn kept(refusal: LogRefusal) -> Option<LogRefusal>
-    ensures { result ≡ kept refusal }
+fn lasting(refusal: LogRefusal) -> Option<LogRefusal>
+    ensures { result ≡ lasting refusal }
 {
     match refusal {
         LogRefusal::NoMemory => None,
@@ -113,7 +113,7 @@ impl LogReader {
                         Ok(Found::Item(item))
                     }
                     Err(refusal) => {
-                        self.refused = kept(refusal);
+                        self.refused = lasting(refusal);
                         Err(refusal)
                     }
                 }

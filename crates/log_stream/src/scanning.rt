@@ -1,6 +1,6 @@
 //! Where a record ends: at the first semicolon outside of texts.
 ghost use Rattle.std.specs.Prelude.{◌<◌, ◌≤◌, drop, length};
-ghost use Rattle.log_stream.specs.Scanning.{Scans, Turns};
+ghost use Rattle.log_stream.specs.Scanning.{Scans, Moves};
 
 use memchr::memchr2;
 
@@ -22,28 +22,28 @@ pub(crate) enum Scanned {
 // The first byte at which a scan turns: the end of the record, another place of the scan, or none. Each with the
 // number of bytes up to and with that byte.
 #[derive(Clone, Copy, Debug)]
-pub(crate) enum Turn {
+pub(crate) enum Move {
     Ends(usize),
     To(Scan, usize),
     Stays,
 }
 
-fn first_turn(bytes: &[u8], scan: Scan) -> Turn
+fn first_move(bytes: &[u8], scan: Scan) -> Move
     requires { 0 < length bytes.now }
-    ensures { Turns scan bytes.now result }
+    ensures { Moves scan bytes.now result }
 {
     match scan {
         Scan::Outside => match memchr2(b';', b'"', bytes) {
-            Some(at) if bytes[at] == b';' => Turn::Ends(at + 1),
-            Some(at) => Turn::To(Scan::Inside, at + 1),
-            None => Turn::Stays,
+            Some(at) if bytes[at] == b';' => Move::Ends(at + 1),
+            Some(at) => Move::To(Scan::Inside, at + 1),
+            None => Move::Stays,
         },
         Scan::Inside => match memchr2(b'"', b'\\', bytes) {
-            Some(at) if bytes[at] == b'"' => Turn::To(Scan::Outside, at + 1),
-            Some(at) => Turn::To(Scan::Escaped, at + 1),
-            None => Turn::Stays,
+            Some(at) if bytes[at] == b'"' => Move::To(Scan::Outside, at + 1),
+            Some(at) => Move::To(Scan::Escaped, at + 1),
+            None => Move::Stays,
         },
-        Scan::Escaped => Turn::To(Scan::Inside, 1),
+        Scan::Escaped => Move::To(Scan::Inside, 1),
     }
 }
 
@@ -55,13 +55,13 @@ pub(crate) fn scan_from(bytes: &[u8], from: usize, scan: Scan) -> Scanned
     let mut at = from;
     let mut place = scan;
     while at < bytes.len() {
-        match first_turn(&bytes[at..], place) {
-            Turn::Ends(passed) => return Scanned::Ends(at + passed),
-            Turn::To(next, passed) => {
+        match first_move(&bytes[at..], place) {
+            Move::Ends(passed) => return Scanned::Ends(at + passed),
+            Move::To(next, passed) => {
                 at += passed;
                 place = next;
             }
-            Turn::Stays => return Scanned::Open(place),
+            Move::Stays => return Scanned::Open(place),
         }
     }
     Scanned::Open(place)

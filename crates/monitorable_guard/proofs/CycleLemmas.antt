@@ -22,7 +22,7 @@ use Rattle.valuations.specs.ScopeLaws.{some_or_none}
 use Rattle.valuations.specs.Scopes.{filled}
 use Rattle.valuations.specs.Tables.{Relation, IsTable, Has}
 use Rattle.valuations.specs.Tables as tabled
-use Rattle.monitorable_guard.specs.Answers.{AddsRows, AmongRows, Answers, AreInScope, AreOpenUnder, CanAsk, Fit, HasAnswers, IsAnswer, IsBoundBy}
+use Rattle.monitorable_guard.specs.Answers.{AddsRows, AmongRows, IsSolution, AreInScope, AreOpenUnder, CanAsk, Fit, HasAnswers, IsAnswer, IsBoundBy}
 use Rattle.monitorable_guard.specs.Evaluation.{FitOperators}
 use Rattle.monitorable_guard.specs.Present.{HoldsNow, outermost, behind}
 use Rattle.monitorable_guard.specs.Safety.{Safe, FreeWithin, Assigns}
@@ -76,7 +76,7 @@ module _ (events : List Event) (tables : List Relation) (v : Valuation) (f : For
   ok_open columns (Err e) opens same = tt
 
   -- whether there is a row over no column
-  pub some_answer : (found : List (List Value)) (empty : Bool) → AddsRows [] [] found (IsAnswer events tables v f []) → IsTrue empty ↔ (found ≡ []) → IsTrue (not empty) ↔ ((u : Valuation) × Answers events tables v f u)
+  pub some_answer : (found : List (List Value)) (empty : Bool) → AddsRows [] [] found (IsAnswer events tables v f []) → IsTrue empty ↔ (found ≡ []) → IsTrue (not empty) ↔ ((u : Valuation) × IsSolution events tables v f u)
   some_answer [] empty adds told = (
     λ some. absurd (both empty (told.1 refl) some),
     λ answer. absurd (none_in_nil (adds.added no_values (answer.0, answer.1, λ x there. absurd (none_in_nil x there))).0 (adds.added no_values (answer.0, answer.1, λ x there. absurd (none_in_nil x there))).1),

@@ -21,7 +21,7 @@ use Rattle.valuations.specs.ScopeLaws.{some_or_none, same_or_other, filled_keeps
 use Rattle.valuations.specs.Scopes.{filled}
 use Rattle.valuations.specs.Tables.{Relation, IsTable, Has, Agrees, IsBoundSame, cell, valuation_of}
 use Rattle.valuations.specs.Tables as tabled
-use Rattle.monitorable_guard.specs.Answers.{Answers, AreInScope, AreOpenUnder, HasAnswers, IsAnswer, IsBoundBy, IsEquated, IsFromRow, IsInScope, IsMatchAmong}
+use Rattle.monitorable_guard.specs.Answers.{IsSolution, AreInScope, AreOpenUnder, HasAnswers, IsAnswer, IsBoundBy, IsEquated, IsFromRow, IsInScope, IsMatchAmong}
 use Rattle.monitorable_guard.specs.Matching.{Extends}
 use Rattle.monitorable_guard.specs.Asking.{FirstGivesUnder}
 use Rattle.monitorable_guard.specs.Evaluation.{FitOperators}
@@ -207,7 +207,7 @@ module _ (events : List Event) where
     bound_or_column x free = ⊎_elim (λ bound. inl bound) (λ none. inr ((opens.exact x).1 (free, not_bound v x none))) (bound_or_not v x)
 
     -- what goes on from v with a row answers the formula
-    pub under_row : (row : List Value) → Contains t.rows row → (u : Valuation) → Extends (filled v t.columns row) u → Answers events tables v g u
+    pub under_row : (row : List Value) → Contains t.rows row → (u : Valuation) → Extends (filled v t.columns row) u → IsSolution events tables v g u
     under_row row there u ext =
         let long = fits t row table there in
         let found = (rows (filled v t.columns row)).0 (row, there, filled_agrees v t.columns row unbound long) in
@@ -222,7 +222,7 @@ module _ (events : List Event) where
               found.1.holds;
         }
 
-    pub row_of : (u : Valuation) → Answers events tables v g u → Has t u
+    pub row_of : (u : Valuation) → IsSolution events tables v g u → Has t u
     row_of u answers = (rows u).1 (u, answers, λ x there. refl)
 
     pub binds_more : (row : List Value) → Contains t.rows row → BindsMore v g (filled v t.columns row)
@@ -317,30 +317,30 @@ module _ (events : List Event) where
 
   module _ (tables : List Relation) (v : Valuation) (xs : List VarId) (g : Formula) (fit : FitOperators (outermost g) tables) where
     -- u's values of the variables are such under which g holds
-    some_from : FreeUnder xs g (IsBoundBy v) → (u : Valuation) → Answers events tables v g u → HoldsNow events tables (with_values xs (looked u xs) v) g
+    some_from : FreeUnder xs g (IsBoundBy v) → (u : Valuation) → IsSolution events tables v g u → HoldsNow events tables (with_values xs (looked u xs) v) g
     some_from under u answers =
         now_agrees events tables g u (with_values xs (looked u xs) v) fit
         (λ x free. sym (with_looked u xs v x (answers.binds x free) (⊎_elim (λ there. inl there) (λ absent. inr (same_on v u x answers.extends (under x free absent))) (among_or_not xs x))))
         answers.holds
 
-    answer_from : FreeUnder xs g (IsBoundBy v) → ((x : VarId) → Contains xs x → IsBoundBy v x → ⊥) → (values : List Value) → length values ≡ length xs → HoldsNow events tables (with_values xs values v) g → Answers events tables v g (with_values xs values v)
+    answer_from : FreeUnder xs g (IsBoundBy v) → ((x : VarId) → Contains xs x → IsBoundBy v x → ⊥) → (values : List Value) → length values ≡ length xs → HoldsNow events tables (with_values xs values v) g → IsSolution events tables v g (with_values xs values v)
     answer_from under apart values long holds = record {
       extends = λ x value at. value_at-with_outside xs values v x (λ there. apart x there (bound_from v x value at)) ∙ at;
       binds = λ x free. bound_with xs values v x long (⊎_elim (λ there. inl there) (λ absent. inr (under x free absent)) (among_or_not xs x));
       holds = holds;
     }
 
-    pub exists_decided : (place : ℕ) (there : Bool) → FreeUnder xs g (IsBoundBy v) → ((x : VarId) → Contains xs x → IsBoundBy v x → ⊥) → IsTrue there ↔ ((u : Valuation) × Answers events tables v g u) → IsTrue there ↔ HoldsNow events tables v (Exists place xs g)
+    pub exists_decided : (place : ℕ) (there : Bool) → FreeUnder xs g (IsBoundBy v) → ((x : VarId) → Contains xs x → IsBoundBy v x → ⊥) → IsTrue there ↔ ((u : Valuation) × IsSolution events tables v g u) → IsTrue there ↔ HoldsNow events tables v (Exists place xs g)
     exists_decided place there under apart told = (
       λ t none. let some = told.0 t in none (looked some.0 xs, length-map xs (look some.0), some_from under some.0 some.1),
       by there told,
     )
       where
-        by : (b : Bool) → IsTrue b ↔ ((u : Valuation) × Answers events tables v g u) → HoldsNow events tables v (Exists place xs g) → IsTrue b
+        by : (b : Bool) → IsTrue b ↔ ((u : Valuation) × IsSolution events tables v g u) → HoldsNow events tables v (Exists place xs g) → IsTrue b
         by true told holds = refl
         by false told holds = absurd (holds (λ some. false≢true (told.1 (with_values xs some.0 v, answer_from under apart some.0 some.1 some.2))))
 
-    pub none_decided : (p q : ℕ) (there : Bool) → FreeUnder xs g (IsBoundBy v) → ((x : VarId) → Contains xs x → IsBoundBy v x → ⊥) → IsTrue there ↔ ((u : Valuation) × Answers events tables v g u) → IsTrue (not there) ↔ HoldsNow events tables v (Forall p xs (Not q g))
+    pub none_decided : (p q : ℕ) (there : Bool) → FreeUnder xs g (IsBoundBy v) → ((x : VarId) → Contains xs x → IsBoundBy v x → ⊥) → IsTrue there ↔ ((u : Valuation) × IsSolution events tables v g u) → IsTrue (not there) ↔ HoldsNow events tables v (Forall p xs (Not q g))
     none_decided p q there under apart told = (
       λ t values long holds. not_both there t (told.1 (with_values xs values v, answer_from under apart values long holds)),
       by there told,
@@ -350,7 +350,7 @@ module _ (events : List Event) where
         not_both true n t = false≢true n
         not_both false n t = false≢true t
 
-        by : (b : Bool) → IsTrue b ↔ ((u : Valuation) × Answers events tables v g u) → HoldsNow events tables v (Forall p xs (Not q g)) → IsTrue (not b)
+        by : (b : Bool) → IsTrue b ↔ ((u : Valuation) × IsSolution events tables v g u) → HoldsNow events tables v (Forall p xs (Not q g)) → IsTrue (not b)
         by true told each = let some = told.0 refl in absurd (each (looked some.0 xs) (length-map xs (look some.0)) (some_from under some.0 some.1))
         by false told each = refl
 

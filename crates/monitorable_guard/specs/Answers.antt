@@ -48,7 +48,7 @@ pub record AddsRows (columns : List VarId) (before after : List (List Value)) (P
   pub only : (w : Valuation) → AmongRows columns after w → AmongRows columns before w ⊎ P w
 
 -- u goes on from v, binds the free variables of the formula, and the formula holds under it
-pub record Answers (events : List Event) (tables : List Relation) (v : Valuation) (f : Formula) (u : Valuation)
+pub record IsSolution (events : List Event) (tables : List Relation) (v : Valuation) (f : Formula) (u : Valuation)
     : Type 0 where
   pub extends : Extends v u
   pub binds : (x : VarId) → IsFree x f → IsBoundBy u x
@@ -56,7 +56,7 @@ pub record Answers (events : List Event) (tables : List Relation) (v : Valuation
 
 -- w has on the columns the values of such a one
 abbrev pub IsAnswer : List Event → List Relation → Valuation → Formula → List VarId → Valuation → Type 0
-IsAnswer events tables v f columns w = (u : Valuation) × Answers events tables v f u × AgreeOn columns w u
+IsAnswer events tables v f columns w = (u : Valuation) × IsSolution events tables v f u × AgreeOn columns w u
 
 -- w has on the columns the values of one that goes on from v and under which the terms have these values
 abbrev pub IsMatchOf : List Term → List Value → Valuation → List VarId → Valuation → Type 0

@@ -7,7 +7,7 @@ ghost use Rattle.enf_value.specs.declared.terms.VarId.{VarId as Variable};
 ghost use Rattle.enf_value.specs.declared.values.Value.{Value as AnyValue};
 ghost use Rattle.valuations.specs.Scopes.{bound_in, filled};
 ghost use Rattle.valuations.specs.Tables.{IsTable};
-ghost use Rattle.monitorable_guard.specs.Answers.{AddsRows, Answers, AreInScope, AreOpenUnder, CanAsk, HasAnswers};
+ghost use Rattle.monitorable_guard.specs.Answers.{AddsRows, IsSolution, AreInScope, AreOpenUnder, CanAsk, HasAnswers};
 ghost use Rattle.monitorable_guard.specs.Answers.{IsAnswer, IsBoundBy};
 ghost use Rattle.monitorable_guard.specs.Present.{HoldsNow, behind};
 ghost use Rattle.monitorable_guard.specs.Safety.{FreeWithin};
@@ -262,7 +262,7 @@ fn has_answer<'a, P: Past>(
 ) -> Result<bool, NoMemory>
     requires few { length (P.tables present.now.past.now) < 2 ^ 64 }
     requires ask { CanAsk (bound_in scope.now) (drop first (P.tables present.now.past.now)) (tree_of formula.now) }
-    ensures { IfOk result (λ there. IsTrue there ↔ ((u : Bound) × Answers present.now.events.now
+    ensures { IfOk result (λ there. IsTrue there ↔ ((u : Bound) × IsSolution present.now.events.now
         (drop first (P.tables present.now.past.now)) (bound_in scope.now) (tree_of formula.now) u)) }
 {
     let mut found = Vec::new(alloc);

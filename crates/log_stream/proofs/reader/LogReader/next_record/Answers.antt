@@ -1,7 +1,7 @@
 use Rattle.std.proofs.Common.{List, ℕ, ◌-◌, sym, subst, take, drop, Option, Ok, Err, arith}
 use Rattle.log_stream.specs.Judgement.{IsAnswer}
 use Rattle.log_stream.specs.Readers.{Reader, ReadsNext}
-use Rattle.log_stream.specs.Scanning.{FindsFront, kept}
+use Rattle.log_stream.specs.Scanning.{FindsFront, lasting}
 use Rattle.log_stream.specs.declared.items.LogRefusal.{LogRefusal}
 use Rattle.log_stream.specs.States.{GivesAnswer}
 use Rattle.log_stream.specs.declared.fronts.Front.TheVariants.{Pending, Whole}
@@ -11,7 +11,7 @@ use Rattle.log_stream.proofs.reader.LogReader.next_record.Goals as goal
 pub invariant_of-self-in-Pending : goal.invariant_of-self-in-Pending
 invariant_of-self-in-Pending c =
     let found = subst (λ (l : List ℕ). FindsFront l c.self.inside.front (Pending c.in-Pending.begin c.in-Pending.scan)) c.deref.ensures.value c.in-Pending.ensures in
-    pending_kept c.self.inside.bytes.items c.let_go.new.bytes.items c.self.inside.front c.in-Pending.begin c.len-self-inside.result c.in-Pending.scan c.self.inside.refused found.0 found.1 found.2 c.let_go.ensures (omega (arith, c.len-self-inside.ensures, c.let_go.new.bytes.ok.0)) c.self.invariant.kept
+    pending_kept c.self.inside.bytes.items c.let_go.new.bytes.items c.self.inside.front c.in-Pending.begin c.len-self-inside.result c.in-Pending.scan c.self.inside.refused found.0 found.1 found.2 c.let_go.ensures (omega (arith, c.len-self-inside.ensures, c.let_go.new.bytes.ok.0)) c.self.invariant.lasting
 
 pub returns-in-Ok : goal.returns-in-Ok
 returns-in-Ok c =
@@ -26,6 +26,6 @@ returns-in-Err c =
     let answer = subst (λ (l : List ℕ). GivesAnswer c.self.inside.signature c.self.inside.mode (take (c.in-Whole.end - c.in-Whole.begin) (drop c.in-Whole.begin l)) (Err c.in-Err.refusal)) c.deref-in-Whole.ensures.value c.in-Err.ensures in
     let rest = drop c.self.inside.front c.self.inside.bytes.items in
     let reads = refusal_read c.self.inside.signature c.self.inside.mode c.self.inside.bytes.items c.self.inside.front c.in-Whole.begin c.in-Whole.end c.in-Err.refusal whole answer in
-    subst (λ (r : Reader). ReadsNext r (Err c.in-Err.refusal) (reader_at c.self.inside.signature c.self.inside.mode rest c.kept-self-inside.result)) c.self.view_is
-    (subst (λ (x : Option LogRefusal). ReadsNext (reader_at c.self.inside.signature c.self.inside.mode rest c.self.inside.refused) (Err c.in-Err.refusal) (reader_at c.self.inside.signature c.self.inside.mode rest x)) (sym c.kept-self-inside.ensures)
-    (refusal_kept c.self.inside.signature c.self.inside.mode rest c.self.inside.refused c.in-Err.refusal (reader_at c.self.inside.signature c.self.inside.mode rest (kept c.in-Err.refusal)) c.in_default.is reads))
+    subst (λ (r : Reader). ReadsNext r (Err c.in-Err.refusal) (reader_at c.self.inside.signature c.self.inside.mode rest c.lasting-self-inside.result)) c.self.view_is
+    (subst (λ (x : Option LogRefusal). ReadsNext (reader_at c.self.inside.signature c.self.inside.mode rest c.self.inside.refused) (Err c.in-Err.refusal) (reader_at c.self.inside.signature c.self.inside.mode rest x)) (sym c.lasting-self-inside.ensures)
+    (refusal_kept c.self.inside.signature c.self.inside.mode rest c.self.inside.refused c.in-Err.refusal (reader_at c.self.inside.signature c.self.inside.mode rest (lasting c.in-Err.refusal)) c.in_default.is reads))

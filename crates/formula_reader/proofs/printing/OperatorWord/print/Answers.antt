@@ -1,6 +1,6 @@
 use Rattle.formula_reader.proofs.Parts.{part_last}
 use Rattle.formula_reader.specs.Canonical.{interval_text}
-use Rattle.formula_reader.proofs.printing.Operator.print.Goals as goal
+use Rattle.formula_reader.proofs.printing.OperatorWord.print.Goals as goal
 
 pub returns-in-Some-clause-err : goal.returns-in-Some-clause-err
 returns-in-Some-clause-err c =

@@ -3,7 +3,7 @@ use Rattle.std.proofs.lemmas.Bool.Decides.{nat_tests}
 use Rattle.memchr.specs.Find.{is_byte2}
 use Rattle.log_stream.specs.declared.scanning.Scan.TheVariants.{Outside, Inside, Escaped}
 use Rattle.log_stream.proofs.Scans.{inside_stays, other_byte, outside_stays, turns_end, turns_nowhere, turns_to}
-use Rattle.log_stream.proofs.scanning.first_turn.Goals as goal
+use Rattle.log_stream.proofs.scanning.first_move.Goals as goal
 
 eq_is : (a b : ℕ) → a ≡ b → (a == b) ≡ true
 eq_is a b e = grind (arith, nat_tests)
