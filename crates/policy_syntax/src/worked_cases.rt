@@ -30,7 +30,8 @@ pub fn counts()
     ensures an_event_is_a_node { nodes_behind (behind (lexemes (codes "rule r: a("))) ≡ 1 }
     ensures a_name_is_none { nodes_behind (behind (lexemes (codes "rule r: a"))) ≡ 0 }
     ensures a_sign_is_a_node { nodes_behind (behind (lexemes (codes "rule r: x = y"))) ≡ 1 }
-    ensures one_quantifier_is_a_node { nodes_behind (behind (lexemes (codes "rule r: forall x, y. not a() and true"))) ≡ 5 }
+    ensures one_quantifier_is_a_node { nodes_behind
+        (behind (lexemes (codes "rule r: forall x, y. not a() and true"))) ≡ 5 }
     ensures for_each_rule_anew { nodes_behind (behind (lexemes (codes "rule r: a(); rule s: b()"))) ≡ 1 }
     ensures first_end { wants_end (behind (lexemes (codes "rule r: once["))) ≡ true }
     ensures second_end { wants_end (behind (lexemes (codes "rule r: once[3,"))) ≡ true }
