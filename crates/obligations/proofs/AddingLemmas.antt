@@ -1,6 +1,6 @@
 -- What is put last by the parts of a plan is what its whole puts last.
 use Rattle.std.proofs.Common.{◌≡◌, ℕ, zero, suc, ◌+◌, ◌<◌, Bool, true, false, List, [], ◌∷◌, ◌++◌, length, take, Contains, Option, refl, sym, ap, subst, arith, inl, inr, ◌∙◌, append_assoc, get_or}
-use Rattle.std.specs.Prelude.{◌↔◌, IsTrue, IsFalse}
+use Rattle.std.specs.Prelude.{IsTrue, IsFalse}
 use Rattle.std.specs.Option.{option_to_list}
 use Rattle.std.proofs.Common.{true≢false}
 use Rattle.std.proofs.lemmas.List.{append-nil}
@@ -107,14 +107,6 @@ right_of_either left right (l ∷ ls) some missing = inr (inr (some, (l, ls, mis
 module _ (now : Now) (v : Valuation) where
   abbrev Listed : Plan → List Literal → List Literal → Type 0
   Listed plan before after = Adds now (λ trace. Missing trace plan v) before after
-
-  -- whether a list that was begun with nothing is still empty
-  pub tells : (plan : Plan) (nothing : Bool) (items : List Literal) → IsTrue nothing ↔ (items ≡ []) → Listed plan [] items
-      → TellsNothing now plan v nothing
-  tells plan true items empty adds trace is =
-      subst (Missing trace plan v) (sym adds.grown ∙ empty.0 refl) (adds.are trace is)
-  tells plan false [] empty adds trace is = absurd (true≢false (sym (empty.1 refl)))
-  tells plan false (l ∷ ls) empty adds trace is = (l, ls, subst (Missing trace plan v) (sym adds.grown) (adds.are trace is))
 
   pub both_listed : (node : ℕ) (left right : Plan) (before between after : List Literal) → Listed left before between
       → Listed right between after → Listed (Both node left right) before after

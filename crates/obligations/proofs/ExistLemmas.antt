@@ -1,17 +1,15 @@
 -- That what is missing and begun at a step is a list: guards have lists of rows, and tests are decided.
-use Rattle.std.proofs.Common.{◌≡◌, ℕ, zero, suc, Bool, true, false, List, [], ◌∷◌, ◌++◌, length, Contains, Option, None, Some, refl, sym, ap, subst, inl, inr, ⊎_elim, ◌⊎◌}
-use Rattle.std.specs.Prelude.{IsSome}
+use Rattle.std.proofs.Common.{◌≡◌, ℕ, zero, suc, Bool, true, false, List, [], ◌∷◌, ◌++◌, length, Contains, refl, sym, subst, inl, inr, ⊎_elim, ◌⊎◌}
 use Rattle.std.specs.Bool.{Decides}
 use Rattle.std.specs.List.{list_any}
 use Rattle.std.proofs.lemmas.Bool.{false≢true}
 use Rattle.std.proofs.lemmas.List.Elements.{All-contains}
 use Rattle.enf_value.specs.Data.{step_at}
-use Rattle.enf_value.specs.Valuations.{Valuation, value_at, values_of, onto_values, with_values}
+use Rattle.enf_value.specs.Valuations.{Valuation, values_of, with_values}
 use Rattle.enf_value.specs.declared.events.Event.{Event}
 use Rattle.enf_value.specs.declared.events.NameId.{NameId}
 use Rattle.enf_value.specs.declared.steps.Step.{Step}
 use Rattle.enf_value.specs.declared.terms.Term.{Term}
-use Rattle.enf_value.specs.declared.terms.Term.TheVariants.{Var, Const}
 use Rattle.enf_value.specs.declared.terms.VarId.{VarId}
 use Rattle.enf_value.specs.declared.values.Value.{Value}
 use Rattle.enf_value.specs.Decided.{event_eq, event_eq-Decides, list_any-Decides}
@@ -31,7 +29,8 @@ use Rattle.obligations.specs.Rows.{AreRowsOf, HoldsLast, last_position}
 use Rattle.obligations.specs.declared.instances.Instance.{Instance}
 use Rattle.obligations.specs.declared.literals.Literal.{Literal}
 use Rattle.obligations.proofs.AddingLemmas.{gathers_exist}
-use Rattle.obligations.proofs.AskLemmas.{new_apart, new_distinct, under_row}
+use Rattle.obligations.proofs.LeafLemmas.{bound_values}
+use Rattle.obligations.proofs.AskLemmas.{leaf_binds, new_apart, new_distinct, under_row}
 
 -- there is a list with the property
 abbrev pub Exists : (List Literal → Type 0) → Type 0
@@ -41,7 +40,7 @@ abbrev pub Begins : (List Instance → Type 0) → Type 0
 Begins P = (instances : List Instance) × P instances
 
 -- the list is empty, or has some
-nothing_or_some : (P : List Literal → Type 0) → Exists P → P [] ⊎ HasSome P
+pub nothing_or_some : (P : List Literal → Type 0) → Exists P → P [] ⊎ HasSome P
 nothing_or_some P ([], is) = inl is
 nothing_or_some P (l ∷ ls, is) = inr (l, ls, is)
 
@@ -68,28 +67,15 @@ literal_exists : (P : Type 0) (literal : Literal) → P ⊎ (P → ⊥) → Exis
 literal_exists P literal decided =
     ⊎_elim (λ holds. ([], inl (holds, refl))) (λ fails. (literal ∷ [], inr (fails, refl))) decided
 
--- terms in scope have values
-has_value : (scope : List VarId) (v : Valuation) → Binds v scope → (terms : List Term) → AreInScope scope terms
-    → (values : List Value) × (values_of v terms ≡ Some values)
-has_value scope v binds [] within = ([], refl)
-has_value scope v binds (Const value ∷ terms) within =
-    let rest = has_value scope v binds terms within.1 in
-    (value ∷ rest.0, ap (λ o. onto_values (Some value) o) rest.1)
-has_value scope v binds (Var x ∷ terms) within =
-    let rest = has_value scope v binds terms within.1 in
-    by (value_at v x) (binds x within.0) rest
-  where
-    by : (o : Option Value) → IsSome o → (values : List Value) × (values_of v terms ≡ Some values)
-        → (values : List Value) × (onto_values o (values_of v terms) ≡ Some values)
-    by (Some value) some rest = (value ∷ rest.0, ap (λ o. onto_values (Some value) o) rest.1)
-    by None some rest = absurd (false≢true some)
-
 pub present_or_not : (events : List Event) (event : Event) → Contains events event ⊎ (Contains events event → ⊥)
 present_or_not events event = by (list_any (event_eq event) events) (list_any-Decides event_eq event_eq-Decides events event)
   where
     by : (b : Bool) → Decides b (Contains events event) → Contains events event ⊎ (Contains events event → ⊥)
     by true decides = inl (decides.0 refl)
     by false decides = inr (λ there. false≢true (decides.1 there))
+
+pub behind_exists : (i : Instance) (A : List Instance → Type 0) → Begins A → Begins (WithBehind i A)
+behind_exists i A a = (i ∷ a.0, (a.0, a.1, refl))
 
 module _ (decided : SafeIsDecided) (have_rows : SafeHasRows) (guards : List (Formula × List VarId)) (trace : List Step) where
   pub rows_exist : (n : ℕ) (f : Formula) (scope xs : List VarId) → IsGuardAt guards n f scope → AreOpen f scope xs → AreNew scope xs
@@ -111,7 +97,7 @@ module _ (decided : SafeIsDecided) (have_rows : SafeHasRows) (guards : List (For
       → (P : Event → List Literal → Type 0) → ((e : Event) → Exists (P e))
       → Exists (λ literals. OfEvent name (values_of v terms) (λ e. P e literals))
   leaf_exists scope v binds name terms within P each =
-      let args = has_value scope v binds terms within in
+      let args = bound_values v terms (leaf_binds scope terms v within binds) in
       let some = each (record { name = name; args = args.0 }) in
       (some.0, subst (λ o. OfEvent name o (λ e. P e some.0)) (sym args.1) some.1)
 
@@ -169,9 +155,6 @@ module _ (decided : SafeIsDecided) (have_rows : SafeHasRows) (guards : List (For
       → Begins A → Begins B → Begins (λ xs. BeginsOrWaits trace low side v (A xs) (B xs))
   waits_exist zero side v A B told a b = takes_exists side v A B told a b
   waits_exist (suc low) side v A B told a b = b
-
-  behind_exists : (i : Instance) (A : List Instance → Type 0) → Begins A → Begins (WithBehind i A)
-  behind_exists i A a = (i ∷ a.0, (a.0, a.1, refl))
 
   always_begins : (low : ℕ) (i : Instance) (A : List Instance → Type 0) → Begins A → Begins (BeginsAlways low i A)
   always_begins zero i A a = behind_exists i A a

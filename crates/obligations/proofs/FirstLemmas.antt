@@ -1,14 +1,17 @@
 -- The first literal that the parts of a plan miss is the first that its whole misses.
-use Rattle.std.proofs.Common.{◌≡◌, ℕ, zero, suc, ◌<◌, Bool, false, List, [], ◌∷◌, ◌++◌, length, Contains, Option, None, Some, refl, sym, subst, arith, inl, inr, ◌∙◌, true≢false, take, get_or}
-use Rattle.std.specs.Prelude.{IsFalse, IsTrue}
+use Rattle.std.proofs.Common.{◌≡◌, ℕ, zero, suc, ◌<◌, Bool, true, false, List, [], ◌∷◌, ◌++◌, length, Contains, Option, None, Some, refl, sym, subst, arith, inl, inr, ◌∙◌, true≢false, take, get_or}
+use Rattle.std.specs.Option.{is_none}
+use Rattle.std.specs.Prelude.{◌↔◌, IsFalse, IsSome, IsTrue, not}
 use Rattle.std.specs.Option.{option_to_list}
-use Rattle.enf_value.specs.Valuations.{Valuation, values_of, with_values}
+use Rattle.enf_value.specs.Valuations.{Valuation, value_at, values_of, with_values}
 use Rattle.enf_value.specs.declared.events.Event.{Event}
 use Rattle.enf_value.specs.declared.events.NameId.{NameId}
 use Rattle.enf_value.specs.declared.steps.Step.{Step}
 use Rattle.enf_value.specs.declared.terms.Term.{Term}
+use Rattle.enf_value.specs.declared.terms.Term.TheVariants.{Var}
 use Rattle.enf_value.specs.declared.terms.VarId.{VarId}
 use Rattle.enf_formula.specs.Formulas.{Formula}
+use Rattle.enf_formula.specs.Satisfaction.{IsAmong}
 use Rattle.enf_formula.specs.Scopes.{AreNew}
 use Rattle.monitorable_guard.specs.Evaluation.{AreOpen}
 use Rattle.monitorable_guard.specs.Safety.{FreeWithin}
@@ -29,6 +32,7 @@ use Rattle.obligations.specs.declared.now.Now.{Now}
 use Rattle.obligations.proofs.AddingLemmas.{gathers_as, gathers_exist, right_of_either, row_is}
 use Rattle.obligations.proofs.AskLemmas.{rows_are, test_is}
 use Rattle.obligations.proofs.EnoughLemmas.{nil_left, nil_right}
+use Rattle.obligations.proofs.LeafLemmas.{bound_values, nothing_suppressed}
 use Rattle.enf_value.specs.ListLaws.{later}
 
 first_as : (P Q : List Literal → Type 0) → ((ls : List Literal) → P ls → Q ls) → (found : Option Literal) → FirstOf P found
@@ -44,6 +48,11 @@ module _ (now : Now) (v : Valuation) where
   abbrev pub First : Plan → Option Literal → Type 0
   First plan found = (trace : List Step) → IsNowOf now trace → FirstMissing trace plan v found
 
+  -- whether there is none
+  pub tells : (plan : Plan) (found : Option Literal) → First plan found → TellsNothing now plan v (is_none found)
+  tells plan None first trace is = first trace is
+  tells plan (Some l) first trace is = let (rest, missing) = first trace is in (l, rest, missing)
+
   pub cause_first : (node place : ℕ) (name : NameId) (terms : List Term) (found : Option Literal)
       → OfEvent name (values_of v terms) (λ e. LiteralUnless (Contains now.events.now e) (cause e node) (option_to_list found))
       → First (Cause node place name terms) found
@@ -57,6 +66,35 @@ module _ (now : Now) (v : Valuation) where
   suppress_first node place name terms found missing trace is =
       first_listed (Missing trace (Suppress node place name terms) v) found
       (subst (λ (events : List Event). OfEvent name (values_of v terms) (λ e. LiteralUnless (Contains events e → ⊥) (suppress e node) (option_to_list found))) (sym is.events) missing)
+
+  -- a leaf lacks nothing where what it wants is so
+  pub cause_tells : (node place : ℕ) (name : NameId) (terms : List Term) → ((x : VarId) → Contains terms (Var x) → IsSome (value_at v x))
+      → (there : Bool) → IsTrue there ↔ IsAmong now.events.now name (values_of v terms)
+      → TellsNothing now (Cause node place name terms) v there
+  cause_tells node place name terms bound true is =
+      let has = bound_values v terms bound in
+      tells (Cause node place name terms) None (cause_first node place name terms None
+      (subst (λ o. OfEvent name o (λ e. LiteralUnless (Contains now.events.now e) (cause e node) [])) (sym has.1)
+      (inl (subst (IsAmong now.events.now name) has.1 (is.0 refl), refl))))
+  cause_tells node place name terms bound false is =
+      let has = bound_values v terms bound in
+      let literal = cause (record { name = name; args = has.0 }) node in
+      tells (Cause node place name terms) (Some literal) (cause_first node place name terms (Some literal)
+      (subst (λ o. OfEvent name o (λ e. LiteralUnless (Contains now.events.now e) (cause e node) (literal ∷ []))) (sym has.1)
+      (inr ((λ among. true≢false (sym (is.1 (subst (IsAmong now.events.now name) (sym has.1) among)))), refl))))
+
+  pub suppress_tells : (node place : ℕ) (name : NameId) (terms : List Term) → ((x : VarId) → Contains terms (Var x) → IsSome (value_at v x))
+      → (there : Bool) → IsTrue there ↔ IsAmong now.events.now name (values_of v terms)
+      → TellsNothing now (Suppress node place name terms) v (not there)
+  suppress_tells node place name terms bound false is =
+      tells (Suppress node place name terms) None (suppress_first node place name terms None
+      (nothing_suppressed v terms bound now.events.now name node (λ among. true≢false (sym (is.1 among)))))
+  suppress_tells node place name terms bound true is =
+      let has = bound_values v terms bound in
+      let literal = suppress (record { name = name; args = has.0 }) node in
+      tells (Suppress node place name terms) (Some literal) (suppress_first node place name terms (Some literal)
+      (subst (λ o. OfEvent name o (λ e. LiteralUnless (Contains now.events.now e → ⊥) (suppress e node) (literal ∷ []))) (sym has.1)
+      (inr ((λ absent. absent (subst (IsAmong now.events.now name) has.1 (is.0 refl))), refl))))
 
   pub left_first : MissingExists → (guards : List (Formula × List VarId)) (node : ℕ) (left right : Plan) → CanAsk guards right v
       → (l : Literal) → First left (Some l) → First (Both node left right) (Some l)

@@ -25,7 +25,7 @@ use Rattle.plan_terms.specs.Scopes.{AtEach, IsScopedNode}
 use Rattle.plan_terms.specs.Standing.{PlansStandIn}
 use Rattle.plan_terms.specs.WellFormed.{IsWellFormed}
 use Rattle.obligations.specs.Asked.{BindsFree, CanAskNode, IsNowOf, placed_guard}
-use Rattle.obligations.specs.Founding.{CanBeAsked, NowStands, WellFormedStand}
+use Rattle.obligations.specs.Founding.{CanBeAsked, NowStands, WellFormedCanBeAsked, WellFormedStand}
 use Rattle.obligations.specs.Rows.{HoldsLast, last_position}
 use Rattle.obligations.specs.Waiting.{CanAskRoot, CanAskRoots}
 use Rattle.obligations.specs.declared.now.Now.{Now}
@@ -102,9 +102,12 @@ copies_same [] (p ∷ placed) copies = absurd copies
 copies_same (g ∷ guards) [] copies = absurd copies
 copies_same (g ∷ guards) (p ∷ placed) copies = λ i. (sym copies.0 i, sym copies.1 i) ∷ copies_same guards placed copies.2 i
 
+pub well_formed_can_be_asked : WellFormedCanBeAsked
+well_formed_can_be_asked plans guards formed = can_ask_roots guards formed.fresh plans formed.each
+
 pub can_be_asked : CanBeAsked
 can_be_asked plans guards placed formed copies =
-    subst (λ l. CanAskRoots l plans) (copies_same guards placed copies) (can_ask_roots (guards_of guards) formed.fresh plans formed.each)
+    subst (λ l. CanAskRoots l plans) (copies_same guards placed copies) (well_formed_can_be_asked plans (guards_of guards) formed)
 
 pub well_formed_stand : PlansStandIn → WellFormedStand
 well_formed_stand stand plans guards formed rule plan found = stand guards plans rule plan formed.each found

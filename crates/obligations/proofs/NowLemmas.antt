@@ -1,30 +1,9 @@
--- Plans that do not look ahead leave nothing pending.
+-- What holds of each item of a list: that no node looks ahead, and one item more.
 use Rattle.std.proofs.Common.{◌≡◌, ℕ, zero, suc, ◌+◌, ◌<◌, Bool, true, false, List, [], ◌∷◌, length, map, take, get_or, refl, sym, subst, arith, ◌||◌, ◌∙◌}
 use Rattle.std.proofs.lemmas.Bool.{false≢true}
 use Rattle.std.specs.List.{AllByRecursion, list_any}
-use Rattle.enf_value.specs.Valuations.{no_values}
-use Rattle.enf_value.specs.declared.steps.Step.{Step}
-use Rattle.enf_value.specs.declared.terms.VarId.{VarId}
-use Rattle.enf_formula.specs.Formulas.{Formula}
 use Rattle.plan_terms.specs.Nodes.{is_future}
 use Rattle.plan_terms.specs.Plans.{Plan}
-use Rattle.obligations.specs.Begun.{Begun}
-use Rattle.obligations.specs.Existing.{BegunExists, NothingGoesOn}
-use Rattle.obligations.specs.Pending.{BegunByRoots}
-use Rattle.obligations.specs.Traces.{LooksAtNow}
-use Rattle.obligations.specs.Waiting.{CanAskRoots}
-use Rattle.obligations.proofs.TraceLemmas.{none_begun}
-
-roots_nothing : BegunExists → (guards : List (Formula × List VarId)) (trace : List Step) (rule : ℕ) (plans : List Plan)
-    → CanAskRoots guards plans → AllByRecursion LooksAtNow plans → BegunByRoots trace rule plans []
-roots_nothing exist guards trace rule [] can now = refl
-roots_nothing exist guards trace rule (plan ∷ plans) can now =
-    let begun = exist guards trace rule plan no_values can.0.0 in
-    let none : begun.0 ≡ [] = none_begun trace rule plan now.0 no_values begun.0 begun.1 in
-    ([], [], subst (Begun trace rule plan no_values) none begun.1, roots_nothing exist guards trace (suc rule) plans can.1 now.1, refl)
-
-pub nothing_goes_on : BegunExists → NothingGoesOn
-nothing_goes_on exist guards plans trace can now = ([], [], refl, roots_nothing exist guards trace 0 plans can now, refl)
 
 -- no node of a list is one on the future
 pub none_ahead : (b : Bool) (ps : List Plan) → b ≡ list_any is_future ps → b ≡ false → AllByRecursion (λ p. is_future p ≡ false) ps

@@ -12,7 +12,7 @@ use Rattle.obligations.specs.declared.now.Now.{Now}
 use Rattle.obligations.proofs.WantedLemmas.{in_body, in_left, in_right}
 
 module _ (now : Now) (i : Instance) where
-  in_window_now : (trace : List Step) → IsNowOf now trace → IsInWindow i now.time → IsNowIn trace i
+  pub in_window_now : (trace : List Step) → IsNowOf now trace → IsInWindow i now.time → IsNowIn trace i
   in_window_now trace is within = subst (IsInWindow i) (sym is.time) within
 
   pub asks_eventually : (node place low high : ℕ) (body : Plan) → CanAsk (guards_at now.tables.now) (Eventually node place low high body) i.valuation

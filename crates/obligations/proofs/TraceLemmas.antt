@@ -47,7 +47,7 @@ below P first plan node number found all = by (scoped_at number plan []) refl
         (AtEach-nodes P other inner (AtEach-found (λ n scope. P n) plan other [] inner number is (AtEach-from_nodes P plan [] all)))
 
 -- the node of an instance stands in the plan of its rule
-stands_found : FoundIsFirst → (plans : List Plan) → PlansStand plans → (i : Instance) (node : Plan)
+pub stands_found : FoundIsFirst → (plans : List Plan) → PlansStand plans → (i : Instance) (node : Plan)
     → node_of plans i ≡ Some node → StandsIn plans i.rule node
 stands_found first plans stand i node is = by (slice_get plans i.rule) refl is
   where
@@ -226,7 +226,17 @@ longer_pends plans trace more (suc n) le pending (before, pend, goes) = (
   subst (λ (front : List Step). Goes plans front before pending) (sym (take-append-le (suc n) trace more le)) goes,
 )
 
-whole : (trace : List Step) (step : Step) → take (suc (length trace)) (trace ++ step ∷ []) ≡ trace ++ step ∷ []
+-- and the other way round
+pub shorter_pends : (plans : List Plan) (trace more : List Step) (n : ℕ) → n ≤ length trace → (pending : List Instance)
+    → PendsBehind plans (trace ++ more) n pending → PendsBehind plans trace n pending
+shorter_pends plans trace more zero le pending pend = pend
+shorter_pends plans trace more (suc n) le pending (before, pend, goes) = (
+  before,
+  shorter_pends plans trace more n (omega (arith, le)) before pend,
+  subst (λ (front : List Step). Goes plans front before pending) (take-append-le (suc n) trace more le) goes,
+)
+
+pub whole : (trace : List Step) (step : Step) → take (suc (length trace)) (trace ++ step ∷ []) ≡ trace ++ step ∷ []
 whole trace step = take_all (suc (length trace)) (trace ++ step ∷ []) (omega (arith, length-append trace (step ∷ [])))
 
 pub pend_grows : PendGrows

@@ -2,7 +2,8 @@
 use Rattle.std.proofs.Common.{◌≡◌, ℕ, zero, suc, Bool, true, false, cond, ◌==◌, List, [], ◌∷◌, ◌++◌, length, map, drop, Contains, Option, None, Some, refl, sym, ap, subst, arith, inl, inr, ⊎_elim, ◌⊎◌, ◌∙◌}
 use Rattle.std.specs.Prelude.{IfSome, slice_get}
 use Rattle.std.specs.Option.{option_to_list}
-use Rattle.std.proofs.lemmas.List.Elements.{Contains-append_left, Contains-append_right}
+use Rattle.std.proofs.lemmas.List.{append-nil}
+use Rattle.std.proofs.lemmas.List.Elements.{Contains-append_left, Contains-append_right, Contains-push_cases}
 use Rattle.std.proofs.lemmas.Option.{same_Some, none-some}
 use Rattle.enf_value.specs.ListLaws.{first_or_later, here, later, none_in_nil}
 use Rattle.enf_value.specs.Valuations.{Valuation, onto_values, value_of, values_of, with_values}
@@ -23,6 +24,7 @@ use Rattle.plan_terms.specs.Plans.{Plan, Cause, Suppress, Guarded}
 use Rattle.valuations.specs.Columns.{among_or_not}
 use Rattle.valuations.specs.RowLaws.{value_at-with_inside, value_at-with_outside}
 use Rattle.valuations.specs.Tables.{IsTable, Relation, cell}
+use Rattle.obligations.specs.Adding.{AddsOf}
 use Rattle.obligations.specs.Asked.{FitsScope, IsBound, IsGuardAt, IsKnownAt, IsLeafConstant, IsWanted, guards_at}
 use Rattle.obligations.specs.Missing.{LiteralUnless, OfEvent, cause, suppress}
 use Rattle.obligations.specs.Waiting.{IsWantedUnder}
@@ -175,7 +177,7 @@ dropped zero xs x there = there
 dropped (suc k) [] x there = there
 dropped (suc k) (y ∷ xs) x there = later x y xs (dropped k xs x there)
 
-mapped : {X Y : Type 0} (f : X → Y) (xs : List X) (k : ℕ) (x : X) → slice_get xs k ≡ Some x → Contains (map f xs) (f x)
+pub mapped : {X Y : Type 0} (f : X → Y) (xs : List X) (k : ℕ) (x : X) → slice_get xs k ≡ Some x → Contains (map f xs) (f x)
 mapped f [] k x e = absurd (none-some x e)
 mapped f (y ∷ xs) zero x e = subst (λ z. Contains (map f (y ∷ xs)) (f z)) (same_Some y x e) (here (f y) (map f xs))
 mapped f (y ∷ xs) (suc k) x e = later (f x) (f y) (map f xs) (mapped f xs k x e)
@@ -224,3 +226,26 @@ module _ (now : Now) (n : ℕ) (f : Formula) (scope xs : List VarId) (at : IsGua
 pub if_some : (found : Option Literal) (P Q : Literal → Type 0) → ((l : Literal) → P l → Q l) → IfSome found P → IfSome found Q
 if_some None P Q turn is = tt
 if_some (Some l) P Q turn is = turn l is
+
+-- ---- lists of what is wanted
+
+module _ {X : Type 0} where
+  pub adds_none : (P : X → Type 0) (out : List X) → AddsOf P out out
+  adds_none P out x there = inl there
+
+  pub adds_of : (P Q : X → Type 0) (before after : List X) → ((x : X) → P x → Q x) → AddsOf P before after → AddsOf Q before after
+  adds_of P Q before after turn adds x there = ⊎_elim (λ was. inl was) (λ is. inr (turn x is)) (adds x there)
+
+  pub adds_more : (P : X → Type 0) (before between after : List X) → AddsOf P before between → AddsOf P between after
+      → AddsOf P before after
+  adds_more P before between after first next x there = ⊎_elim (λ was. first x was) (λ is. inr is) (next x there)
+
+  pub adds_found : (P : X → Type 0) (found : Option X) (before after : List X) → after ≡ before ++ option_to_list found
+      → IfSome found P → AddsOf P before after
+  adds_found P None before after grown is x there =
+      inl (subst (λ l. Contains l x) (grown ∙ append-nil before) there)
+  adds_found P (Some y) before after grown is x there =
+      ⊎_elim
+      (λ was. inl was)
+      (λ same. inr (subst P same is))
+      (Contains-push_cases before y x (subst (λ l. Contains l x) grown there))

@@ -1,5 +1,5 @@
 -- What it takes to ask a plan at a step, and what a step stands for.
-use Rattle.std.specs.Prelude.{◌≡◌, ◌↔◌, ◌⊎◌, ℕ, ◌<◌, List, [], map, length, Option, None, Some, slice_get, Contains}
+use Rattle.std.specs.Prelude.{◌≡◌, ◌↔◌, ◌⊎◌, ℕ, ◌<◌, List, [], map, length, None, Some, slice_get, Contains}
 use Rattle.std.specs.Prelude.{IsSome}
 use Rattle.enf_value.specs.Data.{step_at}
 use Rattle.enf_value.specs.Valuations.{Valuation, value_at}
@@ -25,7 +25,6 @@ use Rattle.plan_terms.specs.Plans.{Plan, Cause, Suppress, Both, Either, TestOr, 
 use Rattle.plan_terms.specs.Plans.{Until, Next}
 use Rattle.plan_terms.specs.Scopes.{AtEach}
 use Rattle.valuations.specs.Just.{Binds}
-use Rattle.valuations.specs.Tables.{Relation}
 use Rattle.obligations.specs.Begun.{time_now}
 use Rattle.obligations.specs.Rows.{HoldsLast, last_position}
 use Rattle.obligations.specs.declared.literals.Literal.{Literal}

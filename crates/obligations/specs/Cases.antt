@@ -1,9 +1,10 @@
 -- Small plans, traces and instances, on which the definitions can be checked by eye.
 use Rattle.std.specs.Prelude.{ℕ, ◌+◌, Bool, pos, List, [], ◌∷◌}
-use Rattle.enf_value.specs.Valuations.{no_values}
+use Rattle.enf_value.specs.Valuations.{Valuation, no_values, with_values}
 use Rattle.enf_value.specs.declared.events.Event.{Event}
 use Rattle.enf_value.specs.declared.steps.Step.{Step}
 use Rattle.enf_value.specs.declared.terms.Term.TheVariants.{Var}
+use Rattle.enf_value.specs.declared.values.Value.{Value}
 use Rattle.enf_value.specs.declared.values.Value.TheVariants.{Num}
 use Rattle.enf_formula.specs.Cases.{at_time, event_p_of, event_q_of, formula_p_x, name_p, name_q, x}
 use Rattle.enf_formula.specs.Formulas.{Formula, True, False}
@@ -43,12 +44,21 @@ each_q node = Guarded node (x ∷ []) 0 formula_p_x (cause_q_x (node + 1))
 abbrev pub two_and_one : List Event
 two_and_one = event_p_of (Num (pos 2)) ∷ event_p_of (Num (pos 1)) ∷ []
 
--- q(1) and q(2)
+-- p(1), q(1) and q(2)
+abbrev pub one : Value
+one = Num (pos 1)
+
+abbrev pub two : Value
+two = Num (pos 2)
+
+abbrev pub p_of_1 : Event
+p_of_1 = event_p_of one
+
 abbrev pub q_of_1 : Event
-q_of_1 = event_q_of (Num (pos 1))
+q_of_1 = event_q_of one
 
 abbrev pub q_of_2 : Event
-q_of_2 = event_q_of (Num (pos 2))
+q_of_2 = event_q_of two
 
 -- an instance of a node of the first rule, which was begun at position 0, with this window
 abbrev pub waiting : (node low high : ℕ) → Instance
@@ -73,10 +83,32 @@ no_q_until_p node low = Until node 0 low 10 (bar_q (node + 1)) (cause_p (node + 
 abbrev pub next_p : (node : ℕ) → Plan
 next_p node = Next node 0 10 (cause_p (node + 1))
 
+-- p() at the next position, for each x with p(x)
+abbrev pub each_next : (node : ℕ) → Plan
+each_next node = Guarded node (x ∷ []) 0 formula_p_x (next_p (node + 1))
+
+-- x bound to a value
+abbrev pub bound_to : Value → Valuation
+bound_to value = with_values (x ∷ []) (value ∷ []) no_values
+
+-- begun by that for the value, at position 0 of one step at time 5
+abbrev pub next_for : Value → Instance
+next_for value = record { rule = 0; node = 1; valuation = bound_to value; origin = 0; low = 5; high = 15 }
+
 -- begun at position 0 of one step at time 5, under no binding
 abbrev pub begun_at_5 : (node low high : ℕ) → Instance
 begun_at_5 node low high =
     record { rule = 0; node = node; valuation = no_values; origin = 0; low = low; high = high }
+
+-- the same under the second rule
+abbrev pub second_at_5 : (node low high : ℕ) → Instance
+second_at_5 node low high =
+    record { rule = 1; node = node; valuation = no_values; origin = 0; low = low; high = high }
+
+-- begun at position 1
+abbrev pub begun_then : (node low high : ℕ) → Instance
+begun_then node low high =
+    record { rule = 0; node = node; valuation = no_values; origin = 1; low = low; high = high }
 
 -- a step at time 1, and one with these events at a time
 abbrev pub then_at : ℕ → List Event → List Step

@@ -16,7 +16,12 @@ use Rattle.obligations.specs.Traces.{PlansStand}
 use Rattle.obligations.specs.Waiting.{CanAskRoots}
 use Rattle.obligations.specs.declared.now.Now.{Now}
 
--- the plans of a policy can be asked at a step with copies of its guards,
+-- the plans of a policy can be asked at a step with its guards,
+abbrev pub WellFormedCanBeAsked : Type 0
+WellFormedCanBeAsked = (plans : List Plan) (guards : List (Formula × List VarId)) → AreWellFormed plans guards
+    → CanAskRoots guards plans
+
+-- and with copies of them,
 abbrev pub CanBeAsked : Type 0
 CanBeAsked = (plans : List Plan) (guards : List BoundFormula) (placed : List PlacedGuard)
     → AreWellFormed plans (guards_of guards) → AreCopies guards placed → CanAskRoots (map placed_guard placed) plans

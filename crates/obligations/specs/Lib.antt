@@ -8,7 +8,14 @@ pub mod Traces
 pub mod Asked
 pub mod Waiting
 pub mod Adding
+pub mod Sides
+pub mod Carrying
+pub mod DeadlineLaws
+pub mod Leading
 pub mod Existing
+pub mod Sources
 pub mod Founding
+pub mod Reached
+pub mod Patient
 pub mod Unread
 pub mod Cases

@@ -1,7 +1,7 @@
 -- Pending instances of plans, what it takes to ask them, and their deadlines.
-use Rattle.std.specs.Prelude.{◌≡◌, ℕ, ◌≤◌, Bool, true, List, [], ◌∷◌, Option, None, Some, Contains}
+use Rattle.std.specs.Prelude.{◌≡◌, ℕ, ◌==◌, Bool, true, false, cond, List, [], ◌∷◌, Option, None, Some, Contains}
 use Rattle.std.specs.Coded.{Coded, coded_ℕ, coded_list, coded×, code_by}
-use Rattle.std.specs.List.{AllByRecursion}
+use Rattle.std.specs.List.{AllByRecursion, count_by}
 use Rattle.std.specs.Prelude.{refl}
 use Rattle.enf_value.specs.Valuations.{Valuation, no_values}
 use Rattle.enf_value.specs.declared.steps.Step.{Step}
@@ -9,13 +9,14 @@ use Rattle.enf_value.specs.declared.terms.VarId.{VarId}
 use Rattle.enf_value.specs.declared.values.Value.{Value}
 use Rattle.enf_formula.specs.Formulas.{Formula}
 use Rattle.plan_terms.specs.Limits.{EndsInTime}
-use Rattle.plan_terms.specs.Nodes.{is_future, nodes}
+use Rattle.plan_terms.specs.Nodes.{has_deadline, is_future, nodes}
 use Rattle.plan_terms.specs.Plans.{Plan}
 use Rattle.valuations.specs.Scopes.{filled}
 use Rattle.valuations.specs.Tables.{Relation}
 use Rattle.obligations.specs.Asked.{CanAsk, IsNowOf, IsWanted, guards_at}
 use Rattle.obligations.specs.Missing.{Missing}
-use Rattle.obligations.specs.Pending.{HasDeadline, MissesAt, MissingOf, node_of}
+use Rattle.obligations.specs.Pending.{MissesAt, MissingOf, node_of}
+pub use Rattle.deadline_queue.specs.Queues.{IsLeastOf}
 use Rattle.obligations.specs.contracts.instances.Instance as stored
 use Rattle.obligations.specs.declared.instances.Instance.{Instance}
 use Rattle.obligations.specs.declared.literals.Literal.{Literal}
@@ -84,15 +85,27 @@ pending_code =
     code_by (List Instance × List ℕ) (coded× (coded_list stored.the_row.coded) (coded_list coded_ℕ))
     (λ p. (p.instances, p.deadlines)) (λ p. record { instances = p.0; deadlines = p.1 }) (λ _. refl)
 
--- the deadlines are those of the instances
+-- the deadline of an instance of a node, if the node has one
+abbrev pub deadline_at : Option Plan → Instance → Option ℕ
+deadline_at None i = None
+deadline_at (Some node) i = cond (has_deadline node) (Some i.high) None
+
+abbrev pub deadline_of : List Plan → Instance → Option ℕ
+deadline_of plans i = deadline_at (node_of plans i) i
+
+-- a deadline, if there is one, is this time
+abbrev pub is_time : Option ℕ → (time : ℕ) → Bool
+is_time None time = false
+is_time (Some deadline) time = deadline == time
+
+abbrev pub is_due : List Plan → (deadline : ℕ) → Instance → Bool
+is_due plans deadline i = is_time (deadline_of plans i) deadline
+
+-- how many of the instances have the deadline
+abbrev pub count_due : List Plan → List Instance → (deadline : ℕ) → ℕ
+count_due plans instances deadline = count_by (is_due plans deadline) instances
+
+-- the deadlines are those of the instances, each as often as an instance has it
 abbrev pub KeepsDeadlines : List Plan → PendingList → Type 0
 KeepsDeadlines plans pending = (deadline : ℕ)
-    → (Contains pending.deadlines deadline
-    → (i : Instance) × Contains pending.instances i × HasDeadline plans i deadline)
-    × ((i : Instance) → Contains pending.instances i → HasDeadline plans i deadline
-    → Contains pending.deadlines deadline)
-
--- the least of some numbers, if there are any
-abbrev pub IsLeastOf : List ℕ → Option ℕ → Type 0
-IsLeastOf numbers None = numbers ≡ []
-IsLeastOf numbers (Some least) = Contains numbers least × ((number : ℕ) → Contains numbers number → least ≤ number)
+    → count_by (λ entry. entry == deadline) pending.deadlines ≡ count_due plans pending.instances deadline

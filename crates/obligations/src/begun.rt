@@ -11,16 +11,15 @@ ghost use Rattle.plan_terms.specs.Standing.{StandsIn};
 ghost use Rattle.obligations.specs.Waiting.{CanAskOf};
 ghost use Rattle.obligations.specs.declared.now.TheConstants.{MOST_TIME};
 
+use crate::beginning::begin_behind;
 use crate::instances::Instance;
-use crate::laws::missing_exists;
 use crate::now::Now;
 use enf_value::memory::NoMemory;
 use plan_terms::Plan;
 use std::alloc::Global;
-use valuations::Valuation;
+use valuations::{Frame, Valuation};
 
-/// The instances that the plan of a rule begins where it is begun at the step. Of a plan that looks ahead they are not
-/// told yet: it answers want of memory.
+/// The instances that the plan of a rule begins where it is begun at the step.
 pub fn take(
     alloc: Global,
     rule: u32,
@@ -36,9 +35,7 @@ pub fn take(
     ensures asked { IfOk result (λ begun. (plans : List Tree) → StandsIn plans rule (plan_of plan.now)
         → AllByRecursion (CanAskOf (guards_at now.now.tables.now) plans) begun.items) }
 {
-    if plan.has_future() {
-        return Err(NoMemory);
-    }
-    missing_exists();
-    Ok(Vec::new(alloc))
+    let mut begun = Vec::new(alloc);
+    begin_behind(alloc, rule, plan, &Frame::Whole(v), now, &mut begun)?;
+    Ok(begun)
 }

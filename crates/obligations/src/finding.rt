@@ -4,14 +4,14 @@ ghost use Rattle.enf_value.specs.declared.steps.Step.{Step};
 ghost use Rattle.enf_value.specs.declared.values.Value.{Value as AnyValue};
 ghost use Rattle.plan_terms.specs.Plans.{plan_of};
 ghost use Rattle.valuations.specs.Scopes.{bound_in, filled};
+ghost use Rattle.obligations.specs.Adding.{TellsNothing};
 ghost use Rattle.obligations.specs.Asked.{CanAsk, IsNowOf, IsWanted, guards_at};
 ghost use Rattle.obligations.specs.Missing.{Missing};
 ghost use Rattle.obligations.specs.Rows.{Gathers};
 ghost use Rattle.obligations.specs.Waiting.{FirstMissing, FirstOf, IsWantedUnder};
 
 use crate::laws::missing_exists;
-use crate::leaves::{cause_missing, suppress_missing};
-use crate::lists::misses_nothing;
+use crate::leaves::{cause_missing, is_there, suppress_missing};
 use crate::literals::Literal;
 use crate::now::Now;
 use enf_value::memory::NoMemory;
@@ -115,4 +115,24 @@ fn find_under<'a>(
         }
     }
     Ok(None)
+}
+
+// Whether the plan misses nothing. Of a leaf no literal is made.
+#[cycle(finding)]
+pub fn misses_nothing<'a>(
+    alloc: Global,
+    plan: &Plan,
+    v: &'a Frame<'a>,
+    now: &Now<'_>,
+) -> Result<bool, NoMemory>
+    requires { CanAsk (guards_at now.now.tables.now) (plan_of plan.now) (bound_in v.now) }
+    ensures { IfOk result (TellsNothing now.now (plan_of plan.now) (bound_in v.now)) }
+{
+    match plan {
+        Plan::Cause { name, terms, .. } => is_there(alloc, *name, terms, &*v, now.events),
+        Plan::Suppress { name, terms, .. } => {
+            Ok(!is_there(alloc, *name, terms, &*v, now.events)?)
+        }
+        _ => Ok(find_missing(alloc, plan, v, now)?.is_none()),
+    }
 }

@@ -1,16 +1,21 @@
 //! Laws of what plans miss and begin, each the contract of a function that does nothing.
+ghost use Rattle.obligations.specs.DeadlineLaws.{DeadlineIsListed, ListedIsDeadline};
 ghost use Rattle.obligations.specs.Enough.{NothingMissedIsEnough, NothingMissedIsEnoughPending, SomethingMissedIsLost};
-ghost use Rattle.obligations.specs.Existing.{BegunExists, MissingExists, NothingGoesOn};
-ghost use Rattle.obligations.specs.Founding.{CanBeAsked, NowStands, WellFormedStand};
+ghost use Rattle.obligations.specs.Existing.{AfterExists, BegunCanBeAsked, BegunExists, GoesCanBeAsked, GoesExists};
+ghost use Rattle.obligations.specs.Existing.{MissingExists, MissingOfExists, PendCanBeAsked, PendExists};
+ghost use Rattle.obligations.specs.Founding.{CanBeAsked, NowStands, WellFormedCanBeAsked, WellFormedStand};
 ghost use Rattle.obligations.specs.Missing.{MissingIsOne};
 ghost use Rattle.obligations.specs.Pending.{AfterIsOne, BegunIsOne, MissingOfIsOne, PendIsOne};
+ghost use Rattle.obligations.specs.Reached.{BegunIsNamed, BegunIsReached, MissedIsReached, PendCame};
+ghost use Rattle.obligations.specs.Reached.{PendingWasBegun, ReachedIsInside};
 ghost use Rattle.obligations.specs.Rows.{RowsAreOne};
+ghost use Rattle.obligations.specs.Sources.{MissedAreOwn, MissedOfAreOwn};
 ghost use Rattle.obligations.specs.Traces.{CleanGrows, NothingIsPending, PendGrows, PendingIsEnough};
-ghost use Rattle.obligations.specs.Unread.{UnreadStaysMet};
+ghost use Rattle.obligations.specs.Unread.{UnreadInstanceStaysMet, UnreadLeavesRest, UnreadStaysMet};
 
 use enf_formula::laws;
-use monitorable_guard::laws::safe_has_rows;
-use plan_terms::laws::{nodes_have_scopes, nodes_stand_in_plans};
+use monitorable_guard::laws::{safe_has_rows, safe_values_are_known};
+use plan_terms::laws::{nodes_have_scopes, nodes_stand_in_plans, triggers_are_met};
 use trace_meaning::laws::last_time_of_trace;
 
 /// A guard has one list of rows at most, and a plan misses one list of literals.
@@ -69,15 +74,40 @@ pub fn missing_exists()
     safe_has_rows();
 }
 
-/// Plans that do not look ahead leave nothing pending behind a step.
-pub fn nothing_goes_on()
-    ensures { NothingGoesOn }
+/// What a pending instance misses that can be asked, and what it becomes, is a list; so is what is pending behind a
+/// step, and behind a trace.
+pub fn pending_exists()
+    ensures missing { MissingOfExists }
+    ensures after { AfterExists }
+    ensures goes { GoesExists }
+    ensures pending { PendExists }
 {
     missing_exists();
+    pending_can_be_asked();
 }
 
-/// The plans of a policy can be asked at a step with copies of its guards, and their nodes stand in them.
+/// Of plans that can be asked, what is begun can be asked, and what is pending behind a step and behind a trace.
+pub fn pending_can_be_asked()
+    ensures begun { BegunCanBeAsked }
+    ensures goes { GoesCanBeAsked }
+    ensures pending { PendCanBeAsked }
+{
+    nodes_have_scopes();
+}
+
+/// Each literal that is missed is of a leaf of its plan, and its values are bound, or among those of the trace and of
+/// the constants.
+pub fn missed_are_own()
+    ensures plans { MissedAreOwn }
+    ensures instances { MissedOfAreOwn }
+{
+    safe_values_are_known();
+}
+
+/// The plans of a policy can be asked at a step with its guards, also with copies of these, and their nodes stand in
+/// them.
 pub fn well_formed_can_be_asked()
+    ensures founded { WellFormedCanBeAsked }
     ensures asked { CanBeAsked }
     ensures stand { WellFormedStand }
 {
@@ -90,10 +120,39 @@ pub fn now_stands()
 {}
 
 /// What missed nothing misses nothing after an action on a name that no guard or test of it looks for, and of which no
-/// leaf wants the contrary.
+/// leaf wants the contrary. What missed something misses the rest of it, where it has no choices.
 pub fn unread_stays_met()
-    ensures { UnreadStaysMet }
+    ensures plans { UnreadStaysMet }
+    ensures instances { UnreadInstanceStaysMet }
+    ensures rest { UnreadLeavesRest }
 {
     laws::dependence();
     missing_exists();
 }
+
+/// What is missed and begun at a step stands below guards of which a trigger has an event there. A node that is reached
+/// so is one of the plan's, and what it begins names it.
+pub fn steps_reach()
+    ensures missed { MissedIsReached }
+    ensures begun { BegunIsReached }
+    ensures inside { ReachedIsInside }
+    ensures named { BegunIsNamed }
+{
+    triggers_are_met();
+}
+
+/// What is pending behind a trace was begun at one of its steps; what is pending behind one step more was led there by
+/// it.
+pub fn pending_was_begun()
+    ensures came { PendCame }
+    ensures begun { PendingWasBegun }
+{
+    triggers_are_met();
+    nodes_have_scopes();
+}
+
+/// Where the deadlines of what is pending are kept, each is listed, and none else.
+pub fn deadlines_are_listed()
+    ensures listed { DeadlineIsListed }
+    ensures only { ListedIsDeadline }
+{}

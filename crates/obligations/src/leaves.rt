@@ -1,6 +1,7 @@
 //! What leaves of plans miss.
-ghost use Rattle.std.specs.Prelude.{◌≡◌, IfOk, IsSome, Some, Contains};
+ghost use Rattle.std.specs.Prelude.{◌≡◌, ◌↔◌, IfOk, IsSome, IsTrue, Some, Contains};
 ghost use Rattle.std.specs.Option.{option_to_list};
+ghost use Rattle.enf_formula.specs.Satisfaction.{IsAmong};
 ghost use Rattle.enf_value.specs.Valuations.{value_at, values_of};
 ghost use Rattle.enf_value.specs.declared.terms.Term.TheVariants.{Var as Variable};
 ghost use Rattle.enf_value.specs.declared.terms.VarId.{VarId as AnyVariable};
@@ -12,10 +13,13 @@ use enf_value::Event;
 use enf_value::event_sets::EventSet;
 use enf_value::events::NameId;
 use enf_value::memory::NoMemory;
-use enf_value::terms::Terms;
+use enf_value::terms::{Term, Terms};
 use std::alloc::Global;
 use valuations::Frame;
-use valuations::arguments::arguments_in;
+use valuations::arguments::{arguments_in, compare_to_terms};
+
+// How many events are looked over at most. The set is asked for an event among more.
+const MOST_LOOKED_OVER: usize = 16;
 
 // The event that a leaf speaks of.
 fn event_of(alloc: Global, name: NameId, terms: &Terms, v: &Frame<'_>) -> Result<Event, NoMemory>
@@ -26,6 +30,46 @@ fn event_of(alloc: Global, name: NameId, terms: &Terms, v: &Frame<'_>) -> Result
 {
     let args = arguments_in(alloc, terms.as_slice(), v)?;
     Ok(Event { name, args })
+}
+
+// Whether the event that a leaf speaks of is there. It is made only where it is one of many.
+pub fn is_there(
+    alloc: Global,
+    name: NameId,
+    terms: &Terms,
+    v: &Frame<'_>,
+    events: &EventSet,
+) -> Result<bool, NoMemory>
+    requires { (x : AnyVariable) → Contains terms.now (Variable x)
+        → IsSome (value_at (bound_in v.now) x) }
+    ensures { IfOk result (λ there. IsTrue there
+        ↔ IsAmong events.now name (values_of (bound_in v.now) terms.now)) }
+{
+    if events.len() <= MOST_LOOKED_OVER {
+        return Ok(is_among(events.as_slice(), name, terms.as_slice(), v));
+    }
+    let event = event_of(alloc, name, terms, v)?;
+    Ok(events.contains(&event))
+}
+
+// Whether the event of the name with the values of the terms is among the events; it takes no memory.
+fn is_among(events: &[Event], name: NameId, terms: &[Term], v: &Frame<'_>) -> bool
+    ensures { IsTrue result ↔ IsAmong events.now name (values_of (bound_in v.now) terms.now) }
+{
+    for event in events {
+        if is_event(event, name, terms, v) {
+            return true;
+        }
+    }
+    false
+}
+
+// Whether it is the event of the name with the values of the terms.
+fn is_event(event: &Event, name: NameId, terms: &[Term], v: &Frame<'_>) -> bool
+    ensures { IsTrue result ↔ ((event.now.name ≡ name)
+        × (values_of (bound_in v.now) terms.now ≡ Some event.now.args)) }
+{
+    event.name == name && compare_to_terms(event.args.as_slice(), terms, v).is_eq()
 }
 
 // What a leaf misses that wants an event to be there.
@@ -42,10 +86,10 @@ pub fn cause_missing(
     ensures { IfOk result (λ found. OfEvent name (values_of (bound_in v.now) terms.now)
         (λ event. LiteralUnless (Contains events.now event) (cause event node) (option_to_list found))) }
 {
-    let event = event_of(alloc, name, terms, v)?;
-    if events.contains(&event) {
+    if is_there(alloc, name, terms, v, events)? {
         return Ok(None);
     }
+    let event = event_of(alloc, name, terms, v)?;
     Ok(Some(Literal {
         kind: LiteralKind::Cause,
         event,
@@ -68,10 +112,10 @@ pub fn suppress_missing(
         (λ event. LiteralUnless (Contains events.now event → ⊥) (suppress event node)
         (option_to_list found))) }
 {
-    let event = event_of(alloc, name, terms, v)?;
-    if !events.contains(&event) {
+    if !is_there(alloc, name, terms, v, events)? {
         return Ok(None);
     }
+    let event = event_of(alloc, name, terms, v)?;
     Ok(Some(Literal {
         kind: LiteralKind::Suppress,
         event,

@@ -1,10 +1,15 @@
-//! What plans owe at a step of a trace, and what they leave pending. It stands on `past_state`, `plan_terms`,
-//! `monitorable_guard`, `valuations`, `trace_meaning`, `enf_formula` and `enf_value`.
+//! What plans owe at a step of a trace, and what they leave pending. It stands on `deadline_queue`, `past_state`,
+//! `plan_terms`, `monitorable_guard`, `valuations`, `trace_meaning`, `enf_formula` and `enf_value`.
 #![tactic(auto)]
 
 pub mod actions;
+mod becoming;
+mod beginning;
 pub mod begun;
+mod carrying;
+mod deadlines;
 mod finding;
+mod frames;
 pub mod instances;
 pub mod laws;
 mod leaves;
@@ -12,7 +17,11 @@ mod lists;
 pub mod literals;
 pub mod missing;
 pub mod now;
+mod patient;
 pub mod pending;
+mod sides;
+mod sleeping;
+pub mod unread;
 mod waiting;
 pub mod worked_cases;
 

@@ -1,14 +1,16 @@
 //! The literals that plans miss at a step, one after another.
-ghost use Rattle.std.specs.Prelude.{◌≡◌, ◌↔◌, [], ◌++◌, IfOk, OnOk, IsTrue, List, Contains};
+ghost use Rattle.std.specs.Prelude.{◌≡◌, ◌++◌, OnOk, List, Contains};
 ghost use Rattle.std.specs.Option.{option_to_list};
 ghost use Rattle.enf_value.specs.declared.values.Value.{Value as AnyValue};
 ghost use Rattle.plan_terms.specs.Plans.{plan_of};
 ghost use Rattle.valuations.specs.Scopes.{bound_in, filled};
-ghost use Rattle.obligations.specs.Adding.{Adds, TellsNothing};
-ghost use Rattle.obligations.specs.Asked.{CanAsk, guards_at};
+ghost use Rattle.obligations.specs.Adding.{Adds, AddsOf};
+ghost use Rattle.obligations.specs.Asked.{CanAsk, IsWanted, guards_at};
 ghost use Rattle.obligations.specs.Missing.{Missing};
 ghost use Rattle.obligations.specs.Rows.{Gathers};
+ghost use Rattle.obligations.specs.Waiting.{IsWantedUnder};
 
+use crate::finding::misses_nothing;
 use crate::leaves::{cause_missing, suppress_missing};
 use crate::literals::Literal;
 use crate::now::Now;
@@ -27,7 +29,9 @@ pub fn push_missing<'a>(
     out: &mut Vec<Literal>,
 ) -> Result<(), NoMemory>
     requires { CanAsk (guards_at now.now.tables.now) (plan_of plan.now) (bound_in v.now) }
-    ensures { OnOk result (Adds now.now (λ trace. Missing trace (plan_of plan.now) (bound_in v.now))
+    ensures listed { OnOk result (Adds now.now (λ trace. Missing trace (plan_of plan.now) (bound_in v.now))
+        out.old.items out.new.items) }
+    ensures wanted { OnOk result (AddsOf (IsWanted now.now (plan_of plan.now) (bound_in v.now))
         out.old.items out.new.items) }
 {
     match plan {
@@ -102,36 +106,16 @@ fn push_under<'a>(
 ) -> Result<(), NoMemory>
     requires { (row : List AnyValue) → Contains rows.now.rows row → CanAsk (guards_at now.now.tables.now)
         (plan_of body.now) (filled (bound_in v.now) rows.now.columns row) }
-    ensures { OnOk result (Adds now.now (λ trace. Gathers (λ row. Missing trace (plan_of body.now)
+    ensures listed { OnOk result (Adds now.now (λ trace. Gathers (λ row. Missing trace (plan_of body.now)
         (filled (bound_in v.now) rows.now.columns row)) rows.now.rows) out.old.items out.new.items) }
+    ensures wanted { OnOk result (AddsOf (IsWantedUnder now.now (plan_of body.now) (bound_in v.now) rows.now)
+        out.old.items out.new.items) }
 {
     for row in rows.rows() {
         let inner = Frame::Row(&*v, rows.columns().as_slice(), row.as_slice());
         push_missing(alloc, body, &inner, now, out)?;
     }
     Ok(())
-}
-
-// Whether the plan misses nothing.
-#[cycle(listing)]
-pub fn misses_nothing<'a>(
-    alloc: Global,
-    plan: &Plan,
-    v: &'a Frame<'a>,
-    now: &Now<'_>,
-) -> Result<bool, NoMemory>
-    requires { CanAsk (guards_at now.now.tables.now) (plan_of plan.now) (bound_in v.now) }
-    ensures { IfOk result (TellsNothing now.now (plan_of plan.now) (bound_in v.now)) }
-{
-    let mut literals = Vec::new(alloc);
-    push_missing(alloc, plan, &*v, now, &mut literals)?;
-    Ok(is_empty(literals.as_slice()))
-}
-
-fn is_empty(literals: &[Literal]) -> bool
-    ensures { IsTrue result ↔ (literals.now ≡ []) }
-{
-    literals.is_empty()
 }
 
 fn push_found(found: Option<Literal>, out: &mut Vec<Literal>) -> Result<(), NoMemory>

@@ -1,5 +1,5 @@
 //! What plans and pending instances miss at a step.
-ghost use Rattle.std.specs.Prelude.{IfOk, IfSome, List, map};
+ghost use Rattle.std.specs.Prelude.{IfOk, IfSome, List, Contains, map};
 ghost use Rattle.enf_value.specs.declared.steps.Step.{Step};
 ghost use Rattle.plan_terms.specs.Plans.{plan_of};
 ghost use Rattle.valuations.specs.Scopes.{bound_in};
@@ -7,20 +7,23 @@ ghost use Rattle.obligations.specs.Asked.{CanAsk, IsNowOf, IsWanted, guards_at};
 ghost use Rattle.obligations.specs.Missing.{Missing};
 ghost use Rattle.obligations.specs.Pending.{MissingOf};
 ghost use Rattle.obligations.specs.Waiting.{CanAskOf, FirstMissing, FirstMissingOf, IsWantedOf};
+ghost use Rattle.obligations.specs.declared.literals.Literal.{Literal as AnyLiteral};
 
 use crate::finding::find_missing;
 use crate::instances::Instance;
+use crate::laws::missing_exists;
 use crate::lists::push_missing;
 use crate::literals::Literal;
 use crate::now::Now;
+use crate::patient::is_patient;
 use crate::waiting::{node_in, part_asked};
 use enf_value::memory::NoMemory;
 use plan_terms::Plan;
 use std::alloc::Global;
 use valuations::{Frame, Valuation};
 
-/// The first literal that the plan misses where it is begun at the step, if it misses any. No valuation is copied for a
-/// row, and a list is made of what a side of an Either or an Until misses alone.
+/// The first literal that the plan misses where it is begun at the step, if it misses any. No list is made, and no
+/// valuation is copied for a row.
 pub fn first_missing(
     alloc: Global,
     plan: &Plan,
@@ -33,6 +36,10 @@ pub fn first_missing(
     ensures wanted { IfOk result (λ found. IfSome found
         (IsWanted now.now (plan_of plan.now) (bound_in v.now))) }
 {
+    if is_patient(plan) {
+        missing_exists();
+        return Ok(None);
+    }
     find_missing(alloc, plan, v, now)
 }
 
@@ -44,10 +51,16 @@ pub fn lack(
     now: &Now<'_>,
 ) -> Result<Vec<Literal>, NoMemory>
     requires { CanAsk (guards_at now.now.tables.now) (plan_of plan.now) v.now }
-    ensures { IfOk result (λ literals. (trace : List Step) → IsNowOf now.now trace
+    ensures missing { IfOk result (λ literals. (trace : List Step) → IsNowOf now.now trace
         → Missing trace (plan_of plan.now) v.now literals.items) }
+    ensures wanted { IfOk result (λ literals. (literal : AnyLiteral) → Contains literals.items literal
+        → IsWanted now.now (plan_of plan.now) v.now literal) }
 {
     let mut literals = Vec::new(alloc);
+    if is_patient(plan) {
+        missing_exists();
+        return Ok(literals);
+    }
     push_missing(alloc, plan, &Frame::Whole(v), now, &mut literals)?;
     Ok(literals)
 }

@@ -1,38 +1,43 @@
 //! Lists of pending instances.
-ghost use Rattle.std.specs.Prelude.{◌≡◌, ◌≤◌, ◌^◌, IfOk, IsTrue, OnOk, List, [], length, map};
+ghost use Rattle.std.specs.Prelude.{◌≡◌, ◌≤◌, ◌^◌, IfOk, OnOk, List, [], length, map};
 ghost use Rattle.std.specs.List.{AllByRecursion};
 ghost use Rattle.enf_value.specs.declared.steps.Step.{Step};
 ghost use Rattle.plan_terms.specs.Plans.{plan_of};
 ghost use Rattle.obligations.specs.Asked.{IsNowOf, guards_at};
 ghost use Rattle.obligations.specs.Pending.{Goes};
-ghost use Rattle.obligations.specs.Traces.{LooksAtNow, PlansStand};
+ghost use Rattle.obligations.specs.Traces.{PlansStand};
 ghost use Rattle.obligations.specs.Waiting.{CanAskOf, CanAskRoots, IsLeastOf, KeepsDeadlines};
 ghost use Rattle.obligations.specs.declared.now.TheConstants.{MOST_TIME};
 
+use crate::carrying::carry_on;
 use crate::instances::{Instance, Instances};
-use crate::laws::nothing_goes_on;
 use crate::now::Now;
+use deadline_queue::DeadlineQueue;
 use enf_value::items::Duplicate;
 use enf_value::memory::NoMemory;
 use plan_terms::Plan;
 use std::alloc::Global;
 use std::marker::Model;
+use std::mem::replace;
 
 /// Pending instances in the order in which they were begun, with the deadlines among the ends of their windows.
 #[derive(Debug, Drop)]
 pub struct Pending {
     instances: Instances,
-    deadlines: Vec<u64>,
+    deadlines: DeadlineQueue,
 }
 
 impl Model for Pending {
+    ghost use Rattle.deadline_queue.specs.Queues.{IsQueue, entries};
     ghost use Rattle.obligations.specs.Waiting.{PendingList, pending_code};
 
     ghost Value = { PendingList };
 
     ghost coded = { pending_code };
 
-    ghost view = { λ p. record { instances = p.instances; deadlines = p.deadlines.items } };
+    ghost view = { λ p. record { instances = p.instances; deadlines = entries p.deadlines } };
+
+    ghost invariant = { λ p. IsQueue p.deadlines };
 }
 
 impl Pending {
@@ -43,7 +48,7 @@ impl Pending {
     {
         Pending {
             instances: Instances::new(alloc),
-            deadlines: Vec::new(alloc),
+            deadlines: DeadlineQueue::new(alloc),
         }
     }
 
@@ -72,16 +77,17 @@ impl Pending {
     pub fn least_deadline(&self) -> Option<u64>
         ensures { IsLeastOf self.now.deadlines result }
     {
-        self.deadlines.iter().copied().min()
+        self.deadlines.least()
     }
 
     /// Each instance becomes what it becomes behind the step, in its place, and what the roots of the rules begin comes
-    /// last. Of plans that look ahead it is not told yet: it answers want of memory, after which it is fit to be dropped.
+    /// last. After want of memory it is fit to be dropped.
     pub fn progress(&mut self, alloc: Global, plans: &[Plan], now: &Now<'_>) -> Result<(), NoMemory>
         requires roots { CanAskRoots (guards_at now.now.tables.now) (map plan_of plans.now) }
         requires named { PlansStand (map plan_of plans.now) }
         requires instances { AllByRecursion (CanAskOf (guards_at now.now.tables.now) (map plan_of plans.now))
             self.old.instances }
+        requires keeps { KeepsDeadlines (map plan_of plans.now) self.old }
         requires few { length plans.now ≤ 2 ^ 32 }
         requires in_time { now.now.time ≤ MOST_TIME }
         ensures goes { OnOk result ((trace : List Step) → IsNowOf now.now trace
@@ -90,23 +96,9 @@ impl Pending {
         ensures instances { OnOk result (AllByRecursion
             (CanAskOf (guards_at now.now.tables.now) (map plan_of plans.now)) self.new.instances) }
     {
-        if !self.instances.is_empty() || !look_at_now(plans) {
-            return Err(NoMemory);
-        }
-        nothing_goes_on();
-        self.deadlines.clear();
+        let mut instances = replace(&mut self.instances, Instances::new(alloc)).into_vec();
+        carry_on(alloc, plans, now, &mut instances, &mut self.deadlines)?;
+        self.instances = Instances::from_vec(instances);
         Ok(())
     }
-}
-
-// Whether no node of the plans looks ahead.
-fn look_at_now(plans: &[Plan]) -> bool
-    ensures { IsTrue result → AllByRecursion LooksAtNow (map plan_of plans.now) }
-{
-    for plan in plans {
-        if plan.has_future() {
-            return false;
-        }
-    }
-    true
 }

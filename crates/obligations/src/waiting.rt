@@ -7,8 +7,8 @@ ghost use Rattle.obligations.specs.Asked.{CanAsk, guards_at};
 ghost use Rattle.obligations.specs.Pending.{IsInWindow, node_of};
 ghost use Rattle.obligations.specs.Waiting.{Asks};
 
+use crate::finding::misses_nothing;
 use crate::instances::Instance;
-use crate::lists::misses_nothing;
 use crate::now::Now;
 use enf_value::memory::NoMemory;
 use plan_terms::Plan;
@@ -68,7 +68,7 @@ pub fn part_asked<'a>(
 }
 
 // Whether the time is in the window of the instance, both ends included.
-fn is_in_window(instance: &Instance, time: u64) -> bool
+pub fn is_in_window(instance: &Instance, time: u64) -> bool
     ensures { IsTrue result ↔ IsInWindow instance.now time }
 {
     instance.low <= time && time <= instance.high

@@ -4,10 +4,11 @@ ghost use Rattle.enf_value.specs.Valuations.{no_values};
 ghost use Rattle.enf_formula.specs.Cases.{at_time, event_p, event_q};
 ghost use Rattle.obligations.specs.Begun.{Begun};
 ghost use Rattle.obligations.specs.Cases.{at_5, always_p, bar_q, cause_p, each_q, fails, holds, next_p};
-ghost use Rattle.obligations.specs.Cases.{no_q_until_p, q_of_1, q_of_2, soon_p, two_and_one, waiting, Begins};
-ghost use Rattle.obligations.specs.Cases.{begun_at_5, then_at, Misses, Becomes, Owes, Pends};
+ghost use Rattle.obligations.specs.Cases.{no_q_until_p, p_of_1, q_of_1, q_of_2, soon_p, two_and_one, waiting, Begins};
+ghost use Rattle.obligations.specs.Cases.{begun_at_5, begun_then, each_next, next_for, one, second_at_5, then_at, two};
+ghost use Rattle.obligations.specs.Cases.{Misses, Becomes, Owes, Pends};
 ghost use Rattle.obligations.specs.Missing.{Missing, cause, suppress};
-ghost use Rattle.obligations.specs.Pending.{IsClean, IsReady, NoneIsOver};
+ghost use Rattle.obligations.specs.Pending.{IsClean, IsReady, NoneIsOver, Pend};
 ghost use Rattle.plan_terms.specs.Plans as plan;
 
 /// What leaves and connectives miss.
@@ -38,7 +39,18 @@ pub fn missing_now()
 /// What the rows of a guard miss, in rising order.
 pub fn missing_of_rows()
     ensures in_order { Missing (at_5 two_and_one) (each_q 0) no_values (cause q_of_1 1 ∷ cause q_of_2 1 ∷ []) }
+    ensures not_falling { Missing (at_5 two_and_one) (each_q 0) no_values (cause q_of_2 1 ∷ cause q_of_1 1 ∷ []) → ⊥ }
+    ensures one_is_there { Missing (at_5 (q_of_1 ∷ two_and_one)) (each_q 0) no_values (cause q_of_2 1 ∷ []) }
     ensures no_row { Missing (at_5 []) (each_q 0) no_values [] }
+    ensures one_row { Missing (at_5 (p_of_1 ∷ [])) (each_q 0) no_values (cause q_of_1 1 ∷ []) }
+    ensures one_row_met { Missing (at_5 (p_of_1 ∷ q_of_1 ∷ [])) (each_q 0) no_values [] }
+{}
+
+/// What the rows of a guard begin, in rising order.
+pub fn begun_of_rows()
+    ensures in_order { Begins (at_5 two_and_one) (each_next 0) (next_for one ∷ next_for two ∷ []) }
+    ensures not_falling { Begins (at_5 two_and_one) (each_next 0) (next_for two ∷ next_for one ∷ []) → ⊥ }
+    ensures no_row { Begins (at_5 []) (each_next 0) [] }
 {}
 
 /// What operators on the future miss where they are begun.
@@ -86,6 +98,12 @@ pub fn begun_in_order()
         (begun_at_5 1 5 15 ∷ begun_at_5 0 5 15 ∷ []) → ⊥ }
     ensures until_before_its_left_side { Begins (at_5 []) (plan.Until 0 0 0 10 (next_p 1) (cause_p 3))
         (begun_at_5 0 5 15 ∷ begun_at_5 1 5 15 ∷ []) }
+    ensures eventually_met_by_what_waits { Begins (at_5 []) (plan.Eventually 0 0 0 10 (next_p 1))
+        (begun_at_5 1 5 15 ∷ []) }
+    ensures until_met_by_what_waits { Begins (at_5 []) (plan.Until 0 0 0 10 (cause_p 1) (next_p 2))
+        (begun_at_5 2 5 15 ∷ []) }
+    ensures until_not_itself { Begins (at_5 []) (plan.Until 0 0 0 10 (cause_p 1) (next_p 2))
+        (begun_at_5 0 5 15 ∷ begun_at_5 2 5 15 ∷ []) → ⊥ }
     ensures under_its_rule_at_its_position { Begun (then_at 4 []) 1 (next_p 0) no_values
         (record { rule = 1; node = 0; valuation = no_values; origin = 1; low = 4; high = 14 } ∷ []) }
 {}
@@ -124,6 +142,9 @@ pub fn pending_misses()
         (suppress event_q 1 ∷ cause event_p 2 ∷ []) → ⊥ }
     ensures next_there { Misses (then_at 2 (event_p ∷ [])) (next_p 0) false [] }
     ensures until_not_forced { Misses (then_at 6 []) (no_q_until_p 0 2) false [] }
+    ensures until_forced_met { Misses (then_at 6 (event_p ∷ event_q ∷ [])) (no_q_until_p 0 2) true [] }
+    ensures until_forced_not_left { Misses (then_at 6 (event_p ∷ event_q ∷ [])) (no_q_until_p 0 2) true
+        (suppress event_q 1 ∷ []) → ⊥ }
 {}
 
 /// What a pending instance becomes, where its window is from 3 to 6.
@@ -141,6 +162,26 @@ pub fn pending_becomes()
     ensures until_met_last { Becomes (then_at 6 (event_p ∷ [])) (no_q_until_p 0 2) [] }
     ensures until_too_early { Becomes (then_at 2 (event_p ∷ [])) (no_q_until_p 0 2) (waiting 0 3 6 ∷ []) }
     ensures until_waits { Becomes (then_at 4 []) (no_q_until_p 0 2) (waiting 0 3 6 ∷ []) }
+    ensures always_stays_from_the_start { Becomes (then_at 3 (event_p ∷ [])) (always_p 0 2) (waiting 0 3 6 ∷ []) }
+    ensures always_not_dropped { Becomes (then_at 6 (event_p ∷ [])) (always_p 0 2) [] → ⊥ }
+    ensures until_not_left_open { Becomes (then_at 3 (event_p ∷ [])) (no_q_until_p 0 2) (waiting 0 3 6 ∷ []) → ⊥ }
+    ensures until_not_met_early { Becomes (then_at 2 (event_p ∷ [])) (no_q_until_p 0 2) [] → ⊥ }
+    ensures next_does_not_stay { Becomes (then_at 2 (event_p ∷ [])) (next_p 0) (waiting 0 3 6 ∷ []) → ⊥ }
+{}
+
+/// What it becomes where the body itself begins something.
+pub fn pending_begins()
+    ensures eventually_met { Becomes (then_at 3 []) (plan.Eventually 0 0 2 10 (next_p 1)) (begun_then 1 3 13 ∷ []) }
+    ensures eventually_too_early { Becomes (then_at 2 []) (plan.Eventually 0 0 2 10 (next_p 1)) (waiting 0 3 6 ∷ []) }
+    ensures always_first { Becomes (then_at 3 []) (plan.Always 0 0 2 10 (next_p 1))
+        (waiting 0 3 6 ∷ begun_then 1 3 13 ∷ []) }
+    ensures always_not_behind_it { Becomes (then_at 3 []) (plan.Always 0 0 2 10 (next_p 1))
+        (begun_then 1 3 13 ∷ waiting 0 3 6 ∷ []) → ⊥ }
+    ensures always_too_early { Becomes (then_at 2 []) (plan.Always 0 0 2 10 (next_p 1)) (waiting 0 3 6 ∷ []) }
+    ensures until_waits { Becomes (then_at 4 []) (plan.Until 0 0 2 10 (next_p 1) (cause_p 3))
+        (waiting 0 3 6 ∷ begun_then 1 4 14 ∷ []) }
+    ensures until_met { Becomes (then_at 4 []) (plan.Until 0 0 2 10 (cause_p 1) (next_p 2)) (begun_then 2 4 14 ∷ []) }
+    ensures next { Becomes (then_at 2 []) (plan.Next 0 0 10 (next_p 1)) (begun_then 1 2 12 ∷ []) }
 {}
 
 /// What a pending instance is still owed by the positions from one on, where its window is from 3 to 6.
@@ -148,6 +189,11 @@ pub fn residuals()
     ensures eventually_at_the_end { Owes (then_at 6 (event_p ∷ [])) (soon_p 0 2) 1 }
     ensures eventually_too_late { Owes (then_at 7 (event_p ∷ [])) (soon_p 0 2) 1 → ⊥ }
     ensures eventually_behind { Owes (then_at 6 (event_p ∷ [])) (soon_p 0 2) 2 → ⊥ }
+    ensures eventually_at_the_start { Owes (then_at 3 (event_p ∷ [])) (soon_p 0 2) 1 }
+    ensures eventually_too_early { Owes (then_at 2 (event_p ∷ [])) (soon_p 0 2) 1 → ⊥ }
+    ensures always_at_the_start { Owes (then_at 3 []) (always_p 0 2) 1 → ⊥ }
+    ensures always_too_early { Owes (then_at 2 []) (always_p 0 2) 1 }
+    ensures until_too_early { Owes (then_at 2 (event_p ∷ [])) (no_q_until_p 0 2) 1 → ⊥ }
     ensures always_at_the_end { Owes (then_at 6 (event_p ∷ [])) (always_p 0 2) 1 }
     ensures always_broken { Owes (then_at 6 []) (always_p 0 2) 1 → ⊥ }
     ensures always_is_over { Owes (then_at 7 []) (always_p 0 2) 1 }
@@ -165,6 +211,9 @@ pub fn pending()
     ensures kept_before_begun { Pends (at_time 1 [] ∷ at_5 []) (soon_p 0 0)
         (waiting 0 1 11 ∷ record { rule = 0; node = 0; valuation = no_values; origin = 1; low = 5; high = 15 } ∷ []) }
     ensures met { Pends (at_5 (event_p ∷ [])) (soon_p 0 0) [] }
+    ensures two_rules { Pend (next_p 0 ∷ always_p 0 1 ∷ []) (at_5 []) (begun_at_5 0 5 15 ∷ second_at_5 0 6 15 ∷ []) }
+    ensures rules_not_turned { Pend (next_p 0 ∷ always_p 0 1 ∷ []) (at_5 [])
+        (second_at_5 0 6 15 ∷ begun_at_5 0 5 15 ∷ []) → ⊥ }
 {}
 
 /// Where a trace is clean and nothing is behind the times: under p(), under p() within ten units, and under p() always.

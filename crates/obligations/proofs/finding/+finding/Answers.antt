@@ -1,4 +1,4 @@
-use Rattle.std.specs.Prelude.{IfSome, None, Some, false}
+use Rattle.std.specs.Prelude.{IfSome, None, Some, false, not}
 use Rattle.std.proofs.Common.{rules, ◌≡◌, ◌<◌, ◌≤◌, ◌∙◌, List, [], length, get_or, sym, subst, arith}
 use Rattle.std.proofs.lemmas.List.{take_all}
 use Rattle.std.proofs.lemmas.Result.{IfOk-weaker}
@@ -13,9 +13,9 @@ use Rattle.obligations.specs.Missing.{Missing}
 use Rattle.obligations.specs.Rows.{Gathers}
 use Rattle.obligations.specs.Waiting.{FirstOf, IsWantedUnder}
 use Rattle.obligations.proofs.AddingLemmas.{body_can, gathers_one_more}
-use Rattle.obligations.proofs.AskLemmas.{binds_bound, is_test, within}
-use Rattle.obligations.proofs.FirstLemmas.{First, cause_first, either_first, gathers_first, left_first, right_first, rows_first}
-use Rattle.obligations.proofs.FirstLemmas.{suppress_first, test_first, test_none, until_first}
+use Rattle.obligations.proofs.AskLemmas.{binds_bound, is_test, leaf_binds, within}
+use Rattle.obligations.proofs.FirstLemmas.{First, cause_first, cause_tells, either_first, gathers_first, left_first, right_first, rows_first}
+use Rattle.obligations.proofs.FirstLemmas.{suppress_first, suppress_tells, test_first, test_none, until_first}
 use Rattle.obligations.proofs.WantedLemmas.{cause_wanted, if_some, in_body, in_left, in_right, suppress_wanted, wanted_in, wanted_under}
 use Rattle.obligations.proofs.finding.+finding.Goals as goal
 use Rattle.obligations.proofs.finding.+finding.Goals.{find_missing-else-low-eq0-via-then-low-eq0+in_ok-misses_nothing-in-Until+else-branch-3, find_missing-else-low-eq0-via-else-low-eq0}
@@ -196,3 +196,22 @@ find_under-returns-clause-first t c =
     let all : c.rows-row-items.result.now ≡ c.args.rows.now.rows = c.rows-row-items.ensures.rows in
     λ trace is. subst (λ (l : List (List Value)). Gathers (λ row. Missing trace (plan_of c.args.body.now) (filled (bound_in c.args.v.now) c.args.rows.now.columns row)) l [])
     (take_all c.loop-row.row-index c.args.rows.now.rows (subst (λ (l : List (List Value)). length l ≤ c.loop-row.row-index) all c.loop-row-test.false)) (c.loop-row.invariant trace is)
+
+pub misses_nothing-returns-in-Cause : goal.misses_nothing-returns-in-Cause
+misses_nothing-returns-in-Cause t c =
+    let v = bound_in c.args.v.now in
+    let now = c.args.now.now in
+    let can = subst (λ p. CanAskIn (guards_at now.tables.now) (plan_of p) c.requires.scope) c.in-Cause.is c.requires.can in
+    IfOk-weaker c.is_there.result _ (TellsNothing now (plan_of c.args.plan.now) v) (λ there is.
+    subst (λ p. TellsNothing now (plan_of p) v there) (sym c.in-Cause.is)
+    (cause_tells now v c.in-Cause.node c.in-Cause.place c.in-Cause.name c.in-Cause.terms
+    (leaf_binds c.requires.scope c.in-Cause.terms v can c.requires.fits.binds) there is)) c.is_there.ensures
+
+pub misses_nothing-returns-in_ok-is_there-in-Suppress : goal.misses_nothing-returns-in_ok-is_there-in-Suppress
+misses_nothing-returns-in_ok-is_there-in-Suppress t c =
+    let v = bound_in c.args.v.now in
+    let now = c.args.now.now in
+    let can = subst (λ p. CanAskIn (guards_at now.tables.now) (plan_of p) c.requires.scope) c.in-Suppress.is c.requires.can in
+    subst (λ p. TellsNothing now (plan_of p) v (not c.in_ok-is_there-in-Suppress.field-0)) (sym c.in-Suppress.is)
+    (suppress_tells now v c.in-Suppress.node c.in-Suppress.place c.in-Suppress.name c.in-Suppress.terms
+    (leaf_binds c.requires.scope c.in-Suppress.terms v can c.requires.fits.binds) c.in_ok-is_there-in-Suppress.field-0 c.in_ok-is_there-in-Suppress.ensures)

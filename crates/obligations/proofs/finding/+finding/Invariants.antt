@@ -15,6 +15,9 @@ decreases-find_missing l = 2 * length (nodes (plan_of l.plan.now))
 abbrev pub decreases-find_under : goal.decreases-find_under
 decreases-find_under l = 2 * length (nodes (plan_of l.body.now)) + 1
 
+abbrev pub decreases-misses_nothing : goal.decreases-misses_nothing
+decreases-misses_nothing l = 2 * length (nodes (plan_of l.plan.now)) + 1
+
 abbrev pub invariant-find_under-loop-row : goal.invariant-find_under-loop-row
 invariant-find_under-loop-row l = (trace : List Step) → IsNowOf l.now trace
     → Gathers (λ row. Missing trace (plan_of l.body) (filled (bound_in l.v) l.rows.columns row)) (take l.row-index l.rows.rows) []

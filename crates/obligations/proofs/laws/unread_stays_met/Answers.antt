@@ -1,5 +1,12 @@
-use Rattle.obligations.proofs.UnreadLemmas.{unread_stays_met}
+use Rattle.obligations.proofs.UnreadLemmas.{unread_leaves_rest, unread_stays_met}
+use Rattle.obligations.proofs.UnreadOfLemmas.{unread_instance_stays_met}
 use Rattle.obligations.proofs.laws.unread_stays_met.Goals as goal
 
-pub returns : goal.returns
-returns c = unread_stays_met c.dependence.ensures.names c.missing_exists.ensures.missing
+pub returns-clause-plans : goal.returns-clause-plans
+returns-clause-plans c = unread_stays_met c.dependence.ensures.names c.missing_exists.ensures.missing
+
+pub returns-clause-instances : goal.returns-clause-instances
+returns-clause-instances c = unread_instance_stays_met c.dependence.ensures.names c.missing_exists.ensures.missing
+
+pub returns-clause-rest : goal.returns-clause-rest
+returns-clause-rest c = unread_leaves_rest c.dependence.ensures.names

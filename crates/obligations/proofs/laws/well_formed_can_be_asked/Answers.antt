@@ -1,5 +1,8 @@
-use Rattle.obligations.proofs.FoundingLemmas.{can_be_asked, well_formed_stand}
+use Rattle.obligations.proofs.FoundingLemmas.{can_be_asked, well_formed_can_be_asked, well_formed_stand}
 use Rattle.obligations.proofs.laws.well_formed_can_be_asked.Goals as goal
+
+pub returns-clause-founded : goal.returns-clause-founded
+returns-clause-founded c = well_formed_can_be_asked
 
 pub returns-clause-asked : goal.returns-clause-asked
 returns-clause-asked c = can_be_asked

@@ -1,0 +1,289 @@
+-- What the parts of a plan begin is what its whole begins.
+use Rattle.std.proofs.Common.{◌≡◌, ℕ, zero, suc, ◌+◌, ◌<◌, Bool, true, false, List, [], ◌∷◌, ◌++◌, length, length-append, Contains, None, refl, sym, ap, append_assoc, subst, arith, inl, inr, ◌⊎◌, ◌∙◌, true≢false}
+use Rattle.std.specs.Prelude.{IsFalse, IsTrue}
+use Rattle.std.specs.List.{AllByRecursion}
+use Rattle.std.proofs.lemmas.List.{append-nil}
+use Rattle.enf_value.specs.ListLaws.{AllByRecursion-append, AllByRecursion-contains, AllByRecursion-from_contains}
+use Rattle.enf_value.specs.Valuations.{Valuation, with_values}
+use Rattle.enf_value.specs.declared.steps.Step.{Step}
+use Rattle.enf_value.specs.declared.terms.VarId.{VarId}
+use Rattle.enf_formula.specs.Formulas.{Formula}
+use Rattle.enf_formula.specs.Scopes.{AreNew}
+use Rattle.monitorable_guard.specs.Evaluation.{AreOpen}
+use Rattle.monitorable_guard.specs.Safety.{FreeWithin}
+use Rattle.past_state.specs.Past.{AreEvaluated, HasOpenColumns, IsEvaluated}
+use Rattle.plan_terms.specs.Guards.{GuardLooksBack}
+use Rattle.plan_terms.specs.Limits.{EndsInTime}
+use Rattle.plan_terms.specs.Nodes.{is_future, nodes, number_of}
+use Rattle.plan_terms.specs.Plans.{Plan, Both, Either, TestOr, Guarded, Eventually, Always}
+use Rattle.plan_terms.specs.Plans.{Until, Next}
+use Rattle.plan_terms.specs.Standing.{IsNamed, StandsIn}
+use Rattle.valuations.specs.Just.{Binds}
+use Rattle.valuations.specs.Scopes.{filled}
+use Rattle.valuations.specs.Tables.{IsTable, Relation}
+use Rattle.obligations.specs.Adding.{AddsAsked, TellsNothing, begun_by}
+use Rattle.obligations.specs.Asked.{CanAsk, FitsScope, IsGuardAt, IsNowOf, guards_at}
+use Rattle.obligations.specs.Begun.{BeginsOrWaits, Begun, LacksNothing, LacksSome, WithBehind, begun_now}
+use Rattle.obligations.specs.Rows.{Gathers}
+use Rattle.obligations.specs.Sides.{IsSideTaken, TakesSide}
+use Rattle.obligations.specs.Waiting.{CanAskOf}
+use Rattle.obligations.specs.declared.instances.Instance.{Instance}
+use Rattle.obligations.specs.declared.now.Now.{Now}
+use Rattle.obligations.proofs.AddingLemmas.{gathers_as, row_is}
+use Rattle.obligations.proofs.AskLemmas.{rows_are, test_is}
+use Rattle.obligations.proofs.WantedLemmas.{in_body, in_left, in_right}
+
+-- each node of one plan is one of another
+abbrev pub IsInside : Plan → Plan → Type 0
+IsInside part whole = (node : Plan) → Contains (nodes part) node → Contains (nodes whole) node
+
+pub all_inside : (P : Plan → Type 0) (part whole : Plan) → IsInside part whole → AllByRecursion P (nodes whole)
+    → AllByRecursion P (nodes part)
+all_inside P part whole inside all =
+    AllByRecursion-from_contains P (nodes part) (λ node there. AllByRecursion-contains P (nodes whole) node all (inside node there))
+
+pub stands_inside : (plans : List Plan) (rule : ℕ) (part whole : Plan) → IsInside part whole → StandsIn plans rule whole
+    → StandsIn plans rule part
+stands_inside plans rule part whole inside stands = record {
+  back = all_inside GuardLooksBack part whole inside stands.back;
+  named = all_inside (IsNamed plans rule) part whole inside stands.named;
+}
+
+pub left_smaller : (node : Plan) (left right : Plan) → length (nodes left) < length (node ∷ nodes left ++ nodes right)
+left_smaller node left right = omega (arith, length-append (nodes left) (nodes right))
+
+pub right_smaller : (node : Plan) (left right : Plan) → length (nodes right) < length (node ∷ nodes left ++ nodes right)
+right_smaller node left right = omega (arith, length-append (nodes left) (nodes right))
+
+-- ---- what is put last
+
+module _ (now : Now) (rule : ℕ) where
+  pub asked_nothing : (plan : Plan) (P : List Step → List Instance → Type 0) (out : List Instance)
+      → ((trace : List Step) → IsNowOf now trace → P trace []) → AddsAsked now rule plan P out out
+  asked_nothing plan P out are = record {
+    adds = record { more = []; grown = sym (append-nil out); are = are };
+    asked = λ plans stands. tt;
+  }
+
+  pub asked_as : (part whole : Plan) → IsInside part whole → (P Q : List Step → List Instance → Type 0)
+      → ((trace : List Step) → IsNowOf now trace → (xs : List Instance) → P trace xs → Q trace xs)
+      → (before after : List Instance) → AddsAsked now rule part P before after → AddsAsked now rule whole Q before after
+  asked_as part whole inside P Q turn before after puts = record {
+    adds = record {
+      more = puts.adds.more;
+      grown = puts.adds.grown;
+      are = λ trace is. turn trace is puts.adds.more (puts.adds.are trace is);
+    };
+    asked = λ plans stands. puts.asked plans (stands_inside plans rule part whole inside stands);
+  }
+
+  pub asked_both : (one other whole : Plan) → IsInside one whole → IsInside other whole
+      → (P Q R : List Step → List Instance → Type 0) (before between after : List Instance)
+      → ((trace : List Step) (xs ys : List Instance) → P trace xs → Q trace ys → R trace (xs ++ ys))
+      → AddsAsked now rule one P before between → AddsAsked now rule other Q between after
+      → AddsAsked now rule whole R before after
+  asked_both one other whole inside too P Q R before between after join first next = record {
+    adds = record {
+      more = first.adds.more ++ next.adds.more;
+      grown = next.adds.grown ∙ (ap (λ l. l ++ next.adds.more) first.adds.grown ∙ append_assoc before first.adds.more next.adds.more);
+      are = λ trace is. join trace first.adds.more next.adds.more (first.adds.are trace is) (next.adds.are trace is);
+    };
+    asked = λ plans stands. AllByRecursion-append (CanAskOf (guards_at now.tables.now) plans) first.adds.more next.adds.more
+        (first.asked plans (stands_inside plans rule one whole inside stands))
+        (next.asked plans (stands_inside plans rule other whole too stands));
+  }
+
+  -- the instance of a node that is begun
+  abbrev pub IsBegun : (node low high : ℕ) → Valuation → List Step → List Instance → Type 0
+  IsBegun node low high v trace instances = instances ≡ begun_now trace rule node low high v ∷ []
+
+  pub begun_is : (trace : List Step) → IsNowOf now trace → (node low high : ℕ) (v : Valuation)
+      → begun_by now rule node low high v ≡ begun_now trace rule node low high v
+  begun_is trace is node low high v =
+      ap (λ (times : ℕ × ℕ). record { rule = rule; node = node; valuation = v; origin = times.0; low = times.1 + low; high = times.1 + high })
+      (λ i. (sym is.position i, sym is.time i))
+
+  pub asked_instance : (plan : Plan) (low high : ℕ) (v : Valuation) → is_future plan ≡ true
+      → ((plans : List Plan) → StandsIn plans rule plan → IsNamed plans rule plan) → CanAsk (guards_at now.tables.now) plan v
+      → AllByRecursion EndsInTime (nodes plan) → (before after : List Instance)
+      → after ≡ before ++ begun_by now rule (number_of plan) low high v ∷ []
+      → AddsAsked now rule plan (IsBegun (number_of plan) low high v) before after
+  asked_instance plan low high v future named can ends before after grown = record {
+    adds = record {
+      more = begun_by now rule (number_of plan) low high v ∷ [];
+      grown = grown;
+      are = λ trace is. ap (λ i. i ∷ []) (begun_is trace is (number_of plan) low high v);
+    };
+    asked = λ plans stands. (record { node = plan; found = named plans stands; future = future; can = can; ends = ends }, tt);
+  }
+
+  -- an instance, and what is begun with it behind
+  pub asked_behind : (part whole : Plan) → IsInside part whole → (node low high : ℕ) (v : Valuation)
+      → (P : List Step → List Instance → Type 0) (before between after : List Instance)
+      → AddsAsked now rule whole (IsBegun node low high v) before between → AddsAsked now rule part P between after
+      → AddsAsked now rule whole (λ trace. WithBehind (begun_now trace rule node low high v) (P trace)) before after
+  asked_behind part whole inside node low high v P before between after first next =
+      asked_both whole part whole (λ n there. there) inside (IsBegun node low high v) P
+      (λ trace. WithBehind (begun_now trace rule node low high v) (P trace)) before between after
+      (λ trace xs ys is more. (ys, more, ap (λ l. l ++ ys) is)) first next
+
+-- ---- the nodes of plans
+
+module _ (now : Now) (rule : ℕ) (v : Valuation) where
+  -- what a plan begins was put last
+  abbrev pub Puts : Plan → (before after : List Instance) → Type 0
+  Puts plan before after = AddsAsked now rule plan (λ trace. Begun trace rule plan v) before after
+
+  abbrev pub MayAsk : Plan → Type 0
+  MayAsk plan = CanAsk (guards_at now.tables.now) plan v
+
+  pub both_begun : (node : ℕ) (left right : Plan) (before between after : List Instance) → Puts left before between
+      → Puts right between after → Puts (Both node left right) before after
+  both_begun node left right before between after first next =
+      asked_both now rule left right (Both node left right) (in_left (Both node left right) left right) (in_right (Both node left right) left right)
+      (λ trace. Begun trace rule left v) (λ trace. Begun trace rule right v) (λ trace. Begun trace rule (Both node left right) v)
+      before between after (λ trace xs ys is too. (xs, ys, is, too, refl)) first next
+
+  -- ---- sides
+
+  pub side_inside : (node : ℕ) (left right side : Plan) → (side ≡ left) ⊎ (side ≡ right) → IsInside side (Either node left right)
+  side_inside node left right side (inl same) = subst (λ s. IsInside s (Either node left right)) (sym same) (in_left (Either node left right) left right)
+  side_inside node left right side (inr same) = subst (λ s. IsInside s (Either node left right)) (sym same) (in_right (Either node left right) left right)
+
+  pub side_asked : (node : ℕ) (left right side : Plan) → (side ≡ left) ⊎ (side ≡ right) → MayAsk (Either node left right) → MayAsk side
+  side_asked node left right side (inl same) can = subst MayAsk (sym same) (record { scope = can.scope; can = can.can.1; fits = can.fits })
+  side_asked node left right side (inr same) can = subst MayAsk (sym same) (record { scope = can.scope; can = can.can.2; fits = can.fits })
+
+  pub side_smaller : (node : ℕ) (left right side : Plan) → (side ≡ left) ⊎ (side ≡ right)
+      → length (nodes side) < length (nodes (Either node left right))
+  side_smaller node left right side (inl same) =
+      subst (λ s. length (nodes s) < length (nodes (Either node left right))) (sym same) (left_smaller (Either node left right) left right)
+  side_smaller node left right side (inr same) =
+      subst (λ s. length (nodes s) < length (nodes (Either node left right))) (sym same) (right_smaller (Either node left right) left right)
+
+  pub side_begun : (node : ℕ) (left right side : Plan) → IsSideTaken now left right v side → (before after : List Instance)
+      → Puts side before after → Puts (Either node left right) before after
+  side_begun node left right side taken before after puts =
+      asked_as now rule side (Either node left right) (side_inside node left right side taken.one)
+      (λ trace. Begun trace rule side v) (λ trace. Begun trace rule (Either node left right) v)
+      (λ trace is xs begun. taken.begins trace is rule node xs begun) before after puts
+
+  pub neither_begun : (node : ℕ) (left right : Plan) → TakesSide now left right v None → (out : List Instance)
+      → Puts (Either node left right) out out
+  neither_begun node left right none out =
+      asked_nothing now rule (Either node left right) (λ trace. Begun trace rule (Either node left right) v) out (λ trace is. none trace is rule node)
+
+  -- ---- windows
+
+  at_once_begun : (low : ℕ) (side : Plan) (trace : List Step) (Begins Waits : Type 0) → low ≡ 0 → LacksNothing trace side v
+      → Begins → BeginsOrWaits trace low side v Begins Waits
+  at_once_begun zero side trace Begins Waits is nothing begun = inl (nothing, begun)
+  at_once_begun (suc low) side trace Begins Waits is nothing begun = absurd (omega (arith, is))
+
+  waits_begun : (low : ℕ) (side : Plan) (trace : List Step) (Begins Waits : Type 0) → (low ≡ 0 → LacksSome trace side v)
+      → Waits → BeginsOrWaits trace low side v Begins Waits
+  waits_begun zero side trace Begins Waits some waits = inr (some refl, waits)
+  waits_begun (suc low) side trace Begins Waits some waits = waits
+
+  pub eventually_at_once : (node place low high : ℕ) (body : Plan) → low ≡ 0 → TellsNothing now body v true
+      → (before after : List Instance) → Puts body before after → Puts (Eventually node place low high body) before after
+  eventually_at_once node place low high body is told before after puts =
+      asked_as now rule body (Eventually node place low high body) (in_body (Eventually node place low high body) body)
+      (λ trace. Begun trace rule body v) (λ trace. Begun trace rule (Eventually node place low high body) v)
+      (λ trace here xs begun. at_once_begun low body trace (Begun trace rule body v xs) (xs ≡ begun_now trace rule node low high v ∷ []) is (told trace here) begun)
+      before after puts
+
+  pub eventually_waits : (node place low high : ℕ) (body : Plan) → (low ≡ 0 → TellsNothing now body v false)
+      → MayAsk (Eventually node place low high body) → AllByRecursion EndsInTime (nodes (Eventually node place low high body))
+      → (before after : List Instance) → after ≡ before ++ begun_by now rule node low high v ∷ []
+      → Puts (Eventually node place low high body) before after
+  eventually_waits node place low high body told can ends before after grown =
+      asked_as now rule (Eventually node place low high body) (Eventually node place low high body) (λ n there. there)
+      (IsBegun now rule node low high v) (λ trace. Begun trace rule (Eventually node place low high body) v)
+      (λ trace here xs begun. waits_begun low body trace (Begun trace rule body v xs) (xs ≡ begun_now trace rule node low high v ∷ []) (λ is. told is trace here) begun)
+      before after
+      (asked_instance now rule (Eventually node place low high body) low high v refl (λ plans stands. stands.named.0) can ends before after grown)
+
+  pub until_at_once : (node place low high : ℕ) (left right : Plan) → low ≡ 0 → TellsNothing now right v true
+      → (before after : List Instance) → Puts right before after → Puts (Until node place low high left right) before after
+  until_at_once node place low high left right is told before after puts =
+      asked_as now rule right (Until node place low high left right) (in_right (Until node place low high left right) left right)
+      (λ trace. Begun trace rule right v) (λ trace. Begun trace rule (Until node place low high left right) v)
+      (λ trace here xs begun. at_once_begun low right trace (Begun trace rule right v xs)
+      (WithBehind (begun_now trace rule node low high v) (Begun trace rule left v) xs) is (told trace here) begun)
+      before after puts
+
+  pub until_waits : (node place low high : ℕ) (left right : Plan) → (low ≡ 0 → TellsNothing now right v false)
+      → MayAsk (Until node place low high left right) → AllByRecursion EndsInTime (nodes (Until node place low high left right))
+      → (before between after : List Instance) → between ≡ before ++ begun_by now rule node low high v ∷ [] → Puts left between after
+      → Puts (Until node place low high left right) before after
+  until_waits node place low high left right told can ends before between after grown puts =
+      asked_as now rule (Until node place low high left right) (Until node place low high left right) (λ n there. there)
+      (λ trace. WithBehind (begun_now trace rule node low high v) (Begun trace rule left v)) (λ trace. Begun trace rule (Until node place low high left right) v)
+      (λ trace here xs begun. waits_begun low right trace (Begun trace rule right v xs)
+      (WithBehind (begun_now trace rule node low high v) (Begun trace rule left v) xs) (λ is. told is trace here) begun)
+      before after
+      (asked_behind now rule left (Until node place low high left right) (in_left (Until node place low high left right) left right) node low high v
+      (λ trace. Begun trace rule left v) before between after
+      (asked_instance now rule (Until node place low high left right) low high v refl (λ plans stands. stands.named.0) can ends before between grown) puts)
+
+  pub always_later : (node place low high : ℕ) (body : Plan) → 0 < low → MayAsk (Always node place low high body)
+      → AllByRecursion EndsInTime (nodes (Always node place low high body)) → (before after : List Instance)
+      → after ≡ before ++ begun_by now rule node low high v ∷ [] → Puts (Always node place low high body) before after
+  always_later node place zero high body later can ends before after grown = absurd (omega (arith, later))
+  always_later node place (suc low) high body later can ends before after grown =
+      asked_instance now rule (Always node place (suc low) high body) (suc low) high v refl (λ plans stands. stands.named.0) can ends before after grown
+
+  pub always_at_once : (node place low high : ℕ) (body : Plan) → (0 < low → ⊥) → MayAsk (Always node place low high body)
+      → AllByRecursion EndsInTime (nodes (Always node place low high body)) → (before between after : List Instance)
+      → between ≡ before ++ begun_by now rule node low high v ∷ [] → Puts body between after
+      → Puts (Always node place low high body) before after
+  always_at_once node place zero high body at_once can ends before between after grown puts =
+      asked_behind now rule body (Always node place 0 high body) (in_body (Always node place 0 high body) body) node 0 high v
+      (λ trace. Begun trace rule body v) before between after
+      (asked_instance now rule (Always node place 0 high body) 0 high v refl (λ plans stands. stands.named.0) can ends before between grown) puts
+  always_at_once node place (suc low) high body at_once can ends before between after grown puts = absurd (at_once (omega arith))
+
+  pub next_begun : (node place high : ℕ) (body : Plan) → MayAsk (Next node place high body)
+      → AllByRecursion EndsInTime (nodes (Next node place high body)) → (before after : List Instance)
+      → after ≡ before ++ begun_by now rule node 0 high v ∷ [] → Puts (Next node place high body) before after
+  next_begun node place high body can ends before after grown =
+      asked_instance now rule (Next node place high body) 0 high v refl (λ plans stands. stands.named.0) can ends before after grown
+
+  -- ---- tests
+
+  module _ (n : ℕ) (f : Formula) (scope : List VarId) (at : IsGuardAt (guards_at now.tables.now) n f scope) (binds : Binds v scope)
+      (free : FreeWithin f (Contains scope)) (holds : Bool) (told : IsEvaluated now.tables.now n now.ordered.now v holds) (node : ℕ) (body : Plan) where
+    pub test_begins_nothing : IsTrue holds → (out : List Instance) → Puts (TestOr node n f body) out out
+    test_begins_nothing is_true out =
+        asked_nothing now rule (TestOr node n f body) (λ trace. Begun trace rule (TestOr node n f body) v) out
+        (λ trace is. inl ((test_is now trace n f scope at free is v binds holds told).0 is_true, refl))
+
+    pub test_begins : IsFalse holds → (before after : List Instance) → Puts body before after → Puts (TestOr node n f body) before after
+    test_begins is_false before after puts =
+        asked_as now rule body (TestOr node n f body) (in_body (TestOr node n f body) body)
+        (λ trace. Begun trace rule body v) (λ trace. Begun trace rule (TestOr node n f body) v)
+        (λ trace is xs begun. inr (
+          (λ satisfied. true≢false (sym ((test_is now trace n f scope at free is v binds holds told).1 satisfied) ∙ is_false)),
+          begun,
+        )) before after puts
+
+-- ---- rows
+
+module _ (now : Now) (n : ℕ) (f : Formula) (scope xs : List VarId) (at : IsGuardAt (guards_at now.tables.now) n f scope)
+    (opening : AreOpen f scope xs) (new : AreNew scope xs) (v : Valuation) (fit : FitsScope scope v) (t : Relation)
+    (table : IsTable t) (columns : HasOpenColumns now.tables.now n t)
+    (evaluated : AreEvaluated now.tables.now n now.ordered.now v t) where
+  pub rows_begun : (rule node : ℕ) (body : Plan) (before after : List Instance)
+      → AddsAsked now rule body (λ trace. Gathers (λ row. Begun trace rule body (filled v t.columns row)) t.rows) before after
+      → Puts now rule v (Guarded node xs n f body) before after
+  rows_begun rule node body before after puts =
+      asked_as now rule body (Guarded node xs n f body) (in_body (Guarded node xs n f body) body)
+      (λ trace. Gathers (λ row. Begun trace rule body (filled v t.columns row)) t.rows)
+      (λ trace. Begun trace rule (Guarded node xs n f body) v)
+      (λ trace is begun gathered. (
+        t.rows,
+        rows_are now n f scope xs at opening new v fit t table columns evaluated trace is,
+        gathers_as (λ row. Begun trace rule body (filled v t.columns row)) (λ row. Begun trace rule body (with_values xs row v)) t.rows begun
+            (λ row there ys one. subst (λ w. Begun trace rule body w ys) (row_is now n f scope xs at opening new v fit t table columns evaluated row there) one) gathered,
+      )) before after puts

@@ -1,0 +1,462 @@
+-- What is missed and begun at a step is below guards that are triggered there: by induction over plans.
+use Rattle.std.proofs.Common.{◌≡◌, ◌⊎◌, ℕ, zero, suc, ◌+◌, ◌<◌, ◌≤◌, Bool, true, false, List, [], ◌∷◌, ◌++◌, length, take, drop, Contains, Option, None, Some, nat_eq, length-append, refl, sym, ap, subst, ◌∙◌, arith, inl, inr, ⊎_elim}
+use Rattle.std.specs.Bool.{Decides}
+use Rattle.std.specs.Cmp.{unsigned_Decides}
+use Rattle.std.proofs.lemmas.Bool.{false≢true}
+use Rattle.std.proofs.lemmas.List.{length-take-le, take-append-drop}
+use Rattle.std.specs.List.{AllByRecursion}
+use Rattle.std.proofs.lemmas.List.Elements.{All-contains, Contains-append_left, Contains-append_right}
+use Rattle.enf_value.specs.Data.{step_at}
+use Rattle.enf_value.specs.Decided.{list_any-Decides}
+use Rattle.enf_value.specs.ListLaws.{AllByRecursion-contains, AllByRecursion-from_contains, Contains-append, first_or_later, here, later, none_in_nil}
+use Rattle.enf_value.specs.Valuations.{Valuation, no_values, values_of, with_values}
+use Rattle.enf_value.specs.declared.events.Event.{Event}
+use Rattle.enf_value.specs.declared.events.NameId.{NameId}
+use Rattle.enf_value.specs.declared.steps.Step.{Step}
+use Rattle.enf_value.specs.declared.terms.Term.{Term}
+use Rattle.enf_value.specs.declared.terms.VarId.{VarId}
+use Rattle.enf_value.specs.declared.values.Value.{Value}
+use Rattle.enf_formula.specs.Formulas.{Formula}
+use Rattle.plan_terms.specs.Guards.{GuardLooksBack}
+use Rattle.plan_terms.specs.Nodes.{nodes, number_of}
+use Rattle.plan_terms.specs.Plans.{Plan, Cause, Suppress, Both, Either, TestOr, Guarded, Eventually, Always}
+use Rattle.plan_terms.specs.Plans.{Until, Next}
+use Rattle.plan_terms.specs.ScopeLaws.{FoundIsFirst}
+use Rattle.plan_terms.specs.Standing.{IsNamed, StandsIn, node_in}
+use Rattle.plan_terms.specs.Triggers.{TriggersAreMet, triggers}
+use Rattle.obligations.specs.Begun.{Begun, BeginsAlways, BeginsOrWaits, LacksNothing, WithBehind, begun_now, has_future}
+use Rattle.obligations.specs.Missing.{Missing, MissesAlways, MissesUntil, IsAbsent, IsPresent, LiteralUnless, OfEvent, cause, suppress}
+use Rattle.obligations.specs.Pending.{After, AtNode, BecomesAt, Goes, PendsBehind, node_of}
+use Rattle.obligations.specs.Reached.{AreMet, BegunByRoots-contains, BegunIsNamed, BegunIsReached, Gathers-contains, IsBegunBy, IsBegunIn, IsMissedIn, IsReached, MissedIsReached, PendCame, PendingWasBegun, ReachedIsInside}
+use Rattle.obligations.specs.Rows.{AreRowsOf, HoldsLast, last_position}
+use Rattle.obligations.specs.Traces.{PlansStand}
+use Rattle.obligations.specs.declared.instances.Instance.{Instance}
+use Rattle.obligations.specs.declared.literals.Literal.{Literal}
+use Rattle.obligations.proofs.EnoughLemmas.{taken}
+use Rattle.obligations.proofs.ExistLemmas.{present_or_not}
+use Rattle.obligations.proofs.TraceLemmas.{shorter_pends, stands_found, whole}
+use Rattle.obligations.proofs.WantedLemmas.{args_long}
+
+-- ---- what is in lists
+
+none_there : {X : Type 0} (x : X) (xs : List X) → xs ≡ [] → Contains xs x → ⊥
+none_there {X} x xs none there = none_in_nil x (subst (λ (l : List X). Contains l x) none there)
+
+only : {X : Type 0} (x y : X) (xs : List X) → xs ≡ y ∷ [] → Contains xs x → y ≡ x
+only {X} x y xs are there =
+    ⊎_elim (λ same. same) (λ none. absurd (none_in_nil x none)) (first_or_later x y [] (subst (λ (l : List X). Contains l x) are there))
+
+-- ---- triggers that are met
+
+name_decided : (a b : NameId) → Decides (nat_eq a.0 b.0) (a ≡ b)
+name_decided a b = (
+  λ e. ap (λ (n : ℕ). let name : NameId = record { 0 = n } in name) ((unsigned_Decides a.0 b.0).0 e),
+  λ same. (unsigned_Decides a.0 b.0).1 (ap (λ (n : NameId). n.0) same),
+)
+
+name_or_not : (names : List NameId) (name : NameId) → Contains names name ⊎ (Contains names name → ⊥)
+name_or_not names name = by _ (list_any-Decides (λ (a b : NameId). nat_eq a.0 b.0) name_decided names name)
+  where
+    by : (b : Bool) → Decides b (Contains names name) → Contains names name ⊎ (Contains names name → ⊥)
+    by true decides = inl (decides.0 refl)
+    by false decides = inr (λ there. false≢true (decides.1 there))
+
+abbrev Among : List Event → List NameId → Type 0
+Among events names = (event : Event) × Contains events event × Contains names event.name
+
+met_or_not : (names : List NameId) (events : List Event) → Among events names ⊎ (Among events names → ⊥)
+met_or_not names [] = inr (λ m. none_in_nil m.0 m.1)
+met_or_not names (e ∷ events) = ⊎_elim
+    (λ is. inl (e, here e events, is))
+    (λ other. ⊎_elim
+    (λ m. inl (m.0, later m.0 e events m.1, m.2))
+    (λ none. inr (λ m. ⊎_elim
+    (λ same. other (subst (λ (x : Event). Contains names x.name) (sym same) m.2))
+    (λ more. none (m.0, more, m.2))
+    (first_or_later m.0 e events m.1)))
+    (met_or_not names events))
+    (name_or_not names e.name)
+
+module _ (triggers_are_met : TriggersAreMet) (trace : List Step) where
+  guard_met : (v : Valuation) (test : Formula) → HoldsLast trace v test → AreMet trace (triggers test)
+  guard_met v test holds = by (triggers test) refl
+    where
+      by : (names : Option (List NameId)) → triggers test ≡ names → AreMet trace names
+      by None is = tt
+      by (Some names) is = ⊎_elim (λ met. met)
+          (λ none. absurd (triggers_are_met trace (last_position trace) v test names is holds none))
+          (met_or_not names (step_at trace (last_position trace)).events)
+
+  -- a row of a guard is one for which it holds
+  row_met : (v : Valuation) (xs : List VarId) (test : Formula) (rows : List (List Value)) → AreRowsOf trace v xs test rows
+      → (row : List Value) → Contains rows row → AreMet trace (triggers test)
+  row_met v xs test rows are row there =
+      guard_met (with_values xs row v) test
+      ((are.are row (All-contains (λ (r : List Value). length r ≡ length xs) rows row are.fit there)).0 there)
+
+  -- ---- what is missed
+
+  -- what is reached from a part is reached from the whole
+  abbrev Inside : Plan → Plan → Type 0
+  Inside part whole = (end : Plan) → IsReached trace part end → IsReached trace whole end
+
+  missed_inside : (part whole : Plan) (l : Literal) → Inside part whole → IsMissedIn trace part l → IsMissedIn trace whole l
+  missed_inside part whole l inside (leaf, reached, is, changes) = (leaf, inside leaf reached, is, changes)
+
+  missed_cause : (node place : ℕ) (name : NameId) (terms : List Term) (v : Valuation) (ls : List Literal) (l : Literal)
+      → Missing trace (Cause node place name terms) v ls → Contains ls l → IsMissedIn trace (Cause node place name terms) l
+  missed_cause node place name terms v ls l missing there = by (values_of v terms) refl missing
+    where
+      by : (o : Option (List Value)) → values_of v terms ≡ o
+          → OfEvent name o (λ e. LiteralUnless (IsPresent trace e) (cause e node) ls)
+          → IsMissedIn trace (Cause node place name terms) l
+      by None e is = absurd is
+      by (Some args) e is = ⊎_elim
+          (λ present. absurd (none_there l ls present.1 there))
+          (λ absent. subst (IsMissedIn trace (Cause node place name terms)) (only l (cause (record { name = name; args = args }) node) ls absent.1 there)
+          (Cause node place name terms, refl, (refl, refl, refl, args_long v terms args e), absent.0))
+          is
+
+  missed_suppress : (node place : ℕ) (name : NameId) (terms : List Term) (v : Valuation) (ls : List Literal) (l : Literal)
+      → Missing trace (Suppress node place name terms) v ls → Contains ls l → IsMissedIn trace (Suppress node place name terms) l
+  missed_suppress node place name terms v ls l missing there = by (values_of v terms) refl missing
+    where
+      held : (e : Event) → (IsAbsent trace e → ⊥) → IsPresent trace e
+      held e twice = ⊎_elim (λ is. is) (λ absent. absurd (twice absent)) (present_or_not (step_at trace (last_position trace)).events e)
+
+      by : (o : Option (List Value)) → values_of v terms ≡ o
+          → OfEvent name o (λ e. LiteralUnless (IsAbsent trace e) (suppress e node) ls)
+          → IsMissedIn trace (Suppress node place name terms) l
+      by None e is = absurd is
+      by (Some args) e is = ⊎_elim
+          (λ absent. absurd (none_there l ls absent.1 there))
+          (λ present. subst (IsMissedIn trace (Suppress node place name terms)) (only l (suppress (record { name = name; args = args }) node) ls present.1 there)
+          (Suppress node place name terms, refl, (refl, refl, refl, args_long v terms args e), held (record { name = name; args = args }) present.0))
+          is
+
+  missed_always : (low : ℕ) (body : Plan) (v : Valuation) (ls : List Literal) (l : Literal)
+      → MissesAlways low (Missing trace body v) ls → Contains ls l
+      → ((ms : List Literal) → Missing trace body v ms → Contains ms l → IsMissedIn trace body l) → IsMissedIn trace body l
+  missed_always zero body v ls l missing there each = each ls missing there
+  missed_always (suc low) body v ls l missing there each = absurd (none_there l ls missing there)
+
+  missed_until : (low : ℕ) (left right : Plan) (v : Valuation) (ls : List Literal) (l : Literal)
+      → MissesUntil low (Missing trace left v) (Missing trace right v) ls → Contains ls l
+      → ((ms : List Literal) → Missing trace left v ms → Contains ms l → IsMissedIn trace left l) → IsMissedIn trace left l
+  missed_until zero left right v ls l missing there each =
+      ⊎_elim (λ none. absurd (none_there l ls none.1 there)) (λ some. each ls some.1 there) missing
+  missed_until (suc low) left right v ls l missing there each = each ls missing there
+
+  missed : (plan : Plan) (v : Valuation) (ls : List Literal) (l : Literal) → Missing trace plan v ls → Contains ls l
+      → IsMissedIn trace plan l
+  missed (Cause node place name terms) v ls l missing there = missed_cause node place name terms v ls l missing there
+  missed (Suppress node place name terms) v ls l missing there = missed_suppress node place name terms v ls l missing there
+  missed (Both node left right) v ls l (first, rest, misses, also, are) there =
+      ⊎_elim
+      (λ front. missed_inside left (Both node left right) l (λ end is. inr (inl is)) (missed left v first l misses front))
+      (λ back. missed_inside right (Both node left right) l (λ end is. inr (inr is)) (missed right v rest l also back))
+      (Contains-append first rest l (subst (λ (k : List Literal). Contains k l) are there))
+  missed (Either node left right) v ls l missing there =
+      ⊎_elim (λ none. absurd (none_there l ls none.1 there)) (λ others.
+      ⊎_elim (λ none. absurd (none_there l ls none.1 there)) (λ some.
+      missed_inside right (Either node left right) l (λ end is. inr (inr is)) (missed right v ls l some.2 there)) others) missing
+  missed (TestOr node guard test body) v ls l missing there =
+      ⊎_elim (λ none. absurd (none_there l ls none.1 there)) (λ fails.
+      missed_inside body (TestOr node guard test body) l (λ end is. inr is) (missed body v ls l fails.1 there)) missing
+  missed (Guarded node xs guard test body) v ls l (rows, are, gathered) there =
+      let found = Gathers-contains (λ (row : List Value) (ms : List Literal). Missing trace body (with_values xs row v) ms) rows ls l gathered there in
+      missed_inside body (Guarded node xs guard test body) l (λ end is. inr (row_met v xs test rows are found.0 found.1, is))
+      (missed body (with_values xs found.0 v) found.2 l found.3 found.4)
+  missed (Eventually node place low high body) v ls l missing there = absurd (none_there l ls missing there)
+  missed (Always node place low high body) v ls l missing there =
+      missed_inside body (Always node place low high body) l (λ end is. inr is)
+      (missed_always low body v ls l missing there (λ ms misses among. missed body v ms l misses among))
+  missed (Until node place low high left right) v ls l missing there =
+      missed_inside left (Until node place low high left right) l (λ end is. inr (inl is))
+      (missed_until low left right v ls l missing there (λ ms misses among. missed left v ms l misses among))
+  missed (Next node place high body) v ls l missing there = absurd (none_there l ls missing there)
+
+  -- ---- what is begun
+
+  module _ (rule : ℕ) where
+    begun_inside : (part whole : Plan) (i : Instance) → Inside part whole → IsBegunIn trace rule part i → IsBegunIn trace rule whole i
+    begun_inside part whole i inside (node, reached, is) = (node, inside node reached, is)
+
+    -- at an operator, one side of which is begun in its place where its window begins at once
+    begun_or_waits : (low : ℕ) (body : Plan) (v : Valuation) (Begins Waits Wanted : Type 0)
+        → BeginsOrWaits trace low body v Begins Waits → (Begins → Wanted) → (Waits → Wanted) → Wanted
+    begun_or_waits zero body v Begins Waits Wanted begins first second =
+        ⊎_elim (λ taken. first taken.1) (λ passed. second passed.1) begins
+    begun_or_waits (suc low) body v Begins Waits Wanted begins first second = second begins
+
+    behind_it : (i j : Instance) (P : List Instance → Type 0) (is : List Instance) (Wanted : Type 0) → WithBehind i P is
+        → Contains is j → (i ≡ j → Wanted) → ((more : List Instance) → P more → Contains more j → Wanted) → Wanted
+    behind_it i j P is Wanted (more, holds, are) there first second =
+        ⊎_elim first (λ behind. second more holds behind) (first_or_later j i more (subst (λ (l : List Instance). Contains l j) are there))
+
+    begun_always : (low : ℕ) (i j : Instance) (P : List Instance → Type 0) (is : List Instance) (Wanted : Type 0)
+        → BeginsAlways low i P is → Contains is j → (i ≡ j → Wanted)
+        → ((more : List Instance) → P more → Contains more j → Wanted) → Wanted
+    begun_always zero i j P is Wanted begins there first second = behind_it i j P is Wanted begins there first second
+    begun_always (suc low) i j P is Wanted begins there first second = first (only j i is begins there)
+
+    begun : (plan : Plan) (v : Valuation) (is : List Instance) (i : Instance) → Begun trace rule plan v is → Contains is i
+        → IsBegunIn trace rule plan i
+    begun (Cause node place name terms) v is i begins there = absurd (none_there i is begins there)
+    begun (Suppress node place name terms) v is i begins there = absurd (none_there i is begins there)
+    begun (Both node left right) v is i (first, rest, begins, also, are) there =
+        ⊎_elim
+        (λ front. begun_inside left (Both node left right) i (λ end reached. inr (inl reached)) (begun left v first i begins front))
+        (λ back. begun_inside right (Both node left right) i (λ end reached. inr (inr reached)) (begun right v rest i also back))
+        (Contains-append first rest i (subst (λ (l : List Instance). Contains l i) are there))
+    begun (Either node left right) v is i begins there =
+        let on_left : LacksNothing trace left v × Begun trace rule left v is → IsBegunIn trace rule (Either node left right) i =
+        λ side. begun_inside left (Either node left right) i (λ end reached. inr (inl reached)) (begun left v is i side.1 there) in
+        let on_right : LacksNothing trace right v × Begun trace rule right v is → IsBegunIn trace rule (Either node left right) i =
+        λ side. begun_inside right (Either node left right) i (λ end reached. inr (inr reached)) (begun right v is i side.1 there) in
+        ⊎_elim on_right
+        (λ second. ⊎_elim on_left
+        (λ third. ⊎_elim on_right (λ fourth. ⊎_elim on_left (λ neither. absurd (none_there i is neither.1 there)) fourth.1) third)
+        (taken (has_future left) trace left v second))
+        (taken (has_future right) trace right v begins)
+    begun (TestOr node guard test body) v is i begins there =
+        ⊎_elim (λ met. absurd (none_there i is met.1 there)) (λ fails.
+        begun_inside body (TestOr node guard test body) i (λ end reached. inr reached) (begun body v is i fails.1 there)) begins
+    begun (Guarded node xs guard test body) v is i (rows, are, gathered) there =
+        let found = Gathers-contains (λ (row : List Value) (js : List Instance). Begun trace rule body (with_values xs row v) js) rows is i gathered there in
+        begun_inside body (Guarded node xs guard test body) i (λ end reached. inr (row_met v xs test rows are found.0 found.1, reached))
+        (begun body (with_values xs found.0 v) found.2 i found.3 found.4)
+    begun (Eventually node place low high body) v is i begins there =
+        begun_or_waits low body v (Begun trace rule body v is) (is ≡ begun_now trace rule node low high v ∷ []) (IsBegunIn trace rule (Eventually node place low high body) i) begins
+        (λ at_once. begun_inside body (Eventually node place low high body) i (λ end reached. inr reached) (begun body v is i at_once there))
+        (λ waits. (Eventually node place low high body, inl refl, (v, only i (begun_now trace rule node low high v) is waits there)))
+    begun (Always node place low high body) v is i begins there =
+        begun_always low (begun_now trace rule node low high v) i (Begun trace rule body v) is (IsBegunIn trace rule (Always node place low high body) i) begins there
+        (λ same. (Always node place low high body, inl refl, (v, same)))
+        (λ more holds behind. begun_inside body (Always node place low high body) i (λ end reached. inr reached) (begun body v more i holds behind))
+    begun (Until node place low high left right) v is i begins there =
+        begun_or_waits low right v (Begun trace rule right v is) (WithBehind (begun_now trace rule node low high v) (Begun trace rule left v) is) (IsBegunIn trace rule (Until node place low high left right) i) begins
+        (λ at_once. begun_inside right (Until node place low high left right) i (λ end reached. inr (inr reached)) (begun right v is i at_once there))
+        (λ waits. behind_it (begun_now trace rule node low high v) i (Begun trace rule left v) is (IsBegunIn trace rule (Until node place low high left right) i) waits there
+        (λ same. (Until node place low high left right, inl refl, (v, same)))
+        (λ more holds behind. begun_inside left (Until node place low high left right) i (λ end reached. inr (inl reached)) (begun left v more i holds behind)))
+    begun (Next node place high body) v is i begins there =
+        (Next node place high body, inl refl, (v, only i (begun_now trace rule node 0 high v) is begins there))
+
+pub missed_is_reached : TriggersAreMet → MissedIsReached
+missed_is_reached met trace plan v ls l missing there = missed met trace plan v ls l missing there
+
+pub begun_is_reached : TriggersAreMet → BegunIsReached
+begun_is_reached met trace rule plan v is i begins there = begun met trace rule plan v is i begins there
+
+-- ---- instances
+
+-- what a pending instance of a node asks of later positions: its body, or its sides
+abbrev parts_of : Plan → List Plan
+parts_of (Eventually node place low high body) = body ∷ []
+parts_of (Always node place low high body) = body ∷ []
+parts_of (Until node place low high left right) = left ∷ right ∷ []
+parts_of (Next node place high body) = body ∷ []
+parts_of plan = []
+
+-- a part of the first instance's node begins the second
+abbrev BegunOf : List Plan → List Step → Instance → Instance → Type 0
+BegunOf plans trace i j =
+    (node part : Plan) × (node_of plans i ≡ Some node) × Contains (parts_of node) part × IsBegunIn trace i.rule part j
+
+module _ (triggers_are_met : TriggersAreMet) (plans : List Plan) (trace : List Step) where
+  begun_part : (node part : Plan) (i j : Instance) (after : List Instance) → node_of plans i ≡ Some node
+      → Contains (parts_of node) part → Begun trace i.rule part i.valuation after → Contains after j → BegunOf plans trace i j
+  begun_part node part i j after is at begins there =
+      (node, part, is, at, begun triggers_are_met trace i.rule part i.valuation after j begins there)
+
+  -- it waits, and what a part begins is behind it
+  waits_part : (node part : Plan) (i j : Instance) (after : List Instance) → node_of plans i ≡ Some node
+      → Contains (parts_of node) part → WithBehind i (Begun trace i.rule part i.valuation) after → Contains after j
+      → (i ≡ j) ⊎ BegunOf plans trace i j
+  waits_part node part i j after is at (more, begins, are) there =
+      ⊎_elim inl (λ behind. inr (begun_part node part i j more is at begins behind))
+      (first_or_later j i more (subst (λ (l : List Instance). Contains l j) are there))
+
+  becomes_at : (node : Plan) (i j : Instance) (after : List Instance) → node_of plans i ≡ Some node
+      → BecomesAt trace node i after → Contains after j → (i ≡ j) ⊎ BegunOf plans trace i j
+  becomes_at (Eventually node place low high body) i j after is becomes there =
+      ⊎_elim (λ met. inr (begun_part (Eventually node place low high body) body i j after is (here body []) met.2 there))
+      (λ waits. inl (only j i after waits.1 there)) becomes
+  becomes_at (Next node place high body) i j after is becomes there =
+      inr (begun_part (Next node place high body) body i j after is (here body []) becomes there)
+  becomes_at (Always node place low high body) i j after is becomes there =
+      ⊎_elim (λ early. inl (only j i after early.1 there)) (λ others.
+      ⊎_elim (λ inside. waits_part (Always node place low high body) body i j after is (here body []) inside.1 there)
+      (λ late. absurd (none_there j after late.2 there)) others) becomes
+  becomes_at (Until node place low high left right) i j after is becomes there =
+      ⊎_elim (λ met. inr (begun_part (Until node place low high left right) right i j after is (later right left (right ∷ []) (here right [])) met.2 there))
+      (λ waits. waits_part (Until node place low high left right) left i j after is (here left (right ∷ [])) waits.1 there) becomes
+  becomes_at (Cause node place name terms) i j after is becomes there = absurd becomes
+  becomes_at (Suppress node place name terms) i j after is becomes there = absurd becomes
+  becomes_at (Both node left right) i j after is becomes there = absurd becomes
+  becomes_at (Either node left right) i j after is becomes there = absurd becomes
+  becomes_at (TestOr node guard test body) i j after is becomes there = absurd becomes
+  becomes_at (Guarded node xs guard test body) i j after is becomes there = absurd becomes
+
+after_is_reached : TriggersAreMet → (plans : List Plan) (trace : List Step) (i j : Instance) (after : List Instance)
+    → After plans trace i after → Contains after j → (i ≡ j) ⊎ BegunOf plans trace i j
+after_is_reached met plans trace i j after becomes there = by (node_of plans i) refl becomes
+  where
+    by : (found : Option Plan) → node_of plans i ≡ found → AtNode found (λ node. BecomesAt trace node i after)
+        → (i ≡ j) ⊎ BegunOf plans trace i j
+    by None is b = absurd b
+    by (Some node) is b = becomes_at met plans trace node i j after is b there
+
+-- ---- where instances were begun
+
+self : (plan end : Plan) (rest : List Plan) → plan ≡ end → Contains (plan ∷ rest) end
+self plan end rest same = subst (Contains (plan ∷ rest)) same (here plan rest)
+
+in_one : (plan body end : Plan) {Reached : Type 0} → (plan ≡ end) ⊎ Reached → (Reached → Contains (nodes body) end)
+    → Contains (plan ∷ nodes body) end
+in_one plan body end reached inside =
+    ⊎_elim (self plan end (nodes body)) (λ r. later end plan (nodes body) (inside r)) reached
+
+in_two : (plan left right end : Plan) {OnLeft OnRight : Type 0} → (plan ≡ end) ⊎ (OnLeft ⊎ OnRight)
+    → (OnLeft → Contains (nodes left) end) → (OnRight → Contains (nodes right) end)
+    → Contains (plan ∷ nodes left ++ nodes right) end
+in_two plan left right end reached on_left on_right =
+    ⊎_elim (self plan end (nodes left ++ nodes right))
+    (λ r. later end plan (nodes left ++ nodes right) (⊎_elim
+    (λ l. Contains-append_left (nodes left) (nodes right) end (on_left l))
+    (λ r. Contains-append_right (nodes left) (nodes right) end (on_right r)) r)) reached
+
+node_inside : (trace : List Step) (plan end : Plan) → IsReached trace plan end → Contains (nodes plan) end
+node_inside trace (Cause node place name terms) end reached = self (Cause node place name terms) end [] reached
+node_inside trace (Suppress node place name terms) end reached = self (Suppress node place name terms) end [] reached
+node_inside trace (Both node left right) end reached =
+    in_two (Both node left right) left right end reached (node_inside trace left end) (node_inside trace right end)
+node_inside trace (Either node left right) end reached =
+    in_two (Either node left right) left right end reached (node_inside trace left end) (node_inside trace right end)
+node_inside trace (TestOr node guard test body) end reached =
+    in_one (TestOr node guard test body) body end reached (node_inside trace body end)
+node_inside trace (Guarded node xs guard test body) end reached =
+    in_one (Guarded node xs guard test body) body end reached (λ r. node_inside trace body end r.1)
+node_inside trace (Eventually node place low high body) end reached =
+    in_one (Eventually node place low high body) body end reached (node_inside trace body end)
+node_inside trace (Always node place low high body) end reached =
+    in_one (Always node place low high body) body end reached (node_inside trace body end)
+node_inside trace (Until node place low high left right) end reached =
+    in_two (Until node place low high left right) left right end reached (node_inside trace left end) (node_inside trace right end)
+node_inside trace (Next node place high body) end reached =
+    in_one (Next node place high body) body end reached (node_inside trace body end)
+
+pub reached_is_inside : ReachedIsInside
+reached_is_inside trace plan node reached = node_inside trace plan node reached
+
+named : (trace : List Step) (rule number low high : ℕ) (v : Valuation) (i : Instance)
+    → begun_now trace rule number low high v ≡ i → (i.rule ≡ rule) × (i.node ≡ number)
+named trace rule number low high v i same = (sym (ap (λ (k : Instance). k.rule) same), sym (ap (λ (k : Instance). k.node) same))
+
+rule_and_node : (trace : List Step) (rule : ℕ) (node : Plan) (i : Instance) → IsBegunBy trace rule node i
+    → (i.rule ≡ rule) × (i.node ≡ number_of node)
+rule_and_node trace rule (Eventually node place low high body) i (v, same) = named trace rule node low high v i same
+rule_and_node trace rule (Always node place low high body) i (v, same) = named trace rule node low high v i same
+rule_and_node trace rule (Until node place low high left right) i (v, same) = named trace rule node low high v i same
+rule_and_node trace rule (Next node place high body) i (v, same) = named trace rule node 0 high v i same
+rule_and_node trace rule (Cause node place name terms) i begins = absurd begins
+rule_and_node trace rule (Suppress node place name terms) i begins = absurd begins
+rule_and_node trace rule (Both node left right) i begins = absurd begins
+rule_and_node trace rule (Either node left right) i begins = absurd begins
+rule_and_node trace rule (TestOr node guard test body) i begins = absurd begins
+rule_and_node trace rule (Guarded node xs guard test body) i begins = absurd begins
+
+pub begun_is_named : BegunIsNamed
+begun_is_named plans trace rule plan node i stands reached begins =
+    let is = rule_and_node trace rule node i begins in (
+      is.0,
+      ap (λ (n : ℕ). node_in plans i.rule n) is.1 ∙ ap (λ (r : ℕ). node_in plans r (number_of node)) is.0
+          ∙ AllByRecursion-contains (IsNamed plans rule) (nodes plan) node stands.named (node_inside trace plan node reached),
+    )
+
+-- a part of a node stands in it
+one_part : (plan body part end : Plan) → Contains (body ∷ []) part → Contains (nodes part) end
+    → Contains (plan ∷ nodes body) end
+one_part plan body part end at there =
+    later end plan (nodes body) (subst (λ (p : Plan). Contains (nodes p) end) (sym (only part body (body ∷ []) refl at)) there)
+
+parts_inside : (node part end : Plan) → Contains (parts_of node) part → Contains (nodes part) end → Contains (nodes node) end
+parts_inside (Eventually node place low high body) part end at there =
+    one_part (Eventually node place low high body) body part end at there
+parts_inside (Always node place low high body) part end at there =
+    one_part (Always node place low high body) body part end at there
+parts_inside (Next node place high body) part end at there =
+    one_part (Next node place high body) body part end at there
+parts_inside (Until node place low high left right) part end at there =
+    later end (Until node place low high left right) (nodes left ++ nodes right) (⊎_elim
+    (λ same. Contains-append_left (nodes left) (nodes right) end (subst (λ (p : Plan). Contains (nodes p) end) (sym same) there))
+    (λ more. Contains-append_right (nodes left) (nodes right) end (subst (λ (p : Plan). Contains (nodes p) end) (sym (only part right (right ∷ []) refl more)) there))
+    (first_or_later part left (right ∷ []) at))
+parts_inside (Cause node place name terms) part end at there = absurd (none_in_nil part at)
+parts_inside (Suppress node place name terms) part end at there = absurd (none_in_nil part at)
+parts_inside (Both node left right) part end at there = absurd (none_in_nil part at)
+parts_inside (Either node left right) part end at there = absurd (none_in_nil part at)
+parts_inside (TestOr node guard test body) part end at there = absurd (none_in_nil part at)
+parts_inside (Guarded node xs guard test body) part end at there = absurd (none_in_nil part at)
+
+part_stands : (plans : List Plan) (rule : ℕ) (node part : Plan) → StandsIn plans rule node → Contains (parts_of node) part
+    → StandsIn plans rule part
+part_stands plans rule node part stands at = record {
+  back = within GuardLooksBack stands.back;
+  named = within (IsNamed plans rule) stands.named;
+}
+  where
+    within : (P : Plan → Type 0) → AllByRecursion P (nodes node) → AllByRecursion P (nodes part)
+    within P all = AllByRecursion-from_contains P (nodes part)
+        (λ end there. AllByRecursion-contains P (nodes node) end all (parts_inside node part end at there))
+
+-- ---- along a trace
+
+pub pend_came : PendCame
+pend_came plans trace step after pend =
+    let steps : length (trace ++ step ∷ []) ≡ suc (length trace) = omega (arith, length-append trace (step ∷ [])) in
+    let last = subst (λ (n : ℕ). PendsBehind plans (trace ++ step ∷ []) n after) steps pend in (
+      last.0,
+      shorter_pends plans trace (step ∷ []) (length trace) (omega arith) last.0 last.1,
+      subst (λ (front : List Step). Goes plans front last.0 after) (whole trace step) last.2,
+    )
+
+module _ (first : FoundIsFirst) (met : TriggersAreMet) (plans : List Plan)
+    (stand : PlansStand plans) (trace : List Step) where
+  abbrev WasBegun : Instance → Type 0
+  WasBegun i = (node : Plan) × (node_of plans i ≡ Some node) × (front more : List Step) × (front ++ more ≡ trace)
+      × (0 < length front) × IsBegunBy front i.rule node i
+
+  was_begun_here : (front more : List Step) → front ++ more ≡ trace → 0 < length front → (rule : ℕ) (plan : Plan) (i : Instance)
+      → StandsIn plans rule plan → IsBegunIn front rule plan i → WasBegun i
+  was_begun_here front more splits some rule plan i stands (node, reached, begins) =
+      let is = begun_is_named plans front rule plan node i stands reached begins in
+      (node, is.1, front, more, splits, some, subst (λ (r : ℕ). IsBegunBy front r node i) (sym is.0) begins)
+
+  was_begun : (n : ℕ) → n ≤ length trace → (pending : List Instance) → PendsBehind plans trace n pending → (i : Instance)
+      → Contains pending i → WasBegun i
+  was_begun zero le pending none i there = absurd (none_there i pending none there)
+  was_begun (suc n) le pending (before, pend, (kept, begun, goes, begins, are)) i there =
+      let splits : take (suc n) trace ++ drop (suc n) trace ≡ trace = take-append-drop (suc n) trace in
+      let some : 0 < length (take (suc n) trace) = omega (arith, length-take-le (suc n) trace le) in
+      ⊎_elim
+      (λ front.
+      let from = Gathers-contains (After plans (take (suc n) trace)) before kept i goes front in
+      ⊎_elim
+      (λ (same : from.0 ≡ i). was_begun n (omega (arith, le)) before pend i (subst (λ (j : Instance). Contains before j) same from.1))
+      (λ (anew : BegunOf plans (take (suc n) trace) from.0 i).
+      was_begun_here (take (suc n) trace) (drop (suc n) trace) splits some from.0.rule anew.1 i
+      (part_stands plans from.0.rule anew.0 anew.1 (stands_found first plans stand from.0 anew.0 anew.2) anew.3) anew.4)
+      (after_is_reached met plans (take (suc n) trace) from.0 i from.2 from.3 from.4))
+      (λ back.
+      let root = BegunByRoots-contains (take (suc n) trace) 0 plans begun i begins back in
+      let from : Begun (take (suc n) trace) root.0 root.1 no_values root.3 =
+      subst (λ (r : ℕ). Begun (take (suc n) trace) r root.1 no_values root.3) {x = 0 + root.0} {y = root.0} (omega arith) root.4 in
+      was_begun_here (take (suc n) trace) (drop (suc n) trace) splits some root.0 root.1 i (stand root.0 root.1 root.2)
+      (begun_is_reached met (take (suc n) trace) root.0 root.1 no_values root.3 i from root.5))
+      (Contains-append kept begun i (subst (λ (l : List Instance). Contains l i) are there))
+
+pub pending_was_begun : FoundIsFirst → TriggersAreMet → PendingWasBegun
+pending_was_begun first met plans trace pending i stand pend there =
+    was_begun first met plans stand trace (length trace) (omega arith) pending pend i there

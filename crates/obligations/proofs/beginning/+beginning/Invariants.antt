@@ -1,0 +1,18 @@
+use Rattle.std.proofs.Common.{◌+◌, ◌*◌, length, take}
+use Rattle.plan_terms.specs.Nodes.{nodes}
+use Rattle.plan_terms.specs.Plans.{plan_of}
+use Rattle.valuations.specs.Scopes.{bound_in, filled}
+use Rattle.obligations.specs.Adding.{AddsAsked}
+use Rattle.obligations.specs.Begun.{Begun}
+use Rattle.obligations.specs.Rows.{Gathers}
+use Rattle.obligations.proofs.beginning.+beginning.Given as goal
+
+abbrev pub decreases-begin_behind : goal.decreases-begin_behind
+decreases-begin_behind l = 2 * length (nodes (plan_of l.plan.now))
+
+abbrev pub decreases-begin_under : goal.decreases-begin_under
+decreases-begin_under l = 2 * length (nodes (plan_of l.body.now)) + 1
+
+abbrev pub invariant-begin_under-loop-row : goal.invariant-begin_under-loop-row
+invariant-begin_under-loop-row l =
+    AddsAsked l.now l.rule (plan_of l.body) (λ trace. Gathers (λ row. Begun trace l.rule (plan_of l.body) (filled (bound_in l.v) l.rows.columns row)) (take l.row-index l.rows.rows)) l.fn.into.items l.into.items

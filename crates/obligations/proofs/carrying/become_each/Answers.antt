@@ -1,0 +1,25 @@
+use Rattle.std.proofs.Common.{List, map, subst, take}
+use Rattle.enf_value.specs.declared.steps.Step.{Step}
+use Rattle.obligations.specs.Asked.{IsNowOf}
+use Rattle.obligations.specs.Pending.{After}
+use Rattle.obligations.specs.Rows.{Gathers}
+use Rattle.obligations.specs.declared.instances.Instance.{Instance}
+use Rattle.std.proofs.lemmas.Result.{on_ok_weaker}
+use Rattle.plan_terms.specs.Plans.{plan_of}
+use Rattle.obligations.proofs.CarryLemmas.{each_became, held_then}
+use Rattle.obligations.proofs.carrying.become_each.Goals as goal
+
+pub returns-clause-becomes : goal.returns-clause-becomes
+returns-clause-becomes c =
+    on_ok_weaker c.carry_each.result (λ carried.
+    each_became c.args.now.now (map plan_of c.args.plans.now) c.args.pending.now.items c.split_off.new.self.items c.in_ok-rest.rest.items c.carry_each.new.into.items c.in_ok-front.front c.args.deadlines.now c.carry_each.new.deadlines
+    c.in_ok-rest.ensures.items c.in_ok-rest.ensures.tail carried
+    (subst (λ (l : List Instance). (trace : List Step) → IsNowOf c.args.now.now trace → Gathers (After (map plan_of c.args.plans.now) trace) (take c.in_ok-front.front l) (take c.in_ok-front.front l)) c.deref.ensures.value c.in_ok-front.ensures.stay))
+    c.carry_each.ensures.carries
+
+pub returns-clause-held : goal.returns-clause-held
+returns-clause-held c =
+    on_ok_weaker c.carry_each.result (λ carried.
+    held_then c.args.now.now (map plan_of c.args.plans.now) c.args.pending.now.items c.split_off.new.self.items c.in_ok-rest.rest.items c.carry_each.new.into.items c.in_ok-front.front c.args.deadlines.now c.carry_each.new.deadlines
+    c.in_ok-rest.ensures.items c.in_ok-rest.ensures.tail carried c.requires.held)
+    c.carry_each.ensures.carries

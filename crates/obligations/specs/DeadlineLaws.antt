@@ -1,0 +1,94 @@
+-- The deadlines of what is pending, one by one.
+use Rattle.std.specs.Prelude.{◌≡◌, ℕ, ◌<◌, ◌==◌, Bool, true, false, cond, List, [], ◌∷◌}
+use Rattle.std.specs.Prelude.{Option, None, Some, Contains}
+use Rattle.std.specs.List.{count_by}
+use Rattle.std.proofs.Common.{◌∙◌, ap, arith, refl, subst, ⊎_elim}
+use Rattle.std.proofs.lemmas.Bool.{false≢true}
+use Rattle.std.proofs.lemmas.List.Sums.{sum_by-cons}
+use Rattle.enf_value.specs.ListLaws.{here, later, first_or_later, none_in_nil}
+use Rattle.plan_terms.specs.Nodes.{has_deadline}
+use Rattle.plan_terms.specs.Plans.{Plan}
+use Rattle.obligations.specs.Pending.{AtNode, HasDeadline, node_of}
+use Rattle.obligations.specs.Waiting.{KeepsDeadlines, PendingList, deadline_at, is_due, is_time}
+use Rattle.obligations.specs.declared.instances.Instance.{Instance}
+
+-- of what is in a list and passes a test, one at least is counted
+counted : {X : Type 0} (p : X → Bool) (xs : List X) (x : X) → Contains xs x → p x ≡ true → 0 < count_by p xs
+counted p [] x there passes = absurd (none_in_nil x there)
+counted p (y ∷ xs) x there passes =
+    let both = sum_by-cons (λ z. cond (p z) 1 0) y xs in
+    ⊎_elim (λ same. let first = ap {B = ℕ} (λ b. cond b 1 0) (ap p same ∙ passes) in omega (arith, both, first))
+    (λ behind. let rest = counted p xs x behind passes in omega (arith, both, rest)) (first_or_later x y xs there)
+
+-- and where one is counted, one is there
+one_there : {X : Type 0} (p : X → Bool) (xs : List X) → 0 < count_by p xs → (x : X) × Contains xs x × (p x ≡ true)
+one_there {X} p [] some = absurd (omega (arith, some))
+one_there {X} p (y ∷ xs) some = by (p y) refl (λ more. one_there p xs more)
+  where
+    by : (b : Bool) → p y ≡ b → (0 < count_by p xs → (x : X) × Contains xs x × (p x ≡ true))
+        → (x : X) × Contains (y ∷ xs) x × (p x ≡ true)
+    by true passes rest = (y, here y xs, passes)
+    by false fails rest =
+        let both = sum_by-cons (λ z. cond (p z) 1 0) y xs in
+        let none = ap {B = ℕ} (λ b. cond b 1 0) fails in
+        let found = rest (omega (arith, some, both, none)) in
+        (found.0, later found.0 y xs found.1, found.2)
+
+same_number : (x y : ℕ) → (x == y) ≡ true → x ≡ y
+same_number x y is = grind (arith, is)
+
+is_same : (x y : ℕ) → x ≡ y → (x == y) ≡ true
+is_same x y same = grind (arith, same)
+
+due_at : (b : Bool) (high deadline : ℕ) → b ≡ true → high ≡ deadline → is_time (cond b (Some high) None) deadline ≡ true
+due_at true high deadline it same = is_same high deadline same
+due_at false high deadline it same = absurd (false≢true it)
+
+has_at : (b : Bool) (high deadline : ℕ) → is_time (cond b (Some high) None) deadline ≡ true
+    → (b ≡ true) × (high ≡ deadline)
+has_at true high deadline due = (refl, same_number high deadline due)
+has_at false high deadline due = absurd (false≢true due)
+
+due_from_has : (plans : List Plan) (i : Instance) (deadline : ℕ) → HasDeadline plans i deadline
+    → is_due plans deadline i ≡ true
+due_from_has plans i deadline = by (node_of plans i)
+  where
+    by : (at : Option Plan) → AtNode at (λ node. (has_deadline node ≡ true) × (i.high ≡ deadline))
+        → is_time (deadline_at at i) deadline ≡ true
+    by None has = absurd has
+    by (Some node) has = due_at (has_deadline node) i.high deadline has.0 has.1
+
+has_from_due : (plans : List Plan) (i : Instance) (deadline : ℕ) → is_due plans deadline i ≡ true
+    → HasDeadline plans i deadline
+has_from_due plans i deadline = by (node_of plans i)
+  where
+    by : (at : Option Plan) → is_time (deadline_at at i) deadline ≡ true
+        → AtNode at (λ node. (has_deadline node ≡ true) × (i.high ≡ deadline))
+    by None due = absurd (false≢true due)
+    by (Some node) due = has_at (has_deadline node) i.high deadline due
+
+-- the deadline of what is pending is listed,
+abbrev pub DeadlineIsListed : Type 0
+DeadlineIsListed = (plans : List Plan) (pending : PendingList) (i : Instance) (deadline : ℕ)
+    → KeepsDeadlines plans pending → Contains pending.instances i → HasDeadline plans i deadline
+    → Contains pending.deadlines deadline
+
+-- and what is listed is the deadline of something that is pending
+abbrev pub ListedIsDeadline : Type 0
+ListedIsDeadline = (plans : List Plan) (pending : PendingList) (deadline : ℕ) → KeepsDeadlines plans pending
+    → Contains pending.deadlines deadline
+    → (i : Instance) × Contains pending.instances i × HasDeadline plans i deadline
+
+pub deadline_is_listed : DeadlineIsListed
+deadline_is_listed plans pending i deadline keeps there has =
+    let some = counted (is_due plans deadline) pending.instances i there (due_from_has plans i deadline has) in
+    let same = keeps deadline in
+    let found = one_there (λ entry. entry == deadline) pending.deadlines (omega (arith, some, same)) in
+    subst (Contains pending.deadlines) (same_number found.0 deadline found.2) found.1
+
+pub listed_is_deadline : ListedIsDeadline
+listed_is_deadline plans pending deadline keeps there =
+    let some = counted (λ entry. entry == deadline) pending.deadlines deadline there (is_same deadline deadline refl) in
+    let same = keeps deadline in
+    let found = one_there (is_due plans deadline) pending.instances (omega (arith, some, same)) in
+    (found.0, found.1, has_from_due plans found.0 deadline found.2)

@@ -1,0 +1,172 @@
+//! What a pending instance becomes behind a step.
+ghost use Rattle.std.specs.Prelude.{◌≡◌, ◌≤◌, ◌∷◌, [], false, true, IfOk, IfSome, List, OnOk, map};
+ghost use Rattle.std.specs.List.{AllByRecursion};
+ghost use Rattle.std.specs.Option.{option_copied, option_map};
+ghost use Rattle.enf_value.specs.declared.steps.Step.{Step};
+ghost use Rattle.plan_terms.specs.Limits.{EndsInTime};
+ghost use Rattle.plan_terms.specs.Nodes.{is_future, nodes};
+ghost use Rattle.plan_terms.specs.Plans.{Plan as Tree, plan_of};
+ghost use Rattle.plan_terms.specs.Standing.{StandsIn};
+ghost use Rattle.valuations.specs.Scopes.{bound_in};
+ghost use Rattle.obligations.specs.Adding.{AddsAsked};
+ghost use Rattle.obligations.specs.Asked.{CanAsk, IsNowOf, guards_at};
+ghost use Rattle.obligations.specs.Begun.{Begun};
+ghost use Rattle.obligations.specs.Carrying.{BegunFor, IsPartOf, WillBecome};
+ghost use Rattle.obligations.specs.Pending.{After};
+ghost use Rattle.obligations.specs.Waiting.{CanAskOf};
+ghost use Rattle.obligations.specs.declared.now.TheConstants.{MOST_TIME};
+
+use crate::beginning::begin_behind;
+use crate::finding::misses_nothing;
+use crate::instances::Instance;
+use crate::laws::missing_exists;
+use crate::now::Now;
+use crate::sleeping::is_asleep;
+use crate::waiting::{is_in_window, node_in};
+use enf_value::memory::NoMemory;
+use plan_terms::Plan;
+use std::alloc::Global;
+use valuations::Frame;
+
+// Whether an instance stays, and the part of its node that is begun for it, if one is.
+#[derive(Clone, Copy)]
+pub struct Becoming<'a> {
+    pub stays: bool,
+    pub begins: Option<&'a Plan>,
+}
+
+// What an instance of the node becomes.
+pub fn becoming_of<'a>(
+    alloc: Global,
+    node: &'a Plan,
+    instance: &Instance,
+    now: &Now<'_>,
+) -> Result<Becoming<'a>, NoMemory>
+    requires can { CanAsk (guards_at now.now.tables.now) (plan_of node.now) instance.now.valuation }
+    requires future { is_future (plan_of node.now) ≡ true }
+    ensures { IfOk result (λ b. WillBecome now.now (plan_of node.now) instance.now b.stays
+        (option_map plan_of (option_copied b.begins))) }
+{
+    let in_window = is_in_window(instance, now.time);
+    let v = Frame::Whole(&instance.valuation);
+    match node {
+        Plan::Next { body, .. } => Ok(Becoming {
+            stays: false,
+            begins: Some(body),
+        }),
+        Plan::Eventually { body, .. } => {
+            if in_window && misses_nothing(alloc, body, &v, now)? {
+                return Ok(Becoming {
+                    stays: false,
+                    begins: Some(body),
+                });
+            }
+            Ok(Becoming {
+                stays: true,
+                begins: None,
+            })
+        }
+        Plan::Always { body, .. } => {
+            if in_window {
+                return Ok(Becoming {
+                    stays: true,
+                    begins: Some(body),
+                });
+            }
+            Ok(Becoming {
+                stays: now.time < instance.low,
+                begins: None,
+            })
+        }
+        Plan::Until { left, right, .. } => {
+            if in_window && misses_nothing(alloc, right, &v, now)? {
+                return Ok(Becoming {
+                    stays: false,
+                    begins: Some(right),
+                });
+            }
+            Ok(Becoming {
+                stays: true,
+                begins: Some(left),
+            })
+        }
+        _ => Ok(Becoming {
+            stays: true,
+            begins: None,
+        }),
+    }
+}
+
+// Puts the instances last that the plan begins. Of a plan that does not look ahead, or whose guard begins with an atom
+// that has no event, no rows are asked.
+pub fn begin_ahead<'a>(
+    alloc: Global,
+    rule: u32,
+    plan: &Plan,
+    v: &'a Frame<'a>,
+    now: &Now<'_>,
+    into: &mut Vec<Instance>,
+) -> Result<(), NoMemory>
+    requires asked { CanAsk (guards_at now.now.tables.now) (plan_of plan.now) (bound_in v.now) }
+    requires ends { AllByRecursion EndsInTime (nodes (plan_of plan.now)) }
+    requires in_time { now.now.time ≤ MOST_TIME }
+    ensures { OnOk result (AddsAsked now.now rule (plan_of plan.now)
+        (λ trace. Begun trace rule (plan_of plan.now) (bound_in v.now)) into.old.items into.new.items) }
+{
+    if !plan.has_future() {
+        missing_exists();
+        return Ok(());
+    }
+    if is_asleep(plan, now) {
+        return Ok(());
+    }
+    begin_behind(alloc, rule, plan, &*v, now, into)
+}
+
+// What is begun for an instance.
+pub fn begun_for(
+    alloc: Global,
+    instance: &Instance,
+    part: Option<&Plan>,
+    now: &Now<'_>,
+) -> Result<Vec<Instance>, NoMemory>
+    requires can { IfSome (option_map plan_of (option_copied part))
+        (λ p. CanAsk (guards_at now.now.tables.now) p instance.now.valuation) }
+    requires ends { IfSome (option_map plan_of (option_copied part)) (λ p. AllByRecursion EndsInTime (nodes p)) }
+    requires in_time { now.now.time ≤ MOST_TIME }
+    ensures begun { IfOk result (λ begun. (trace : List Step) → IsNowOf now.now trace
+        → BegunFor trace instance.now (option_map plan_of (option_copied part.entry)) begun.items) }
+    ensures asked { IfOk result (λ begun. (plans : List Tree)
+        → IfSome (option_map plan_of (option_copied part.entry)) (StandsIn plans instance.now.rule)
+        → AllByRecursion (CanAskOf (guards_at now.now.tables.now) plans) begun.items) }
+{
+    let mut begun = Vec::new(alloc);
+    if let Some(part) = part {
+        let v = Frame::Whole(&instance.valuation);
+        begin_ahead(alloc, instance.rule, part, &v, now, &mut begun)?;
+    }
+    Ok(begun)
+}
+
+// Whether a pending instance may become anything but itself.
+pub fn reacts(
+    alloc: Global,
+    plans: &[Plan],
+    instance: &Instance,
+    now: &Now<'_>,
+) -> Result<bool, NoMemory>
+    requires asked { CanAskOf (guards_at now.now.tables.now) (map plan_of plans.now) instance.now }
+    requires in_time { now.now.time ≤ MOST_TIME }
+    ensures { IfOk result (λ reacts. reacts ≡ false → (trace : List Step) → IsNowOf now.now trace
+        → After (map plan_of plans.now) trace instance.now (instance.now ∷ [])) }
+{
+    let Some(node) = node_in(plans, instance) else {
+        return Ok(true);
+    };
+    let becoming = becoming_of(alloc, node, instance, now)?;
+    if !becoming.stays {
+        return Ok(true);
+    }
+    let begun = begun_for(alloc, instance, becoming.begins, now)?;
+    Ok(!begun.is_empty())
+}

@@ -1,0 +1,158 @@
+//! The instances that plans begin at a step, one after another.
+ghost use Rattle.std.specs.Prelude.{◌≡◌, ◌∷◌, [], ◌++◌, ◌≤◌, OnOk, List, Contains};
+ghost use Rattle.std.specs.List.{AllByRecursion};
+ghost use Rattle.enf_value.specs.declared.limits.TheConstants.{MOST_INTERVAL_END};
+ghost use Rattle.enf_value.specs.declared.values.Value.{Value as AnyValue};
+ghost use Rattle.plan_terms.specs.Limits.{EndsInTime};
+ghost use Rattle.plan_terms.specs.Nodes.{nodes};
+ghost use Rattle.plan_terms.specs.Plans.{plan_of};
+ghost use Rattle.valuations.specs.Scopes.{bound_in, filled};
+ghost use Rattle.obligations.specs.Adding.{AddsAsked, begun_by};
+ghost use Rattle.obligations.specs.Asked.{CanAsk, guards_at};
+ghost use Rattle.obligations.specs.Begun.{Begun};
+ghost use Rattle.obligations.specs.Rows.{Gathers};
+ghost use Rattle.obligations.specs.declared.now.TheConstants.{MOST_TIME};
+
+use crate::finding::misses_nothing;
+use crate::frames::valuation_in;
+use crate::instances::Instance;
+use crate::now::Now;
+use crate::sides::side_taken;
+use enf_value::memory::NoMemory;
+use plan_terms::Plan;
+use std::alloc::Global;
+use valuations::{Frame, Table};
+
+// Puts the instances last that the plan of a rule begins where it is begun at the step.
+#[cycle(beginning)]
+pub fn begin_behind<'a>(
+    alloc: Global,
+    rule: u32,
+    plan: &Plan,
+    v: &'a Frame<'a>,
+    now: &Now<'_>,
+    into: &mut Vec<Instance>,
+) -> Result<(), NoMemory>
+    requires asked { CanAsk (guards_at now.now.tables.now) (plan_of plan.now) (bound_in v.now) }
+    requires ends { AllByRecursion EndsInTime (nodes (plan_of plan.now)) }
+    requires in_time { now.now.time ≤ MOST_TIME }
+    ensures { OnOk result (AddsAsked now.now rule (plan_of plan.now)
+        (λ trace. Begun trace rule (plan_of plan.now) (bound_in v.now)) into.old.items into.new.items) }
+{
+    match plan {
+        Plan::Cause { .. } | Plan::Suppress { .. } => Ok(()),
+        Plan::Both { left, right, .. } => {
+            begin_behind(alloc, rule, left, &*v, now, into)?;
+            begin_behind(alloc, rule, right, &*v, now, into)
+        }
+        Plan::Either { left, right, .. } => match side_taken(alloc, left, right, &*v, now)? {
+            Some(side) => begin_behind(alloc, rule, side, &*v, now, into),
+            None => Ok(()),
+        },
+        Plan::TestOr { guard, body, .. } => {
+            if now.tables.holds_under(alloc, *guard, now.ordered, &*v)? {
+                return Ok(());
+            }
+            begin_behind(alloc, rule, body, &*v, now, into)
+        }
+        Plan::Guarded { guard, body, .. } => {
+            let rows = now.tables.rows_under(alloc, *guard, now.ordered, &*v)?;
+            begin_under(alloc, rule, body, &rows, &*v, now, into)
+        }
+        Plan::Eventually {
+            node,
+            low,
+            high,
+            body,
+            ..
+        } => {
+            if *low == 0 && misses_nothing(alloc, body, &*v, now)? {
+                return begin_behind(alloc, rule, body, &*v, now, into);
+            }
+            push_begun(alloc, rule, *node, (*low, *high), &*v, now, into)
+        }
+        Plan::Always {
+            node,
+            low,
+            high,
+            body,
+            ..
+        } => {
+            push_begun(alloc, rule, *node, (*low, *high), &*v, now, into)?;
+            if *low > 0 {
+                return Ok(());
+            }
+            begin_behind(alloc, rule, body, &*v, now, into)
+        }
+        Plan::Until {
+            node,
+            low,
+            high,
+            left,
+            right,
+            ..
+        } => {
+            if *low == 0 && misses_nothing(alloc, right, &*v, now)? {
+                return begin_behind(alloc, rule, right, &*v, now, into);
+            }
+            push_begun(alloc, rule, *node, (*low, *high), &*v, now, into)?;
+            begin_behind(alloc, rule, left, &*v, now, into)
+        }
+        Plan::Next { node, high, .. } => {
+            push_begun(alloc, rule, *node, (0, *high), &*v, now, into)
+        }
+    }
+}
+
+// The same under each row of a table, one after another.
+#[cycle(beginning)]
+fn begin_under<'a>(
+    alloc: Global,
+    rule: u32,
+    body: &Plan,
+    rows: &'a Table,
+    v: &'a Frame<'a>,
+    now: &Now<'_>,
+    into: &mut Vec<Instance>,
+) -> Result<(), NoMemory>
+    requires asked { (row : List AnyValue) → Contains rows.now.rows row → CanAsk (guards_at now.now.tables.now)
+        (plan_of body.now) (filled (bound_in v.now) rows.now.columns row) }
+    requires ends { AllByRecursion EndsInTime (nodes (plan_of body.now)) }
+    requires in_time { now.now.time ≤ MOST_TIME }
+    ensures { OnOk result (AddsAsked now.now rule (plan_of body.now) (λ trace. Gathers (λ row. Begun trace rule
+        (plan_of body.now) (filled (bound_in v.now) rows.now.columns row)) rows.now.rows)
+        into.old.items into.new.items) }
+{
+    for row in rows.rows() {
+        let inner = Frame::Row(&*v, rows.columns().as_slice(), row.as_slice());
+        begin_behind(alloc, rule, body, &inner, now, into)?;
+    }
+    Ok(())
+}
+
+// Puts the instance last that is begun at the step for a node, with a window that begins and ends so much later.
+fn push_begun(
+    alloc: Global,
+    rule: u32,
+    node: u32,
+    window: (u64, u64),
+    v: &Frame<'_>,
+    now: &Now<'_>,
+    into: &mut Vec<Instance>,
+) -> Result<(), NoMemory>
+    requires window { (window.0 ≤ window.1) × (window.1 ≤ MOST_INTERVAL_END) }
+    requires in_time { now.now.time ≤ MOST_TIME }
+    ensures { OnOk result (into.new.items
+        ≡ into.old.items ++ begun_by now.now rule node window.0 window.1 (bound_in v.now) ∷ []) }
+{
+    let valuation = valuation_in(alloc, v)?;
+    into.push(Instance {
+        rule,
+        node,
+        valuation,
+        origin: now.position,
+        low: now.time + window.0,
+        high: now.time + window.1,
+    })?;
+    Ok(())
+}

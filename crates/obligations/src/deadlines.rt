@@ -1,0 +1,61 @@
+//! The deadlines of instances, in the queue of those that are pending.
+ghost use Rattle.std.specs.Prelude.{◌≡◌, ◌+◌, ◌<◌, ◌≤◌, ◌^◌, ℕ, OnOk, [], ◌∷◌, length, map};
+ghost use Rattle.deadline_queue.specs.Queues.{IsQueue, held};
+ghost use Rattle.plan_terms.specs.Plans.{plan_of};
+ghost use Rattle.obligations.specs.Waiting.{count_due, deadline_of};
+
+use crate::instances::Instance;
+use crate::waiting::node_in;
+use deadline_queue::DeadlineQueue;
+use enf_value::memory::NoMemory;
+use plan_terms::Plan;
+
+// The deadline of an instance, if its node has one.
+fn deadline_in(plans: &[Plan], instance: &Instance) -> Option<u64>
+    ensures { result ≡ deadline_of (map plan_of plans.now) instance.now }
+{
+    match node_in(plans, instance)? {
+        Plan::Eventually { .. } | Plan::Until { .. } | Plan::Next { .. } => Some(instance.high),
+        Plan::Cause { .. }
+        | Plan::Suppress { .. }
+        | Plan::Both { .. }
+        | Plan::Either { .. }
+        | Plan::TestOr { .. }
+        | Plan::Guarded { .. }
+        | Plan::Always { .. } => None,
+    }
+}
+
+// The deadline of each of the instances is held once more.
+pub fn hold_each(
+    plans: &[Plan],
+    instances: &[Instance],
+    deadlines: &mut DeadlineQueue,
+) -> Result<(), NoMemory>
+    requires queue { IsQueue deadlines.old }
+    requires few { (deadline : ℕ) → held deadlines.old deadline + length instances.now < 2 ^ 64 }
+    ensures held { OnOk result ((deadline : ℕ) → held deadlines.new deadline
+        ≡ held deadlines.old deadline + count_due (map plan_of plans.now) instances.now deadline) }
+    ensures queue { IsQueue deadlines.new }
+{
+    for instance in instances {
+        if let Some(deadline) = deadline_in(plans, instance) {
+            deadlines.add(deadline)?;
+        }
+    }
+    Ok(())
+}
+
+// The deadline of an instance is held once less.
+pub fn let_go(plans: &[Plan], instance: &Instance, deadlines: &mut DeadlineQueue)
+    requires queue { IsQueue deadlines.old }
+    requires held { (deadline : ℕ) → count_due (map plan_of plans.now) (instance.now ∷ []) deadline
+        ≤ held deadlines.old deadline }
+    ensures held { (deadline : ℕ) → held deadlines.new deadline
+        + count_due (map plan_of plans.now) (instance.now ∷ []) deadline ≡ held deadlines.old deadline }
+    ensures queue { IsQueue deadlines.new }
+{
+    if let Some(deadline) = deadline_in(plans, instance) {
+        let _held = deadlines.take_one(deadline);
+    }
+}
