@@ -23,7 +23,7 @@ use Rattle.obligations.specs.declared.literals.LiteralKind.{LiteralKind}
 use Rattle.obligations.specs.declared.literals.LiteralKind.TheVariants.{Cause, Suppress}
 use Rattle.choice_step.specs.Choice.{Applies, Candidate, Decides, IsFirst, Misses, MissesNothing, Root, Waiting, action_for, all_asked, is_forced, with_step}
 use Rattle.choice_step.specs.Follows.{ActedStep, StepGoesOut, Follows, GoesOut, Inserts, IsLeastDeadline, is_inserted, steps_of}
-use Rattle.choice_step.specs.Laws.{AreDistinct, DecidedMissesNothing, DecidesIsOne, DrainIsOne, FollowsIsOne}
+use Rattle.choice_step.specs.Laws.{AreDistinct, DecidedIsDistinct, DecidedMissesNothing, DecidesIsOne, DrainIsOne, FollowsIsOne}
 use Rattle.obligations.specs.declared.actions.Action.{Action}
 use Rattle.choice_step.proofs.ActionLemmas.{distinct_rest}
 use Rattle.choice_step.proofs.WantedLemmas.{IsWanted, WantedAs, missing_are_wanted, missing_of_are_wanted}
@@ -95,7 +95,7 @@ module _ (missing_one : MissingIsOne) (missing_of_one : MissingOfIsOne) where
       (λ p. none_or_first plans inserted trace others a l none.1 p.1)
       first
 
-first_is_wanted : (plans : List Plan) (inserted : Bool) (trace : List Step) (all : List Candidate) (a : Candidate) (l : Literal)
+pub first_is_wanted : (plans : List Plan) (inserted : Bool) (trace : List Step) (all : List Candidate) (a : Candidate) (l : Literal)
     → IsFirst plans inserted trace all a l → IsWanted trace l
 first_is_wanted plans inserted trace [] a l first = absurd first
 first_is_wanted plans inserted trace (Waiting j ∷ others) a l first =
@@ -124,6 +124,25 @@ distinct_applied Cause event before after trace events wanted distinct is =
 distinct_applied Suppress event before after trace events wanted distinct taken =
     subst HasNoRepeats (sym taken.is) (distinct_rest taken.front taken.back event (subst HasNoRepeats taken.was distinct))
 
+first_leaves_distinct : (plans : List Plan) (trace : List Step) (pending : List Instance) (inserted : Bool) (time : ℕ)
+    (before after : List Event) (asked : Candidate) (literal : Literal) → HasNoRepeats before
+    → IsFirst plans inserted (with_step trace time before) (all_asked plans pending) asked literal
+    → Applies literal.kind literal.event before after → HasNoRepeats after
+first_leaves_distinct plans trace pending inserted time before after asked literal distinct is applies =
+    let now = with_step trace time before in
+    let wanted = first_is_wanted plans inserted now (all_asked plans pending) asked literal is in
+    let events : (step_at now (last_position now)).events ≡ before =
+    ap (λ (s : Step). s.events) (last_step trace (record { time = time; events = before }))
+    in
+    distinct_applied literal.kind literal.event before after now events wanted distinct applies
+
+pub decided_is_distinct : DecidedIsDistinct
+decided_is_distinct plans trace pending inserted time before [] after distinct decided =
+    subst HasNoRepeats (sym decided.0) distinct
+decided_is_distinct plans trace pending inserted time before (a ∷ actions) after distinct (asked, literal, between, is, acts, applies, more) =
+    decided_is_distinct plans trace pending inserted time between actions after
+    (first_leaves_distinct plans trace pending inserted time before between asked literal distinct is applies) more
+
 module _ (missing_one : MissingIsOne) (missing_of_one : MissingOfIsOne) where
   pub decides_is_one : DecidesIsOne
   decides_is_one plans trace pending inserted time before [] [] after rest distinct first second =
@@ -142,11 +161,7 @@ module _ (missing_one : MissingIsOne) (missing_of_one : MissingOfIsOne) where
       subst (λ (l : Literal). Applies l.kind l.event before amid) (sym one.1) takes
       in
       let to : between ≡ amid = applied_is_one literal.kind literal.event before between amid distinct applies applied in
-      let wanted = first_is_wanted plans inserted now (all_asked plans pending) asked literal is in
-      let events : (step_at now (last_position now)).events ≡ before =
-      ap (λ (s : Step). s.events) (last_step trace (record { time = time; events = before }))
-      in
-      let left = distinct_applied literal.kind literal.event before between now events wanted distinct applies in
+      let left = first_leaves_distinct plans trace pending inserted time before between asked literal distinct is applies in
       let behind =
       decides_is_one plans trace pending inserted time between actions others after rest left more
       (subst (λ l. Decides plans trace pending inserted time l others rest) (sym to) rests)
@@ -168,6 +183,10 @@ same_step : (k l : StepKind) (t s : ℕ) (e f : List Event) (a b : List Action) 
     → acted k t e a ≡ acted l s f b
 same_step k l t s e f a b kinds times events actions =
     λ i. acted (kinds i) (times i) (events i) (actions i)
+
+pub distinct_behind : (next : Record) (records : List Record) → AreDistinct (next ∷ records) → AreDistinct records
+distinct_behind (StepRecord step) records distinct = distinct.1
+distinct_behind (Tick time) records distinct = distinct
 
 module _ (missing_one : MissingIsOne) (missing_of_one : MissingOfIsOne) (pend_one : PendIsOne) where
   goes_out_one : (plans : List Plan) (trace : List Step) (kind : StepKind) (time : ℕ) (events : List Event) (o p : ActedStep)
@@ -218,10 +237,6 @@ module _ (missing_one : MissingIsOne) (missing_of_one : MissingOfIsOne) (pend_on
       let same = goes_out_one plans trace System step.time step.events o p distinct.0 goes went in
       is ∙ (λ i. same i ∷ []) ∙ sym too
   answers_one plans trace (Tick time) records out others distinct is too = is ∙ sym too
-
-  distinct_behind : (next : Record) (records : List Record) → AreDistinct (next ∷ records) → AreDistinct records
-  distinct_behind (StepRecord step) records distinct = distinct.1
-  distinct_behind (Tick time) records distinct = distinct
 
   pub follows_is_one : FollowsIsOne
   follows_is_one plans trace [] out others distinct first second = first ∙ sym second

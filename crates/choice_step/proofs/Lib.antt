@@ -5,7 +5,11 @@ pub mod CaseLemmas
 pub mod FiniteLemmas
 pub mod KnownLemmas
 pub mod LookingLemmas
+pub mod PossibleLemmas
 pub mod UniverseLemmas
 pub mod StepLemmas
 pub mod LoopLemmas
+pub mod SomeLemmas
+pub mod GoingLemmas
 pub mod WakingLemmas
+pub mod ActingLemmas

@@ -1,6 +1,6 @@
 -- The first of some that are asked at a step, and the action for it.
-use Rattle.std.proofs.Common.{◌≡◌, ℕ, zero, suc, ◌+◌, ◌<◌, ◌≤◌, Bool, List, [], ◌∷◌, ◌++◌, Option, None, Some, length, map, Contains, get_or, refl, sym, subst, ap, ◌∙◌, ⊎_elim, inl, inr, arith}
-use Rattle.std.specs.Prelude.{slice_get}
+use Rattle.std.proofs.Common.{◌≡◌, ℕ, zero, suc, ◌+◌, ◌<◌, ◌≤◌, Bool, List, [], ◌∷◌, ◌++◌, Option, None, Some, length, map, Contains, get_or, take, refl, sym, subst, ap, ◌∙◌, ⊎_elim, inl, inr, arith}
+use Rattle.std.specs.Prelude.{IfSome, slice_get}
 use Rattle.std.specs.FinMap.{get-empty}
 use Rattle.std.specs.List.{AllByRecursion, find, flat_map}
 use Rattle.std.proofs.lemmas.List.Elements.{Contains-append_left, Contains-append_right}
@@ -16,36 +16,41 @@ use Rattle.plan_terms.specs.declared.plans.Plan as stored
 use Rattle.obligations.specs.Asked.{IsBound, IsKnownAt, IsNowOf, IsWanted}
 use Rattle.obligations.specs.Begun.{time_now}
 use Rattle.obligations.specs.Pending.{node_of}
-use Rattle.obligations.specs.Waiting.{FirstMissing, FirstMissingOf, IsWantedOf}
+use Rattle.obligations.specs.Waiting.{FirstMissing, FirstMissingOf, FirstOf, IsWantedOf}
 use Rattle.obligations.specs.declared.actions.Action.{Action}
 use Rattle.obligations.specs.declared.instances.Instance.{Instance}
 use Rattle.obligations.specs.declared.literals.Literal.{Literal}
 use Rattle.obligations.specs.declared.now.Now.{Now}
 use Rattle.choice_step.specs.Choice.{Candidate, IsFirst, Misses, MissesNothing, Root, Waiting, action_at, action_for, is_forced, roots_from}
-use Rattle.choice_step.specs.Looking.{IsActionFor, IsKnownFor, IsWantedAt}
+use Rattle.choice_step.specs.Looking.{IsActionFor, IsKnownFor, IsLiteralAt, IsWantedAt, MetBefore}
 use Rattle.choice_step.proofs.FiniteLemmas.{Contains-flat_map}
 
 module _ (plans : List Plan) (inserted : Bool) (trace : List Step) where
   abbrev pub MissesFirst : Candidate → Literal → Type 0
   MissesFirst asked literal = (rest : List Literal) × Misses plans inserted trace asked (literal ∷ rest)
 
-  abbrev pub NoneBefore : List Instance → ℕ → Type 0
-  NoneBefore xs k = (j : ℕ) (d : Instance) → j < k → MissesNothing plans inserted trace (Waiting (get_or xs j d))
+  abbrev pub Met : List Instance → ℕ → Type 0
+  Met xs k = MetBefore plans inserted trace xs k
 
   pub first_waiting : (xs : List Instance) (k : ℕ) (x : Instance) (literal : Literal) → k < length xs → x ≡ get_or xs k x
-      → NoneBefore xs k → MissesFirst (Waiting x) literal → IsFirst plans inserted trace (map Waiting xs) (Waiting x) literal
+      → Met xs k → MissesFirst (Waiting x) literal → IsFirst plans inserted trace (map Waiting xs) (Waiting x) literal
   first_waiting [] k x literal within is none misses = absurd (omega (arith, within))
   first_waiting (y ∷ xs) zero x literal within is none misses =
       inl (ap Waiting (sym is), misses.0, subst (λ z. Misses plans inserted trace (Waiting z) (literal ∷ misses.0)) is misses.1)
   first_waiting (y ∷ xs) (suc k) x literal within is none misses =
-      inr (none 0 y (omega arith), first_waiting xs k x literal (omega (arith, within)) is (λ j d below. none (suc j) d (omega (arith, below))) misses)
+      inr (none.0, first_waiting xs k x literal (omega (arith, within)) is none.1 misses)
 
-  pub none_waiting : (xs : List Instance) (k : ℕ) → length xs ≤ k → NoneBefore xs k
+  pub none_waiting : (xs : List Instance) (k : ℕ) → length xs ≤ k → Met xs k
       → AllByRecursion (MissesNothing plans inserted trace) (map Waiting xs)
   none_waiting [] k within none = tt
   none_waiting (y ∷ xs) zero within none = absurd (omega (arith, within))
-  none_waiting (y ∷ xs) (suc k) within none =
-      (none 0 y (omega arith), none_waiting xs k (omega (arith, within)) (λ j d below. none (suc j) d (omega (arith, below))))
+  none_waiting (y ∷ xs) (suc k) within none = (none.0, none_waiting xs k (omega (arith, within)) none.1)
+
+  -- all of them
+  pub all_met : (xs : List Instance) (k : ℕ) → AllByRecursion (MissesNothing plans inserted trace) (map Waiting xs) → Met xs k
+  all_met xs zero all = tt
+  all_met [] (suc k) all = tt
+  all_met (x ∷ xs) (suc k) all = (all.0, all_met xs k all.1)
 
   -- the same of the roots of rules
   abbrev pub NoRootBefore : List stored.Plan → ℕ → Type 0
@@ -70,6 +75,13 @@ module _ (plans : List Plan) (inserted : Bool) (trace : List Step) where
   no_root rule (y ∷ xs) zero within none = absurd (omega (arith, within))
   no_root rule (y ∷ xs) (suc k) within none =
       (none 0 y (omega arith), no_root (suc rule) xs k (omega (arith, within)) (λ j d below. none (suc j) d (omega (arith, below))))
+
+  pub roots_before : (rule : ℕ) (xs : List stored.Plan) (k : ℕ) → NoRootBefore xs k
+      → AllByRecursion (MissesNothing plans inserted trace) (roots_from rule (take k (map plan_of xs)))
+  roots_before rule xs zero none = tt
+  roots_before rule [] (suc k) none = tt
+  roots_before rule (y ∷ xs) (suc k) none =
+      (none 0 y (omega arith), roots_before (suc rule) xs k (λ j d below. none (suc j) d (omega (arith, below))))
 
   -- what a pending instance misses first, by the answer of the call, and whether it misses nothing
   at_its_time : (now : Now) (i : Instance) (forced : Bool) (found other : Option Literal) → IsNowOf now trace
@@ -104,15 +116,16 @@ module _ (plans : List Plan) (inserted : Bool) (trace : List Step) where
   stays_root rule plan v found none same misses = at_root plan v found None none same misses
 
   -- one more that misses nothing
-  pub one_more_waiting : (xs : List Instance) (k : ℕ) (x : Instance) → k < length xs → x ≡ get_or xs k x → NoneBefore xs k
-      → MissesNothing plans inserted trace (Waiting x) → NoneBefore xs (k + 1)
-  one_more_waiting [] k x within is none this j d below = absurd (omega (arith, within))
-  one_more_waiting (y ∷ xs) zero x within is none this zero d below =
-      subst (λ z. MissesNothing plans inserted trace (Waiting z)) is this
-  one_more_waiting (y ∷ xs) zero x within is none this (suc j) d below = absurd (omega (arith, below))
-  one_more_waiting (y ∷ xs) (suc k) x within is none this zero d below = none 0 d (omega arith)
-  one_more_waiting (y ∷ xs) (suc k) x within is none this (suc j) d below =
-      one_more_waiting xs k x (omega (arith, within)) is (λ i e before. none (suc i) e (omega (arith, before))) this j d (omega (arith, below))
+  met_next : (xs : List Instance) (k : ℕ) (x : Instance) → k < length xs → x ≡ get_or xs k x → Met xs k
+      → MissesNothing plans inserted trace (Waiting x) → Met xs (suc k)
+  met_next [] k x within is none this = absurd (omega (arith, within))
+  met_next (y ∷ xs) zero x within is none this = (subst (λ z. MissesNothing plans inserted trace (Waiting z)) is this, tt)
+  met_next (y ∷ xs) (suc k) x within is none this = (none.0, met_next xs k x (omega (arith, within)) is none.1 this)
+
+  pub one_more_waiting : (xs : List Instance) (k : ℕ) (x : Instance) → k < length xs → x ≡ get_or xs k x → Met xs k
+      → MissesNothing plans inserted trace (Waiting x) → Met xs (k + 1)
+  one_more_waiting xs k x within is none this =
+      subst (Met xs) {x = suc k} {y = k + 1} (omega arith) (met_next xs k x within is none this)
 
   pub one_more_root : (xs : List stored.Plan) (k : ℕ) (x : stored.Plan) → k < length xs → x ≡ get_or xs k x → NoRootBefore xs k
       → MissesNothing plans inserted trace (Root k (plan_of x)) → NoRootBefore xs (k + 1)
@@ -272,7 +285,7 @@ wanted_waiting plans pending now i literal action there wanted is =
     subst (IsWantedAt plans pending now.events.now now.ordered.now now.tables.now) (sym is) by
 
 -- nothing is bound at the root of a rule
-nothing_bound : (value : Value) → IsBound no_values value → ⊥
+pub nothing_bound : (value : Value) → IsBound no_values value → ⊥
 nothing_bound value (x, is) = none-some value (sym (get-empty variable_cmp x) ∙ is)
 
 pub wanted_root : (plans : List Plan) (pending : List Instance) (now : Now) (rule : ℕ) (plan : Plan) (literal : Literal) (action : Action)
@@ -305,3 +318,21 @@ wanted_root plans pending now rule plan literal action there wanted is =
       known = λ value arg. known value (wanted.known value arg);
     } in
     subst (IsWantedAt plans pending now.events.now now.ordered.now now.tables.now) (sym is) by
+
+pub literal_root : (plans : List Plan) (pending : List Instance) (now : Now) (plan : Plan) (literal : Literal)
+    → Contains plans plan → IsWanted now plan no_values literal
+    → IsLiteralAt plans pending now.ordered.now now.tables.now literal
+literal_root plans pending now plan literal there wanted =
+    let by =
+    wanted_root plans pending now 0 plan literal (action_at now.time now.position (Root 0 plan) literal) there wanted refl
+    in
+    record { leaf = by.leaf; there = by.there; is = by.is; known = by.known }
+
+-- the first of all that is missed
+pub first_of_all : (P : List Literal → Type 0) (literals : List Literal) → P literals → FirstOf P (slice_get literals 0)
+first_of_all P [] is = is
+first_of_all P (l ∷ ls) is = (ls, is)
+
+pub if_some : {X : Type 0} (o : Option X) (P Q : X → Type 0) → ((x : X) → P x → Q x) → IfSome o P → IfSome o Q
+if_some None P Q turn is = tt
+if_some (Some x) P Q turn is = turn x is

@@ -1,6 +1,7 @@
 -- A step that is looked at behind a trace for which a past state stands.
-use Rattle.std.specs.Prelude.{IfSome}
-use Rattle.std.proofs.Common.{◌≡◌, ◌↔◌, ℕ, ◌≤◌, List, [], ◌∷◌, ◌++◌, Option, None, Some, length, refl, sym, subst, ap, ◌∙◌, ⊎_elim, inl, inr, arith, length-append}
+use Rattle.std.specs.Prelude.{IfNone, IfSome}
+use Rattle.std.specs.Option.{option_map}
+use Rattle.std.proofs.Common.{◌≡◌, ◌↔◌, ℕ, ◌≤◌, Bool, List, [], ◌∷◌, ◌++◌, Contains, Option, None, Some, length, refl, sym, subst, ap, ◌∙◌, ⊎_elim, inl, inr, arith, length-append}
 use Rattle.enf_value.specs.declared.events.Event.{Event}
 use Rattle.enf_value.specs.declared.steps.Step.{Step}
 use Rattle.enf_value.specs.declared.values.Value.{Value}
@@ -10,11 +11,14 @@ use Rattle.trace_meaning.specs.Continuation.{last_time}
 use Rattle.past_state.specs.Known.{AreKnown, IsConstantOf}
 use Rattle.past_state.specs.Past.{AreOf, GuardsWillHold, Past, PastStands, PastTables, formula_of, formulas, tables_of}
 use Rattle.plan_terms.specs.Plans.{Plan}
-use Rattle.obligations.specs.Rows.{HoldsLast, last_position}
+use Rattle.obligations.specs.Rows.{last_position}
 use Rattle.obligations.specs.declared.actions.Action.{Action}
 use Rattle.obligations.specs.declared.instances.Instance.{Instance}
 use Rattle.choice_step.specs.Choice.{with_step}
-use Rattle.choice_step.specs.Looking.{IsKnownBehind, IsKnownFor, IsStepOf, IsWantedAt, IsWantedBehind}
+use Rattle.obligations.specs.declared.literals.Literal.{Literal}
+use Rattle.choice_step.specs.Acting.{IsFoundBehind}
+use Rattle.choice_step.specs.Looking.{IsKnownBehind, IsKnownFor, IsLiteralAt, IsLiteralBehind, IsStepOf, IsWantedAt, IsWantedBehind, WillFind, WillHaveFound}
+use Rattle.choice_step.specs.declared.looking.Found.{Found}
 use Rattle.choice_step.proofs.ChoiceLemmas.{last_step}
 
 pub step_of : (past : Past) (time position : ℕ) (events : List Event) (tables : PastTables) (trace : List Step)
@@ -65,9 +69,35 @@ wanted_behind plans pending past time events tables action are known wanted = re
   known = λ value arg. known_behind plans pending past time events tables are known value (wanted.known value arg);
 }
 
-pub some_behind : (plans : List Plan) (pending : List Instance) (past : Past) (time : ℕ) (events : List Event) (tables : PastTables)
-    (found : Option Action) → AreOf past time events tables → AreKnown past events tables
-    → IfSome found (IsWantedAt plans pending events events tables) → IfSome found (IsWantedBehind plans pending past events)
-some_behind plans pending past time events tables None are known wanted = tt
-some_behind plans pending past time events tables (Some action) are known wanted =
-    wanted_behind plans pending past time events tables action are known wanted
+literal_behind : (plans : List Plan) (pending : List Instance) (past : Past) (time : ℕ) (events : List Event) (tables : PastTables)
+    (literal : Literal) → AreOf past time events tables → AreKnown past events tables
+    → IsLiteralAt plans pending events tables literal → IsLiteralBehind plans pending past events literal
+literal_behind plans pending past time events tables literal are known at = record {
+  leaf = at.leaf;
+  there = at.there;
+  is = at.is;
+  known = λ value arg. known_behind plans pending past time events tables are known value (at.known value arg);
+}
+
+-- what was found at a step behind a past state, where something else holds
+module _ (plans : List Plan) (pending : List Instance) (past : Past) (inserted : Bool) (time position : ℕ) (events : List Event)
+    (Met : Type 0) where
+  pub if_none : (found : Option Found)
+      → (Met → WillFind plans pending past inserted time position events (option_map (λ f. f.action) found))
+      → IfNone found (Met → WillFind plans pending past inserted time position events None)
+  if_none None finds = finds
+  if_none (Some f) finds = tt
+
+  pub found_behind_past : (tables : PastTables) (found : Option Found) → AreOf past time events tables → AreKnown past events tables
+      → (Met → WillFind plans pending past inserted time position events (option_map (λ f. f.action) found))
+      → IfSome found (λ f. Met → WillHaveFound plans pending past inserted time position events f.rule f.literals.items)
+      → IfSome found (λ f. IsWantedAt plans pending events events tables f.action)
+      → IfSome found (λ f. (literal : Literal) → Contains f.literals.items literal → IsLiteralAt plans pending events tables literal)
+      → IfSome found (λ f. Met → IsFoundBehind plans pending past inserted time position events f.action f.rule f.literals.items)
+  found_behind_past tables None are known finds rest wanted literals = tt
+  found_behind_past tables (Some f) are known finds rest wanted literals = λ met. record {
+    finds = finds met;
+    rest = rest met;
+    wanted = wanted_behind plans pending past time events tables f.action are known wanted;
+    literals_are = λ literal there. literal_behind plans pending past time events tables literal are known (literals literal there);
+  }

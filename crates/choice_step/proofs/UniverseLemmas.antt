@@ -1,5 +1,5 @@
--- The finitely many events that the choice loop can cause at a step: those of the leaves of plans over the known values.
-use Rattle.std.proofs.Common.{◌≡◌, ℕ, Bool, true, false, cond, List, [], ◌∷◌, ◌++◌, Some, length, map, Contains, sym, subst, ◌∙◌, ⊎_elim, arith}
+-- The finitely many values that are known to the choice loop at a step.
+use Rattle.std.proofs.Common.{◌≡◌, Bool, true, false, cond, List, [], ◌∷◌, ◌++◌, Some, map, Contains, sym, ◌∙◌, ⊎_elim, arith}
 use Rattle.std.specs.FinMap.{get-entries}
 use Rattle.std.specs.FinMap.Entries.{find}
 use Rattle.std.specs.List.{flat_map}
@@ -14,16 +14,14 @@ use Rattle.enf_value.specs.declared.terms.VarId.{VarId}
 use Rattle.enf_value.specs.declared.values.Value.{Value}
 use Rattle.monitorable_guard.specs.Sources.{IsArgument}
 use Rattle.past_state.specs.Past.{Past, formulas}
-use Rattle.plan_terms.specs.Changes.{IsSuppressed}
 use Rattle.plan_terms.specs.Nodes.{nodes}
-use Rattle.plan_terms.specs.Plans.{Plan, Cause, Suppress, Both, Either, TestOr, Guarded, Eventually, Always, Until, Next}
-use Rattle.obligations.specs.Asked.{IsBound, IsLeaf, terms_of}
-use Rattle.obligations.specs.declared.actions.Action.{Action}
+use Rattle.plan_terms.specs.Plans.{Plan}
+use Rattle.obligations.specs.Asked.{IsBound, terms_of}
 use Rattle.obligations.specs.declared.instances.Instance.{Instance}
-use Rattle.obligations.specs.declared.literals.LiteralKind.TheVariants as kind
 use Rattle.choice_step.specs.Looking.{IsKnownBehind}
-use Rattle.choice_step.proofs.FiniteLemmas.{Contains-flat_map, Contains-map, in_rows_over, rows_over}
+use Rattle.choice_step.proofs.FiniteLemmas.{Contains-flat_map}
 use Rattle.choice_step.proofs.KnownLemmas.{constant_of, constants_in, constants_of_each, kept_is_there, kept_values}
+use Rattle.choice_step.proofs.PossibleLemmas.{AreOfValues, possible_over}
 
 -- ---- the known values
 
@@ -41,7 +39,7 @@ found_is_there x (e ∷ es) value is = by (eq_by_cmp variable_cmp x e.0) is (fou
     by true is rest = (0, omega arith, same_Some e.1 value is)
     by false is rest = later value e.1 (map (λ (b : VarId × Value). b.1) es) (rest is)
 
-bound_is_there : (v : Valuation) (value : Value) → IsBound v value → Contains (bound_values v) value
+pub bound_is_there : (v : Valuation) (value : Value) → IsBound v value → Contains (bound_values v) value
 bound_is_there v value (x, is) = found_is_there x (bindings v) value (sym (get-entries v x) ∙ is)
 
 abbrev pub arguments_of : List Event → List Value
@@ -84,52 +82,11 @@ module _ (plans : List Plan) (pending : List Instance) (past : Past) where
       others)
       known
 
-  -- ---- the events of the leaves that cause
-
-  abbrev pub leaf_events : List Value → Plan → List Event
-  leaf_events values (Cause node place name terms) = map (λ args. record { name = name; args = args }) (rows_over values (length terms))
-  leaf_events values plan = []
-
-  abbrev pub candidates : List Event → List Event
-  candidates given = flat_map (leaf_events (universe given)) (flat_map nodes plans)
-
-  -- what may be acted on
-  abbrev pub possible : List Event → List Event
-  possible given = candidates given ++ given
-
-  pub is_event_of : (values : List Value) (leaf : Plan) (number : ℕ) (event : Event) → IsLeaf leaf kind.Cause number event
-      → ((value : Value) → Contains event.args value → Contains values value) → Contains (leaf_events values leaf) event
-  is_event_of values (Cause node place name terms) number event is known =
-      let made : List Value → Event = λ args. record { name = name; args = args } in
-      let there : Contains (rows_over values (length terms)) event.args =
-      subst (λ n. Contains (rows_over values n) event.args) is.3 (in_rows_over values event.args known)
-      in
-      let same : made event.args ≡ event = λ i. record { name = sym is.2 i; args = event.args } in
-      subst (Contains (map made (rows_over values (length terms)))) same (Contains-map made (rows_over values (length terms)) event.args there)
-  is_event_of values (Suppress node place name terms) number event is known = cc
-  is_event_of values (Both node left right) number event is known = absurd is
-  is_event_of values (Either node left right) number event is known = absurd is
-  is_event_of values (TestOr node guard test body) number event is known = absurd is
-  is_event_of values (Guarded node xs guard test body) number event is known = absurd is
-  is_event_of values (Eventually node place low high body) number event is known = absurd is
-  is_event_of values (Always node place low high body) number event is known = absurd is
-  is_event_of values (Until node place low high left right) number event is known = absurd is
-  is_event_of values (Next node place high body) number event is known = absurd is
-
-  -- where the values of the events are those of the ones that were given, an action that is wanted adds one of these
-  -- events, and leaves it so
-  abbrev pub AreOfValues : (given events : List Event) → Type 0
-  AreOfValues given events = (value : Value) → IsArgument events value → Contains (universe given) value
-
-  -- of the events with names that are suppressed each was given
-  abbrev pub AreGiven : (given events : List Event) → Type 0
-  AreGiven given events = (event : Event) → Contains events event → IsSuppressed plans event.name → Contains given event
-
-  abbrev pub ArePossible : (given : List Event) → List Action → Type 0
-  ArePossible given actions = (event : Event) → Contains (map (λ (a : Action). a.event) actions) event
-      → Contains (possible given) event
-
-  pub given_values : (given : List Event) → AreOfValues given given
+  pub given_values : (given : List Event) → AreOfValues (universe given) given
   given_values given value (event, there, arg) =
       Contains-append_right (flat_map (λ (i : Instance). bound_values i.valuation) pending) _ value
       (Contains-append_left (arguments_of given) _ value (Contains-flat_map (λ (e : Event). e.args) given event value there arg))
+
+  -- the events on which one could act
+  abbrev pub possible : List Event → List Event
+  possible given = possible_over plans (universe given) given

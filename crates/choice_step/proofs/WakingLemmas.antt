@@ -87,3 +87,7 @@ pub trigger_of : (plans : List stored.Plan) (k : ℕ) (plan : stored.Plan) → k
 trigger_of plans k plan within is =
     get_map guard_triggers (map plan_of plans) k
     ∙ ap (option_map guard_triggers) (get_map plan_of plans k ∙ ap (option_map plan_of) (get_is plans k plan within is))
+
+pub plan_at : (plans : List stored.Plan) (k : ℕ) (plan : stored.Plan) → k < length plans → plan ≡ get_or plans k plan
+    → slice_get (map plan_of plans) k ≡ Some (plan_of plan)
+plan_at plans k plan within is = get_map plan_of plans k ∙ ap (option_map plan_of) (get_is plans k plan within is)

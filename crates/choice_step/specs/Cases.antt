@@ -2,11 +2,13 @@
 use Rattle.std.specs.Prelude.{ℕ, Bool, false, true, List, [], ◌∷◌}
 use Rattle.enf_value.specs.Valuations.{no_values}
 use Rattle.enf_value.specs.declared.events.Event.{Event}
-use Rattle.enf_formula.specs.Cases.{event_p, event_q, formula_q, name_p, name_q}
+use Rattle.enf_value.specs.declared.terms.Term.TheVariants.{Const}
+use Rattle.enf_formula.specs.Cases.{event_p, event_q, formula_p, formula_q, name_p, name_q}
 use Rattle.enf_formula.specs.Formulas.{Not}
 use Rattle.trace_meaning.specs.Records.{Record}
 use Rattle.trace_meaning.specs.declared.kinds.StepKind.TheVariants.{System, Inserted}
-use Rattle.plan_terms.specs.Plans.{Plan, Cause, Suppress, TestOr, Eventually}
+use Rattle.plan_terms.specs.Plans.{Plan, Cause, Suppress, Both, Either, TestOr, Eventually, Always, Next}
+use Rattle.obligations.specs.Cases.{each_q, one}
 use Rattle.obligations.specs.declared.instances.Instance.{Instance}
 use Rattle.obligations.specs.declared.literals.LiteralKind.{LiteralKind}
 use Rattle.obligations.specs.declared.literals.LiteralKind.TheVariants as kind
@@ -134,19 +136,6 @@ abbrev pub ChoosesDueTwice : (actions : List Action) → (after : List Event) �
 ChoosesDueTwice actions after = Decides (p_in_time ∷ q_in_time ∷ [])
     (record { time = 0; events = [] } ∷ []) (due_at_5 ∷ second_due_at_5 ∷ []) true 5 [] actions after
 
-abbrev pub for_second_due : Action
-for_second_due = record {
-  kind = kind.Cause;
-  event = event_q;
-  time = 5;
-  position = 1;
-  rule = 1;
-  node = 0;
-  leaf = 1;
-  origin = 0;
-  valuation = no_values;
-}
-
 -- a step of the system with q() behind the deadline, in which nothing is done
 abbrev pub q_at_7 : ActedStep
 q_at_7 = record { kind = System; step = record { time = 7; events = event_q ∷ [] }; actions = [] }
@@ -154,3 +143,111 @@ q_at_7 = record { kind = System; step = record { time = 7; events = event_q ∷ 
 -- the step that serves the deadline, a unit late
 abbrev pub served_at_6 : ActedStep
 served_at_6 = record { kind = Inserted; step = record { time = 6; events = event_p ∷ [] }; actions = for_due ∷ [] }
+
+-- q(x) for each x with p(x), and p(1) under the second rule
+abbrev pub p_of_1_is_there : Plan
+p_of_1_is_there = Cause 0 0 name_p (Const one ∷ [])
+
+abbrev pub ChoosesFed : (actions : List Action) → (after : List Event) → Type 0
+ChoosesFed actions after = Chooses (each_q 0 ∷ p_of_1_is_there ∷ []) [] actions after
+
+-- q() at each time up to ten units on, under the second rule, which was begun before
+abbrev pub q_always : Plan
+q_always = Always 0 0 0 10 (Cause 1 0 name_q [])
+
+abbrev pub always_to_10 : Instance
+always_to_10 = record { rule = 1; node = 0; valuation = no_values; origin = 0; low = 0; high = 10 }
+
+abbrev pub ChoosesDueAndAlways : (actions : List Action) → (after : List Event) → Type 0
+ChoosesDueAndAlways actions after = Decides (p_in_time ∷ q_always ∷ [])
+    (record { time = 0; events = [] } ∷ []) (due_at_5 ∷ always_to_10 ∷ []) true 5 [] actions after
+
+-- q() within 3 under the second rule, and what goes out where p() is to come within 5 under the first
+abbrev pub q_sooner : Plan
+q_sooner = Eventually 0 0 0 3 (Cause 1 0 name_q [])
+
+abbrev pub p_and_q : List Plan
+p_and_q = p_in_time ∷ q_sooner ∷ []
+
+abbrev pub GoesForBoth : List Record → List ActedStep → Type 0
+GoesForBoth records out = Follows p_and_q [] records out
+
+abbrev pub second_due_at_3 : Instance
+second_due_at_3 = record { rule = 1; node = 0; valuation = no_values; origin = 0; low = 0; high = 3 }
+
+-- q() is inserted at time 3, and p() at 5
+abbrev pub for_second_at : (time position : ℕ) → Action
+for_second_at time position = record {
+  kind = kind.Cause;
+  event = event_q;
+  time = time;
+  position = position;
+  rule = 1;
+  node = 0;
+  leaf = 1;
+  origin = 0;
+  valuation = no_values;
+}
+
+abbrev pub q_at_3 : ActedStep
+q_at_3 = record { kind = Inserted; step = record { time = 3; events = event_q ∷ [] }; actions = for_second_at 3 1 ∷ [] }
+
+abbrev pub p_at_5 : ActedStep
+p_at_5 = record {
+  kind = Inserted;
+  step = record { time = 5; events = event_p ∷ [] };
+  actions = record {
+    kind = kind.Cause;
+    event = event_p;
+    time = 5;
+    position = 2;
+    rule = 0;
+    node = 0;
+    leaf = 1;
+    origin = 0;
+    valuation = no_values;
+  } ∷ [];
+}
+
+-- q() at the position behind p(), within ten units, under the second rule
+abbrev pub p_then_q : Plan
+p_then_q = TestOr 0 0 (Not 0 formula_p) (Next 1 0 10 (Cause 2 0 name_q []))
+
+-- and what goes out where p() is to come within 5 under the first
+abbrev pub p_with_next : List Plan
+p_with_next = p_in_time ∷ p_then_q ∷ []
+
+abbrev pub GoesForNext : List Record → List ActedStep → Type 0
+GoesForNext records out = Follows p_with_next [] records out
+
+-- what the step at 5 begins, and the step that serves it
+abbrev pub next_due_at_15 : Instance
+next_due_at_15 = record { rule = 1; node = 1; valuation = no_values; origin = 1; low = 5; high = 15 }
+
+abbrev pub q_at_15 : ActedStep
+q_at_15 = record {
+  kind = Inserted;
+  step = record { time = 15; events = event_q ∷ [] };
+  actions = record {
+    kind = kind.Cause;
+    event = event_q;
+    time = 15;
+    position = 2;
+    rule = 1;
+    node = 1;
+    leaf = 2;
+    origin = 1;
+    valuation = no_values;
+  } ∷ [];
+}
+
+-- p() is to be there where q() is, up to time 5, or else p() and r()
+abbrev pub p_up_to_5 : Plan
+p_up_to_5 = Always 1 0 0 5 (TestOr 2 0 (Not 0 formula_q) (Cause 3 0 name_p []))
+
+abbrev pub p_and_r : Plan
+p_and_r = Both 4 (Cause 5 0 name_p []) (Cause 6 0 event_r.name [])
+
+-- both sides miss something where q() is there; p() is caused for the right one, and with it the left one is met
+abbrev pub ChoosesSide : (actions : List Action) → (after : List Event) → Type 0
+ChoosesSide actions after = Chooses (Either 0 p_up_to_5 p_and_r ∷ []) (event_q ∷ []) actions after

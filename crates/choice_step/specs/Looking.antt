@@ -1,8 +1,9 @@
 -- What is found at a step: the action for the first that misses something.
-use Rattle.std.specs.Prelude.{◌≡◌, ◌↔◌, ◌⊎◌, ℕ, ◌<◌, ◌≤◌, Bool, List, Option, None, Some, Contains, length}
+use Rattle.std.specs.Prelude.{◌≡◌, ◌↔◌, ◌⊎◌, ℕ, ◌<◌, ◌≤◌, Bool, List, [], ◌∷◌, Option, None, Some, Contains, length, map}
+use Rattle.std.specs.Prelude.{slice_get, take}
 use Rattle.std.specs.List.{AllByRecursion, flat_map}
 use Rattle.enf_value.specs.Data.{step_at}
-use Rattle.enf_value.specs.Valuations.{Valuation}
+use Rattle.enf_value.specs.Valuations.{Valuation, no_values}
 use Rattle.enf_value.specs.declared.events.Event.{Event}
 use Rattle.enf_value.specs.declared.steps.Step.{Step}
 use Rattle.enf_value.specs.declared.terms.Term.TheVariants.{Const}
@@ -18,12 +19,15 @@ use Rattle.plan_terms.specs.Nodes.{nodes}
 use Rattle.plan_terms.specs.Plans.{Plan}
 use Rattle.obligations.specs.Asked.{BindsFree, Changes, IsBound, IsLeaf, IsNowOf, terms_of}
 use Rattle.obligations.specs.Begun.{time_now}
+use Rattle.obligations.specs.Missing.{Missing}
 use Rattle.obligations.specs.Rows.{HoldsLast, last_position}
+use Rattle.obligations.specs.Unread.{AreThose, IsPlain, IsStillWanted}
 use Rattle.obligations.specs.declared.actions.Action.{Action}
 use Rattle.obligations.specs.declared.instances.Instance.{Instance}
 use Rattle.obligations.specs.declared.literals.Literal.{Literal}
 use Rattle.obligations.specs.declared.now.Now.{Now}
-use Rattle.choice_step.specs.Choice.{Candidate, IsFirst, MissesNothing, action_for, all_asked, with_step}
+use Rattle.choice_step.specs.Choice.{Applies, Candidate, IsFirst, MissesNothing, Waiting, action_for, all_asked, roots_from}
+use Rattle.choice_step.specs.Choice.{with_step}
 
 -- the action for the first of those that are asked at the last position of a trace, and none where none misses anything
 abbrev pub IsActionFor : List Plan → (inserted : Bool) → List Step → List Candidate → Option Action → Type 0
@@ -88,3 +92,97 @@ pub record IsWantedBehind (plans : List Plan) (pending : List Instance) (past : 
   pub is : IsLeaf leaf action.kind action.leaf action.event
   pub changes : Changes action.kind action.event events
   pub known : (value : Value) → Contains action.event.args value → IsKnownBehind plans pending past events value
+
+-- ---- pending instances that are not asked again
+
+-- the first so many of the pending instances miss nothing at the last position of a trace
+abbrev pub MetBefore : List Plan → (inserted : Bool) → List Step → List Instance → (from : ℕ) → Type 0
+MetBefore plans inserted trace pending from =
+    AllByRecursion (MissesNothing plans inserted trace) (map Waiting (take from pending))
+
+-- nor at a step with these events behind each trace for which the past state stands
+abbrev pub WillBeMet : List Plan → List Instance → Past → (inserted : Bool) → (time position : ℕ) → List Event
+    → (from : ℕ) → Type 0
+WillBeMet plans pending past inserted time position events from = (trace : List Step) → PastStands trace past
+    → length trace ≡ position → last_time trace ≤ time
+    → MetBefore plans inserted (with_step trace time events) pending from
+
+-- ---- what a root misses behind the first
+
+-- what the root of a rule misses at the last position of a trace, where its plan has no choices, and nothing is
+-- missed by the roots before it
+abbrev pub RootMisses : List Plan → (inserted : Bool) → List Step → (rule : ℕ) → List Literal → Type 0
+RootMisses plans inserted trace rule literals =
+    AllByRecursion (MissesNothing plans inserted trace) (roots_from 0 (take rule plans))
+    × ((plan : Plan) → slice_get plans rule ≡ Some plan → AllByRecursion IsPlain (nodes plan)
+    → Missing trace plan no_values literals)
+
+-- nor, where there are such literals, by the pending instances
+abbrev pub WasFound : List Plan → List Instance → (inserted : Bool) → List Step → (rule : ℕ) → List Literal → Type 0
+WasFound plans pending inserted trace rule literals = 0 < length literals
+    → AllByRecursion (MissesNothing plans inserted trace) (map Waiting pending)
+    × RootMisses plans inserted trace rule literals
+
+-- a literal is one of a leaf of the plans, and its values are known at a step
+pub record IsLiteralAt (plans : List Plan) (pending : List Instance) (ordered : List Event) (tables : PastTables)
+    (literal : Literal) : Type 0 where
+  pub leaf : Plan
+  pub there : Contains (flat_map nodes plans) leaf
+  pub is : IsLeaf leaf literal.kind literal.leaf literal.event
+  pub known : (value : Value) → Contains literal.event.args value → IsKnownFor plans pending ordered tables value
+
+-- and behind a past state
+pub record IsLiteralBehind (plans : List Plan) (pending : List Instance) (past : Past) (events : List Event)
+    (literal : Literal) : Type 0 where
+  pub leaf : Plan
+  pub there : Contains (flat_map nodes plans) leaf
+  pub is : IsLeaf leaf literal.kind literal.leaf literal.event
+  pub known : (value : Value) → Contains literal.event.args value → IsKnownBehind plans pending past events value
+
+abbrev pub AreLiteralsBehind : List Plan → List Instance → Past → List Event → List Literal → Type 0
+AreLiteralsBehind plans pending past events literals =
+    (literal : Literal) → Contains literals literal → IsLiteralBehind plans pending past events literal
+
+-- behind each trace for which the past state stands
+abbrev pub WillHaveFound : List Plan → List Instance → Past → (inserted : Bool) → (time position : ℕ) → List Event
+    → (rule : ℕ) → List Literal → Type 0
+WillHaveFound plans pending past inserted time position events rule literals = (trace : List Step)
+    → PastStands trace past → length trace ≡ position → last_time trace ≤ time
+    → WasFound plans pending inserted (with_step trace time events) rule literals
+
+-- of the literals of a root without choices those are still missing that are still wanted, and nothing is before it
+pub record IsLeftAt (plans : List Plan) (pending : List Instance) (inserted : Bool) (trace : List Step) (rule : ℕ)
+    (literals : List Literal) : Type 0 where
+  pub plan : Plan
+  pub there : slice_get plans rule ≡ Some plan
+  pub plain : AllByRecursion IsPlain (nodes plan)
+  pub instances : AllByRecursion (MissesNothing plans inserted trace) (map Waiting pending)
+  pub roots : AllByRecursion (MissesNothing plans inserted trace) (roots_from 0 (take rule plans))
+  pub left : List Literal
+  pub those : AreThose (IsStillWanted trace) literals left
+  pub missing : Missing trace plan no_values left
+
+abbrev pub WillBeLeft : List Plan → List Instance → Past → (inserted : Bool) → (time position : ℕ) → List Event
+    → (rule : ℕ) → List Literal → Type 0
+WillBeLeft plans pending past inserted time position events rule literals = (trace : List Step)
+    → PastStands trace past → length trace ≡ position → last_time trace ≤ time
+    → IsLeftAt plans pending inserted (with_step trace time events) rule literals
+
+-- an action that is wanted at a step with these events, with values that were known where it had the given ones
+pub record IsWantedFrom (plans : List Plan) (pending : List Instance) (past : Past) (given events : List Event)
+    (action : Action) : Type 0 where
+  pub leaf : Plan
+  pub there : Contains (flat_map nodes plans) leaf
+  pub is : IsLeaf leaf action.kind action.leaf action.event
+  pub changes : Changes action.kind action.event events
+  pub known : (value : Value) → Contains action.event.args value → IsKnownBehind plans pending past given value
+
+-- actions lead from the events of a step to others, each for the first that misses something
+abbrev pub GoesOn : List Plan → List Instance → Past → (inserted : Bool) → (time position : ℕ)
+    → (given before : List Event) → List Action → (after : List Event) → Type 0
+GoesOn plans pending past inserted time position given before [] after = after ≡ before
+GoesOn plans pending past inserted time position given before (action ∷ actions) after =
+    (between : List Event) × WillFind plans pending past inserted time position before (Some action)
+    × IsWantedFrom plans pending past given before action
+    × Applies action.kind action.event before between
+    × GoesOn plans pending past inserted time position given between actions after

@@ -1,20 +1,25 @@
 //! The choice loop: what is added at a step and taken out, so that nothing is missing there.
-ghost use Rattle.std.specs.Prelude.{◌≡◌, ◌≤◌, ◌^◌, List, IfOk, IfSome, length, map};
+ghost use Rattle.std.specs.Prelude.{◌≡◌, ◌≤◌, ◌^◌, List, Contains, IfNone, IfOk, IfSome, None, length, map};
+ghost use Rattle.std.specs.Option.{option_map};
 ghost use Rattle.std.specs.List.{AllByRecursion};
 ghost use Rattle.choice_step.specs.Choice.{all_asked};
 ghost use Rattle.choice_step.specs.Choosing.{ActsFrom, WillDecide};
-ghost use Rattle.choice_step.specs.Looking.{IsActionFor, IsStepOf, IsWantedAt, IsWantedBehind, WillFind};
+ghost use Rattle.choice_step.specs.Acting.{IsFoundBehind};
+ghost use Rattle.choice_step.specs.Looking.{IsActionFor, IsLiteralAt, IsStepOf, IsWantedAt, MetBefore, WasFound};
+ghost use Rattle.choice_step.specs.Looking.{WillBeMet, WillFind};
 ghost use Rattle.enf_value.specs.declared.steps.Step.{Step};
-ghost use Rattle.obligations.specs.Asked.{guards_at, placed_guard};
+ghost use Rattle.obligations.specs.Asked.{Changes, guards_at, placed_guard};
 ghost use Rattle.obligations.specs.Waiting.{CanAskOf, CanAskRoots};
+ghost use Rattle.obligations.specs.declared.literals.Literal.{Literal as AnyLiteral};
 ghost use Rattle.past_state.specs.Past.{AreOf, GuardsWillHold};
 ghost use Rattle.past_state.specs.Runs.{AreUpToTimeOf};
 ghost use Rattle.plan_terms.specs.Changes.{NothingClashes};
 ghost use Rattle.plan_terms.specs.Plans.{plan_of};
 ghost use Rattle.plan_terms.specs.Triggers.{guard_triggers};
 
-use crate::actions::{Action, Actions};
-use crate::looking::{act, first_action};
+use crate::acting::act_for;
+use crate::actions::Actions;
+use crate::looking::{Found, first_action};
 use crate::waking::Wakes;
 use enf_value::event_sets::EventSet;
 use enf_value::memory::NoMemory;
@@ -33,10 +38,10 @@ pub struct Choice {
     pub tables: Tables,
 }
 
-// What is found at a step: the action for the first that misses something, and the tables of the past.
+// What is found at a step: the first that misses something, and the tables of the past.
 #[derive(Drop)]
-struct Found {
-    action: Option<Action>,
+struct Seen {
+    found: Option<Found>,
     tables: Tables,
 }
 
@@ -106,21 +111,28 @@ pub fn choose_with(
     let _given = events.as_slice();
     let mut events = events;
     let mut actions = Actions::new(alloc);
+    // so many of the pending instances miss nothing
+    let mut from = 0;
     loop {
-        let Found { action, tables } = look(
-            alloc, wakes, plans, pending, past, time, position, &events, inserted,
+        let Seen { found, tables } = look(
+            alloc, wakes, plans, pending, from, past, time, position, &events, inserted,
         )?;
-        let Some(action) = action else {
+        let Some(found) = found else {
             return Ok(Choice {
                 events,
                 actions,
                 tables,
             });
         };
-        act(alloc, &mut events, &action)?;
-        let Ok(()) = actions.push(action) else {
-            return Err(NoMemory);
-        };
+        from = act_for(
+            alloc,
+            plans,
+            time,
+            position,
+            found,
+            &mut events,
+            &mut actions,
+        )?;
     }
 }
 
@@ -130,45 +142,54 @@ fn look(
     wakes: &Wakes,
     plans: &[Plan],
     pending: &Pending,
+    from: usize,
     past: &PastState,
     time: u64,
     position: u64,
     events: &EventSet,
     inserted: bool,
-) -> Result<Found, NoMemory>
+) -> Result<Seen, NoMemory>
     requires wakes { wakes.now ≡ map guard_triggers (map plan_of plans.now) }
     requires few { length plans.now ≤ 2 ^ 32 }
     requires roots { CanAskRoots (map placed_guard past.now.guards) (map plan_of plans.now) }
     requires instances { AllByRecursion (CanAskOf (map placed_guard past.now.guards) (map plan_of plans.now))
         pending.now.instances }
     requires later { AreUpToTimeOf time past.now.operators }
-    ensures found { IfOk result (λ found. WillFind (map plan_of plans.now) pending.now.instances past.now
-        inserted time position events.now found.action) }
-    ensures wanted { IfOk result (λ found. IfSome found.action
-        (IsWantedBehind (map plan_of plans.now) pending.now.instances past.now events.now)) }
-    ensures tables { IfOk result (λ found. AreOf past.now time events.now found.tables) }
-    ensures hold { IfOk result (λ found. GuardsWillHold past.now time events.now found.tables) }
+    ensures nothing { IfOk result (λ look. IfNone look.found (WillBeMet (map plan_of plans.now) pending.now.instances
+        past.now inserted time position events.now from → WillFind (map plan_of plans.now) pending.now.instances
+        past.now inserted time position events.now None)) }
+    ensures found { IfOk result (λ look. IfSome look.found (λ f. WillBeMet (map plan_of plans.now)
+        pending.now.instances past.now inserted time position events.now from → IsFoundBehind (map plan_of plans.now)
+        pending.now.instances past.now inserted time position events.now f.action f.rule f.literals.items)) }
+    ensures changes { IfOk result (λ look. IfSome look.found
+        (λ f. Changes f.action.kind f.action.event events.now)) }
+    ensures place { IfOk result (λ look. IfSome look.found (λ f. WillBeMet (map plan_of plans.now)
+        pending.now.instances past.now inserted time position events.now from → WillBeMet (map plan_of plans.now)
+        pending.now.instances past.now inserted time position events.now f.from)) }
+    ensures tables { IfOk result (λ look. AreOf past.now time events.now look.tables) }
+    ensures hold { IfOk result (λ look. GuardsWillHold past.now time events.now look.tables) }
 {
     let ordered = StepEvents::of(alloc, events)?;
     let tables = past.tables_at(alloc, time, &ordered)?;
-    let action = first_at(
-        alloc, wakes, plans, pending, time, position, &ordered, &tables, inserted,
+    let found = first_at(
+        alloc, wakes, plans, pending, from, time, position, &ordered, &tables, inserted,
     )?;
-    Ok(Found { action, tables })
+    Ok(Seen { found, tables })
 }
 
-// The action for the first that misses something at a step with these tables.
+// The first that misses something at a step with these tables.
 fn first_at(
     alloc: Global,
     wakes: &Wakes,
     plans: &[Plan],
     pending: &Pending,
+    from: usize,
     time: u64,
     position: u64,
     ordered: &StepEvents<'_>,
     tables: &Tables,
     inserted: bool,
-) -> Result<Option<Action>, NoMemory>
+) -> Result<Option<Found>, NoMemory>
     requires wakes { wakes.now ≡ map guard_triggers (map plan_of plans.now) }
     requires few { length plans.now ≤ 2 ^ 32 }
     requires roots { CanAskRoots (guards_at tables.now) (map plan_of plans.now) }
@@ -176,10 +197,22 @@ fn first_at(
         pending.now.instances }
     ensures found { IfOk result (λ found. (trace : List Step)
         → IsStepOf time position ordered.now tables.now trace
+        → MetBefore (map plan_of plans.now) inserted trace pending.now.instances from
         → IsActionFor (map plan_of plans.now) inserted trace
-        (all_asked (map plan_of plans.now) pending.now.instances) found) }
+        (all_asked (map plan_of plans.now) pending.now.instances) (option_map (λ f. f.action) found)) }
+    ensures rest { IfOk result (λ found. IfSome found (λ f. (trace : List Step)
+        → IsStepOf time position ordered.now tables.now trace
+        → MetBefore (map plan_of plans.now) inserted trace pending.now.instances from
+        → WasFound (map plan_of plans.now) pending.now.instances inserted trace f.rule f.literals.items)) }
+    ensures place { IfOk result (λ found. IfSome found (λ f. (trace : List Step)
+        → IsStepOf time position ordered.now tables.now trace
+        → MetBefore (map plan_of plans.now) inserted trace pending.now.instances from
+        → MetBefore (map plan_of plans.now) inserted trace pending.now.instances f.from)) }
     ensures wanted { IfOk result (λ found. IfSome found
-        (IsWantedAt (map plan_of plans.now) pending.now.instances ordered.now ordered.now tables.now)) }
+        (λ f. IsWantedAt (map plan_of plans.now) pending.now.instances ordered.now ordered.now tables.now f.action)) }
+    ensures literals { IfOk result (λ found. IfSome found (λ f. (literal : AnyLiteral)
+        → Contains f.literals.items literal
+        → IsLiteralAt (map plan_of plans.now) pending.now.instances ordered.now tables.now literal)) }
 {
     let now = Now {
         time,
@@ -188,5 +221,5 @@ fn first_at(
         ordered,
         tables,
     };
-    first_action(alloc, plans, wakes, pending, &now, inserted)
+    first_action(alloc, plans, wakes, pending, from, &now, inserted)
 }

@@ -1,8 +1,12 @@
 //! Laws of what is done at a step and of what goes out, each the contract of a function that does nothing.
 ghost use Rattle.choice_step.specs.Laws.{ActionsAreLawful, CausesAlone, EventsAreActedOnOnce};
-ghost use Rattle.choice_step.specs.Laws.{DecidedMissesNothing, DecidesIsOne, DrainIsOne, FollowsIsOne};
+ghost use Rattle.choice_step.specs.Laws.{DecidedIsDistinct, DecidedMissesNothing, DecidesIsOne, DrainIsOne};
+ghost use Rattle.choice_step.specs.Laws.{FollowsIsOne, SomeDecision, SomeFollows, SomeInserts};
 
-use obligations::laws::{missing_is_one, pending_is_one};
+use obligations::laws::{
+    missed_are_own, missing_exists, missing_is_one, pending_can_be_asked, pending_exists,
+    pending_is_one,
+};
 
 /// The rules leave no choice: not at a step, not for the records of a log, and not at its end.
 pub fn follows_is_one()
@@ -12,6 +16,26 @@ pub fn follows_is_one()
 {
     missing_is_one();
     pending_is_one();
+}
+
+/// Something is done at each step, whatever its events: the choice loop ends. It leaves a step without repeats.
+pub fn some_decision()
+    ensures some { SomeDecision }
+    ensures distinct { DecidedIsDistinct }
+{
+    missing_exists();
+    pending_exists();
+    missed_are_own();
+}
+
+/// Where serving deadlines ends, something goes out: at a drain, and for the records of each log.
+pub fn something_goes_out()
+    ensures inserts { SomeInserts }
+    ensures records { SomeFollows }
+{
+    pending_exists();
+    pending_can_be_asked();
+    some_decision();
 }
 
 /// What is done at a step leaves nothing missing there.

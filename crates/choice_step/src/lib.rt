@@ -2,6 +2,7 @@
 //! `past_state`, `plan_terms`, `monitorable_guard`, `valuations`, `trace_meaning`, `enf_formula` and `enf_value`.
 #![tactic(auto)]
 
+mod acting;
 pub mod actions;
 pub mod choosing;
 pub mod laws;

@@ -1,10 +1,11 @@
 //! Which rules the events of a step can wake.
-ghost use Rattle.std.specs.Prelude.{◌≡◌, IfOk, IsTrue, Some, map, slice_get};
+ghost use Rattle.std.specs.Prelude.{◌≡◌, All, IfOk, IsTrue, Some, map, slice_get};
 ghost use Rattle.std.specs.Option.{option_map};
 ghost use Rattle.choice_step.specs.Waking.{HasNoneOf, IsAway};
 ghost use Rattle.plan_terms.specs.Plans.{plan_of};
 ghost use Rattle.plan_terms.specs.Triggers.{guard_triggers};
 
+use enf_value::Event;
 use enf_value::events::NameId;
 use enf_value::items::Items;
 use enf_value::memory::NoMemory;
@@ -45,12 +46,13 @@ impl Wakes {
         })
     }
 
-    // Whether the rule of that number has triggers, and the step no event of them.
-    pub(crate) fn sleeps(&self, rule: usize, events: &StepEvents<'_>) -> bool
+    // Whether the rule of that number has triggers, and the step no event of them; all are its events.
+    pub(crate) fn sleeps(&self, rule: usize, all: &[Event], events: &StepEvents<'_>) -> bool
+        requires same { all.now ≡ events.now }
         ensures { IsTrue result → HasNoneOf (slice_get self.now rule) events.now }
     {
         match self.triggers.get(rule) {
-            Some(Some(names)) => has_none_of(names.as_slice(), events),
+            Some(Some(names)) => has_none_of(names.as_slice(), all, events),
             Some(None) | None => false,
         }
     }
@@ -75,20 +77,40 @@ fn triggers_of(alloc: Global, plan: &Plan) -> Result<Option<Vec<NameId>>, NoMemo
 }
 
 // Whether the step has no event of the names.
-fn has_none_of(names: &[NameId], events: &StepEvents<'_>) -> bool
+fn has_none_of(names: &[NameId], all: &[Event], events: &StepEvents<'_>) -> bool
+    requires same { all.now ≡ events.now }
     ensures { IsTrue result → HasNoneOf (Some (Some names.now)) events.now }
 {
     for name in names {
-        if !is_away(*name, events) {
+        if !is_away(*name, all, events) {
             return false;
         }
     }
     true
 }
 
+// How many events of a step are searched one after another at most.
+const MOST_SEARCHED: usize = 8;
+
 // Whether the step has no event of the name.
-fn is_away(name: NameId, events: &StepEvents<'_>) -> bool
+fn is_away(name: NameId, all: &[Event], events: &StepEvents<'_>) -> bool
+    requires same { all.now ≡ events.now }
     ensures { IsTrue result → IsAway events.now name }
 {
-    events.named(name).is_empty()
+    if all.len() > MOST_SEARCHED {
+        return events.named(name).is_empty();
+    }
+    none_named(name, all)
+}
+
+// Whether none of the events has the name.
+fn none_named(name: NameId, events: &[Event]) -> bool
+    ensures { IsTrue result → All (λ event. event.name ≡ name → ⊥) events.now }
+{
+    for event in events {
+        if event.name == name {
+            return false;
+        }
+    }
+    true
 }

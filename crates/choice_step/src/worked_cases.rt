@@ -2,15 +2,18 @@
 ghost use Rattle.std.specs.Prelude.{[], ◌∷◌, true, false};
 ghost use Rattle.enf_formula.specs.Cases.{event_p, event_q};
 ghost use Rattle.obligations.specs.declared.literals.LiteralKind.TheVariants as kind;
-ghost use Rattle.choice_step.specs.Cases.{Chooses, ChoosesDue, ChoosesDueAndRoot, ChoosesDueTwice, ChoosesWoken};
+ghost use Rattle.obligations.specs.Cases.{p_of_1, q_of_1};
+ghost use Rattle.choice_step.specs.Cases.{Chooses, ChoosesDue, ChoosesDueAndAlways, ChoosesDueAndRoot, ChoosesDueTwice};
+ghost use Rattle.choice_step.specs.Cases.{ChoosesFed, ChoosesSide, ChoosesWoken, GoesForBoth, GoesForNext, p_and_q, p_at_5};
 ghost use Rattle.choice_step.specs.Cases.{Drains, GoesFor, due_at_5, empty_at_0, event_r, for_due, for_leaf, for_root};
-ghost use Rattle.choice_step.specs.Cases.{for_second_due, for_second_root, p_in_time, p_is_there, p_without_q};
-ghost use Rattle.choice_step.specs.Cases.{q_at_7, q_is_not, served_at_5, served_at_6};
+ghost use Rattle.choice_step.specs.Cases.{for_second_at, for_second_root, p_in_time, p_is_there, p_without_q};
+ghost use Rattle.choice_step.specs.Cases.{q_at_3, q_at_7, q_at_15, q_is_not, second_due_at_3, served_at_5, served_at_6};
 ghost use Rattle.choice_step.specs.Follows.{IsLeastDeadline};
 ghost use Rattle.trace_meaning.specs.Records.{StepRecord, Tick};
 
 use crate::laws::follows_is_one;
 use obligations::laws::pending_is_one;
+use obligations::worked_cases::missing_of_rows;
 
 /// What is done at a step of the system.
 pub fn choices()
@@ -61,8 +64,50 @@ pub fn forced_choices()
     ensures pending_before_roots { ChoosesDueAndRoot (for_due ∷ for_second_root ∷ []) (event_p ∷ event_q ∷ []) }
     ensures not_roots_first { ChoosesDueAndRoot (for_second_root ∷ for_due ∷ []) (event_q ∷ event_p ∷ []) → ⊥ }
     ensures not_at_a_system_step { ChoosesDue false [] [] [] }
-    ensures as_they_were_begun { ChoosesDueTwice (for_due ∷ for_second_due ∷ []) (event_p ∷ event_q ∷ []) }
-    ensures not_the_later_first { ChoosesDueTwice (for_second_due ∷ for_due ∷ []) (event_q ∷ event_p ∷ []) → ⊥ }
+    ensures as_they_were_begun { ChoosesDueTwice (for_due ∷ for_second_at 5 1 ∷ []) (event_p ∷ event_q ∷ []) }
+    ensures not_the_later_first { ChoosesDueTwice (for_second_at 5 1 ∷ for_due ∷ []) (event_q ∷ event_p ∷ []) → ⊥ }
+{
+    follows_is_one();
+}
+
+/// An event that is caused gives a guard a row at the same step.
+pub fn fed_choices()
+    ensures fed { ChoosesFed (for_root kind.Cause p_of_1 1 ∷ for_leaf kind.Cause q_of_1 0 1 ∷ [])
+        (p_of_1 ∷ q_of_1 ∷ []) }
+    ensures not_left_unfed { ChoosesFed (for_root kind.Cause p_of_1 1 ∷ []) (p_of_1 ∷ []) → ⊥ }
+{
+    follows_is_one();
+    missing_of_rows();
+}
+
+/// What is pending and is not forced takes part in an inserted step, before the roots do.
+pub fn choices_of_pending()
+    ensures takes_part { ChoosesDueAndAlways (for_due ∷ for_second_at 5 1 ∷ []) (event_p ∷ event_q ∷ []) }
+    ensures not_left_out { ChoosesDueAndAlways (for_due ∷ []) (event_p ∷ []) → ⊥ }
+{
+    follows_is_one();
+}
+
+/// Of two deadlines that pass the lesser is served first, whatever the order of the rules.
+pub fn deadlines_in_order()
+    ensures least { IsLeastDeadline p_and_q (due_at_5 ∷ second_due_at_3 ∷ []) 3 }
+    ensures not_the_first_rules { IsLeastDeadline p_and_q (due_at_5 ∷ second_due_at_3 ∷ []) 5 → ⊥ }
+    ensures both { GoesForBoth (StepRecord empty_at_0.step ∷ Tick 6 ∷ []) (empty_at_0 ∷ q_at_3 ∷ p_at_5 ∷ []) }
+    ensures not_one_alone { GoesForBoth (StepRecord empty_at_0.step ∷ Tick 6 ∷ []) (empty_at_0 ∷ q_at_3 ∷ []) → ⊥ }
+    ensures not_turned { GoesForBoth (StepRecord empty_at_0.step ∷ Tick 6 ∷ [])
+        (empty_at_0 ∷ p_at_5 ∷ q_at_3 ∷ []) → ⊥ }
+{
+    follows_is_one();
+}
+
+/// What an inserted step begins is served too.
+pub fn deadlines_of_inserted()
+    ensures served { GoesForNext (StepRecord empty_at_0.step ∷ Tick 16 ∷ [])
+        (empty_at_0 ∷ served_at_5 ∷ q_at_15 ∷ []) }
+    ensures not_left_open { GoesForNext (StepRecord empty_at_0.step ∷ Tick 16 ∷ [])
+        (empty_at_0 ∷ served_at_5 ∷ []) → ⊥ }
+    ensures not_before { GoesForNext (StepRecord empty_at_0.step ∷ Tick 15 ∷ [])
+        (empty_at_0 ∷ served_at_5 ∷ q_at_15 ∷ []) → ⊥ }
 {
     follows_is_one();
 }
@@ -84,4 +129,13 @@ pub fn deadlines()
 {
     follows_is_one();
     pending_is_one();
+}
+
+/// What meets the one side of a choice, though it was caused for the other, leaves nothing owed of this.
+pub fn choices_of_sides()
+    ensures met { ChoosesSide (for_leaf kind.Cause event_p 0 5 ∷ []) (event_q ∷ event_p ∷ []) }
+    ensures not_owed { ChoosesSide (for_leaf kind.Cause event_p 0 5 ∷ for_leaf kind.Cause event_r 0 6 ∷ [])
+        (event_q ∷ event_p ∷ event_r ∷ []) → ⊥ }
+{
+    follows_is_one();
 }

@@ -2,7 +2,7 @@ use Rattle.std.proofs.Common.{rules, ◌≡◌, List, [], ◌∷◌, true, refl,
 use Rattle.enf_formula.specs.Cases.{event_p, event_q, name_q}
 use Rattle.obligations.specs.Missing.{cause}
 use Rattle.obligations.specs.declared.actions.Action.{Action}
-use Rattle.choice_step.specs.Cases.{due_at_5, for_due, for_second_due, p_in_time, q_in_time, second_due_at_5}
+use Rattle.choice_step.specs.Cases.{due_at_5, for_due, for_second_at, p_in_time, q_in_time, second_due_at_5}
 use Rattle.choice_step.specs.Choice.{Root, Waiting}
 use Rattle.plan_terms.specs.Plans.{Cause}
 use Rattle.choice_step.proofs.worked_cases.forced_choices.Goals as goal
@@ -59,7 +59,7 @@ returns-clause-as_they_were_begun c = (
 pub returns-clause-not_the_later_first : goal.returns-clause-not_the_later_first
 returns-clause-not_the_later_first c turned =
     let one =
-    c.follows_is_one.ensures.step (p_in_time ∷ q_in_time ∷ []) (record { time = 0; events = [] } ∷ []) (due_at_5 ∷ second_due_at_5 ∷ []) true 5 [] (for_due ∷ for_second_due ∷ []) (for_second_due ∷ for_due ∷ []) (event_p ∷ event_q ∷ []) (event_q ∷ event_p ∷ [])
+    c.follows_is_one.ensures.step (p_in_time ∷ q_in_time ∷ []) (record { time = 0; events = [] } ∷ []) (due_at_5 ∷ second_due_at_5 ∷ []) true 5 [] (for_due ∷ for_second_at 5 1 ∷ []) (for_second_at 5 1 ∷ for_due ∷ []) (event_p ∷ event_q ∷ []) (event_q ∷ event_p ∷ [])
     tt (returns-clause-as_they_were_begun c) turned
     in
     let rules : 0 ≡ 1 = ap (λ (l : List Action). (slice_index_or l 0 for_due).rule) one.0 in
