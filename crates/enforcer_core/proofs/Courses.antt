@@ -1,10 +1,9 @@
 -- What an enforcer has done, one record more, and at the end.
-use Rattle.std.proofs.Common.{◌≡◌, ℕ, ◌+◌, ◌<◌, ◌≤◌, List, [], ◌∷◌, ◌++◌, length, map, refl, sym, ap, subst, ◌∙◌, append_assoc, arith, Bool}
+use Rattle.std.proofs.Common.{◌≡◌, ℕ, ◌<◌, ◌≤◌, List, [], ◌∷◌, ◌++◌, length, refl, sym, ap, subst, ◌∙◌, append_assoc, arith, Bool}
 use Rattle.std.specs.List.{AllByRecursion, AllZip}
-use Rattle.std.proofs.lemmas.List.{append-nil, map-append}
-use Rattle.std.proofs.lemmas.List.Elements.{All-from_recursion, All-nil, recursion_from_All}
+use Rattle.std.proofs.lemmas.List.{append-nil}
+use Rattle.std.proofs.lemmas.List.Elements.{All-from_recursion, recursion_from_All}
 use Rattle.enf_value.specs.Data.{IsTrace}
-use Rattle.enf_value.specs.Membership.{HasNoRepeats}
 use Rattle.enf_value.specs.Valuations.{no_values}
 use Rattle.enf_value.specs.declared.events.NameId.{NameId}
 use Rattle.enf_value.specs.declared.steps.Step.{Step}
@@ -12,41 +11,30 @@ use Rattle.enf_formula.specs.Formulas.{Formula}
 use Rattle.enf_formula.specs.Satisfaction.{Sat}
 use Rattle.trace_meaning.specs.Enforced.{Enforced, KeepsUp}
 use Rattle.trace_meaning.specs.Good.{Good}
-use Rattle.trace_meaning.specs.Lawful.{IsInsertedLawfully, Lawful}
-use Rattle.trace_meaning.specs.Laws.{ClockRises, LawfulJoins, RecordsJoin, SatisfyingIsGood, WithinJoins}
-use Rattle.trace_meaning.specs.OutSteps.{IsUntil, IsWithin, OutStep, event_of, trace_of}
+use Rattle.trace_meaning.specs.Lawful.{Lawful}
+use Rattle.trace_meaning.specs.Laws.{ClockRises, LawfulJoins, RecordsJoin, WithinJoins}
+use Rattle.trace_meaning.specs.OutSteps.{IsWithin, trace_of}
 use Rattle.trace_meaning.specs.Records.{Record, NeverFall, time_of}
 use Rattle.trace_meaning.specs.Satisfies.{Satisfies}
 use Rattle.plan_terms.specs.Plans.{Plan}
 use Rattle.enforce_types.specs.PolicyLaws.{MeansSame, PolicyKeepsMeaning}
-use Rattle.obligations.specs.Pending.{IsClean, Pend}
-use Rattle.obligations.specs.Residuals.{Residual}
-use Rattle.obligations.specs.Traces.{AllHold, NothingIsPending, PendingIsEnough}
-use Rattle.obligations.specs.declared.instances.Instance.{Instance}
-use Rattle.choice_step.specs.Follows as choice
+use Rattle.enforce_types.specs.Typed.{StoredTyped, WorkTogether, typed_of}
 use Rattle.choice_step.specs.Follows.{ActedStep, Follows, FollowsDrain, steps_of}
 use Rattle.enforcer_core.specs.Answered.{ChangesLawfully, Permits}
 use Rattle.enforcer_core.specs.Course.{Course}
 use Rattle.enforcer_core.specs.Enforcers.{Enforcing, acted_steps, formulas_for, out_steps, plans_in, plans_of, start_of}
 use Rattle.enforcer_core.specs.Follows.{FollowsFrom}
-use Rattle.enforcer_core.specs.Laws.{CourseBegins, CourseFollows, CourseFollowsToEnd, PlannedAreSatisfied, StandAtNow, StandsForGood}
+use Rattle.enforcer_core.specs.Laws.{CourseBegins, CourseFollows, CourseFollowsToEnd, PlannedAreSatisfied, StandsForGood}
+use Rattle.enforcer_core.specs.StepLaws.{DrainLaws}
 use Rattle.enforcer_core.specs.Stands.{KeepsStanding, SatisfiesBehind, Stands}
-
-steps_join : (out more : List ActedStep) → steps_of (out ++ more) ≡ steps_of out ++ steps_of more
-steps_join out more = map-append (λ (o : ActedStep). o.step) out more
-
-out_join : (out more : List ActedStep) → out_steps (out ++ more) ≡ out_steps out ++ out_steps more
-out_join out more = map-append choice.out_step out more
+use Rattle.enforcer_core.proofs.ChangeLemmas.{changes_join, none_changes, out_join}
+use Rattle.enforcer_core.proofs.DrainLemmas.{ready_is_good}
+use Rattle.enforcer_core.proofs.PassLemmas.{behind}
 
 -- the trace of the steps that went out
 pub trace_is : (out : List ActedStep) → trace_of (out_steps out) ≡ steps_of out
 trace_is [] = refl
 trace_is (o ∷ out) = ap (λ (steps : List Step). o.step ∷ steps) (trace_is out)
-
-behind : (trace : List Step) (out more : List ActedStep)
-    → (trace ++ steps_of out) ++ steps_of more ≡ trace ++ steps_of (out ++ more)
-behind trace out more =
-    append_assoc trace (steps_of out) (steps_of more) ∙ ap (λ (steps : List Step). trace ++ steps) (sym (steps_join out more))
 
 follows_join : (plans : List Plan) (trace : List Step) (records more : List Record) (out others : List ActedStep)
     → Follows plans trace records out → Follows plans (trace ++ steps_of out) more others
@@ -85,14 +73,9 @@ module _ (start : Enforcing) (trace : List Step) (records : List Record) (out : 
         → ChangesLawfully (plans_of start) start.clock after.clock (records ++ next ∷ []) (out ++ more)
     more_changes rises within lawful changed =
         let from : start.clock ≤ now.clock = omega (arith, rises start.clock records c.in_time, c.clock) in
-        let joined : ChangesLawfully (plans_of start) start.clock (time_of next) (records ++ next ∷ []) (out ++ more) = record {
-          lawful = λ causable suppressible may. subst (Lawful causable suppressible (records ++ next ∷ [])) (sym (out_join out more))
-              (lawful causable suppressible start.clock now.clock (time_of next) records (next ∷ []) (out_steps out) (out_steps more) c.changed.within changed.within
-              (c.changed.lawful causable suppressible may)
-              (changed.lawful causable suppressible (subst (Permits causable suppressible) (sym same_plans) may)));
-          within = subst (IsWithin start.clock (time_of next)) (sym (out_join out more))
-              (within start.clock now.clock (time_of next) (out_steps out) (out_steps more) from later c.changed.within changed.within);
-        } in
+        let joined : ChangesLawfully (plans_of start) start.clock (time_of next) (records ++ next ∷ []) (out ++ more) =
+        changes_join within lawful (plans_of start) start.clock now.clock (time_of next) records (next ∷ []) out more from later c.changed
+        (subst (λ (plans : List Plan). ChangesLawfully plans now.clock (time_of next) (next ∷ []) more) same_plans changed) in
         subst (λ (clock : ℕ). ChangesLawfully (plans_of start) start.clock clock (records ++ next ∷ []) (out ++ more)) (sym clock) joined
 
     pub more_decided : FollowsFrom now (next ∷ []) more → Follows (plans_of start) trace (records ++ next ∷ []) (out ++ more)
@@ -101,15 +84,15 @@ module _ (start : Enforcing) (trace : List Step) (records : List Record) (out : 
         (subst (λ (plans : List Plan). Follows plans (trace ++ steps_of out) (next ∷ []) more) same_plans (decided (trace ++ steps_of out) c.stands))
 
   pub course_keeps_up : StandsForGood → (causable suppressible : NameId → Bool) → Permits causable suppressible (plans_of start)
-      → StandAtNow (plans_of start)
+      → WorkTogether (typed_of start.policy)
       → KeepsUp causable suppressible (formulas_for (plans_of start)) (start_of start trace) records (out_steps out)
-  course_keeps_up good causable suppressible may at_now = record {
+  course_keeps_up good causable suppressible may together = record {
     lawful = c.changed.lawful causable suppressible may;
     within = subst (λ (clock : ℕ). IsWithin start.clock clock (out_steps out)) c.clock c.changed.within;
     good = subst (λ (clock : ℕ). Good (formulas_for (plans_of start)) (trace ++ trace_of (out_steps out)) clock) c.clock
         (subst (λ (steps : List Step). Good (formulas_for (plans_of start)) (trace ++ steps) now.clock) (sym (trace_is out))
         (subst (λ (plans : List Plan). Good (formulas_for plans) (trace ++ steps_of out) now.clock) same_plans
-        (good now (trace ++ steps_of out) (subst StandAtNow (sym same_plans) at_now) c.stands)));
+        (good now (trace ++ steps_of out) (subst (λ (policy : StoredTyped). WorkTogether (typed_of policy)) (sym c.policy) together) c.stands)));
   }
 
   module _ (more : List ActedStep) (after : Enforcing) where
@@ -131,27 +114,9 @@ module _ (start : Enforcing) (trace : List Step) (records : List Record) (out : 
           (subst (λ (plans : List Plan). Satisfies ((trace ++ steps_of out) ++ steps_of more) (formulas_for plans)) same_plans (satisfies (trace ++ steps_of out) c.stands));
     }
 
--- where all plans hold at each position, the trace satisfies them
-satisfied_by : (plans : List Plan) (trace : List Step) → ((i : ℕ) → i < length trace → AllHold trace i plans)
-    → AllByRecursion (λ rule. (i : ℕ) → i < length trace → Sat trace i no_values rule) (formulas_for plans)
-satisfied_by [] trace each = tt
-satisfied_by (plan ∷ plans) trace each = ((λ i within. (each i within).0), satisfied_by plans trace (λ i within. (each i within).1))
-
-pub stands_satisfied : NothingIsPending → PendingIsEnough → (plans : List Plan) (trace : List Step) (pending : List Instance)
-    → StandAtNow plans → IsTrace trace → IsClean plans trace → Pend plans trace pending
-    → Satisfies trace (formulas_for plans)
-stands_satisfied nothing enough plans trace pending at_now is_trace clean pend =
-    let none : pending ≡ [] = nothing plans trace pending at_now.now pend in
-    let residuals : AllByRecursion (Residual plans (trace ++ []) (length trace)) pending = subst (AllByRecursion (Residual plans (trace ++ []) (length trace))) (sym none) tt in
-    let each : (i : ℕ) → i < length trace → AllHold trace i plans = λ i within.
-    subst (λ (steps : List Step). AllHold steps i plans) (append-nil trace)
-    (enough plans trace [] pending at_now.stand (subst IsTrace (sym (append-nil trace)) is_trace) clean pend residuals i within) in
-    All-from_recursion (λ rule. (i : ℕ) → i < length trace → Sat trace i no_values rule) (formulas_for plans) (satisfied_by plans trace each)
-
-pub stands_good : NothingIsPending → PendingIsEnough → SatisfyingIsGood → StandsForGood
-stands_good nothing enough good enforcer trace at_now stands =
-    good (formulas_for (plans_of enforcer)) trace enforcer.clock stands.is_trace
-    (stands_satisfied nothing enough (plans_of enforcer) trace enforcer.pending.instances at_now stands.is_trace stands.ready.clean stands.pending)
+pub stands_good : DrainLaws → StandsForGood
+stands_good laws enforcer trace together stands =
+    ready_is_good laws (typed_of enforcer.policy) together trace enforcer.clock stands.is_trace stands.ready
 
 pub course_follows : CourseFollows
 course_follows entries policy guards start trace records out now planned c =
@@ -176,15 +141,7 @@ course_begins start trace stands = record {
   clock = refl;
   in_time = tt;
   stands = subst (Stands start) (sym (append-nil trace)) stands;
-  changed = record {
-    lawful = λ causable suppressible may. record {
-      changed = tt;
-      inserted = All-nil (λ (o : OutStep). IsInsertedLawfully causable suppressible o o.kind);
-      once = All-nil (λ (o : OutStep). HasNoRepeats (map event_of o.changes));
-      in_order = tt;
-    };
-    within = record { from = All-nil (λ (o : OutStep). start.clock ≤ o.step.time); until = All-nil (λ (o : OutStep). IsUntil start.clock o.kind o.step.time) };
-  };
+  changed = none_changes (plans_of start) start.clock start.clock [] refl;
   decided = refl;
 }
 

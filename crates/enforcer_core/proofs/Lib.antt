@@ -1,2 +1,12 @@
+pub mod ChangeLemmas
+pub mod ClassLemmas
+pub mod CountLemmas
 pub mod Courses
+pub mod DrainLemmas
+pub mod EndingLemmas
+pub mod EnforcerLemmas
+pub mod ExistingLemmas
+pub mod LetLemmas
+pub mod PassLemmas
 pub mod StepLemmas
+pub mod TriggerLemmas

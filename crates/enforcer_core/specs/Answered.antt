@@ -1,15 +1,16 @@
 -- When each answer of a call at a time comes, and what it leaves.
 use Rattle.std.specs.Prelude.{◌≡◌, ℕ, ◌+◌, ◌<◌, ◌≤◌, Bool, true, false, IsTrue, List, [], ◌∷◌, length, Result, Ok, Err}
 use Rattle.enf_value.specs.declared.events.NameId.{NameId}
-use Rattle.enf_value.specs.declared.steps.Step.{Step}
 use Rattle.trace_meaning.specs.Lawful.{Lawful}
 use Rattle.trace_meaning.specs.OutSteps.{IsWithin}
 use Rattle.trace_meaning.specs.Records.{Record}
+use Rattle.trace_meaning.specs.declared.kinds.StepKind.{StepKind}
+use Rattle.trace_meaning.specs.declared.kinds.StepKind.TheVariants.{System, Inserted}
 use Rattle.plan_terms.specs.Changes.{IsCaused, IsSuppressed}
 use Rattle.plan_terms.specs.Plans.{Plan}
 use Rattle.enforce_types.specs.Typed.{StoredTyped}
 use Rattle.choice_step.specs.Follows.{ActedStep}
-use Rattle.enforcer_core.specs.Enforcers.{Enforcing, acted_steps, out_steps, plans_of}
+use Rattle.enforcer_core.specs.Enforcers.{Enforcing, acted_steps, out_steps}
 use Rattle.enforcer_core.specs.declared.steps.StepOut.{StepOut}
 use Rattle.enforcer_core.specs.declared.steps.StepRefusal.{StepRefusal}
 use Rattle.enforcer_core.specs.declared.steps.StepRefusal.TheVariants.{Falling, Stopped, NoMemory}
@@ -98,3 +99,14 @@ pub record ChangesLawfully (plans : List Plan) (from to : ℕ) (records : List R
   pub lawful : (causable suppressible : NameId → Bool) → Permits causable suppressible plans
       → Lawful causable suppressible records (out_steps out)
   pub within : IsWithin from to (out_steps out)
+
+-- an inserted step is at a time from one on and below another, and what comes then is from behind it on; a step of the
+-- system counts for nothing
+abbrev pub RisesBy : StepKind → (from until time : ℕ) → (Then : ℕ → Type 0) → Type 0
+RisesBy Inserted from until time Then = (from ≤ time) × (time < until) × Then (time + 1)
+RisesBy System from until time Then = Then from
+
+-- the times of the inserted steps rise strictly, from a time on and below another
+abbrev pub RiseWithin : (from until : ℕ) → List ActedStep → Type 0
+RiseWithin from until [] = Unit {0}
+RiseWithin from until (o ∷ out) = RisesBy o.kind from until o.step.time (λ next. RiseWithin next until out)

@@ -1,5 +1,5 @@
 -- What an enforcer has done since it stood for a trace.
-use Rattle.std.specs.Prelude.{◌≡◌, ◌+◌, List, ◌++◌, length}
+use Rattle.std.specs.Prelude.{◌≡◌, List, ◌++◌}
 use Rattle.enf_value.specs.declared.steps.Step.{Step}
 use Rattle.trace_meaning.specs.Records.{Record, NeverFall, clock_after}
 use Rattle.choice_step.specs.Follows.{ActedStep, Follows, steps_of}

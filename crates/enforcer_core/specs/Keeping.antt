@@ -1,8 +1,13 @@
 -- What an enforcer is, whatever it stands for.
-use Rattle.std.specs.Prelude.{◌≡◌, ℕ, ◌≤◌, false}
+use Rattle.std.specs.Prelude.{◌≡◌, ℕ, ◌≤◌, false, List}
+use Rattle.enf_value.specs.declared.steps.Step.{Step}
+use Rattle.trace_meaning.specs.Records.{most_time}
+use Rattle.trace_meaning.specs.declared.kinds.StepKind.TheVariants.{Inserted}
+use Rattle.enforce_types.specs.Typed.{StoredTyped, WorkTogether, typed_of}
+use Rattle.enforcer_core.specs.Ending.{reach_of}
 use Rattle.enforcer_core.specs.Enforcers.{Enforcing, plans_of}
-use Rattle.enforcer_core.specs.Laws.{StandAtNow}
 use Rattle.enforcer_core.specs.Remembering.{CanGoOn}
+use Rattle.enforcer_core.specs.Stands.{Stands}
 use Rattle.enforcer_core.specs.declared.remembered.Remembered.{Remembered}
 
 -- what it remembers
@@ -10,8 +15,31 @@ abbrev pub remembered_in : Enforcing → Remembered
 remembered_in enforcer =
     record { past = enforcer.past; pending = enforcer.pending; position = enforcer.position }
 
--- its plans can be asked as long as it is not stopped, at its clock and later
+-- one that remembers this and goes on, at a clock
+abbrev pub enforcing_at : StoredTyped → Remembered → (clock : ℕ) → Enforcing
+enforcing_at policy r clock = record {
+  policy = policy;
+  past = r.past;
+  pending = r.pending;
+  position = r.position;
+  clock = clock;
+  stopped = false;
+}
+
+-- up to when something is owed of what it has pending
+abbrev pub reach_in : Enforcing → ℕ
+reach_in enforcer =
+    reach_of (typed_of enforcer.policy).ranked.ranks (plans_of enforcer) enforcer.pending.instances
+
+-- its plans can be asked at its clock and later, it stands for some trace, and what it has pending is owed for no
+-- longer than inserted steps can go out
+pub record Serves (enforcer : Enforcing) : Type 0 where
+  pub can : (time : ℕ) → enforcer.clock ≤ time → CanGoOn (plans_of enforcer) (remembered_in enforcer) time
+  pub trace : List Step
+  pub stands : Stands enforcer trace
+  pub in_reach : reach_in enforcer ≤ most_time Inserted
+
+-- its plans can work together, and it serves as long as it is not stopped
 pub record IsEnforcing (enforcer : Enforcing) : Type 0 where
-  pub at_now : StandAtNow (plans_of enforcer)
-  pub can : enforcer.stopped ≡ false → (time : ℕ) → enforcer.clock ≤ time
-      → CanGoOn (plans_of enforcer) (remembered_in enforcer) time
+  pub together : WorkTogether (typed_of enforcer.policy)
+  pub serves : enforcer.stopped ≡ false → Serves enforcer

@@ -1,6 +1,5 @@
 -- The statements of the laws of what an enforcer has done, and of that for which it stands.
-use Rattle.std.specs.Prelude.{◌≡◌, Bool, List, [], ◌∷◌, ◌++◌, Ok}
-use Rattle.std.specs.List.{AllByRecursion}
+use Rattle.std.specs.Prelude.{Bool, List, [], ◌∷◌, ◌++◌, Ok}
 use Rattle.enf_formula.specs.Formulas.{Formula}
 use Rattle.enf_value.specs.declared.events.NameId.{NameId}
 use Rattle.enf_value.specs.declared.steps.Step.{Step}
@@ -12,7 +11,7 @@ use Rattle.trace_meaning.specs.Satisfies.{Satisfies}
 use Rattle.plan_terms.specs.Plans.{Plan}
 use Rattle.signature.specs.declared.entries.NameEntry.{NameEntry}
 use Rattle.enforce_types.specs.PolicyPlans.{ArePlanned}
-use Rattle.obligations.specs.Traces.{LooksAtNow, PlansStand}
+use Rattle.enforce_types.specs.Typed.{WorkTogether, typed_of}
 use Rattle.choice_step.specs.Follows.{ActedStep}
 use Rattle.enforcer_core.specs.Answered.{Answered, ChangesLawfully, Permits}
 use Rattle.enforcer_core.specs.Course.{Course}
@@ -20,11 +19,6 @@ use Rattle.enforcer_core.specs.Enforcers.{Enforcing, acted_steps, formulas_for, 
 use Rattle.enforcer_core.specs.Follows.{FollowsDrainFrom, FollowsFrom, FollowsPolicy, FollowsToEnd}
 use Rattle.enforcer_core.specs.Stands.{KeepsStanding, SatisfiesBehind, Stands}
 use Rattle.enforcer_core.specs.declared.steps.StepOut.{StepOut}
-
--- plans whose guards look back, whose nodes are those that their numbers name, and of which none looks ahead
-pub record StandAtNow (plans : List Plan) : Type 0 where
-  pub stand : PlansStand plans
-  pub now : AllByRecursion LooksAtNow plans
 
 -- before any record
 abbrev pub CourseBegins : Type 0
@@ -45,7 +39,7 @@ CourseGoesOn = (start : Enforcing) (trace : List Step) (records : List Record) (
 abbrev pub CourseKeepsUp : Type 0
 CourseKeepsUp = (causable suppressible : NameId → Bool) (start : Enforcing) (trace : List Step)
     (records : List Record) (out : List ActedStep) (now : Enforcing)
-    → Permits causable suppressible (plans_of start) → StandAtNow (plans_of start)
+    → Permits causable suppressible (plans_of start) → WorkTogether (typed_of start.policy)
     → Course start trace records out now
     → KeepsUp causable suppressible (formulas_for (plans_of start)) (start_of start trace) records (out_steps out)
 
@@ -76,9 +70,9 @@ CourseFollowsToEnd = (entries : List NameEntry) (policy : List Formula) (guards 
     → FollowsDrainFrom now (acted_steps made.steps)
     → FollowsToEnd entries policy trace records (out ++ acted_steps made.steps)
 
--- what an enforcer of plans that do not look ahead stands for can be continued well from its clock on
+-- what an enforcer of an accepted policy stands for can be continued well from its clock on
 abbrev pub StandsForGood : Type 0
-StandsForGood = (enforcer : Enforcing) (trace : List Step) → StandAtNow (plans_of enforcer)
+StandsForGood = (enforcer : Enforcing) (trace : List Step) → WorkTogether (typed_of enforcer.policy)
     → Stands enforcer trace → Good (formulas_for (plans_of enforcer)) trace enforcer.clock
 
 -- a trace that satisfies what the plans of a policy stand for satisfies the policy, and what can be continued so can be

@@ -5,10 +5,15 @@ pub use Rattle.trace_meaning.specs.OutSteps
 pub use Rattle.trace_meaning.specs.Records
 pub use Rattle.trace_meaning.specs.Satisfies
 pub mod Answered
+pub mod Cases
 pub mod Course
+pub mod Ending
 pub mod Enforcers
+pub mod Existing
 pub mod Follows
 pub mod Keeping
 pub mod Laws
+pub mod Passing
 pub mod Remembering
 pub mod Stands
+pub mod StepLaws

@@ -1,12 +1,11 @@
 -- What is remembered of the steps that went out, and how a step goes out and is remembered.
-use Rattle.std.specs.Prelude.{◌≡◌, ℕ, ◌+◌, ◌<◌, ◌≤◌, ◌^◌, List, [], ◌∷◌, ◌++◌, length, map}
+use Rattle.std.specs.Prelude.{◌≡◌, ℕ, ◌+◌, ◌≤◌, ◌^◌, List, ◌∷◌, [], ◌++◌, length, map}
 use Rattle.std.specs.List.{AllByRecursion}
 use Rattle.enf_value.specs.Membership.{HasNoRepeats}
 use Rattle.enf_value.specs.declared.events.Event.{Event}
 use Rattle.enf_value.specs.declared.steps.Step.{Step}
 use Rattle.trace_meaning.specs.Continuation.{last_time}
 use Rattle.trace_meaning.specs.declared.kinds.StepKind.{StepKind}
-use Rattle.trace_meaning.specs.declared.kinds.StepKind.TheVariants.{System}
 use Rattle.plan_terms.specs.Changes.{NothingClashes}
 use Rattle.plan_terms.specs.Plans.{Plan}
 use Rattle.past_state.specs.Past.{PastStands}
@@ -63,12 +62,7 @@ pub record IsDecided (plans : List Plan) (before : Remembered) (kind : StepKind)
   pub deadlines : KeepsDeadlines plans after.pending
   pub goes_out : (trace : List Step) → Remembers plans before trace → last_time trace ≤ time
       → GoesOut plans trace kind time events (acted_step o)
+  pub goes : (trace : List Step) → Remembers plans before trace → last_time trace ≤ time
+      → Goes plans (trace ++ (acted_step o).step ∷ []) before.pending.instances after.pending.instances
   pub remembers : (trace : List Step) → Remembers plans before trace → last_time trace ≤ time
       → Remembers plans after (trace ++ (acted_step o).step ∷ [])
-
--- one step of the system goes out
-pub record LetsOut (plans : List Plan) (before : Remembered) (time : ℕ) (events : List Event)
-    (out : List made.OutStep) (after : Remembered) : Type 0 where
-  pub step : made.OutStep
-  pub only : out ≡ step ∷ []
-  pub decided : IsDecided plans before System time events step after

@@ -1,30 +1,27 @@
 //! The enforcer.
-ghost use Rattle.std.specs.List.{AllByRecursion};
-ghost use Rattle.std.specs.Prelude.{◌≡◌, ◌≢◌, ◌≤◌, ◌<◌, [], ◌∷◌, false, IfOk, Err, length, ◌+◌, ◌-◌};
-ghost use Rattle.obligations.specs.Traces.{LooksAtNow};
+ghost use Rattle.std.specs.Prelude.{◌≡◌, ◌≢◌, ◌≤◌, ◌<◌, ℕ, [], ◌∷◌, false, All, Contains, IfOk, Err, length, ◌+◌, ◌-◌};
+ghost use Rattle.enforce_types.specs.Typed.{WorkTogether, typed_of};
 ghost use Rattle.obligations.specs.Waiting.{IsLeastOf};
 ghost use Rattle.trace_meaning.specs.Records.{StepRecord, Tick, most_time};
-ghost use Rattle.trace_meaning.specs.declared.kinds.StepKind.TheVariants.{System};
-ghost use Rattle.enforcer_core.specs.Answered.{Admits, Answered, AnsweredDrain, ChangesLawfully, IsNewOf};
-ghost use Rattle.enforcer_core.specs.Enforcers.{acted_steps, plans_in, plans_of};
+ghost use Rattle.trace_meaning.specs.declared.kinds.StepKind.TheVariants.{Inserted, System};
+ghost use Rattle.enforcer_core.specs.Answered.{Admits, Answered, AnsweredDrain, ChangesLawfully, IsNewOf, RiseWithin};
+ghost use Rattle.enforcer_core.specs.Enforcers.{acted_steps, plans_of};
 ghost use Rattle.enforcer_core.specs.Follows.{FollowsDrainFrom, FollowsFrom};
-ghost use Rattle.enforcer_core.specs.Laws.{StandAtNow};
 ghost use Rattle.enforcer_core.specs.Remembering.{most_positions};
 ghost use Rattle.enforcer_core.specs.Stands.{KeepsStanding, SatisfiesBehind, Stands};
 
-use crate::remembered::Remembered;
+use crate::laws::step_laws;
+use crate::remembered::{Passed, Remembered};
 use crate::steps::{OutSteps, StepOut, StepRefusal, Untaken};
 use choice_step::Wakes;
-use choice_step::laws::{actions_are_lawful, decided_misses_nothing};
 use enf_value::event_sets::EventSet;
 use enf_value::memory::NoMemory;
 use enforce_types::TypedPolicy;
-use obligations::Pending;
-use obligations::laws::{pending_is_enough, traces_grow, well_formed_can_be_asked};
+use obligations::laws::{pending_is_enough, well_formed_can_be_asked};
+use obligations::{Instance, Pending};
 use past_state::PastState;
 use std::alloc::Global;
 use std::marker::Model;
-use trace_meaning::laws::trace_grows;
 
 /// An enforcer of a policy, seen as the policy, what its guards remember, what is pending, the number of the steps that
 /// went out, the clock and whether it is stopped.
@@ -74,11 +71,10 @@ impl Model for Enforcer {
 }
 
 impl Enforcer {
-    /// An enforcer of a policy whose plans do not look ahead, with clock 0, which stands for the trace without a step.
+    /// An enforcer of a policy, with clock 0, which stands for the trace without a step.
     pub fn new(alloc: Global, policy: TypedPolicy) -> Result<Enforcer, NoMemory>
-        requires { AllByRecursion LooksAtNow (plans_in policy) }
         ensures made { IfOk result (IsNewOf policy) }
-        ensures at_now { IfOk result (λ enforcer. StandAtNow (plans_of enforcer)) }
+        ensures together { IfOk result (λ enforcer. WorkTogether (typed_of enforcer.policy)) }
         ensures stands { IfOk result (λ enforcer. Stands enforcer []) }
     {
         well_formed_can_be_asked();
@@ -111,6 +107,13 @@ impl Enforcer {
         self.remembered.pending.least_deadline()
     }
 
+    /// The instances that are pending, in their order.
+    pub fn pending(&self) -> &[Instance]
+        ensures { result.now ≡ self.now.pending.instances }
+    {
+        self.remembered.pending.as_slice()
+    }
+
     /// How many instances are pending.
     pub fn pending_count(&self) -> usize
         ensures { result ≡ length self.now.pending.instances }
@@ -125,7 +128,8 @@ impl Enforcer {
         self.stopped
     }
 
-    /// Takes a step of the system at a time up to 10^15, and gives it as the policy wants it.
+    /// Takes a step of the system at a time up to 10^15. First it inserts a step at each deadline below that time,
+    /// least first; then it gives the step as the policy wants it.
     pub fn step(
         &mut self,
         alloc: Global,
@@ -136,6 +140,7 @@ impl Enforcer {
         requires room { self.old.position < most_positions }
         ensures answered { Answered self.old time result self.new }
         ensures few { IfOk result (λ out. length out.steps ≤ 1 + (time - self.old.clock)) }
+        ensures rising { IfOk result (λ out. RiseWithin self.old.clock time (acted_steps out.steps)) }
         ensures stands { IfOk result
             (λ out. KeepsStanding self.old self.new (acted_steps out.steps)) }
         ensures changed { IfOk result
@@ -145,31 +150,26 @@ impl Enforcer {
             (λ out. FollowsFrom self.old
             (StepRecord (record { time = time; events = events }) ∷ []) (acted_steps out.steps)) }
     {
-        trace_grows();
-        pending_is_enough();
-        traces_grow();
-        actions_are_lawful();
-        decided_misses_nothing();
         self.admit(time)?;
-        // Its clause says that no event stands twice.
-        let _given = events.as_slice();
-        let _plans = self.policy.plans();
         self.stopped = true;
         let steps = self
             .remembered
-            .let_out(alloc, &self.wakes, self.policy.plans(), time, events)?;
+            .let_out(alloc, &self.wakes, &self.policy, self.clock, time, events)?;
         self.clock = time;
         self.stopped = false;
         Ok(StepOut { steps })
     }
 
-    /// Takes a tick at a time up to 10^15, which says that all below it is over. It takes no
-    /// memory.
+    /// Takes a tick at a time up to 10^15, which says that all below it is over: it inserts a step at each deadline
+    /// below that time, least first. Where there is none it takes no memory.
     pub fn tick(&mut self, alloc: Global, time: u64) -> Result<StepOut, StepRefusal>
         requires in_time { time ≤ most_time System }
+        requires room { self.old.position < most_positions }
         ensures answered { Answered self.old time result self.new }
         ensures few { IfOk result (λ out. length out.steps ≤ 1 + (time - self.old.clock)) }
-        ensures no_memory { result ≢ Err StepRefusal.NoMemory }
+        ensures no_memory { ((deadline : ℕ) → Contains self.old.pending.deadlines deadline → time ≤ deadline)
+            → result ≢ Err StepRefusal.NoMemory }
+        ensures rising { IfOk result (λ out. RiseWithin self.old.clock time (acted_steps out.steps)) }
         ensures stands { IfOk result
             (λ out. KeepsStanding self.old self.new (acted_steps out.steps)) }
         ensures changed { IfOk result
@@ -178,18 +178,27 @@ impl Enforcer {
         ensures decided { IfOk result
             (λ out. FollowsFrom self.old (Tick time ∷ []) (acted_steps out.steps)) }
     {
-        pending_is_enough();
         self.admit(time)?;
+        self.stopped = true;
+        let steps = self
+            .remembered
+            .let_pass(alloc, &self.wakes, &self.policy, self.clock, time)?;
         self.clock = time;
-        Ok(StepOut {
-            steps: OutSteps::new(alloc),
-        })
+        self.stopped = false;
+        Ok(StepOut { steps })
     }
 
-    /// Lets out what is still owed to the steps that were taken, after which the policy is satisfied whatever comes:
-    /// of plans that do not look ahead nothing.
+    /// Lets out what is still owed to the steps that were taken: it inserts a step at each deadline, least first, until
+    /// none is left. The policy is then satisfied, whatever comes.
     pub fn drain(&mut self, alloc: Global) -> Result<StepOut, StepRefusal>
+        requires room { self.old.position < most_positions }
         ensures answered { AnsweredDrain self.old result self.new }
+        ensures rising { IfOk result
+            (λ out. RiseWithin self.old.clock self.new.clock (acted_steps out.steps)) }
+        ensures bounded { IfOk result
+            (λ out. All (λ o. o.step.time ≤ most_time Inserted) (acted_steps out.steps)) }
+        ensures horizon { IfOk result
+            (λ _. self.new.clock ≤ self.old.clock + (typed_of self.old.policy).ranked.horizon + 1) }
         ensures stands { IfOk result
             (λ out. KeepsStanding self.old self.new (acted_steps out.steps)) }
         ensures changed { IfOk result
@@ -197,15 +206,23 @@ impl Enforcer {
             (acted_steps out.steps)) }
         ensures decided { IfOk result
             (λ out. FollowsDrainFrom self.old (acted_steps out.steps)) }
+        ensures served { IfOk result (λ _. self.new.pending.deadlines ≡ []) }
         ensures satisfied { IfOk result
             (λ out. SatisfiesBehind self.old (acted_steps out.steps)) }
     {
+        step_laws();
         pending_is_enough();
         if self.stopped {
             return Err(StepRefusal::Stopped);
         }
+        self.stopped = true;
+        let Passed { steps, clock } = self
+            .remembered
+            .pass(alloc, &self.wakes, &self.policy, self.clock, None)?;
+        self.clock = clock;
+        self.stopped = false;
         Ok(StepOut {
-            steps: OutSteps::new(alloc),
+            steps: OutSteps::from_vec(steps),
         })
     }
 

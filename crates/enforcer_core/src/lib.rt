@@ -3,10 +3,13 @@
 //! what `past_state` remembers, on the policies of `enforce_types` and on the lawful change of `trace_meaning`.
 #![tactic(auto)]
 
+pub mod ending;
 pub mod enforcer;
+pub mod existing;
 pub mod laws;
 mod remembered;
 pub mod steps;
+pub mod worked_cases;
 
 pub use enforcer::Enforcer;
 pub use steps::{OutStep, OutSteps, StepOut, StepRefusal};

@@ -1,5 +1,5 @@
 //! What is remembered of the steps that went out.
-ghost use Rattle.std.specs.Prelude.{◌≡◌, ◌<◌, ◌≤◌, ℕ, IfOk, OnOk, map};
+ghost use Rattle.std.specs.Prelude.{◌≡◌, ◌+◌, ◌^◌, ◌<◌, ◌≤◌, ℕ, IfOk, OnErr, OnOk, map};
 ghost use Rattle.choice_step.specs.Follows.{is_inserted as is_of_deadline};
 ghost use Rattle.plan_terms.specs.Plans.{plan_of};
 ghost use Rattle.plan_terms.specs.Triggers.{guard_triggers};
@@ -8,12 +8,19 @@ ghost use Rattle.obligations.specs.Asked.{placed_guard};
 ghost use Rattle.obligations.specs.Waiting.{CanAskOf, KeepsDeadlines};
 ghost use Rattle.past_state.specs.Past.{GuardsWillHold};
 ghost use Rattle.std.specs.List.{AllByRecursion};
-ghost use Rattle.enforcer_core.specs.Remembering.{CanAskAll, CanGoOn, IsDecided, LetsOut, PendingGoes, most_positions};
+ghost use Rattle.trace_meaning.specs.Records.{StepRecord, Tick, most_time};
+ghost use Rattle.trace_meaning.specs.declared.kinds.StepKind.TheVariants.{System};
+ghost use Rattle.enforcer_core.specs.Enforcers.{acted_steps, plans_in};
+ghost use Rattle.enforcer_core.specs.Keeping.{Serves, enforcing_at};
+ghost use Rattle.enforcer_core.specs.Passing.{IsLeastPassed, LetsOut, NoneIsLeft, Passes};
+ghost use Rattle.enforcer_core.specs.Remembering.{CanAskAll, CanGoOn, IsDecided, PendingGoes, most_positions};
 
+use crate::laws::step_laws;
 use crate::steps::{OutStep, OutSteps};
 use choice_step::{Choice, Wakes, choose_with};
 use enf_value::event_sets::EventSet;
 use enf_value::memory::NoMemory;
+use enforce_types::TypedPolicy;
 use monitorable_guard::StepEvents;
 use obligations::laws::{now_stands, traces_grow};
 use obligations::{Now, Pending};
@@ -30,6 +37,13 @@ pub(crate) struct Remembered {
     pub(crate) position: u64,
 }
 
+// Steps that went out at deadlines, and the time below which all is over behind them.
+#[derive(Drop)]
+pub(crate) struct Passed {
+    pub(crate) steps: Vec<OutStep>,
+    pub(crate) clock: u64,
+}
+
 impl Remembered {
     // Decides a step of a kind at a time, which has these events to begin with, and remembers it. After want of memory
     // it is fit to be dropped.
@@ -44,7 +58,7 @@ impl Remembered {
     ) -> Result<OutStep, NoMemory>
         requires wakes { wakes.now ≡ map guard_triggers (map plan_of plans.now) }
         requires can { CanGoOn (map plan_of plans.now) self.old time }
-        requires room { self.old.position < most_positions }
+        requires room { self.old.position + 1 < 2 ^ 64 }
         requires in_time { time ≤ MOST_TIME }
         ensures decided { IfOk result (λ o. IsDecided (map plan_of plans.now) self.old kind time events o self.new) }
         ensures can { OnOk result ((later : ℕ) → time ≤ later → CanGoOn (map plan_of plans.now) self.new later) }
@@ -81,24 +95,103 @@ impl Remembered {
         })
     }
 
-    // The same for a step of the system, as the one step that goes out.
+    // Inserts a step at each deadline that is passed, least first; where no time is given, all are.
+    pub(crate) fn pass(
+        &mut self,
+        alloc: Global,
+        wakes: &Wakes,
+        policy: &TypedPolicy,
+        clock: u64,
+        until: Option<u64>,
+    ) -> Result<Passed, NoMemory>
+        requires wakes { wakes.now ≡ map guard_triggers (plans_in policy.now) }
+        requires serves { Serves (enforcing_at policy.now self.old clock) }
+        requires room { self.old.position < most_positions }
+        ensures passes { IfOk result (λ passed. Passes until (enforcing_at policy.now self.old clock)
+            (acted_steps passed.steps.items) (enforcing_at policy.now self.new passed.clock)) }
+        ensures none_left { IfOk result (λ passed. NoneIsLeft until
+            (enforcing_at policy.now self.new passed.clock)) }
+        ensures memory { OnErr result (NoneIsLeft until (enforcing_at policy.now self.old clock) → ⊥) }
+    {
+        step_laws();
+        let plans = policy.plans();
+        let mut steps = Vec::new(alloc);
+        let mut behind = clock;
+        while let Some(deadline) = self.passed(until) {
+            let none = EventSet::new(alloc);
+            let step = self.decide(alloc, wakes, plans, StepKind::Inserted, deadline, none)?;
+            steps.push(step)?;
+            behind = deadline + 1;
+        }
+        Ok(Passed {
+            steps,
+            clock: behind,
+        })
+    }
+
+    // The least deadline, where it is passed.
+    fn passed(&self, until: Option<u64>) -> Option<u64>
+        ensures { IsLeastPassed self.now.pending.deadlines until result }
+    {
+        let least = self.pending.least_deadline()?;
+        match until {
+            Some(time) if time <= least => None,
+            Some(_) | None => Some(least),
+        }
+    }
+
+    // Lets out what a tick passes.
+    pub(crate) fn let_pass(
+        &mut self,
+        alloc: Global,
+        wakes: &Wakes,
+        policy: &TypedPolicy,
+        clock: u64,
+        time: u64,
+    ) -> Result<OutSteps, NoMemory>
+        requires wakes { wakes.now ≡ map guard_triggers (plans_in policy.now) }
+        requires serves { Serves (enforcing_at policy.now self.old clock) }
+        requires room { self.old.position < most_positions }
+        requires not_over { clock ≤ time }
+        ensures out { IfOk result (λ out. LetsOut (enforcing_at policy.now self.old clock) (Tick time)
+            (acted_steps out) (enforcing_at policy.now self.new time)) }
+        ensures memory { OnErr result (NoneIsLeft (Some time) (enforcing_at policy.now self.old clock) → ⊥) }
+    {
+        step_laws();
+        let Passed { steps, clock: _ } = self.pass(alloc, wakes, policy, clock, Some(time))?;
+        Ok(OutSteps::from_vec(steps))
+    }
+
+    // Lets out what a step of the system passes, and then the step.
     pub(crate) fn let_out(
         &mut self,
         alloc: Global,
         wakes: &Wakes,
-        plans: &[Plan],
+        policy: &TypedPolicy,
+        clock: u64,
         time: u64,
         events: EventSet,
     ) -> Result<OutSteps, NoMemory>
-        requires wakes { wakes.now ≡ map guard_triggers (map plan_of plans.now) }
-        requires can { CanGoOn (map plan_of plans.now) self.old time }
+        requires wakes { wakes.now ≡ map guard_triggers (plans_in policy.now) }
+        requires serves { Serves (enforcing_at policy.now self.old clock) }
         requires room { self.old.position < most_positions }
-        requires in_time { time ≤ MOST_TIME }
-        ensures decided { IfOk result (λ out. LetsOut (map plan_of plans.now) self.old time events out self.new) }
-        ensures can { OnOk result ((later : ℕ) → time ≤ later → CanGoOn (map plan_of plans.now) self.new later) }
+        requires not_over { clock ≤ time }
+        requires in_time { time ≤ most_time System }
+        ensures { IfOk result (λ out. LetsOut (enforcing_at policy.now self.old clock)
+            (StepRecord (record { time = time; events = events })) (acted_steps out)
+            (enforcing_at policy.now self.new time)) }
     {
-        let mut steps = Vec::with_capacity(alloc, 1)?;
-        steps.push(self.decide(alloc, wakes, plans, StepKind::System, time, events)?)?;
+        step_laws();
+        // Their clauses say that the horizon is bounded, and that no event stands twice.
+        let _horizon = policy.horizon();
+        let _given = events.as_slice();
+        let Passed {
+            mut steps,
+            clock: _,
+        } = self.pass(alloc, wakes, policy, clock, Some(time))?;
+        let plans = policy.plans();
+        let step = self.decide(alloc, wakes, plans, StepKind::System, time, events)?;
+        steps.push(step)?;
         Ok(OutSteps::from_vec(steps))
     }
 

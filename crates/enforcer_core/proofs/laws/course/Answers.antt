@@ -1,4 +1,4 @@
-use Rattle.std.proofs.Common.{◌≡◌, ◌∷◌, [], sym, ◌∙◌}
+use Rattle.std.proofs.Common.{◌∷◌, [], sym, ◌∙◌}
 use Rattle.enforcer_core.specs.Enforcers.{acted_steps}
 use Rattle.enforcer_core.proofs.Courses.{course_begins, course_ends, course_follows, course_follows_to_end, course_keeps_up, more_changes, more_decided, more_in_time, more_stands, stands_good}
 use Rattle.enforcer_core.proofs.laws.course.Goals as goal
@@ -22,8 +22,8 @@ returns-clause-goes_on c start trace records out now next made after course answ
     }
 
 pub returns-clause-keeps_up : goal.returns-clause-keeps_up
-returns-clause-keeps_up c causable suppressible start trace records out now may at_now course =
-    course_keeps_up start trace records out now course (stands_good c.pending_is_enough.ensures.nothing c.pending_is_enough.ensures.enough c.good.ensures.satisfying) causable suppressible may at_now
+returns-clause-keeps_up c causable suppressible start trace records out now may together course =
+    course_keeps_up start trace records out now course (stands_good c.drain_laws.ensures) causable suppressible may together
 
 pub returns-clause-enforces : goal.returns-clause-enforces
 returns-clause-enforces c causable suppressible start trace records out now made after may course keeps satisfies changed =

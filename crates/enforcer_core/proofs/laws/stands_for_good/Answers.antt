@@ -2,4 +2,4 @@ use Rattle.enforcer_core.proofs.Courses.{stands_good}
 use Rattle.enforcer_core.proofs.laws.stands_for_good.Goals as goal
 
 pub returns : goal.returns
-returns c = stands_good c.pending_is_enough.ensures.nothing c.pending_is_enough.ensures.enough c.good.ensures.satisfying
+returns c = stands_good c.drain_laws.ensures

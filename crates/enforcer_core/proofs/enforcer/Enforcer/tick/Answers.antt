@@ -1,17 +1,21 @@
-use Rattle.std.proofs.Common.{ℕ, ◌≤◌, sym, subst, arith}
+use Rattle.std.proofs.Common.{◌≡◌, ◌<◌, ◌≤◌, false, Contains, sym, subst, arith}
 use Rattle.enforcer_core.specs.Enforcers.{Enforcing}
-use Rattle.enforcer_core.specs.Stands.{Stands}
-use Rattle.enforcer_core.proofs.StepLemmas.{stands_later, with_none}
+use Rattle.enforcer_core.proofs.EnforcerLemmas.{serving}
 use Rattle.enforcer_core.proofs.enforcer.Enforcer.tick.Goals as goal
 
-pub invariant_of-self : goal.invariant_of-self
-invariant_of-self c =
-    let later : c.self.inside.clock ≤ c.args.time = subst (λ (e : Enforcing). e.clock ≤ c.args.time) (sym c.self.view_is) c.in_ok-admit.ensures.not_over in
-    (record { at_now = c.self.invariant.0.at_now; can = λ on time le. c.self.invariant.0.can on time (omega (arith, later, le)) }, c.self.invariant.1)
+pub let_pass-requires-clause-serves : goal.let_pass-requires-clause-serves
+let_pass-requires-clause-serves c =
+    let on : c.self.inside.stopped ≡ false = subst (λ (e : Enforcing). e.stopped ≡ false) (sym c.self.view_is) c.in_ok-admit.ensures.goes_on in
+    serving c.self.inside.policy c.self.inside.remembered c.self.inside.clock c.self.inside.stopped on (c.self.invariant.0.serves on)
 
-pub returns-clause-stands : goal.returns-clause-stands
-returns-clause-stands c trace stands =
-    let later : c.self.inside.clock ≤ c.args.time = subst (λ (e : Enforcing). e.clock ≤ c.args.time) (sym c.self.view_is) c.in_ok-admit.ensures.not_over in
-    with_none (Stands _) trace c.new.result c.new.ensures
-    (stands_later c.pending_is_enough.ensures.nothing _ c.args.time c.self.inside.stopped c.self.invariant.0.at_now later trace
-    (subst (λ (e : Enforcing). Stands e trace) (sym c.self.view_is) stands))
+pub invariant_of-self-2 : goal.invariant_of-self-2
+invariant_of-self-2 c =
+    (record { together = c.self.invariant.0.together; serves = λ on. c.in_ok-steps.ensures.out.serves }, c.self.invariant.1)
+
+pub returns-in_err-steps-clause-no_memory : goal.returns-in_err-steps-clause-no_memory
+returns-in_err-steps-clause-no_memory c later same =
+    c.in_err-steps.ensures.memory
+    (λ deadline there passed.
+    let le : c.args.time ≤ deadline = later deadline (subst (λ (e : Enforcing). Contains e.pending.deadlines deadline) c.self.view_is there) in
+    let less : deadline < c.args.time = passed in
+    omega (arith, le, less))

@@ -1,7 +1,7 @@
-use Rattle.std.proofs.Common.{◌≡◌, ◌+◌, List, [], ◌∷◌, ◌++◌, length, length-append, map, refl, sym, ap, subst, arith}
+use Rattle.std.proofs.Common.{◌≡◌, List, [], ◌∷◌, ◌++◌, length-append, map, refl, sym, subst, arith}
 use Rattle.enf_value.specs.declared.events.Event.{Event}
 use Rattle.obligations.specs.Pending.{Goes}
-use Rattle.past_state.specs.Past.{AreOf, CommittedWillStand, Past, PastStands}
+use Rattle.past_state.specs.Past.{AreOf, CommittedWillStand, Past}
 use Rattle.plan_terms.specs.Plans.{plan_of}
 use Rattle.choice_step.specs.Choice.{Decides}
 use Rattle.enforcer_core.proofs.remembered.Remembered.decide.Goals as goal
@@ -34,6 +34,8 @@ returns-clause-decided c =
         decided = subst (λ inserted. Decides (map plan_of c.args.plans.now) trace c.args.self.now.pending.instances inserted c.args.time c.args.events c.in_ok-events.field-0.actions c.in_ok-events.field-0.events) c.is_inserted-inserted.ensures
             (c.in_ok-events.ensures.decided trace remembers.past (sym remembers.position) later);
       };
+      goes = λ trace remembers later.
+          subst (λ (l : List Event). Goes plans (trace ++ record { time = c.args.time; events = l } ∷ []) before.pending.instances c.progress.new.self.pending.instances) c.in_ok-ordered.ensures (c.in_ok-progress.ensures.goes trace remembers later);
       remembers = λ trace remembers later.
           let at = remembers.position in
           record {

@@ -1,0 +1,292 @@
+-- What is new at an inserted step has lower classes than something that is met there; so counts by class fall.
+use Rattle.std.proofs.Common.{◌≡◌, ℕ, ◌+◌, ◌<◌, ◌≤◌, ◌&&◌, Bool, true, false, cond, List, [], ◌∷◌, ◌++◌, Contains, Option, None, Some, nat_eq, refl, sym, ap, subst, ◌∙◌, arith, ⊎_elim}
+use Rattle.std.specs.Cmp.{unsigned_Decides}
+use Rattle.std.specs.List.{count_by}
+use Rattle.std.proofs.lemmas.Bool.{cases_lt, false≢true}
+use Rattle.std.proofs.lemmas.List.Sums.{sum_by-append, sum_by-cons}
+use Rattle.std.proofs.lemmas.Option.{same_Some}
+use Rattle.enf_value.specs.ListLaws.{Contains-append, first_or_later, here, later, none_in_nil}
+use Rattle.enf_value.specs.declared.steps.Step.{Step}
+use Rattle.plan_terms.specs.Nodes.{has_deadline}
+use Rattle.plan_terms.specs.Plans.{Plan}
+use Rattle.plan_terms.specs.Standing.{NodesStandIn}
+use Rattle.plan_terms.specs.WellFormed.{AreWellFormed}
+use Rattle.rank_check.specs.Horizon.{class_of, greatest}
+use Rattle.rank_check.specs.Laws.{EdgesRise}
+use Rattle.enforce_types.specs.Typed.{Typed}
+use Rattle.obligations.specs.Begun.{time_now}
+use Rattle.obligations.specs.Missing.{MissingIsOne}
+use Rattle.obligations.specs.Pending.{After, Goes, node_of}
+use Rattle.obligations.specs.Reached.{BegunIsNamed, BegunIsReached, MissedIsReached, ReachedIsInside}
+use Rattle.obligations.specs.Rows.{Gathers}
+use Rattle.obligations.specs.declared.instances.Instance.{Instance}
+use Rattle.choice_step.specs.Choice.{with_step}
+use Rattle.choice_step.specs.Laws.{DecidedMissesNothing}
+use Rattle.enforcer_core.specs.Ending.{AnyCountsFall, CountsFall, is_of_class, of_class}
+use Rattle.enforcer_core.proofs.ClassLemmas.{greatest_is}
+use Rattle.enforcer_core.proofs.TriggerLemmas.{IsDue}
+use Rattle.enforcer_core.proofs.EndingLemmas.{IsMet, IsNew, Leaves, Passes, Stays, becomes, due_at, due_ends, ending_met, is_served, leaves_new, new_lower, roots_new, stays_new}
+
+-- ---- counts
+
+-- how often a number is in a list
+abbrev times : ℕ → List ℕ → ℕ
+times n ns = count_by (λ m. nat_eq m n) ns
+
+times_cons : (n m : ℕ) (ns : List ℕ) → times n (m ∷ ns) ≡ cond {A = ℕ} (nat_eq m n) 1 0 + times n ns
+times_cons n m ns = sum_by-cons (λ (k : ℕ). cond {A = ℕ} (nat_eq k n) 1 0) m ns
+
+counts : (b : Bool) → b ≡ true → 0 < cond {A = ℕ} b 1 0
+counts true is = omega arith
+counts false is = absurd (false≢true is)
+
+is_there : (n : ℕ) (ns : List ℕ) → Contains ns n → 0 < times n ns
+is_there n [] there = absurd (none_in_nil n there)
+is_there n (m ∷ ns) there = ⊎_elim
+    (λ (same : m ≡ n). let one = counts (nat_eq m n) ((unsigned_Decides m n).1 same) in
+    let all = times_cons n m ns in omega (arith, all, one))
+    (λ more. let rest = is_there n ns more in let all = times_cons n m ns in omega (arith, all, rest)) (first_or_later n m ns there)
+
+counts_not : (b : Bool) → (b ≡ true → ⊥) → cond {A = ℕ} b 1 0 ≡ 0
+counts_not true never = absurd (never refl)
+counts_not false never = refl
+
+not_there : (n : ℕ) (ns : List ℕ) → (Contains ns n → ⊥) → times n ns ≡ 0
+not_there n [] none = refl
+not_there n (m ∷ ns) none =
+    let own = counts_not (nat_eq m n) (λ is. none (subst (Contains (m ∷ ns)) ((unsigned_Decides m n).0 is) (here m ns))) in
+    let rest = not_there n ns (λ there. none (later n m ns there)) in
+    let all = times_cons n m ns in omega (arith, own, rest, all)
+
+greatest_there : (ns : List ℕ) (n : ℕ) → Contains ns n → Contains ns (greatest ns)
+greatest_there [] n there = absurd (none_in_nil n there)
+greatest_there (m ∷ []) n there = subst (Contains (m ∷ [])) (omega arith) (here m [])
+greatest_there (m ∷ k ∷ ns) n there = ⊎_elim
+    (λ (less : m < greatest (k ∷ ns)). subst (Contains (m ∷ k ∷ ns)) {x = greatest (k ∷ ns)} {y = greatest (m ∷ k ∷ ns)} (omega (arith, less))
+    (later (greatest (k ∷ ns)) m (k ∷ ns) (greatest_there (k ∷ ns) k (here k ns))))
+    (λ (le : greatest (k ∷ ns) ≤ m). subst (Contains (m ∷ k ∷ ns)) {x = m} {y = greatest (m ∷ k ∷ ns)} (omega (arith, le)) (here m (k ∷ ns)))
+    (cases_lt m (greatest (k ∷ ns)))
+
+module _ (ranks : List ℕ) (plans : List Plan) where
+  abbrev counted : ℕ → Instance → ℕ
+  counted class i = cond {A = ℕ} (is_of_class ranks plans class (node_of plans i)) 1 0
+
+  count_is : (class : ℕ) (i : Instance) (node : Plan) → node_of plans i ≡ Some node
+      → counted class i ≡ cond {A = ℕ} (has_deadline node && nat_eq (class_of ranks plans node) class) 1 0
+  count_is class i node found = ap (λ (o : Option Plan). cond {A = ℕ} (is_of_class ranks plans class o) 1 0) found
+
+  count_due : (class : ℕ) (i : Instance) (node : Plan) → node_of plans i ≡ Some node → has_deadline node ≡ true
+      → counted class i ≡ cond {A = ℕ} (nat_eq (class_of ranks plans node) class) 1 0
+  count_due class i node found has =
+      count_is class i node found ∙ ap (λ (b : Bool). cond {A = ℕ} (b && nat_eq (class_of ranks plans node) class) 1 0) has
+
+  count_other : (class : ℕ) (i : Instance) (node : Plan) → node_of plans i ≡ Some node → has_deadline node ≡ false
+      → counted class i ≡ 0
+  count_other class i node found has =
+      count_is class i node found ∙ ap (λ (b : Bool). cond {A = ℕ} (b && nat_eq (class_of ranks plans node) class) 1 0) has
+
+  cons_is : (class : ℕ) (i : Instance) (is : List Instance)
+      → of_class ranks plans class (i ∷ is) ≡ counted class i + of_class ranks plans class is
+  cons_is class i is = sum_by-cons (counted class) i is
+
+  -- where none of the instances with a deadline is of the class
+  none_counted : (class : ℕ) (is : List Instance)
+      → ((i : Instance) (node : Plan) → Contains is i → node_of plans i ≡ Some node → has_deadline node ≡ true
+      → class_of ranks plans node ≡ class → ⊥)
+      → of_class ranks plans class is ≡ 0
+  none_counted class [] none = refl
+  none_counted class (i ∷ is) none =
+      let rest = none_counted class is (λ j node there. none j node (later j i is there)) in
+      let own = by (node_of plans i) refl in
+      let all = cons_is class i is in
+      omega (arith, all, rest, own)
+    where
+      by_due : (node : Plan) → node_of plans i ≡ Some node → (has : Bool) → has_deadline node ≡ has → counted class i ≡ 0
+      by_due node found true has =
+          count_due class i node found has ∙ counts_not (nat_eq (class_of ranks plans node) class)
+          (λ same. none i node (here i is) found has ((unsigned_Decides (class_of ranks plans node) class).0 same))
+      by_due node found false has = count_other class i node found has
+
+      by : (at : Option Plan) → node_of plans i ≡ at → counted class i ≡ 0
+      by None found = ap (λ (o : Option Plan). cond {A = ℕ} (is_of_class ranks plans class o) 1 0) found
+      by (Some node) found = by_due node found (has_deadline node) refl
+
+  joined : (class : ℕ) (is js : List Instance)
+      → of_class ranks plans class (is ++ js) ≡ of_class ranks plans class is + of_class ranks plans class js
+  joined class is js = sum_by-append (counted class) is js
+
+-- ---- what leaves, and what is new
+
+module _ (stand : NodesStandIn) (inside : ReachedIsInside) (named : BegunIsNamed) (begun_reached : BegunIsReached)
+    (one : MissingIsOne) (typed : Typed) (formed : AreWellFormed typed.plans typed.guards) (trace : List Step)
+    (pending : List Instance) where
+  abbrev plans : List Plan
+  plans = typed.plans
+
+  abbrev ranks : List ℕ
+  ranks = typed.ranked.ranks
+
+  abbrev New : Instance → Type 0
+  New i = IsNew stand inside named begun_reached one typed formed trace pending i
+
+  -- the classes of what leaves with a deadline, and what is new, make up the difference
+  record Balance (before after : List Instance) : Type 0 where
+    classes : List ℕ
+    fresh : List Instance
+    even : (class : ℕ) → of_class ranks plans class after + times class classes
+        ≡ of_class ranks plans class before + of_class ranks plans class fresh
+    met : (i : Instance) (node : Plan) → IsDue plans before i node → IsMet trace i node → Contains classes (class_of ranks plans node)
+    new : (i : Instance) → Contains fresh i → New i
+
+  module _ (i : Instance) (before first rest : List Instance) (there : Contains pending i) (node : Plan)
+      (found : node_of plans i ≡ Some node) (b : Balance before rest) where
+    same_node : (other : Plan) → node_of plans i ≡ Some other → node ≡ other
+    same_node other is = same_Some node other (sym found ∙ is)
+
+    -- an instance that does not leave so is none of those that are met
+    met_later : (IsMet trace i node → has_deadline node ≡ true → ⊥) → (j : Instance) (other : Plan) → IsDue plans (i ∷ before) j other
+        → IsMet trace j other → Contains b.classes (class_of ranks plans other)
+    met_later not j other due is = ⊎_elim
+        (λ (same : i ≡ j).
+        let at : node ≡ other = same_node other (subst (λ (k : Instance). node_of plans k ≡ Some other) (sym same) due.found) in
+        let is' : IsMet trace i other = subst (λ (k : Instance). IsMet trace k other) (sym same) is in
+        absurd (not (subst (IsMet trace i) (sym at) is') (subst (λ (n : Plan). has_deadline n ≡ true) (sym at) due.has)))
+        (λ more. b.met j other (record { there = more; found = due.found; has = due.has }) is)
+        (first_or_later j i before due.there)
+
+    with_stays : Stays trace i node first → Balance (i ∷ before) (first ++ rest)
+    with_stays s = record {
+      classes = b.classes;
+      fresh = s.more ++ b.fresh;
+      even = λ class.
+          let all = joined ranks plans class first rest in
+          let own = ap (of_class ranks plans class) s.are ∙ cons_is ranks plans class i s.more in
+          let front = cons_is ranks plans class i before in
+          let fresh = joined ranks plans class s.more b.fresh in
+          let rest' = b.even class in
+          omega (arith, all, own, front, fresh, rest');
+      met = met_later (λ is has. s.unmet is);
+      new = λ j among. ⊎_elim
+          (stays_new stand inside named begun_reached one typed formed trace pending i node first there found s j)
+          (b.new j) (Contains-append s.more b.fresh j among);
+    }
+
+    with_leaves : Leaves trace i node first → Balance (i ∷ before) (first ++ rest)
+    with_leaves l = record {
+      classes = class_of ranks plans node ∷ b.classes;
+      fresh = first ++ b.fresh;
+      even = λ class.
+          let all = joined ranks plans class first rest in
+          let own = count_due ranks plans class i node found l.has in
+          let front = cons_is ranks plans class i before in
+          let class_front = times_cons class (class_of ranks plans node) b.classes in
+          let fresh = joined ranks plans class first b.fresh in
+          let rest' = b.even class in
+          omega (arith, all, own, front, class_front, fresh, rest');
+      met = λ j other due is. ⊎_elim
+          (λ (same : i ≡ j).
+          subst (λ (n : Plan). Contains (class_of ranks plans node ∷ b.classes) (class_of ranks plans n))
+          (same_node other (subst (λ (k : Instance). node_of plans k ≡ Some other) (sym same) due.found))
+          (here (class_of ranks plans node) b.classes))
+          (λ more. later (class_of ranks plans other) (class_of ranks plans node) b.classes
+          (b.met j other (record { there = more; found = due.found; has = due.has }) is))
+          (first_or_later j i before due.there);
+      new = λ j among. ⊎_elim
+          (leaves_new stand inside named begun_reached one typed formed trace pending i node first there found l j)
+          (b.new j) (Contains-append first b.fresh j among);
+    }
+
+    with_passes : Passes node first → Balance (i ∷ before) (first ++ rest)
+    with_passes p = record {
+      classes = b.classes;
+      fresh = b.fresh;
+      even = λ class.
+          let all = joined ranks plans class first rest in
+          let none = ap (of_class ranks plans class) p.none in
+          let own = count_other ranks plans class i node found p.has in
+          let front = cons_is ranks plans class i before in
+          let rest' = b.even class in
+          omega (arith, all, none, own, front, rest');
+      met = met_later (λ is has. false≢true (sym p.has ∙ has));
+      new = b.new;
+    }
+
+  balance : (before kept : List Instance) → ((i : Instance) → Contains before i → Contains pending i)
+      → Gathers (After plans trace) before kept → Balance before kept
+  balance [] kept within none = record {
+    classes = [];
+    fresh = [];
+    even = λ class. let is = ap (of_class ranks plans class) none in omega (arith, is);
+    met = λ i node due is. absurd (none_in_nil i due.there);
+    new = λ i among. absurd (none_in_nil i among);
+  }
+  balance (i ∷ before) kept within (first, rest, is, others, are) =
+      let b = balance before rest (λ j there. within j (later j i before there)) others in
+      let turn = becomes stand inside named begun_reached one typed formed trace i first is in
+      let there = within i (here i before) in
+      subst (Balance (i ∷ before)) (sym are) (⊎_elim
+      (with_stays i before first rest there turn.0 turn.1 b)
+      (λ other. ⊎_elim (with_leaves i before first rest there turn.0 turn.1 b) (with_passes i before first rest there turn.0 turn.1 b) other)
+      turn.2)
+
+  balance_all : (after : List Instance) → Goes plans trace pending after → Balance pending after
+  balance_all after (kept, begun, goes, begins, are) =
+      let b = balance pending kept (λ i there. there) goes in record {
+        classes = b.classes;
+        fresh = b.fresh ++ begun;
+        even = λ class.
+            let all = ap (of_class ranks plans class) are ∙ joined ranks plans class kept begun in
+            let fresh = joined ranks plans class b.fresh begun in
+            let rest' = b.even class in
+            omega (arith, all, fresh, rest');
+        met = b.met;
+        new = λ j among. ⊎_elim (b.new j)
+            (roots_new stand inside named begun_reached one typed formed trace pending begun begins j)
+            (Contains-append b.fresh begun j among);
+      }
+
+  -- where each new instance is lower than one that is met, and some is met, the counts fall
+  counts_fall : (after : List Instance) → Balance pending after
+      → ((i : Instance) (new : New i) → has_deadline new.node ≡ true
+      → (j : Instance) × (node : Plan) × IsDue plans pending j node × IsMet trace j node
+      × class_of ranks plans new.node < class_of ranks plans node)
+      → (i : Instance) (node : Plan) → IsDue plans pending i node → IsMet trace i node → CountsFall ranks plans pending after
+  counts_fall after b lower i node due is =
+      let some = b.met i node due is in
+      let low : (class : ℕ) → greatest b.classes ≤ class → of_class ranks plans class b.fresh ≡ 0 =
+      λ class le. none_counted ranks plans class b.fresh (λ j other among found has same.
+      let new = b.new j among in
+      let at : new.node ≡ other = same_Some new.node other (sym new.found ∙ found) in
+      let high = lower j new (subst (λ (n : Plan). has_deadline n ≡ true) (sym at) has) in
+      let most = greatest_is b.classes (class_of ranks plans high.1) (b.met high.0 high.1 high.2 high.3) in
+      let is_class : class_of ranks plans new.node ≡ class = ap (class_of ranks plans) at ∙ same in
+      omega (arith, le, most, high.4, is_class)) in
+      record {
+        class = greatest b.classes;
+        fewer =
+            let one' = is_there (greatest b.classes) b.classes (greatest_there b.classes (class_of ranks plans node) some) in
+            let even = b.even (greatest b.classes) in
+            let none = low (greatest b.classes) (omega arith) in
+            omega (arith, one', even, none);
+        above = λ higher less.
+            let none = not_there higher b.classes (λ there. let most = greatest_is b.classes higher there in omega (arith, most, less)) in
+            let even = b.even higher in
+            let none' = low higher (omega (arith, less)) in
+            omega (arith, none, even, none');
+      }
+
+module _ (stand : NodesStandIn) (inside : ReachedIsInside) (named : BegunIsNamed) (begun_reached : BegunIsReached)
+    (missing_one : MissingIsOne) (rise : EdgesRise) (missed : MissedIsReached) (nothing : DecidedMissesNothing) where
+  pub any_counts_fall : AnyCountsFall
+  any_counts_fall typed trace pending after deadline actions events formed accepted ranked ordered least decided goes =
+      let s = is_served stand inside named begun_reached missing_one rise missed nothing
+      typed trace pending after deadline actions events accepted ranked ordered decided goes in
+      let d = due_at typed.plans least.instance deadline least.is in
+      let due : IsDue typed.plans pending least.instance d.0 = record { there = least.there; found = d.1; has = d.2 } in
+      let now : time_now (with_step trace deadline events) ≡ least.instance.high = s.now ∙ sym d.3 in
+      counts_fall stand inside named begun_reached missing_one typed formed (with_step trace deadline events) pending after
+      (balance_all stand inside named begun_reached missing_one typed formed (with_step trace deadline events) pending after s.goes)
+      (new_lower stand inside named begun_reached missing_one typed formed accepted rise ranked.ranks (with_step trace deadline events) pending s.ordered s.quiet s.owed)
+      least.instance d.0 due
+      (ending_met stand inside named begun_reached missing_one typed formed accepted rise ranked.ranks (with_step trace deadline events) pending s.ordered s.quiet s.owed
+      least.instance d.0 due (due_ends (time_now (with_step trace deadline events)) least.instance d.0 d.2 now))

@@ -1,0 +1,61 @@
+-- An enforcer as what it remembers at its clock, and what its answers say of it.
+use Rattle.std.proofs.Common.{◌≡◌, ℕ, ◌+◌, ◌≤◌, Bool, false, List, [], ◌∷◌, ◌++◌, map, refl, sym, ap, subst, ◌∙◌, arith, None, Contains}
+use Rattle.enf_value.specs.ListLaws.{here}
+use Rattle.obligations.specs.Asked.{placed_guard}
+use Rattle.obligations.specs.DeadlineLaws.{deadline_is_listed}
+use Rattle.obligations.specs.Traces.{PendingIsEnough}
+use Rattle.enforce_types.specs.Typed.{StoredTyped, WorkTogether, typed_of}
+use Rattle.choice_step.specs.Follows.{ActedStep, steps_of}
+use Rattle.enforcer_core.specs.Enforcers.{Enforcing, plans_in}
+use Rattle.enforcer_core.specs.Follows.{FollowsDrainFrom}
+use Rattle.enforcer_core.specs.Keeping.{Serves, enforcing_at}
+use Rattle.enforcer_core.specs.Passing.{NoneIsLeft, Passes}
+use Rattle.enforcer_core.specs.Stands.{SatisfiesBehind, Stands}
+use Rattle.enforcer_core.specs.StepLaws.{StepLaws}
+use Rattle.enforcer_core.specs.declared.remembered.Remembered.{Remembered}
+use Rattle.enforcer_core.proofs.DrainLemmas.{drained_satisfies}
+use Rattle.enforcer_core.proofs.PassLemmas.{passes_all}
+
+-- ---- one that goes on
+
+abbrev pub seen : StoredTyped → Remembered → ℕ → Bool → Enforcing
+seen policy r clock stopped = record (enforcing_at policy r clock) { stopped = stopped }
+
+pub serving : (policy : StoredTyped) (r : Remembered) (clock : ℕ) (stopped : Bool) → stopped ≡ false
+    → Serves (seen policy r clock stopped) → Serves (enforcing_at policy r clock)
+serving policy r clock stopped on serves = subst (λ (b : Bool). Serves (seen policy r clock b)) on serves
+
+pub going : (policy : StoredTyped) (r : Remembered) (clock : ℕ) (stopped : Bool) (e : Enforcing) → stopped ≡ false
+    → seen policy r clock stopped ≡ e → enforcing_at policy r clock ≡ e
+going policy r clock stopped e on is = ap (λ (b : Bool). seen policy r clock b) (sym on) ∙ is
+
+-- ---- a drain
+
+no_items : (deadlines : List ℕ) → ((deadline : ℕ) → Contains deadlines deadline → ⊥) → deadlines ≡ []
+no_items [] none = refl
+no_items (deadline ∷ deadlines) none = absurd (none deadline (here deadline deadlines))
+
+module _ (policy : StoredTyped) (r r' : Remembered) (clock later : ℕ) (out : List ActedStep)
+    (passes : Passes None (enforcing_at policy r clock) out (enforcing_at policy r' later))
+    (none : NoneIsLeft None (enforcing_at policy r' later)) where
+  pub drain_serves_all : r'.pending.deadlines ≡ []
+  drain_serves_all = no_items r'.pending.deadlines (λ deadline there. none deadline there tt)
+
+  pub drain_follows : FollowsDrainFrom (enforcing_at policy r clock) out
+  drain_follows trace stands = passes_all policy r r' clock later None out passes none trace stands
+
+  pub drain_satisfies : PendingIsEnough → SatisfiesBehind (enforcing_at policy r clock) out
+  drain_satisfies enough trace stands =
+      let then : Stands (enforcing_at policy r' later) (trace ++ steps_of out) = passes.stands trace stands in
+      let can = (passes.serves.can later (omega arith)).asked in
+      drained_satisfies enough (map placed_guard r'.past.guards) (plans_in policy) (trace ++ steps_of out) r'.pending.instances
+      can.named then.is_trace then.ready.clean then.pending can.instances
+      (λ i deadline there has. none deadline (deadline_is_listed (plans_in policy) r'.pending i deadline then.deadlines there has) tt)
+
+  -- it is over within the horizon
+  pub drain_ends : StepLaws → WorkTogether (typed_of policy) → Serves (enforcing_at policy r clock)
+      → later ≤ clock + (typed_of policy).ranked.horizon + 1
+  drain_ends laws together serves =
+      let stands = serves.stands in
+      let reach = laws.horizon (typed_of policy) serves.trace r.pending.instances clock together stands.is_trace stands.pending stands.ready.not_later in
+      passes.within.in_reach (clock + (typed_of policy).ranked.horizon + 1) (omega arith) (omega (arith, reach))

@@ -1,0 +1,16 @@
+use Rattle.std.proofs.Common.{◌≡◌, ◌+◌, ◌-◌}
+use Rattle.trace_meaning.specs.Records.{most_time}
+use Rattle.trace_meaning.specs.declared.kinds.StepKind.TheVariants.{Inserted}
+use Rattle.enforcer_core.specs.Enforcers.{acted_steps}
+use Rattle.enforcer_core.specs.Keeping.{enforcing_at}
+use Rattle.enforcer_core.specs.Passing.{NoneIsLeft, Passes}
+use Rattle.enforcer_core.proofs.remembered.Remembered.pass.Given as goal
+
+abbrev pub invariant-loop-deadline : goal.invariant-loop-deadline
+invariant-loop-deadline l = record {
+  passes : Passes l.until (enforcing_at l.policy l.fn.self l.clock) (acted_steps l.steps.items) (enforcing_at l.policy l.self l.behind);
+  untouched : NoneIsLeft l.until (enforcing_at l.policy l.fn.self l.clock) → l.self ≡ l.fn.self;
+}
+
+abbrev pub decreases-loop-deadline : goal.decreases-loop-deadline
+decreases-loop-deadline l = (most_time Inserted + 1) - l.behind
