@@ -1,5 +1,5 @@
 -- Where each status must come: what holds at the other statuses leaves no room for it.
-use Rattle.std.proofs.Common.{◌≡◌, ◌≢◌, ℕ, ◌-◌, ◌<◌, ◌≤◌, List, [], ◌∷◌, ◌++◌, Option, Some, None, true, false, Result, Err, Ok, length, take, drop, codes, refl, sym, ap, subst, ◌∙◌, inl, inr, arith, length-take}
+use Rattle.std.proofs.Common.{◌≡◌, ◌≢◌, ℕ, ◌-◌, ◌<◌, ◌≤◌, List, [], ◌∷◌, ◌++◌, Option, Some, None, Result, Err, Ok, length, take, drop, codes, refl, sym, ap, subst, ◌∙◌, inl, inr, arith, length-take}
 use Rattle.std.specs.Prelude.{◌⊎◌}
 use Rattle.std.proofs.lemmas.List.{append-nil, take-append-drop}
 use Rattle.enf_io.specs.Contents.{Contents}
@@ -28,15 +28,14 @@ use Rattle.signature.specs.declared.refusals.SignatureRefusal.{SignatureRefusal 
 use Rattle.trace_meaning.specs.Records.{NeverFall, clock_after, time_of}
 use Rattle.enf_cli.specs.Accepted.{UpToDate, record_of, records_of}
 use Rattle.enf_cli.specs.Calls.{Call, LeavesFiles, LeavesGate}
-use Rattle.enf_cli.specs.Dues.{AsksPolicy, AsksRefused, AsksRefusedPolicy, AsksRefusedSignature, AsksSignature, AsksToCheck, AsksToGenerate, AsksTold, AsksUnbuilt, BreaksOff, Dues, IsAcceptable, MeetsReadFault, MeetsRefusal, TellBytes, taken_between}
+use Rattle.enf_cli.specs.Dues.{AsksPolicy, AsksRefused, AsksRefusedPolicy, AsksRefusedSignature, AsksSignature, AsksToCheck, AsksToGenerate, AsksTold, BreaksOff, Dues, IsAcceptable, MeetsReadFault, MeetsRefusal, TellBytes, taken_between}
 use Rattle.enf_cli.specs.Exchanges.{Exchanged, IsExchange}
 use Rattle.enf_cli.specs.Files.{AreHeld, AreUnder, HoldsSignature, IsRefusedPolicy, IsRefusedSignature}
 use Rattle.enf_cli.specs.Limits.{most_log_bytes}
-use Rattle.enf_cli.specs.Logs.{IsFalling, IsRefusedAs, RunsLog}
+use Rattle.enf_cli.specs.Logs.{IsFalling, IsRefusedAs, RunsLog, Taken, clock_behind, taken_of}
 use Rattle.enf_cli.specs.Owed.{Setting, anew}
 use Rattle.enf_cli.specs.Outcomes.{Asks, AsksToEnforce, ChecksPolicy, GeneratesLog, IsDone, IsFinished, Outcome, Refuses, RefusesPolicyFile, RefusesRecord, RefusesSignatureFile, RefusesWords}
-use Rattle.enforce_types.specs.PolicyLaws.{OnePlans}
-use Rattle.enf_cli.specs.Policies.{CanBeBuilt, CannotBeBuilt, look_ahead, ReadsPolicy, SpellsPolicy, SpellsRefused, formulas}
+use Rattle.enf_cli.specs.Policies.{ReadsPolicy, SpellsPolicy, SpellsRefused, formulas}
 use Rattle.enf_cli.specs.Signatures.{SpellsSignature}
 use Rattle.enf_cli.specs.Words.{IsCheck, IsEnforce, IsGenerate, MatchNoForm, NamesFiles}
 use Rattle.enf_cli.specs.declared.log.Verdict.{Verdict}
@@ -110,14 +109,6 @@ OneTextAnswer = (entries : List NameEntry) (bytes : List ℕ)
 same_text_answer : OneTextAnswer → (entries : List NameEntry) (bytes : List ℕ) (answer other : Result (List Rule) PolicyTextRefusal) → IsTextAnswer entries bytes answer → IsTextAnswer entries bytes other → answer ≡ other
 same_text_answer one entries bytes answer other is also = let all = one entries bytes in all.2 answer is ∙ sym (all.2 other also)
 
--- a policy has one list of plans, so one that can be built is none that cannot
-built_or_not : OnePlans → (entries others : List NameEntry) (policy policy' : List Rule) → entries ≡ others → policy ≡ policy' → CanBeBuilt entries (formulas policy) → CannotBeBuilt others (formulas policy') → ⊥
-built_or_not one entries others policy policy' same is_same built none =
-    let there = subst (λ (rules : List Rule). CanBeBuilt others (formulas rules)) is_same (subst (λ (es : List NameEntry). CanBeBuilt es (formulas policy)) same built) in
-    let plans = one others (formulas policy') there.0 none.0 there.1 none.1 there.2 none.2 in
-    let clash : true ≡ false = sym none.3 ∙ ap look_ahead (sym plans.0) ∙ there.3 in
-    cc
-
 -- what is asked for in one form
 asks_named : {Gate : Type 0} (call : Call Gate) (entries : List NameEntry) (policy : List Rule) → Asks IsEnforce call entries policy ⊎ Asks IsCheck call entries policy → Asks NamesFiles call entries policy
 asks_named call entries policy (inl a) =
@@ -142,7 +133,7 @@ policy_named call entries policy (inr t) =
     }
 
 -- each text of a signature has one answer, and each of a policy; and a policy that is accepted is not refused
-module _ (one : OneAnswer) (one_text : OneTextAnswer) (accepted : AcceptedIsNotRefused) (one_plans : OnePlans) where
+module _ (one : OneAnswer) (one_text : OneTextAnswer) (accepted : AcceptedIsNotRefused) where
   -- bytes are one signature at most
   same_signature : (bytes : List ℕ) (entries others : List NameEntry) → SpellsSignature bytes entries → SpellsSignature bytes others → entries ≡ others
   same_signature bytes entries others p q =
@@ -222,43 +213,31 @@ module _ (one : OneAnswer) (one_text : OneTextAnswer) (accepted : AcceptedIsNotR
     refused_policy_not_asked : (t : AsksRefusedPolicy call) (others : List NameEntry) (policy : List Rule) → Asks NamesFiles call others policy → ⊥
     refused_policy_not_asked t others policy a = policy_not_refused t.entries t.why t.bytes policy (one_policy call t.entries t.asks t.bytes t.told others policy a).1 t.refused
 
-    -- nor is one to be enforced that cannot be built
-    unbuilt_not_asked : (t : AsksUnbuilt call) (s : Setting) → AsksToEnforce call s → ⊥
-    unbuilt_not_asked t s a =
-        let named = policy_named call t.entries t.policy (inl t.asks) in
-        let other = one_policy call t.entries named.asks named.bytes named.told s.entries a.policy (asks_named call s.entries a.policy (inl a.asks)) in
-        let same = same_policy t.entries named.bytes a.policy t.policy other.1.reads named.is_policy.reads in
-        built_or_not one_plans s.entries t.entries a.policy t.policy (sym other.0) same a.can_be_built t.unbuilt
-
     not_asked : AsksRefused call → (s : Setting) → AsksToEnforce call s → ⊥
     not_asked (inl t) s a = refused_signature_not_asked t s.entries a.policy (asks_named call s.entries a.policy (inl a.asks))
-    not_asked (inr (inl t)) s a = refused_policy_not_asked t s.entries a.policy (asks_named call s.entries a.policy (inl a.asks))
-    not_asked (inr (inr t)) s a = unbuilt_not_asked t s a
+    not_asked (inr t) s a = refused_policy_not_asked t s.entries a.policy (asks_named call s.entries a.policy (inl a.asks))
 
     not_checked : AsksRefused call → (entries : List NameEntry) (policy : List Rule) → Asks IsCheck call entries policy → ⊥
     not_checked (inl t) entries policy a = refused_signature_not_asked t entries policy (asks_named call entries policy (inr a))
-    not_checked (inr (inl t)) entries policy a = refused_policy_not_asked t entries policy (asks_named call entries policy (inr a))
-    not_checked (inr (inr t)) entries policy a = enforce_or_check call.words t.asks.asks.signature_file t.asks.asks.policy_file a.signature_file a.policy_file t.asks.asks.form a.form
+    not_checked (inr t) entries policy a = refused_policy_not_asked t entries policy (asks_named call entries policy (inr a))
 
     -- words that match no form ask for nothing
     files_some_form : AsksRefused call → MatchNoForm call.words → ⊥
     files_some_form (inl t) none = some_form call.words t.signature_file t.policy_file t.form none
-    files_some_form (inr (inl t)) none = some_form call.words t.asks.signature_file t.asks.policy_file t.asks.form none
-    files_some_form (inr (inr t)) none = none.enforce t.asks.asks.signature_file t.asks.asks.policy_file t.asks.asks.form
+    files_some_form (inr t) none = some_form call.words t.asks.signature_file t.asks.policy_file t.asks.form none
 
     files_not_generated : AsksRefused call → (start steps : ℕ) → IsGenerate call.words start steps → ⊥
     files_not_generated (inl t) start steps form = files_or_generate call.words t.signature_file t.policy_file start steps t.form form
-    files_not_generated (inr (inl t)) start steps form = files_or_generate call.words t.asks.signature_file t.asks.policy_file start steps t.asks.form form
-    files_not_generated (inr (inr t)) start steps form = files_or_generate call.words t.asks.asks.signature_file t.asks.asks.policy_file start steps (inl t.asks.asks.form) form
+    files_not_generated (inr t) start steps form = files_or_generate call.words t.asks.signature_file t.asks.policy_file start steps t.asks.form form
 
     -- what a refused file leaves
     abbrev FilesRefused : Type 0
-    FilesRefused = ((why : SignatureRefusal) × Refuses call (refusals.Signature why)) ⊎ (((why : PolicyRefusal) × Refuses call (refusals.Policy why)) ⊎ Refuses call refusals.NotBuilt)
+    FilesRefused = ((why : SignatureRefusal) × Refuses call (refusals.Signature why)) ⊎ ((why : PolicyRefusal) × Refuses call (refusals.Policy why))
 
     -- neither file is refused where the policy is told and accepted
-    no_refusal_of_files : (entries : List NameEntry) (policy : List Rule) → AsksPolicy NamesFiles call entries policy → FilesRefused → Refuses call refusals.NotBuilt
-    no_refusal_of_files entries policy t (inl (why, r)) = absurd (no_signature_refusal call entries t.asks why r.meets)
-    no_refusal_of_files entries policy t (inr (inl (why, r))) = absurd (no_policy_refusal r.meets)
+    no_refusal_of_files : (entries : List NameEntry) (policy : List Rule) → AsksPolicy NamesFiles call entries policy → FilesRefused → ⊥
+    no_refusal_of_files entries policy t (inl (why, r)) = no_signature_refusal call entries t.asks why r.meets
+    no_refusal_of_files entries policy t (inr (why, r)) = no_policy_refusal r.meets
       where
         no_policy_refusal : RefusesPolicyFile call why → ⊥
         no_policy_refusal m =
@@ -268,20 +247,12 @@ module _ (one : OneAnswer) (one_text : OneTextAnswer) (accepted : AcceptedIsNotR
             let all = told_bytes call.before.files.contents t.asks.policy_file m.policy_file t.bytes w.bytes names.1 t.told w.under in
             let here = subst (λ (es : List NameEntry). IsRefusedPolicy es why w.bytes) (sym same) w.refused in
             policy_not_refused entries why t.bytes policy t.is_policy (subst (IsRefusedPolicy entries why) all here)
-    no_refusal_of_files entries policy t (inr (inr r)) = r
 
     enforced_not_refused : (s : Setting) → AsksTold call s → FilesRefused → ⊥
-    enforced_not_refused s t o =
-        let named = policy_named call s.entries t.policy (inl t.asks) in
-        let m = (no_refusal_of_files s.entries t.policy named o).meets in
-        let other = one_policy call s.entries named.asks named.bytes named.told m.entries m.policy (asks_named call m.entries m.policy (inl m.asks)) in
-        let same = same_policy s.entries named.bytes t.policy m.policy named.is_policy.reads other.1.reads in
-        built_or_not one_plans s.entries m.entries t.policy m.policy other.0 same t.can_be_built m.unbuilt
+    enforced_not_refused s t o = no_refusal_of_files s.entries t.policy (policy_named call s.entries t.policy (inl t.asks)) o
 
     checked_not_refused : AsksToCheck call → FilesRefused → ⊥
-    checked_not_refused (entries, policy, t) o =
-        let m = (no_refusal_of_files entries policy (policy_named call entries policy (inr t)) o).meets in
-        enforce_or_check call.words m.asks.signature_file m.asks.policy_file t.asks.signature_file t.asks.policy_file m.asks.form t.asks.form
+    checked_not_refused (entries, policy, t) o = no_refusal_of_files entries policy (policy_named call entries policy (inr t)) o
 
   module _ {Gate : Type 0} (call : Call Gate) (s : Setting) (t : AsksTold call s) where
     -- what is asked for is this setting
@@ -364,13 +335,6 @@ module _ (one : OneAnswer) (one_text : OneTextAnswer) (accepted : AcceptedIsNotR
       blank_not_refused entries rest (log.SortClash place) blank h = none_some h.0 (sym (ap record_length blank) ∙ h.1)
       blank_not_refused entries rest log.TimeTooLarge blank h = none_some h.0 (sym (ap record_length blank) ∙ h.1)
 
-      -- where a record is refused, records stop
-      refusal_stops : (entries : List NameEntry) (clock count : ℕ) (rest : List ℕ) (after : Stream) (why : RecordRefusal) → IsRefusedAs entries mode clock count rest after why → Stops entries clock rest
-      refusal_stops entries clock count rest after (records.Log why) (inl h) = refused_stops entries clock rest why h
-      refusal_stops entries clock count rest after (records.Log why) (inr (is, truncated, met)) = pending_stops entries clock rest truncated.0
-      refusal_stops entries clock count rest after (records.Falling given at) h = falling_stops entries clock rest given h.1
-      refusal_stops entries clock count rest after records.InputLimit h = pending_stops entries clock rest h.0
-
       -- blanks in front count for nothing
       begins_blanks : (entries : List NameEntry) (text other : List ℕ) (item : LogItem) (rest : List ℕ) → behind_blanks text ≡ behind_blanks other → BeginsWith entries mode text item rest → BeginsWith entries mode other item rest
       begins_blanks entries text other item rest same begins =
@@ -393,6 +357,13 @@ module _ (one : OneAnswer) (one_text : OneTextAnswer) (accepted : AcceptedIsNotR
           let stops = subst (λ (k : ℕ). Stops entries (clock_after k (records_of ys)) s) time s-stops in
           let others = read_same entries (time_of (record_of x)) p.0 xs r ys s r-stops stops p.2 m.1 (subst (λ (b : List ℕ). Spells entries mode b ys s) (sym same.1) q.2) (subst (λ (k : ℕ). NeverFall k (records_of ys)) time n.1) in
           (rw (same.0, others.0) refl, others.1)
+
+    -- where a record is refused, records stop
+    refusal_stops : (t : Taken) (after : Stream) (why : RecordRefusal) → IsRefusedAs t after why → Stops t.setting.mode t.setting.entries (clock_behind t) t.rest
+    refusal_stops t after (records.Log why) (inl h) = refused_stops t.setting.mode t.setting.entries (clock_behind t) t.rest why h
+    refusal_stops t after (records.Log why) (inr (is, truncated, met)) = pending_stops t.setting.mode t.setting.entries (clock_behind t) t.rest truncated.0
+    refusal_stops t after (records.Falling given at) h = falling_stops t.setting.mode t.setting.entries (clock_behind t) t.rest given h.1
+    refusal_stops t after records.InputLimit h = pending_stops t.setting.mode t.setting.entries (clock_behind t) t.rest h.0
 
     -- ---- what was taken
 
@@ -425,7 +396,7 @@ module _ (one : OneAnswer) (one_text : OneTextAnswer) (accepted : AcceptedIsNotR
     -- a run that is done meets no refusal
     done_meets_none : {Gate : Type 0} (call : Call Gate) → IsDone call → MeetsRefusal call → ⊥
     done_meets_none call d m = by m.why m.refused (read_same s.mode s.entries s.start.clock bytes m.read m.rest ran.answers.read ran.rest
-        (refusal_stops s.mode s.entries (clock_after s.start.clock (records_of m.read)) (length bytes) m.rest call.after.gate m.why m.refused)
+        (refusal_stops (taken_of s m.read bytes m.rest) call.after.gate m.why m.refused)
         (blank_stops s.mode s.entries (clock_after s.start.clock (records_of ran.answers.read)) ran.rest ran.ends.0) m.accepts.spelled m.accepts.rising mine ran.answers.accepts.rising)
       where
         s : Setting
@@ -446,7 +417,7 @@ module _ (one : OneAnswer) (one_text : OneTextAnswer) (accepted : AcceptedIsNotR
         blank : (m.read ≡ ran.answers.read) × (behind_blanks m.rest ≡ behind_blanks ran.rest) → behind_blanks m.rest ≡ []
         blank same = same.1 ∙ ran.ends.0
 
-        by : (why : RecordRefusal) → IsRefusedAs s.entries s.mode (clock_after s.start.clock (records_of m.read)) (length (taken_between m.x m.y)) m.rest call.after.gate why
+        by : (why : RecordRefusal) → IsRefusedAs (taken_of s m.read (taken_between m.x m.y) m.rest) call.after.gate why
             → (m.read ≡ ran.answers.read) × (behind_blanks m.rest ≡ behind_blanks ran.rest) → ⊥
         by (records.Log why) (inl h) same = blank_not_refused s.mode s.entries m.rest why (blank same) h
         by (records.Log why) (inr (is, truncated, met)) same = omega (arith, truncated.1, ap length (blank same))
@@ -483,7 +454,7 @@ module _ (one : OneAnswer) (one_text : OneTextAnswer) (accepted : AcceptedIsNotR
         not_acceptable : length (left x) < most_log_bytes → ⊥
         not_acceptable below = by why ran.ends.0
           where
-            by : (why : RecordRefusal) → IsRefusedAs s.entries s.mode clock (length ran.taken) ran.rest call.after.gate why → ⊥
+            by : (why : RecordRefusal) → IsRefusedAs (taken_of s ran.answers.read ran.taken ran.rest) call.after.gate why → ⊥
             by (records.Log refusal) (inl h) =
                 let r = Refuses-append s.entries s.mode ran.rest more refusal h in
                 blank_not_refused s.mode s.entries (ran.rest ++ more) refusal (nothing_more (ran.rest ++ more) (refused_stops s.mode s.entries clock (ran.rest ++ more) refusal r) longer) r
@@ -564,19 +535,16 @@ module _ (one : OneAnswer) (one_text : OneTextAnswer) (accepted : AcceptedIsNotR
 
       refused_gate : FilesRefused call → LeavesGate call
       refused_gate (inl (why, r)) = r.meets.gate
-      refused_gate (inr (inl (why, r))) = r.meets.gate
-      refused_gate (inr (inr r)) = r.meets.gate
+      refused_gate (inr (why, r)) = r.meets.gate
 
       refused_files : FilesRefused call → LeavesFiles call
       refused_files (inl (why, r)) = r.meets.files
-      refused_files (inr (inl (why, r))) = r.meets.files
-      refused_files (inr (inr r)) = r.meets.files
+      refused_files (inr (why, r)) = r.meets.files
 
       -- the words of a refused file are of a form
       refused_named : FilesRefused call → (signature : List ℕ) × (policy : List ℕ) × NamesFiles call.words signature policy
       refused_named (inl (why, r)) = (r.meets.signature_file, r.meets.policy_file, r.meets.form)
-      refused_named (inr (inl (why, r))) = (r.meets.signature_file, r.meets.policy_file, r.meets.form)
-      refused_named (inr (inr r)) = (r.meets.asks.signature_file, r.meets.asks.policy_file, inl r.meets.asks.form)
+      refused_named (inr (why, r)) = (r.meets.signature_file, r.meets.policy_file, r.meets.form)
 
       refused_not_done : FilesRefused call → IsAcceptable call ⊎ (AsksToGenerate call ⊎ AsksToCheck call) → ⊥
       refused_not_done o (inl due) = enforced_not_refused call due.setting due.asks o

@@ -1,7 +1,6 @@
 -- How far the run of a log has come, and one turn more.
-use Rattle.std.proofs.Common.{◌≡◌, ◌≢◌, ℕ, ◌+◌, ◌-◌, ◌<◌, ◌≤◌, List, [], ◌∷◌, ◌++◌, length, refl, sym, ap, subst, ◌∙◌, inl, inr, IsTrue, Option, None, Some, Err, arith, length-append, append_assoc}
+use Rattle.std.proofs.Common.{◌≡◌, ◌≢◌, ℕ, ◌+◌, ◌-◌, ◌<◌, ◌≤◌, List, [], ◌∷◌, ◌++◌, length, refl, sym, ap, subst, ◌∙◌, inl, inr, Option, None, Some, Err, arith, length-append, append_assoc}
 use Rattle.std.specs.Prelude.{◌⊎◌}
-use Rattle.std.specs.List.{All}
 use Rattle.std.specs.Option.{option_map}
 use Rattle.std.proofs.lemmas.List.{append-nil, map-append, length_push}
 use Rattle.std.proofs.lemmas.List.Concat.{flat_map-append}
@@ -13,8 +12,11 @@ use Rattle.enf_value.specs.declared.steps.Step.{Step}
 use Rattle.choice_step.specs.Follows.{ActedStep, out_step, steps_of}
 use Rattle.enforcer_core.specs.Answered.{Permits}
 use Rattle.enforcer_core.specs.Course.{Course}
-use Rattle.enforcer_core.specs.Enforcers.{Enforcing, acted_steps, formulas_for, out_steps, plans_of}
-use Rattle.enforcer_core.specs.Laws.{StandAtNow}
+use Rattle.enforcer_core.specs.Existing.{IsJustOne}
+use Rattle.enforcer_core.specs.Follows.{FollowsPolicy, FollowsToEnd}
+use Rattle.choice_step.specs.Laws.{AreDistinct}
+use Rattle.enf_value.specs.declared.terms.VarId.{VarId}
+use Rattle.enforcer_core.specs.Enforcers.{Enforcing, acted_steps, out_steps, plans_of}
 use Rattle.enforcer_core.specs.Stands.{Stands}
 use Rattle.enforcer_core.specs.declared.steps.StepOut.{StepOut}
 use Rattle.log_stream.specs.LogLaws.{Spells-append, Spells-blanks, Spells-none, Spells-push}
@@ -29,10 +31,11 @@ use Rattle.trace_meaning.specs.OutSteps.{trace_of}
 use Rattle.trace_meaning.specs.Records.{Record, clock_after}
 use Rattle.enf_cli.specs.Accepted.{Accepts, UpToDate, record_of, records_of}
 use Rattle.enforce_types.specs.Marks.{is_causable, is_suppressible}
+use Rattle.enforce_types.specs.Typed.{WorkTogether, typed_of}
 use Rattle.enf_cli.specs.Endings.{GaveLines, write_faults_behind}
 use Rattle.enf_cli.specs.Exchanges.{Exchanged, IsBegun}
 use Rattle.enf_cli.specs.Limits.{most_log_bytes}
-use Rattle.enf_cli.specs.Logs.{CutsRun, EndsAs, IsOwedWhere, IsRefusedAs, RanAsJudged, RunsShort}
+use Rattle.enf_cli.specs.Logs.{CutsRun, EndsAs, IsOwedWhere, IsRefusedAs, RanAsJudged, RunsShort, Taken, taken_of}
 use Rattle.enf_cli.specs.Owed.{HasPlans, IsOwedInAll, IsOwedSoFar, Setting, setting_of}
 use Rattle.enf_cli.specs.Progress.{CutsDrain, CutsDrainLines, CutsTaken, CutsTurn, Drains, GivesDrain, Laws, LosesBytes, TakesBytes, TakesItem, TakesRecord, lines_of, moment}
 use Rattle.enf_cli.specs.declared.endings.Cut.{Cut}
@@ -43,7 +46,7 @@ use Rattle.enf_cli.specs.declared.log.Verdict.TheVariants as verdicts
 use Rattle.enf_cli.specs.declared.refusals.RecordRefusal.{RecordRefusal}
 use Rattle.enf_cli.specs.declared.refusals.RecordRefusal.TheVariants as records
 use Rattle.enf_cli.proofs.ExchangeLemmas.{IsSteady, begun_gave, begun_took, exchanged_gave, exchanged_none, exchanged_took, gave_none, steady_gave, steady_none, steady_took}
-use Rattle.enf_cli.proofs.LogLemmas.{begins_shorter}
+use Rattle.enf_cli.proofs.LogLemmas.{begins_shorter, read_distinct}
 
 -- what is given behind the end of the input leaves it ended
 end_gave : (bytes : List ℕ) (told told' : Option Exchange) → Gave bytes told told' → IsAtEnd told → IsAtEnd told'
@@ -54,21 +57,25 @@ end_gave bytes told told' gave ended = subst IsAtEnd (sym gave) (by told ended)
     by (Some x) h = h
 
 -- so the log has ended as it had
-module _ (entries : List NameEntry) (clock count : ℕ) (rest : List ℕ) (before b c : Stream) (bytes : List ℕ) (gave : Gave bytes b.told c.told) (reads : c.read_faults ≡ b.read_faults) where
-  refused_gave : (why : RecordRefusal) → IsRefusedAs entries Input clock count rest b why → IsRefusedAs entries Input clock count rest c why
+module _ (t : Taken) (before b c : Stream) (bytes : List ℕ) (gave : Gave bytes b.told c.told) (reads : c.read_faults ≡ b.read_faults) where
+  refused_gave : (why : RecordRefusal) → IsRefusedAs t b why → IsRefusedAs t c why
   refused_gave (records.Log why) (inl h) = inl h
   refused_gave (records.Log why) (inr (is, truncated, met)) = inr (is, truncated, (met.0, end_gave bytes b.told c.told gave met.1))
   refused_gave (records.Falling given at) h = h
   refused_gave records.InputLimit h = h
 
-  pub ends_gave : (verdict : Verdict) → EndsAs entries Input clock count rest before b verdict → EndsAs entries Input clock count rest before c verdict
+  pub ends_gave : (verdict : Verdict) → EndsAs t before b verdict → EndsAs t before c verdict
   ends_gave verdicts.Accepted h = (h.0, (h.1.0, end_gave bytes b.told c.told gave h.1.1), reads ∙ h.2)
   ends_gave verdicts.Fault h = (h.0, reads ∙ h.1)
   ends_gave (verdicts.Refused why) h = (refused_gave why h.0, reads ∙ h.1)
 
--- what the plans of an enforcer change may be changed, and none of them looks ahead
+-- where just one list of steps goes out, none goes out beside it
+none_else : (P : List ActedStep → Type 0) → IsJustOne P → (out : List ActedStep) → P out → (others : List ActedStep) → P others → others ≡ out
+none_else P one out is others also = one.2 others also ∙ sym (one.2 out is)
+
+-- what the plans of an enforcer change may be changed, and they belong together with their guards
 abbrev pub MayRun : List NameEntry → Enforcing → Type 0
-MayRun entries enforcer = Permits (is_causable entries) (is_suppressible entries) (plans_of enforcer) × StandAtNow (plans_of enforcer)
+MayRun entries enforcer = Permits (is_causable entries) (is_suppressible entries) (plans_of enforcer) × WorkTogether (typed_of enforcer.policy)
 
 module _ (entries : List NameEntry) (policy : List Formula) (first : Enforcing) (trace : List Step) where
   abbrev pub setting : Setting
@@ -96,11 +103,14 @@ module _ (entries : List NameEntry) (policy : List Formula) (first : Enforcing) 
     pub so_far : HasRead taken rest now
     pub count : accepted ≡ length so_far.read
     pub exchanged : Exchanged (UpToDate setting) taken (text_of (names_of entries) (out_steps so_far.out)) before.told after.told
-    pub ends : EndsAs entries Input (clock_after first.clock (records_of so_far.read)) (length taken) rest before after verdict
+    pub ends : EndsAs (taken_of setting so_far.read taken rest) before after verdict
     pub begun : IsBegun before.told after.told
     pub writes : after.write_faults ≡ before.write_faults
 
   module _ (laws : Laws) (may : MayRun entries first) (built : HasPlans entries policy first) where
+    abbrev guards : List (Formula × List VarId)
+    guards = (typed_of first.policy).guards
+
     -- before any call
     pub progress_none : Stands first trace → (before : Stream) → Progress before [] [] 0 first before
     progress_none stands before =
@@ -115,23 +125,30 @@ module _ (entries : List NameEntry) (policy : List Formula) (first : Enforcing) 
         }
 
     module _ (taken rest : List ℕ) (now : Enforcing) (h : HasRead taken rest now) where
+      distinct : AreDistinct (records_of h.read)
+      distinct = read_distinct entries taken h.read rest h.spelled
+
       -- what went out is what is owed to the records so far
       pub owed_so_far : IsOwedSoFar setting (records_of h.read) h.out
       owed_so_far =
           let k = laws.keeps_up (is_causable entries) (is_suppressible entries) first trace (records_of h.read) h.out now may.0 may.1 h.course in
           let good = k.good in
+          let decided = laws.follows entries policy guards first trace (records_of h.read) h.out now built h.course in
           record {
-            keeps_up = record { lawful = k.lawful; within = k.within; good = (good.0, good.1, laws.planned entries policy (plans_of first) built.0 good.0 built.1 good.2) };
-            decided = laws.follows entries policy built.0 first trace (records_of h.read) h.out now built.1 h.course;
+            keeps_up = record { lawful = k.lawful; within = k.within; good = (good.0, good.1, laws.planned entries policy (plans_of first) guards good.0 built good.2) };
+            decided = decided;
+            only = none_else (FollowsPolicy entries policy trace (records_of h.read)) (laws.just_one entries policy (typed_of first.policy) trace (records_of h.read) built may.1 distinct) h.out decided;
           }
 
       -- and with a drain what is owed in all
       pub owed_in_all : (made : StepOut) (after : Enforcing) → Drains now made after → IsOwedInAll setting (records_of h.read) (h.out ++ acted_steps made.steps)
       owed_in_all made after d =
           let e = laws.enforces (is_causable entries) (is_suppressible entries) first trace (records_of h.read) h.out now made after may.0 h.course d.stands d.satisfied d.changed in
+          let decided = laws.follows_to_end entries policy guards first trace (records_of h.read) h.out now made built h.course d.decided in
           record {
-            enforced = record { lawful = e.lawful; is_trace = e.is_trace; satisfied = laws.planned entries policy (plans_of first) built.0 (trace ++ trace_of (out_steps (h.out ++ acted_steps made.steps))) built.1 e.satisfied };
-            decided = laws.follows_to_end entries policy built.0 first trace (records_of h.read) h.out now made built.1 h.course d.decided;
+            enforced = record { lawful = e.lawful; is_trace = e.is_trace; satisfied = laws.planned entries policy (plans_of first) guards (trace ++ trace_of (out_steps (h.out ++ acted_steps made.steps))) built e.satisfied };
+            decided = decided;
+            only = none_else (FollowsToEnd entries policy trace (records_of h.read)) (laws.just_one_to_end entries policy (typed_of first.policy) trace (records_of h.read) built may.1 distinct) (h.out ++ acted_steps made.steps) decided;
           }
 
       pub accepts : Accepts entries Input first.clock taken h.read rest
@@ -184,18 +201,18 @@ module _ (entries : List NameEntry) (policy : List Formula) (first : Enforcing) 
         is (o ∷ out) = ap (λ (steps : List Step). o.step ∷ steps) (is out)
 
     -- what is owed can be continued well
-    good_owed : (read : List LogItem) (count : ℕ) (rest : List ℕ) (before after : Stream) (out : List ActedStep) → IsOwedWhere setting read count rest before after out → (clock : ℕ) × Good policy (trace ++ steps_of out) clock
-    good_owed read count rest before after out (inl within) = (clock_after first.clock (records_of read), same_steps out (λ steps. Good policy (trace ++ steps) (clock_after first.clock (records_of read))) within.0.keeps_up.good)
-    good_owed read count rest before after out (inr (inl so_far, ended)) = (clock_after first.clock (records_of read), same_steps out (λ steps. Good policy (trace ++ steps) (clock_after first.clock (records_of read))) so_far.keeps_up.good)
-    good_owed read count rest before after out (inr (inr in_all, ended)) =
+    good_owed : (read : List LogItem) (taken rest : List ℕ) (before after : Stream) (out : List ActedStep) → IsOwedWhere (taken_of setting read taken rest) before after out → (clock : ℕ) × Good policy (trace ++ steps_of out) clock
+    good_owed read taken rest before after out (inl within) = (clock_after first.clock (records_of read), same_steps out (λ steps. Good policy (trace ++ steps) (clock_after first.clock (records_of read))) within.0.keeps_up.good)
+    good_owed read taken rest before after out (inr (inl so_far, ended)) = (clock_after first.clock (records_of read), same_steps out (λ steps. Good policy (trace ++ steps) (clock_after first.clock (records_of read))) so_far.keeps_up.good)
+    good_owed read taken rest before after out (inr (inr in_all, ended)) =
         (first.clock, same_steps out (λ steps. Good policy (trace ++ steps) first.clock) (laws.satisfying policy (trace ++ trace_of (out_steps out)) first.clock in_all.enforced.is_trace in_all.enforced.satisfied))
 
     -- what is owed was given all, as far as it is known
     short_whole : (before : Stream) (taken rest : List ℕ) (now : Enforcing) (h : HasRead taken rest now) (c : Stream) → Exchanged (UpToDate setting) taken (text_of (names_of entries) (out_steps h.out)) before.told c.told
-        → IsOwedWhere setting h.read (length taken) rest before c h.out → RunsShort setting before c
+        → IsOwedWhere (taken_of setting h.read taken rest) before c h.out → RunsShort setting before c
     short_whole before taken rest now h c exchanged owed =
         let given = text_of (names_of entries) (out_steps h.out) in
-        let good = good_owed h.read (length taken) rest before c h.out owed in
+        let good = good_owed h.read taken rest before c h.out owed in
         record {
           taken = taken;
           given = given;
@@ -217,10 +234,10 @@ module _ (entries : List NameEntry) (policy : List Formula) (first : Enforcing) 
     -- of the lines of more steps not all were given
     short_lines : (before : Stream) (taken rest : List ℕ) (read : List LogItem) (b c : Stream) (out : List ActedStep) (made : StepOut) → Accepts entries Input first.clock taken read rest
         → Exchanged (UpToDate setting) taken (text_of (names_of entries) (out_steps out)) before.told b.told → GaveLines (names_of entries) (acted_steps made.steps) b.told c.told
-        → IsOwedWhere setting read (length taken) rest before c (out ++ acted_steps made.steps) → (short : RunsShort setting before c) × (short.behind ≢ [])
+        → IsOwedWhere (taken_of setting read taken rest) before c (out ++ acted_steps made.steps) → (short : RunsShort setting before c) × (short.behind ≢ [])
     short_lines before taken rest read b c out made accepted exchanged lines owed =
         let given = text_of (names_of entries) (out_steps out) in
-        let good = good_owed read (length taken) rest before c (out ++ acted_steps made.steps) owed in
+        let good = good_owed read taken rest before c (out ++ acted_steps made.steps) owed in
         let split : out ++ acted_steps made.steps ≡ (out ++ lines.whole) ++ lines.next ∷ lines.behind =
         ap (λ (l : List ActedStep). out ++ l) lines.split ∙ sym (append_assoc out lines.whole (lines.next ∷ lines.behind)) in (
           record {
@@ -330,7 +347,7 @@ module _ (entries : List NameEntry) (policy : List Formula) (first : Enforcing) 
                   (exchanged_gave (UpToDate setting) taken (text_of (names_of entries) (out_steps h.out)) before.told b.told c.told e.exchanged (lines_of entries g.made) g.given);
               rest = rest;
               answers = record { read = h.read; accepts = accepts taken rest now h; out = h.out ++ acted_steps g.made.steps; text = refl; owed = owed_in_all taken rest now h g.made after g.drains };
-              ends = ends_gave entries (clock_after first.clock (records_of h.read)) (length taken) rest before b c (lines_of entries g.made) g.given reads verdict e.ends;
+              ends = ends_gave (taken_of setting h.read taken rest) before b c (lines_of entries g.made) g.given reads verdict e.ends;
               writes = writes ∙ e.writes;
             };
             count = e.count;
@@ -341,7 +358,7 @@ module _ (entries : List NameEntry) (policy : List Formula) (first : Enforcing) 
       drain_short t =
           let h = e.so_far in
           let given = text_of (names_of entries) (out_steps t.given.whole) ++ t.given.front in
-          let ends = ends_gave entries (clock_after first.clock (records_of h.read)) (length taken) rest before b c given t.given.gave reads verdict e.ends in
+          let ends = ends_gave (taken_of setting h.read taken rest) before b c given t.given.gave reads verdict e.ends in
           short_lines before taken rest h.read b c h.out t.made (accepts taken rest now h) e.exchanged t.given (inr (inr (owed_in_all taken rest now h t.made t.after t.drains), (verdict, ends)))
 
       pub cut_drain : (T : Type 0) (cut : Cut) → CutsDrain entries (moment now b) c.told cut → c.write_faults ≡ write_faults_behind {T = T} (Err cut) b.write_faults → CutsRun setting before c cut
@@ -353,7 +370,7 @@ module _ (entries : List NameEntry) (policy : List Formula) (first : Enforcing) 
       cut_drain T cuts.NoMemory (inl same) writes =
           let h = e.so_far in
           let none : Gave [] b.told c.told = subst (Gave [] b.told) (sym same) (gave_none b.told) in
-          let ends = ends_gave entries (clock_after first.clock (records_of h.read)) (length taken) rest before b c [] none reads verdict e.ends in (
+          let ends = ends_gave (taken_of setting h.read taken rest) before b c [] none reads verdict e.ends in (
             short_whole before taken rest now h c (subst (λ (o : Option Exchange). Exchanged (UpToDate setting) taken (text_of (names_of entries) (out_steps h.out)) before.told o) (sym same) e.exchanged)
                 (inr (inl (owed_so_far taken rest now h), (verdict, ends))),
             writes ∙ e.writes,

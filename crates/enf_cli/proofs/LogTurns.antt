@@ -1,5 +1,5 @@
 -- One turn more of the run of a log, and how it ends.
-use Rattle.std.proofs.Common.{◌≡◌, ℕ, ◌+◌, ◌*◌, ◌-◌, ◌^◌, ◌<◌, ◌≤◌, List, [], ◌++◌, length, length-append, None, inl, inr, refl, sym, ap, subst, ◌∙◌, Option, Err, IsTrue, arith}
+use Rattle.std.proofs.Common.{◌≡◌, ℕ, ◌+◌, ◌*◌, ◌-◌, ◌^◌, ◌<◌, ◌≤◌, List, [], ◌++◌, length, length-append, None, inl, inr, refl, sym, ap, subst, ◌∙◌, Option, Err, arith}
 use Rattle.enf_io.specs.Counts.{one_more}
 use Rattle.enf_io.specs.Exchange.{Exchange}
 use Rattle.enf_io.specs.Streams.{Stream}
@@ -17,12 +17,11 @@ use Rattle.log_stream.specs.declared.items.LogRefusal.{LogRefusal}
 use Rattle.log_stream.specs.declared.items.LogRefusal.TheVariants as log
 use Rattle.signature.specs.Grammar.{names as names_of}
 use Rattle.signature.specs.declared.entries.NameEntry.{NameEntry}
-use Rattle.trace_meaning.specs.Records.{clock_after}
-use Rattle.enf_cli.specs.Accepted.{UpToDate, records_of}
+use Rattle.enf_cli.specs.Accepted.{UpToDate}
 use Rattle.enf_cli.specs.Endings.{write_faults_behind}
 use Rattle.enf_cli.specs.Exchanges.{Exchanged, IsBegun}
 use Rattle.enf_cli.specs.Limits.{most_log_bytes}
-use Rattle.enf_cli.specs.Logs.{CutsRun, EndsAs, IsRefusedAs, MetEnd}
+use Rattle.enf_cli.specs.Logs.{CutsRun, EndsAs, IsRefusedAs, MetEnd, Taken, taken_of}
 use Rattle.enf_cli.specs.Owed.{HasPlans, Setting, setting_of}
 use Rattle.enf_cli.specs.Progress.{AnswersTurn, CutsTurn, EndsByRefusal, EndsTurn, EnforcesOne, IsLeft, IsNew, Laws, MeetsEnd, RefusesNext, TakesBytes, TakesMore, reads_on}
 use Rattle.enf_cli.specs.declared.endings.Cut.{Cut}
@@ -67,6 +66,9 @@ module _ (entries : List NameEntry) (policy : List Formula) (first : Enforcing) 
     abbrev given : List ℕ
     given = text_of (names_of entries) (out_steps h.so_far.out)
 
+    abbrev so_taken : Taken
+    so_taken = taken_of here h.so_far.read taken old.reader.rest
+
     -- what the exchange was before the last turn it still is, where that left the gate
     left_as_it_was : c.told ≡ b.told → Exchanged (UpToDate here) taken given before.told c.told
     left_as_it_was same = subst (λ (o : Option Exchange). Exchanged (UpToDate here) taken given before.told o) (sym same) h.exchanged
@@ -77,7 +79,7 @@ module _ (entries : List NameEntry) (policy : List Formula) (first : Enforcing) 
     abbrev EndedSo : Verdict → Type 0
     EndedSo verdict = Ended entries policy first trace before taken old.reader.rest old.accepted old.enforcer verdict c
 
-    ends_with : (verdict : Verdict) → Exchanged (UpToDate here) taken given before.told c.told → EndsAs entries Input (clock_after first.clock (records_of h.so_far.read)) (length taken) old.reader.rest before c verdict
+    ends_with : (verdict : Verdict) → Exchanged (UpToDate here) taken given before.told c.told → EndsAs so_taken before c verdict
         → IsBegun before.told c.told → EndedSo verdict
     ends_with verdict exchanged ends begun = record { so_far = h.so_far; count = h.count; exchanged = exchanged; ends = ends; begun = begun; writes = writes ∙ h.writes }
 
@@ -85,12 +87,12 @@ module _ (entries : List NameEntry) (policy : List Formula) (first : Enforcing) 
     met_end m = (omega (arith, m.below, count), m.at_end)
 
     -- a read that took nothing ended the log
-    ended_read : (verdict : Verdict) → MeetsEnd old b c → EndsAs entries Input (clock_after first.clock (records_of h.so_far.read)) (length taken) old.reader.rest before c verdict → EndedSo verdict
+    ended_read : (verdict : Verdict) → MeetsEnd old b c → EndsAs so_taken before c verdict → EndedSo verdict
     ended_read verdict m ends =
         ends_with verdict (exchanged_ended (UpToDate here) taken given before.told b.told c.told h.exchanged (now_up_to_date m.pending) h.steady m.took) ends
         (begun_took (UpToDate here) taken given before.told b.told c.told h.exchanged [] m.took)
 
-    refused : (why : RecordRefusal) → IsRefusedAs entries Input (clock_after first.clock (records_of h.so_far.read)) (length taken) old.reader.rest c why → IsLeft b c → 0 < length taken → EndedSo (verdicts.Refused why)
+    refused : (why : RecordRefusal) → IsRefusedAs so_taken c why → IsLeft b c → 0 < length taken → EndedSo (verdicts.Refused why)
     refused why is left some =
         ends_with (verdicts.Refused why) (left_as_it_was left.0) (is, left.1 ∙ h.reads) (subst (λ (o : Option Exchange). IsBegun before.told o) (sym left.0) (h.begun some))
 
@@ -98,7 +100,7 @@ module _ (entries : List NameEntry) (policy : List Formula) (first : Enforcing) 
     some_taken why r = omega (arith, room, count, refused_some entries old.reader.rest old.enforcer.clock why r)
 
     -- the refusal of the record at the front is that of the rest
-    as_refused : (why : RecordRefusal) → RefusesNext entries old.reader.rest old.enforcer.clock why → IsRefusedAs entries Input (clock_after first.clock (records_of h.so_far.read)) (length taken) old.reader.rest c why
+    as_refused : (why : RecordRefusal) → RefusesNext entries old.reader.rest old.enforcer.clock why → IsRefusedAs so_taken c why
     as_refused (records.Log why) r = inl r
     as_refused (records.Falling given' at) r =
         let f = r.1 in
@@ -122,7 +124,7 @@ module _ (entries : List NameEntry) (policy : List Formula) (first : Enforcing) 
         (begun_marked (UpToDate here) taken given before.told b.told c.told h.exchanged e.1)
     ends_log (verdicts.Refused why) e = ends_refused why e
 
--- for each trace that the enforcer stood for, and each policy of which its rules are built, so much was done
+-- for each trace that the enforcer stood for, and each policy whose plans it has, so much was done
 abbrev pub Done : List NameEntry → Enforcing → Stream → List ℕ → Enforcement → Stream → Type 0
 Done entries first before taken log after = (policy : List Formula) (trace : List Step) → HasPlans entries policy first → Stands first trace
     → Progress entries policy first trace before taken log.reader.rest log.accepted log.enforcer after

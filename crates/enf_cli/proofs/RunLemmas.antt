@@ -1,24 +1,20 @@
 -- How a run ends, from how its parts end.
-use Rattle.std.proofs.Common.{◌≡◌, ℕ, ◌+◌, List, [], length, inl, inr, refl, sym, ap, subst, Ok, Err, Bool, true, false, ◌∷◌, ◌||◌, ◌∙◌, ◌-◌, map, take, suc, zero}
+use Rattle.std.proofs.Common.{◌≡◌, ℕ, ◌+◌, List, [], length, inl, inr, refl, sym, ap, subst, Ok, Err, ◌∷◌, ◌∙◌, ◌-◌, map, take, suc, zero}
 use Rattle.enforcer_core.specs.Enforcers.{Enforcing}
-use Rattle.obligations.specs.Begun.{has_future}
-use Rattle.obligations.specs.Traces.{LooksAtNow}
-use Rattle.plan_terms.specs.Nodes.{is_future, nodes}
-use Rattle.plan_terms.specs.Plans.{Plan}
-use Rattle.std.specs.List.{AllByRecursion, list_any}
 use Rattle.enf_formula.specs.Formulas.{Formula}
 use Rattle.formula_reader.specs.Resolution.{Rule}
 use Rattle.log_stream.specs.declared.items.LogMode.TheVariants.{Input}
 use Rattle.signature.specs.declared.entries.NameEntry.{NameEntry}
 use Rattle.choice_step.specs.Follows.{ActedStep}
 use Rattle.enf_io.specs.Streams.{Stream}
+use Rattle.enf_io.specs.declared.devices.IoRefusal.TheVariants as io
 use Rattle.enf_cli.specs.Actions.{SaysActions, SaysActionsInPart, action_lines, joined, lines_of_actions}
 use Rattle.enf_io.specs.Exchange.{Gave}
 use Rattle.std.proofs.lemmas.List.{append-nil}
 use Rattle.enf_cli.specs.Calls.{Call, LeavesFiles}
 use Rattle.enf_cli.specs.Checking.{check_text}
 use Rattle.enf_cli.specs.Endings.{ending_after_file}
-use Rattle.enf_cli.specs.Policies.{CanBeBuilt, formulas, look_ahead}
+use Rattle.enf_cli.specs.Policies.{formulas}
 use Rattle.enf_cli.specs.Files.{EndsFile, HoldsPolicy, HoldsRefusedPolicy, HoldsRefusedSignature, HoldsSignature}
 use Rattle.enf_cli.specs.Logs.{CutsRun, RunsLog, conclusion_of}
 use Rattle.enf_cli.specs.Owed.{Setting, anew, setting_of}
@@ -49,23 +45,6 @@ pub from_the_start : (entries : List NameEntry) (policy : List Formula) (enforce
 from_the_start entries policy enforcer is P =
     subst (λ (clock : ℕ). P (record { entries = entries; policy = policy; mode = Input; start = record { trace = []; clock = clock } })) is
 
--- where no element passes a test, each fails it
-any_none : {X : Type 0} (p : X → Bool) (xs : List X) → list_any p xs ≡ false → AllByRecursion (λ x. p x ≡ false) xs
-any_none p [] none = tt
-any_none {X = X} p (x ∷ xs) none = by (p x) refl none (any_none p xs)
-  where
-    by : (b : Bool) → p x ≡ b → (b || list_any p xs) ≡ false → (list_any p xs ≡ false → AllByRecursion (λ y. p y ≡ false) xs) → AllByRecursion (λ y. p y ≡ false) (x ∷ xs)
-    by true e h rest = cc
-    by false e h rest = (e, rest h)
-
--- plans that do not look ahead have no node that does
-pub none_ahead : (plans : List Plan) → look_ahead plans ≡ false → AllByRecursion LooksAtNow plans
-none_ahead plans none = each plans (any_none has_future plans none)
-  where
-    each : (plans : List Plan) → AllByRecursion (λ plan. has_future plan ≡ false) plans → AllByRecursion LooksAtNow plans
-    each [] h = tt
-    each (plan ∷ plans) h = (any_none is_future (nodes plan) h.0, each plans h.1)
-
 -- ---- the work of a run
 
 module _ {Gate : Type 0} (call : Call Gate) (signature_file policy_file : List ℕ) (form : NamesFiles call.words signature_file policy_file) where
@@ -78,9 +57,9 @@ module _ {Gate : Type 0} (call : Call Gate) (signature_file policy_file : List �
       → EndsFile (HoldsRefusedSignature call.before.files.contents signature_file) signature_file call.before.files call.after.files end → Performs call (Err (ending_after_file refusals.Signature end))
   signature_ends (files.Refused why) itself seen h =
       record { signature_file = signature_file; policy_file = policy_file; form = form; refused = h.0; gate = (itself, seen); files = h.1 }
-  signature_ends files.Fault itself seen h =
+  signature_ends (files.NotRead io.Failed) itself seen h =
       inl (record { signature_file = signature_file; policy_file = policy_file; form = form; failed = inl h; gate = (itself, seen) })
-  signature_ends files.NoMemory itself seen h = memory_ends itself seen h
+  signature_ends (files.NotRead io.NoMemory) itself seen h = memory_ends itself seen h
 
   -- the policy gives nothing, behind a signature
   pub policy_ends : (entries : List NameEntry) (end : FileEnding PolicyRefusal) → call.after.gate_itself ≡ call.before.gate_itself → call.after.gate ≡ call.before.gate
@@ -88,13 +67,13 @@ module _ {Gate : Type 0} (call : Call Gate) (signature_file policy_file : List �
       → EndsFile (HoldsRefusedPolicy call.before.files.contents policy_file entries) policy_file call.before.files call.after.files end → Performs call (Err (ending_after_file refusals.Policy end))
   policy_ends entries (files.Refused why) itself seen holds h =
       record { signature_file = signature_file; policy_file = policy_file; form = form; entries = entries; holds_signature = holds; refused = h.0; gate = (itself, seen); files = h.1 }
-  policy_ends entries files.Fault itself seen holds h =
+  policy_ends entries (files.NotRead io.Failed) itself seen holds h =
       inl (record { signature_file = signature_file; policy_file = policy_file; form = form; failed = inr ((entries, holds), h); gate = (itself, seen) })
-  policy_ends entries files.NoMemory itself seen holds h = memory_ends itself seen h
+  policy_ends entries (files.NotRead io.NoMemory) itself seen holds h = memory_ends itself seen h
 
 module _ {Gate : Type 0} (call : Call Gate) (signature_file policy_file : List ℕ) (form : IsEnforce call.words signature_file policy_file) (entries : List NameEntry) (policy : List Rule)
     (holds_signature : HoldsSignature call.before.files.contents signature_file entries) (holds_policy : HoldsPolicy call.before.files.contents policy_file entries policy)
-    (can_be_built : CanBeBuilt entries (formulas policy)) (same : LeavesFiles call) where
+    (same : LeavesFiles call) where
   abbrev here : Setting
   here = anew entries (formulas policy)
 
@@ -103,7 +82,6 @@ module _ {Gate : Type 0} (call : Call Gate) (signature_file policy_file : List �
       record {
         policy = policy;
         asks = record { signature_file = signature_file; policy_file = policy_file; form = form; holds_signature = holds_signature; holds_policy = holds_policy };
-        can_be_built = can_be_built;
         is_setting = refl;
       }
 
@@ -161,8 +139,7 @@ module _ {Gate : Type 0} (call : Call Gate) (signature_file policy_file : List �
 of_refusal : {Gate : Type 0} (call : Call Gate) (why : Refusal) → Refuses call why → Outcome call (status_of why)
 of_refusal call refusals.Words r = r
 of_refusal call (refusals.Signature why) r = inl (why, r)
-of_refusal call (refusals.Policy why) r = inr (inl (why, r))
-of_refusal call refusals.NotBuilt r = inr (inr r)
+of_refusal call (refusals.Policy why) r = inr (why, r)
 of_refusal call (refusals.Record number why) r = (number, why, r)
 of_refusal call refusals.ReadFault r = r
 

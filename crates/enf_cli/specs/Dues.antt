@@ -6,14 +6,14 @@ use Rattle.formula_reader.specs.Resolution.{Rule}
 use Rattle.signature.specs.declared.entries.NameEntry.{NameEntry}
 use Rattle.log_stream.specs.Logs.{IsLog}
 use Rattle.log_stream.specs.declared.items.LogItem.{LogItem}
-use Rattle.trace_meaning.specs.Records.{NeverFall, clock_after}
+use Rattle.trace_meaning.specs.Records.{NeverFall}
 use Rattle.enf_cli.specs.Accepted.{Accepts, records_of}
 use Rattle.enf_cli.specs.Calls.{Call}
 use Rattle.enf_cli.specs.Limits.{most_log_bytes}
 use Rattle.enf_cli.specs.Files.{IsRefusedPolicy, IsRefusedSignature}
-use Rattle.enf_cli.specs.Logs.{IsRefusedAs}
+use Rattle.enf_cli.specs.Logs.{IsRefusedAs, taken_of}
 use Rattle.enf_cli.specs.Owed.{Setting, anew}
-use Rattle.enf_cli.specs.Policies.{CanBeBuilt, CannotBeBuilt, SpellsPolicy, formulas}
+use Rattle.enf_cli.specs.Policies.{SpellsPolicy, formulas}
 use Rattle.enf_cli.specs.Signatures.{SpellsSignature}
 use Rattle.enf_cli.specs.Words.{IsCheck, IsEnforce, IsGenerate, MatchNoForm, NamesFiles}
 use Rattle.enf_cli.specs.declared.refusals.PolicyRefusal.{PolicyRefusal}
@@ -45,12 +45,11 @@ pub record AsksPolicy {Gate : Type 0} (IsForm : List (List ℕ) → List ℕ →
   pub told : TellBytes call.before.files.contents asks.policy_file bytes
   pub is_policy : SpellsPolicy entries bytes policy
 
--- the words ask to enforce, under a signature and a policy that files tell and that can be built, so that the log is
--- enforced in this setting
+-- the words ask to enforce, under a signature that files tell and a policy that they tell and that is accepted, so that
+-- the log is enforced in this setting
 pub record AsksTold {Gate : Type 0} (call : Call Gate) (s : Setting) : Type 0 where
   pub policy : List Rule
   pub asks : AsksPolicy IsEnforce call s.entries policy
-  pub can_be_built : CanBeBuilt s.entries (formulas policy)
   pub is_setting : s ≡ anew s.entries (formulas policy)
 
 -- the words name a signature that files tell and that is refused
@@ -72,16 +71,9 @@ pub record AsksRefusedPolicy {Gate : Type 0} (call : Call Gate) : Type 0 where
   pub why : PolicyRefusal
   pub refused : IsRefusedPolicy entries why bytes
 
--- the words ask to enforce a policy that files tell and that is accepted, but cannot be built
-pub record AsksUnbuilt {Gate : Type 0} (call : Call Gate) : Type 0 where
-  pub entries : List NameEntry
-  pub policy : List Rule
-  pub asks : AsksPolicy IsEnforce call entries policy
-  pub unbuilt : CannotBeBuilt entries (formulas policy)
-
 -- the files that the words name are such that the run is refused
 abbrev pub AsksRefused : {Gate : Type 0} → Call Gate → Type 0
-AsksRefused call = AsksRefusedSignature call ⊎ (AsksRefusedPolicy call ⊎ AsksUnbuilt call)
+AsksRefused call = AsksRefusedSignature call ⊎ AsksRefusedPolicy call
 
 -- what was taken between two moments of a gate
 abbrev pub taken_between : Exchange → Exchange → List ℕ
@@ -118,8 +110,7 @@ pub record MeetsRefusal {Gate : Type 0} (call : Call Gate) : Type 0 where
   pub rest : List ℕ
   pub accepts : Accepts setting.entries setting.mode setting.start.clock (taken_between x y) read rest
   pub why : RecordRefusal
-  pub refused : IsRefusedAs setting.entries setting.mode (clock_after setting.start.clock (records_of read))
-      (length (taken_between x y)) rest call.after.gate why
+  pub refused : IsRefusedAs (taken_of setting read (taken_between x y) rest) call.after.gate why
 
 -- a read of a file failed, or one of the gate
 abbrev pub MeetsReadFault : {Gate : Type 0} → Call Gate → Type 0

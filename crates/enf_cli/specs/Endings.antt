@@ -23,16 +23,15 @@ abbrev pub cut_after : WriteRefusal → Cut
 cut_after (writes.WriteFault written) = cuts.WriteFault
 cut_after (writes.NoMemory written) = cuts.NoMemory
 
--- why a file gives nothing after a read was refused
-abbrev pub file_ending_after : {W : Type 0} → IoRefusal → FileEnding W
-file_ending_after io.Failed = files.Fault
-file_ending_after io.NoMemory = files.NoMemory
+-- why a run ends after a read of a file was refused
+abbrev pub ending_after_read : IoRefusal → Ending
+ending_after_read io.Failed = endings.Refused ReadFault
+ending_after_read io.NoMemory = endings.Cut cuts.NoMemory
 
 -- why a run ends after a file gave nothing; of what the file holds, the refusal is made
 abbrev pub ending_after_file : {W : Type 0} → (W → Refusal) → FileEnding W → Ending
 ending_after_file refusal_of (files.Refused why) = endings.Refused (refusal_of why)
-ending_after_file refusal_of files.Fault = endings.Refused ReadFault
-ending_after_file refusal_of files.NoMemory = endings.Cut cuts.NoMemory
+ending_after_file refusal_of (files.NotRead why) = ending_after_read why
 
 -- the count of write faults behind output: one more where a fault cut it
 abbrev pub write_faults_behind : {T : Type 0} → Result T Cut → ℕ → ℕ

@@ -1,6 +1,6 @@
 -- The files that the words name: what they hold, what is refused of it, and reads of them that give nothing.
 use Rattle.std.specs.Prelude.{◌≡◌, ℕ, ◌+◌, ◌<◌, ◌≤◌, List, [], length, drop}
-use Rattle.std.specs.Prelude.{take_while, Option, None, Some, IfSome, Err}
+use Rattle.std.specs.Prelude.{take_while, Option, IfSome, Err}
 use Rattle.enf_io.specs.Contents.{Contents, Missing, Holds}
 use Rattle.enf_io.specs.FileCalls.{FileView, ReadsFile}
 use Rattle.enf_io.specs.declared.devices.IoRefusal.{IoRefusal}
@@ -112,5 +112,4 @@ IsNotRead name before after NoMemory = after ≡ before
 -- why a file gives nothing: what it holds is refused so, or it was not read
 abbrev pub EndsFile : {W : Type 0} → (W → Type 0) → List ℕ → FileView → FileView → FileEnding W → Type 0
 EndsFile Refuses name before after (endings.Refused why) = Refuses why × (after ≡ before)
-EndsFile Refuses name before after endings.Fault = FailsToRead name before after
-EndsFile Refuses name before after endings.NoMemory = after ≡ before
+EndsFile Refuses name before after (endings.NotRead why) = IsNotRead name before after why

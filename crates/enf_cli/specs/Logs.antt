@@ -42,23 +42,38 @@ pub record IsFalling (entries : List NameEntry) (mode : LogMode) (clock : ℕ) (
 abbrev pub MetEnd : ℕ → Stream → Type 0
 MetEnd count after = (count < most_log_bytes) × IsAtEnd after.told
 
--- why the rest behind the accepted records is refused, after so many bytes were taken, at this clock: by its reader, or
--- at the end of the input, or since its time is below the clock, or since no more bytes may be taken
-abbrev pub IsRefusedAs : List NameEntry → LogMode → ℕ → ℕ → List ℕ → Stream → RecordRefusal → Type 0
-IsRefusedAs entries mode clock count rest after (records.Log why) =
-    Refuses entries mode rest why ⊎ ((why ≡ log.Truncated) × IsTruncated rest × MetEnd count after)
-IsRefusedAs entries mode clock count rest after (records.Falling given at) =
-    (at ≡ clock) × IsFalling entries mode clock rest given
-IsRefusedAs entries mode clock count rest after records.InputLimit = IsPending rest × (count ≡ most_log_bytes)
+-- what was taken of a log that is enforced in a setting: the records that were accepted of it, how many bytes in all,
+-- and the rest of them behind these records
+pub record Taken : Type 0 where
+  pub setting : Setting
+  pub read : List LogItem
+  pub count : ℕ
+  pub rest : List ℕ
+
+abbrev pub taken_of : Setting → List LogItem → (taken rest : List ℕ) → Taken
+taken_of s read taken rest = record { setting = s; read = read; count = length taken; rest = rest }
+
+-- the clock behind the accepted records
+abbrev pub clock_behind : Taken → ℕ
+clock_behind t = clock_after t.setting.start.clock (records_of t.read)
+
+-- why the rest behind the accepted records is refused: by its reader, or at the end of the input, or since its time is
+-- below the clock, or since no more bytes may be taken
+abbrev pub IsRefusedAs : Taken → Stream → RecordRefusal → Type 0
+IsRefusedAs t after (records.Log why) =
+    Refuses t.setting.entries t.setting.mode t.rest why
+    ⊎ ((why ≡ log.Truncated) × IsTruncated t.rest × MetEnd t.count after)
+IsRefusedAs t after (records.Falling given at) =
+    (at ≡ clock_behind t) × IsFalling t.setting.entries t.setting.mode (clock_behind t) t.rest given
+IsRefusedAs t after records.InputLimit = IsPending t.rest × (t.count ≡ most_log_bytes)
 
 -- how the log ends behind the accepted records: nothing is left of it, a read failed, or a record is refused
-abbrev pub EndsAs : List NameEntry → LogMode → ℕ → ℕ → List ℕ → Stream → Stream → Verdict → Type 0
-EndsAs entries mode clock count rest before after verdicts.Accepted =
-    (behind_blanks rest ≡ []) × MetEnd count after × (after.read_faults ≡ before.read_faults)
-EndsAs entries mode clock count rest before after verdicts.Fault =
-    IsPending rest × (after.read_faults ≡ one_more before.read_faults)
-EndsAs entries mode clock count rest before after (verdicts.Refused why) =
-    IsRefusedAs entries mode clock count rest after why × (after.read_faults ≡ before.read_faults)
+abbrev pub EndsAs : Taken → (before after : Stream) → Verdict → Type 0
+EndsAs t before after verdicts.Accepted =
+    (behind_blanks t.rest ≡ []) × MetEnd t.count after × (after.read_faults ≡ before.read_faults)
+EndsAs t before after verdicts.Fault = IsPending t.rest × (after.read_faults ≡ one_more before.read_faults)
+EndsAs t before after (verdicts.Refused why) =
+    IsRefusedAs t after why × (after.read_faults ≡ before.read_faults)
 
 -- the log was begun and ended so, and what was given is what is owed in all to its accepted records
 pub record RunsLog (s : Setting) (verdict : Verdict) (before after : Stream) : Type 0 where
@@ -67,8 +82,7 @@ pub record RunsLog (s : Setting) (verdict : Verdict) (before after : Stream) : T
   pub exchanged : Exchanged (UpToDate s) taken given before.told after.told
   pub rest : List ℕ
   pub answers : GivesInAll s taken given rest
-  pub ends : EndsAs s.entries s.mode (clock_after s.start.clock (records_of answers.read)) (length taken) rest
-      before after verdict
+  pub ends : EndsAs (taken_of s answers.read taken rest) before after verdict
   pub writes : after.write_faults ≡ before.write_faults
 
 -- the run of the log ended as it was judged, behind so many accepted records
@@ -82,16 +96,15 @@ IsCutLine names [] front = front ≡ []
 IsCutLine names (next ∷ behind) front = IsPart front (line_of names (out_step next))
 
 -- the log ended behind these accepted records
-abbrev pub HasEnded : Setting → List LogItem → ℕ → List ℕ → Stream → Stream → Type 0
-HasEnded s read count rest before after = (verdict : Verdict)
-    × EndsAs s.entries s.mode (clock_after s.start.clock (records_of read)) count rest before after verdict
+abbrev pub HasEnded : Taken → (before after : Stream) → Type 0
+HasEnded t before after = (verdict : Verdict) × EndsAs t before after verdict
 
 -- within the log no read failed, and the steps are owed so far; behind its end they may be owed in all
-abbrev pub IsOwedWhere : Setting → List LogItem → ℕ → List ℕ → Stream → Stream → List ActedStep → Type 0
-IsOwedWhere s read count rest before after out =
-    (IsOwedSoFar s (records_of read) out × (after.read_faults ≡ before.read_faults))
-    ⊎ ((IsOwedSoFar s (records_of read) out ⊎ IsOwedInAll s (records_of read) out)
-    × HasEnded s read count rest before after)
+abbrev pub IsOwedWhere : Taken → (before after : Stream) → List ActedStep → Type 0
+IsOwedWhere t before after out =
+    (IsOwedSoFar t.setting (records_of t.read) out × (after.read_faults ≡ before.read_faults))
+    ⊎ ((IsOwedSoFar t.setting (records_of t.read) out ⊎ IsOwedInAll t.setting (records_of t.read) out)
+    × HasEnded t before after)
 
 -- some of the log was taken; of the steps that are owed to its first accepted records the first were given, in
 -- whole lines, and of the next one's line at most a part; those that were given whole can be continued well
@@ -103,7 +116,7 @@ pub record RunsShort (s : Setting) (before after : Stream) : Type 0 where
   pub rest : List ℕ
   pub accepts : Accepts s.entries s.mode s.start.clock taken read rest
   pub out : List ActedStep
-  pub owed : IsOwedWhere s read (length taken) rest before after out
+  pub owed : IsOwedWhere (taken_of s read taken rest) before after out
   pub whole : List ActedStep
   pub behind : List ActedStep
   pub split : out ≡ whole ++ behind

@@ -15,7 +15,7 @@ use Rattle.enf_cli.specs.Checking.{check_text}
 use Rattle.enf_cli.specs.Exchanges.{IsBegun}
 use Rattle.enf_cli.specs.Files.{FailsToRead, HoldsPolicy, HoldsRefusedPolicy, HoldsRefusedSignature, HoldsSignature}
 use Rattle.enf_cli.specs.Generating.{AddsPartOrNothing}
-use Rattle.enf_cli.specs.Policies.{CanBeBuilt, CannotBeBuilt, formulas}
+use Rattle.enf_cli.specs.Policies.{formulas}
 use Rattle.enf_cli.specs.Logs.{CutsRun, RunsLog, RunsShort}
 use Rattle.enf_cli.specs.Owed.{Setting, anew}
 use Rattle.enf_cli.specs.Refusals.{text_of_refusal}
@@ -43,11 +43,10 @@ pub record Asks {Gate : Type 0} (IsForm : List (List ℕ) → List ℕ → List 
   pub holds_signature : HoldsSignature call.before.files.contents signature_file entries
   pub holds_policy : HoldsPolicy call.before.files.contents policy_file entries policy
 
--- the words ask to enforce a policy that can be built, so that the log is enforced in this setting
+-- the words ask to enforce a policy, so that the log is enforced in this setting
 pub record AsksToEnforce {Gate : Type 0} (call : Call Gate) (s : Setting) : Type 0 where
   pub policy : List Rule
   pub asks : Asks IsEnforce call s.entries policy
-  pub can_be_built : CanBeBuilt s.entries (formulas policy)
   pub is_setting : s ≡ anew s.entries (formulas policy)
 
 -- the words match no form, and nothing was touched
@@ -73,15 +72,6 @@ pub record RefusesPolicyFile {Gate : Type 0} (call : Call Gate) (why : PolicyRef
   pub entries : List NameEntry
   pub holds_signature : HoldsSignature call.before.files.contents signature_file entries
   pub refused : HoldsRefusedPolicy call.before.files.contents policy_file entries why
-  pub gate : LeavesGate call
-  pub files : LeavesFiles call
-
--- the policy is accepted and to be enforced, but cannot be built, and the gate was not touched
-pub record RefusesUnbuilt {Gate : Type 0} (call : Call Gate) : Type 0 where
-  pub entries : List NameEntry
-  pub policy : List Rule
-  pub asks : Asks IsEnforce call entries policy
-  pub unbuilt : CannotBeBuilt entries (formulas policy)
   pub gate : LeavesGate call
   pub files : LeavesFiles call
 
@@ -116,7 +106,6 @@ abbrev pub Meets : {Gate : Type 0} → Call Gate → Refusal → Type 0
 Meets call refusals.Words = RefusesWords call
 Meets call (refusals.Signature why) = RefusesSignatureFile call why
 Meets call (refusals.Policy why) = RefusesPolicyFile call why
-Meets call refusals.NotBuilt = RefusesUnbuilt call
 Meets call (refusals.Record number why) = RefusesRecord call number why
 Meets call refusals.ReadFault = MissesFile call ⊎ BreaksOffLog call
 
@@ -233,7 +222,6 @@ steps_met call refusals.ReadFault (inr broken) = broken.ran.answers.out
 steps_met call refusals.Words met = []
 steps_met call (refusals.Signature why) met = []
 steps_met call (refusals.Policy why) met = []
-steps_met call refusals.NotBuilt met = []
 
 -- and those whose lines are whole on the gate where it is cut
 abbrev pub whole_cut : {Gate : Type 0} (call : Call Gate) (cut : Cut) → IsCut call cut → List ActedStep
@@ -296,7 +284,7 @@ Outcome call statuses.Done = IsDoneWhole call
 Outcome call statuses.Words = Refuses call refusals.Words
 Outcome call statuses.Files =
     ((why : SignatureRefusal) × Refuses call (refusals.Signature why))
-    ⊎ (((why : PolicyRefusal) × Refuses call (refusals.Policy why)) ⊎ Refuses call refusals.NotBuilt)
+    ⊎ ((why : PolicyRefusal) × Refuses call (refusals.Policy why))
 Outcome call statuses.Record = (number : ℕ) × (why : RecordRefusal) × Refuses call (refusals.Record number why)
 Outcome call statuses.ReadFault = Refuses call refusals.ReadFault
 Outcome call statuses.WriteFault = FailsInWriting call

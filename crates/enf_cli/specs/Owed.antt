@@ -1,12 +1,12 @@
 -- What is owed to the records of a log.
-use Rattle.std.specs.Prelude.{List}
+use Rattle.std.specs.Prelude.{◌≡◌, List}
 use Rattle.enf_formula.specs.Formulas.{Formula}
 use Rattle.enf_value.specs.declared.steps.Step.{Step}
-use Rattle.enf_value.specs.declared.terms.VarId.{VarId}
 use Rattle.enforce_types.specs.Marks.{is_causable, is_suppressible}
 use Rattle.enforce_types.specs.PolicyPlans.{ArePlanned}
+use Rattle.enforce_types.specs.Typed.{typed_of}
 use Rattle.choice_step.specs.Follows.{ActedStep}
-use Rattle.enforcer_core.specs.Enforcers.{Enforcing, out_steps, plans_of, start_of}
+use Rattle.enforcer_core.specs.Enforcers.{Enforcing, out_steps, start_of}
 use Rattle.enforcer_core.specs.Follows.{FollowsPolicy, FollowsToEnd}
 use Rattle.log_stream.specs.declared.items.LogMode.{LogMode}
 use Rattle.log_stream.specs.declared.items.LogMode.TheVariants.{Input}
@@ -26,22 +26,24 @@ pub record Setting : Type 0 where
 abbrev pub anew : List NameEntry → List Formula → Setting
 anew entries policy = record { entries = entries; policy = policy; mode = Input; start = from_nothing }
 
--- the plans of an enforcer are those of the policy
+-- the plans of an enforcer are those of the policy, with their guards
 abbrev pub HasPlans : List NameEntry → List Formula → Enforcing → Type 0
 HasPlans entries policy enforcer =
-    (guards : List (Formula × List VarId)) × ArePlanned entries policy (plans_of enforcer) guards
+    ArePlanned entries policy (typed_of enforcer.policy).plans (typed_of enforcer.policy).guards
 
 -- from where an enforcer stands for a trace
 abbrev pub setting_of : List NameEntry → List Formula → Enforcing → List Step → Setting
 setting_of entries policy enforcer trace =
     record { entries = entries; policy = policy; mode = Input; start = start_of enforcer trace }
 
--- these steps are owed to the records so far: they keep up with them, and the policy decides just these
+-- these steps are owed to the records so far: they keep up with them, and the policy decides these and no others
 pub record IsOwedSoFar (s : Setting) (records : List Record) (out : List ActedStep) : Type 0 where
   pub keeps_up : KeepsUp (is_causable s.entries) (is_suppressible s.entries) s.policy s.start records (out_steps out)
   pub decided : FollowsPolicy s.entries s.policy s.start.trace records out
+  pub only : (others : List ActedStep) → FollowsPolicy s.entries s.policy s.start.trace records others → others ≡ out
 
--- and these in all, once the log has ended: with the drain they satisfy the policy
+-- and these in all, once the log has ended: with the drain they satisfy the policy, and are decided alone
 pub record IsOwedInAll (s : Setting) (records : List Record) (out : List ActedStep) : Type 0 where
   pub enforced : Enforced (is_causable s.entries) (is_suppressible s.entries) s.policy s.start records (out_steps out)
   pub decided : FollowsToEnd s.entries s.policy s.start.trace records out
+  pub only : (others : List ActedStep) → FollowsToEnd s.entries s.policy s.start.trace records others → others ≡ out

@@ -1,12 +1,9 @@
--- The text of a policy, which policies are accepted, and which can be built.
-use Rattle.std.specs.Prelude.{◌≡◌, ℕ, ◌≤◌, Bool, true, false, List, length, map, Ok, Err}
-use Rattle.std.specs.List.{list_any}
+-- The text of a policy, and which policies are accepted.
+use Rattle.std.specs.Prelude.{ℕ, ◌≤◌, List, length, map, Ok, Err}
 use Rattle.enf_formula.specs.Formulas.{Formula}
 use Rattle.enf_value.specs.declared.limits.TheConstants.{MOST_FILE_BYTES}
-use Rattle.enforce_types.specs.Accepted.{IsAccepted, PlansAre, RefusesPolicy}
+use Rattle.enforce_types.specs.Accepted.{IsAccepted, RefusesPolicy}
 use Rattle.enforce_types.specs.declared.refusals.TypeRefusal.{TypeRefusal}
-use Rattle.obligations.specs.Begun.{has_future}
-use Rattle.plan_terms.specs.Plans.{Plan}
 use Rattle.formula_reader.specs.Reading.{IsTextAnswer}
 use Rattle.formula_reader.specs.Resolution.{Rule}
 use Rattle.formula_reader.specs.declared.policies.PolicyRefusal.{PolicyRefusal}
@@ -15,18 +12,6 @@ use Rattle.signature.specs.declared.entries.NameEntry.{NameEntry}
 -- the formulas of a policy's rules
 abbrev pub formulas : List Rule → List Formula
 formulas policy = map (λ rule. rule.formula) policy
-
--- whether a node of some plan is an operator on the future
-abbrev pub look_ahead : List Plan → Bool
-look_ahead plans = list_any has_future plans
-
--- a policy can be built where no plan of it looks ahead
-abbrev pub CanBeBuilt : List NameEntry → List Formula → Type 0
-CanBeBuilt entries policy = PlansAre entries policy (λ plans. look_ahead plans ≡ false)
-
--- one that has plans, of which some look ahead, cannot
-abbrev pub CannotBeBuilt : List NameEntry → List Formula → Type 0
-CannotBeBuilt entries policy = PlansAre entries policy (λ plans. look_ahead plans ≡ true)
 
 -- the bytes are a policy of these rules, no more than a file may have
 pub record ReadsPolicy (entries : List NameEntry) (bytes : List ℕ) (policy : List Rule) : Type 0 where

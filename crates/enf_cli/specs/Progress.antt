@@ -6,6 +6,7 @@ use Rattle.enf_io.specs.Exchange.{Exchange, Gave, IsAtEnd, Marked, Took}
 use Rattle.enf_io.specs.Streams.{Stream}
 use Rattle.enforcer_core.specs.Answered.{Answered, ChangesLawfully}
 use Rattle.enforcer_core.specs.Enforcers.{Enforcing, acted_steps, out_steps, plans_of}
+use Rattle.enforcer_core.specs.Existing.{JustOneFollowsPolicy, JustOneFollowsToEnd}
 use Rattle.enforcer_core.specs.Follows.{FollowsDrainFrom, FollowsFrom}
 use Rattle.enforcer_core.specs.Laws.{CourseBegins, CourseEnforces, CourseFollows, CourseFollowsToEnd, CourseGoesOn}
 use Rattle.enforcer_core.specs.Laws.{CourseKeepsUp, PlannedAreSatisfied}
@@ -76,6 +77,8 @@ pub record Laws : Type 0 where
   pub enforces : CourseEnforces
   pub follows : CourseFollows
   pub follows_to_end : CourseFollowsToEnd
+  pub just_one : JustOneFollowsPolicy
+  pub just_one_to_end : JustOneFollowsToEnd
   pub planned : PlannedAreSatisfied
   pub front : FrontIsGood
   pub satisfying : SatisfyingIsGood

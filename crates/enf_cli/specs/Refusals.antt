@@ -87,7 +87,6 @@ abbrev pub text_of_refusal : Refusal → List ℕ
 text_of_refusal refusals.Words = usage_line
 text_of_refusal (refusals.Signature why) = text_of_signature_refusal why
 text_of_refusal (refusals.Policy why) = text_of_policy_refusal why
-text_of_refusal refusals.NotBuilt = codes "policy: not built\n"
 text_of_refusal (refusals.Record number why) =
     codes "record " ++ decimal number ++ codes ": " ++ text_of_record_refusal why ++ codes "\n"
 text_of_refusal refusals.ReadFault = codes "read fault\n"
@@ -96,7 +95,6 @@ abbrev pub status_of : Refusal → Status
 status_of refusals.Words = statuses.Words
 status_of (refusals.Signature why) = statuses.Files
 status_of (refusals.Policy why) = statuses.Files
-status_of refusals.NotBuilt = statuses.Files
 status_of (refusals.Record number why) = statuses.Record
 status_of refusals.ReadFault = statuses.ReadFault
 

@@ -50,30 +50,27 @@ impl From<WriteRefusal> for Cut {
 #[derive(Debug, Drop)]
 pub enum FileEnding<W> {
     Refused(W),
-    Fault,
-    NoMemory,
+    NotRead(IoRefusal),
 }
 
 impl<W> From<NoMemory> for FileEnding<W> {
-    ghost use Rattle.enf_cli.specs.declared.endings.FileEnding.TheVariants.{NoMemory as OutOfRoom};
+    ghost use Rattle.enf_cli.specs.declared.endings.FileEnding.TheVariants.{NotRead};
+    ghost use Rattle.enf_io.specs.declared.devices.IoRefusal.TheVariants.{NoMemory as OutOfRoom};
 
-    ghost from_gives = { λ _ end. end ≡ OutOfRoom };
+    ghost from_gives = { λ _ end. end ≡ NotRead OutOfRoom };
 
     fn from(_no_memory: NoMemory) -> FileEnding<W> {
-        FileEnding::NoMemory
+        FileEnding::NotRead(IoRefusal::NoMemory)
     }
 }
 
 impl<W> From<IoRefusal> for FileEnding<W> {
-    ghost use Rattle.enf_cli.specs.Endings.{file_ending_after};
+    ghost use Rattle.enf_cli.specs.declared.endings.FileEnding.TheVariants.{NotRead as NotReadSo};
 
-    ghost from_gives = { λ refusal ending. ending ≡ file_ending_after refusal };
+    ghost from_gives = { λ refusal end. end ≡ NotReadSo refusal };
 
     fn from(refusal: IoRefusal) -> FileEnding<W> {
-        match refusal {
-            IoRefusal::Failed => FileEnding::Fault,
-            IoRefusal::NoMemory => FileEnding::NoMemory,
-        }
+        FileEnding::NotRead(refusal)
     }
 }
 
@@ -108,6 +105,19 @@ impl From<Cut> for Ending {
     }
 }
 
+impl From<IoRefusal> for Ending {
+    ghost use Rattle.enf_cli.specs.Endings.{ending_after_read};
+
+    ghost from_gives = { λ refusal end. end ≡ ending_after_read refusal };
+
+    fn from(refusal: IoRefusal) -> Ending {
+        match refusal {
+            IoRefusal::Failed => Ending::Refused(Refusal::ReadFault),
+            IoRefusal::NoMemory => Ending::Cut(Cut::NoMemory),
+        }
+    }
+}
+
 impl From<FileEnding<SignatureRefusal>> for Ending {
     ghost use Rattle.enf_cli.specs.Endings.{ending_after_file};
 
@@ -116,8 +126,7 @@ impl From<FileEnding<SignatureRefusal>> for Ending {
     fn from(end: FileEnding<SignatureRefusal>) -> Ending {
         match end {
             FileEnding::Refused(why) => Ending::Refused(Refusal::Signature(why)),
-            FileEnding::Fault => Ending::Refused(Refusal::ReadFault),
-            FileEnding::NoMemory => Ending::Cut(Cut::NoMemory),
+            FileEnding::NotRead(why) => Ending::from(why),
         }
     }
 }
@@ -130,8 +139,7 @@ impl From<FileEnding<PolicyRefusal>> for Ending {
     fn from(end: FileEnding<PolicyRefusal>) -> Ending {
         match end {
             FileEnding::Refused(why) => Ending::Refused(Refusal::Policy(why)),
-            FileEnding::Fault => Ending::Refused(Refusal::ReadFault),
-            FileEnding::NoMemory => Ending::Cut(Cut::NoMemory),
+            FileEnding::NotRead(why) => Ending::from(why),
         }
     }
 }

@@ -5,17 +5,15 @@ ghost use Rattle.std.specs.Prelude.{None, false, length};
 ghost use Rattle.enf_formula.specs.Formulas.{Formula as Tree};
 ghost use Rattle.enf_value.specs.declared.steps.Step.{Step};
 ghost use Rattle.enforcer_core.specs.Answered.{IsNewOf, Leaves, Permits, Refuses};
-ghost use Rattle.enforcer_core.specs.Enforcers.{plans_in, plans_of};
-ghost use Rattle.enforcer_core.specs.Laws.{StandAtNow};
+ghost use Rattle.enforcer_core.specs.Enforcers.{plans_of};
 ghost use Rattle.enforcer_core.specs.Remembering.{most_positions};
 ghost use Rattle.enforcer_core.specs.Stands.{Stands};
-ghost use Rattle.obligations.specs.Traces.{LooksAtNow};
-ghost use Rattle.std.specs.List.{AllByRecursion};
 ghost use Rattle.enf_cli.specs.Owed.{HasPlans, setting_of};
 ghost use Rattle.enf_cli.specs.Limits.{most_log_bytes, most_read_bytes};
 ghost use Rattle.enf_cli.specs.Accepted.{record_of};
 ghost use Rattle.enf_cli.specs.Endings.{write_faults_behind};
 ghost use Rattle.enforce_types.specs.Marks.{is_causable, is_suppressible};
+ghost use Rattle.enforce_types.specs.Typed.{WorkTogether, typed_of};
 ghost use Rattle.enf_cli.specs.Logs.{CutsRun, RanAsJudged};
 ghost use Rattle.enf_cli.specs.Progress.{AnswersItem, AnswersNext, AnswersTurn, CutsDrain, CutsItem, CutsNext};
 ghost use Rattle.enf_cli.specs.Progress.{CutsTurn, GivesDrain, IsNew, JudgesEnd, Laws, LosesPiece, ReadsPiece};
@@ -33,8 +31,8 @@ use enf_io::devices::{Gate, IoRefusal, Sink};
 use enf_value::{Duplicate, NoMemory};
 use enforce_types::TypedPolicy;
 use enforcer_core::enforcer::Enforcer;
-use enforcer_core::laws;
 use enforcer_core::steps::{StepOut, StepRefusal};
+use enforcer_core::{existing, laws};
 use log_stream::{Found, LogItem, LogMode, LogReader, LogRefusal};
 use signature::Signature;
 use std::alloc::Global;
@@ -89,16 +87,15 @@ pub struct Enforcement {
 }
 
 impl Enforcement {
-    /// A log of which nothing was taken yet, to be enforced by this policy, no plan of which looks ahead.
+    /// A log of which nothing was taken yet, to be enforced by this policy.
     pub fn new(
         alloc: Global,
         signature: &Signature,
         policy: TypedPolicy,
     ) -> Result<Enforcement, NoMemory>
-        requires { AllByRecursion LooksAtNow (plans_in policy) }
         ensures new { IfOk result (IsNew signature.now) }
         ensures enforcer { IfOk result (λ log. IsNewOf policy log.enforcer) }
-        ensures at_now { IfOk result (λ log. StandAtNow (plans_of log.enforcer)) }
+        ensures together { IfOk result (λ log. WorkTogether (typed_of log.enforcer.policy)) }
         ensures stands { IfOk result (λ log. Stands log.enforcer []) }
     {
         Ok(Enforcement {
@@ -121,7 +118,7 @@ pub fn enforce_log<G: Gate>(
 ) -> Result<Judged, Cut>
     requires new { IsNew signature.now log }
     requires permits { Permits (is_causable signature.now) (is_suppressible signature.now) (plans_of log.enforcer) }
-    requires at_now { StandAtNow (plans_of log.enforcer) }
+    requires together { WorkTogether (typed_of log.enforcer.policy) }
     ensures ran { (policy : List Tree) (trace : List Step) → HasPlans signature.now policy log.enforcer →
         Stands log.enforcer trace → IfOk result
         (λ judged. RanAsJudged (setting_of signature.now policy log.enforcer trace) judged
@@ -149,6 +146,7 @@ fn enforcer_laws()
 {
     laws::course();
     laws::planned();
+    existing::just_one_follows();
     trace_meaning::laws::good();
 }
 
@@ -159,6 +157,7 @@ fn drain<S: Sink>(
     enforcer: &mut Enforcer,
     sink: &mut S,
 ) -> Result<(), Cut>
+    requires room { enforcer.old.position < most_positions }
     ensures drained { OnOk result (GivesDrain signature.now
         (moment enforcer.old (S.seen sink.old)) (moment enforcer.new (S.seen sink.new))) }
     ensures cut { IfErr result (CutsDrain signature.now

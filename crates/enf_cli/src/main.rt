@@ -3,7 +3,6 @@
 //! `main` makes the standard streams and the files and ends with the status that it answers.
 #![tactic(auto)]
 
-mod building;
 mod checking;
 mod endings;
 mod files;

@@ -258,8 +258,6 @@ pub enum Refusal {
     Words,
     Signature(SignatureRefusal),
     Policy(PolicyRefusal),
-    /// The policy is accepted, but a plan of it looks ahead.
-    NotBuilt,
     /// The record's number is counted from 1.
     Record { number: u64, why: RecordRefusal },
     ReadFault,
@@ -275,7 +273,6 @@ impl Refusal {
             Refusal::Words => write_pieces(&[USAGE, MORE_USAGE], report),
             Refusal::Signature(why) => why.write(report),
             Refusal::Policy(why) => why.write(report),
-            Refusal::NotBuilt => write_pieces(&[b"policy: not built\n"], report),
             Refusal::Record { number, why } => write_record_refusal(*number, *why, report),
             Refusal::ReadFault => write_pieces(&[b"read fault\n"], report),
         }
@@ -287,7 +284,7 @@ impl Refusal {
     {
         match self {
             Refusal::Words => Status::Words,
-            Refusal::Signature(_) | Refusal::Policy(_) | Refusal::NotBuilt => Status::Files,
+            Refusal::Signature(_) | Refusal::Policy(_) => Status::Files,
             Refusal::Record { .. } => Status::Record,
             Refusal::ReadFault => Status::ReadFault,
         }

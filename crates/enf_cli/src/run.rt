@@ -7,7 +7,6 @@ ghost use Rattle.enf_cli.specs.Logs.{conclusion_of};
 ghost use Rattle.enf_cli.specs.Outcomes.{Outcome, Performs};
 ghost use Rattle.enf_cli.specs.Words.{IsCheck, IsEnforce};
 
-use crate::building::looks_ahead;
 use crate::checking::give_check;
 use crate::endings::Ending;
 use crate::files::{read_policy, read_signature};
@@ -43,7 +42,6 @@ pub fn run<G: Gate, F: Files, R: Sink>(
     formula_reader::laws::one_text_answer();
     log_stream::laws::one_answer();
     enforce_types::laws::accepted_is_not_refused();
-    enforce_types::laws::policy_has_one_answer();
     match perform(alloc, words, gate, files) {
         Ok(()) => Status::Done,
         Err(ending) => report_ending(&ending, report),
@@ -89,9 +87,6 @@ fn enforce<G: Gate, F: Files>(
 {
     let signature = read_signature(alloc, files, signature_file)?;
     let accepted = read_policy(alloc, files, policy_file, &signature)?;
-    if looks_ahead(accepted.typed.plans()) {
-        return Err(Ending::Refused(Refusal::NotBuilt));
-    }
     let log = Enforcement::new(alloc, &signature, accepted.typed)?;
     let judged = enforce_log(alloc, &signature, log, gate)?;
     conclude(judged)?;

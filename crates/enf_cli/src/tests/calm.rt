@@ -15,13 +15,17 @@ use std::process::Abort;
 
 /// The signature of the worked rows.
 pub const SIGNATURE: &[u8] =
-    b"request(text); consent(text); use(text) -; delete(text) +; unlock(text) +;\nlock(text); note(text) +-; alarm() +; ping() +; pong() +;\n";
+    b"request(text); consent(text); use(text) -; delete(text) +; unlock(text) +;\n\
+      lock(text); note(text) +-; alarm() +; ping() +; pong() +;\n";
 
 /// The policy `raise` of the worked rows.
 pub const RAISE: &[u8] = b"rule raise: forall u. request(u) -> alarm();\n";
 
 /// The policy `consent` of the worked rows.
 pub const CONSENT: &[u8] = b"rule consent: forall u. use(u) -> once[0,*] consent(u);";
+
+/// The policy `erase` of the worked rows.
+pub const ERASE: &[u8] = b"rule erase: forall u. request(u) -> eventually[0,30] delete(u);";
 
 /// What a run answered, and what it left on the gate and the report.
 #[derive(Drop)]

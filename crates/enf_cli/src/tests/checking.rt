@@ -1,5 +1,5 @@
 //! What `check` writes, and what is refused of policies by both commands.
-use super::calm::{Outcome, SIGNATURE, check_words, checked, enforced, files_of};
+use super::calm::{ERASE, Outcome, SIGNATURE, check_words, checked, enforced, files_of};
 use crate::refusals::Status;
 use crate::run::run;
 use enf_io::calm_sink::CalmSink;
@@ -9,15 +9,18 @@ use enf_io::turns::Turn;
 use std::alloc::Global;
 use std::test::Fail;
 
-const ERASE: &[u8] = b"rule erase: forall u. request(u) -> eventually[0,30] delete(u);";
-
 const ERASE_CHECKED: &[u8] =
-    b"rule erase: forall u. (request(u) -> (eventually[0,30] delete(u)));\ntransparent yes\nhorizon 210\ncause delete\n";
+    b"rule erase: forall u. (request(u) -> (eventually[0,30] delete(u)));\n\
+      transparent yes\nhorizon 210\ncause delete\n";
 
-const DATA_SIGNATURE: &[u8] =
-    b"consent(text); revoke(text); request(text); collect(text,text);\nuse(text,text) -; share(text,text) -; delete(text) +; notify(text,text) +;\nlock(text); unlock(text) +; breach(int); alarm() +; report(int) +; login(text);\n";
+/// A signature for twelve rules on the data of persons.
+pub const DATA_SIGNATURE: &[u8] =
+    b"consent(text); revoke(text); request(text); collect(text,text);\n\
+      use(text,text) -; share(text,text) -; delete(text) +; notify(text,text) +;\n\
+      lock(text); unlock(text) +; breach(int); alarm() +; report(int) +; login(text);\n";
 
-const DATA_POLICY: &[u8] =
+/// The twelve rules.
+pub const DATA_POLICY: &[u8] =
     b"rule consent: forall u, p. use(u,p) -> (not revoke(u)) since[0,*] consent(u);
 rule purpose: forall u, p. use(u,p) -> once[0,365] collect(u,p);
 rule share: forall u, q. share(u,q) -> once[0,*] notify(u,q);
@@ -71,7 +74,8 @@ fn policies_are_checked(rt: HostRuntime) -> Result<(), Fail> {
             "two deadlines",
             SIGNATURE,
             b"rule two: forall u. request(u) -> (eventually[0,5] delete(u)) or eventually[0,5] unlock(u);",
-            b"rule two: forall u. (request(u) -> ((eventually[0,5] delete(u)) or (eventually[0,5] unlock(u))));\ntransparent no\nhorizon 50\ncause delete\ncause unlock\n",
+            b"rule two: forall u. (request(u) -> ((eventually[0,5] delete(u)) or (eventually[0,5] unlock(u))));\n\
+              transparent no\nhorizon 50\ncause delete\ncause unlock\n",
         ),
         (
             "barred",

@@ -1,5 +1,5 @@
 //! Runs over a gate or a report that takes only pieces, or fails.
-use super::calm::{Outcome, RAISE, SIGNATURE, enforce_words, files_of};
+use super::calm::{ERASE, Outcome, SIGNATURE, enforce_words, files_of};
 use crate::endings::{Cut, Ending};
 use crate::refusals::Status;
 use crate::reporting::report_ending;
@@ -12,7 +12,7 @@ use enf_io::turns::Turn;
 use std::alloc::Global;
 use std::test::Fail;
 
-// Enforces `raise` on the log over devices with these turns.
+// Enforces `erase` on the log over devices with these turns.
 fn enforced_in_turns(
     alloc: Global,
     log: &[u8],
@@ -21,7 +21,7 @@ fn enforced_in_turns(
     report_writes: &[Turn],
 ) -> Result<Outcome, NoMemory> {
     let words = enforce_words(alloc)?;
-    let mut files = files_of(alloc, SIGNATURE, RAISE)?;
+    let mut files = files_of(alloc, SIGNATURE, ERASE)?;
     let log = Vec::from_slice(alloc, log)?;
     let reads = Vec::from_slice(alloc, reads)?;
     let writes = Vec::from_slice(alloc, writes)?;
@@ -36,42 +36,66 @@ fn enforced_in_turns(
 }
 
 // Two records, of 16 and 4 bytes, and what is to be given for them.
-const LOG: &[u8] = b"@1 request(\"a\");\n@2;\n";
+const LOG: &[u8] = b"@5 request(\"a\"); @40;";
 
-const ANSWER: &[u8] = b"@1 request(\"a\") alarm();\n@2;\n";
+const ANSWER: &[u8] = b"@5 request(\"a\");\n+35 delete(\"a\");\n@40;\n";
 
 // What is given once so many bytes of the log were taken.
 fn answer_to(taken: usize) -> &'static [u8] {
     if taken < 16 {
         b""
-    } else if taken < 20 {
-        b"@1 request(\"a\") alarm();\n"
+    } else if taken < LOG.len() {
+        b"@5 request(\"a\");\n"
     } else {
         ANSWER
     }
 }
 
-// Enforces `raise` on the log, where the first read takes so many bytes, and looks at the marks.
-fn answers_before_each_read(alloc: Global, cut: usize) -> Result<bool, NoMemory> {
+// And what is owed to them in all, where the second record is not whole.
+fn owed_to(taken: usize) -> &'static [u8] {
+    if taken < 16 {
+        b""
+    } else {
+        b"@5 request(\"a\");\n+35 delete(\"a\");\n"
+    }
+}
+
+// Whether `erase` makes this of the log, where the first read takes so many bytes, with these marks at the reads.
+fn answers_before_each_read(
+    alloc: Global,
+    log: &[u8],
+    cut: usize,
+    given: &[u8],
+    marks: &[(u64, u64)],
+) -> Result<bool, NoMemory> {
     let words = enforce_words(alloc)?;
-    let mut files = files_of(alloc, SIGNATURE, RAISE)?;
-    let log = Vec::from_slice(alloc, LOG)?;
+    let mut files = files_of(alloc, SIGNATURE, ERASE)?;
+    let log = Vec::from_slice(alloc, log)?;
     let reads = Vec::from_slice(alloc, &[Turn::Take(cut)])?;
     let mut gate = MemGate::new(alloc, log, reads, Vec::new(alloc));
     let mut report = MemSink::new(alloc, Vec::new(alloc));
     let status = run(alloc, &words, &mut gate, &mut files, &mut report);
-    let marks = [(0, 0), (cut as u64, answer_to(cut).len() as u64), (21, 29)];
-    Ok(status == Status::Done && gate.given() == ANSWER && gate.marks() == marks.as_slice())
+    Ok(status == Status::Done && gate.given() == given && gate.marks() == marks)
 }
 
 #[test]
 fn each_record_is_answered_before_the_next_read(rt: HostRuntime) -> Result<(), Fail> {
     for cut in 1..LOG.len() {
+        let marks = [(0, 0), (cut as u64, answer_to(cut).len() as u64), (21, 39)];
         assert!(rt;
-            answers_before_each_read(rt.alloc(), cut)?,
+            answers_before_each_read(rt.alloc(), LOG, cut, ANSWER, &marks)?,
             "cut after {cut}"
         );
     }
+    Ok(())
+}
+
+#[test]
+fn a_tick_serves_the_deadlines_below_it(rt: HostRuntime) -> Result<(), Fail> {
+    let log = b"@5 request(\"a\"); >35;>36;";
+    let given = b"@5 request(\"a\");\n+35 delete(\"a\");\n";
+    let marks = [(0, 0), (21, 17), (25, 34)];
+    assert!(rt; answers_before_each_read(rt.alloc(), log, 21, given, &marks)?);
     Ok(())
 }
 
@@ -80,7 +104,7 @@ fn a_read_that_fails_after_each_byte(rt: HostRuntime) -> Result<(), Fail> {
     for cut in 1..LOG.len() {
         let reads = [Turn::Take(cut), Turn::Fail];
         let outcome = enforced_in_turns(rt.alloc(), LOG, &reads, &[], &[])?;
-        let answer = answer_to(cut);
+        let answer = owed_to(cut);
         outcome.assert_is(&rt, "a cut", Status::ReadFault, answer, b"read fault\n");
     }
     Ok(())
@@ -94,14 +118,14 @@ fn a_read_fault_keeps_the_whole_records(rt: HostRuntime) -> Result<(), Fail> {
         (
             "behind a record",
             [Turn::Take(16), Turn::Fail].as_slice(),
-            b"@5 request(\"a\") alarm();\n".as_slice(),
+            b"@5 request(\"a\");\n+35 delete(\"a\");\n".as_slice(),
             Status::ReadFault,
             b"read fault\n".as_slice(),
         ),
         (
             "within the second",
             &[Turn::Take(10), Turn::Take(12), Turn::Fail],
-            b"@5 request(\"a\") alarm();\n",
+            b"@5 request(\"a\");\n+35 delete(\"a\");\n",
             Status::ReadFault,
             b"read fault\n",
         ),
@@ -115,7 +139,7 @@ fn a_read_fault_keeps_the_whole_records(rt: HostRuntime) -> Result<(), Fail> {
         (
             "behind a refused record",
             &[Turn::All, Turn::Fail],
-            b"@5 request(\"a\") alarm();\n@6 request(\"b\") alarm();\n",
+            b"@5 request(\"a\");\n@6 request(\"b\");\n+35 delete(\"a\");\n+36 delete(\"b\");\n",
             Status::Record,
             b"record 3: time 2 is below 6\n",
         ),
@@ -136,7 +160,7 @@ fn a_write_is_finished_by_further_writes(rt: HostRuntime) -> Result<(), Fail> {
         &rt,
         "three bytes a write",
         Status::Record,
-        b"@5 request(\"a\") alarm();\n@7;\n",
+        b"@5 request(\"a\");\n@7;\n+35 delete(\"a\");\n",
         b"record 3: time 6 is below 7\n",
     );
     Ok(())
@@ -145,7 +169,7 @@ fn a_write_is_finished_by_further_writes(rt: HostRuntime) -> Result<(), Fail> {
 #[test]
 fn a_write_fault_ends_the_run(rt: HostRuntime) -> Result<(), Fail> {
     let alloc = rt.alloc();
-    let log = b"@5 request(\"a\"); @7; foo";
+    let log = b"@5 request(\"a\"); @40 request(\"b\"); foo";
     for (name, writes, report_writes, status, output, report) in [
         (
             "at once",
@@ -156,11 +180,19 @@ fn a_write_fault_ends_the_run(rt: HostRuntime) -> Result<(), Fail> {
             b"".as_slice(),
         ),
         (
-            "within a line",
-            &[Turn::All, Turn::Take(2), Turn::Fail],
+            "within an inserted step",
+            &[Turn::All, Turn::Take(4), Turn::Fail],
             &[],
             Status::WriteFault,
-            b"@5 request(\"a\") alarm();\n@7",
+            b"@5 request(\"a\");\n+35 ",
+            b"",
+        ),
+        (
+            "within the drain",
+            &[Turn::All, Turn::All, Turn::All, Turn::Take(4), Turn::Fail],
+            &[],
+            Status::WriteFault,
+            b"@5 request(\"a\");\n+35 delete(\"a\");\n@40 request(\"b\");\n+70 ",
             b"",
         ),
         (
@@ -168,7 +200,7 @@ fn a_write_fault_ends_the_run(rt: HostRuntime) -> Result<(), Fail> {
             &[],
             &[Turn::Take(4), Turn::Fail],
             Status::Record,
-            b"@5 request(\"a\") alarm();\n@7;\n",
+            b"@5 request(\"a\");\n+35 delete(\"a\");\n@40 request(\"b\");\n+70 delete(\"b\");\n",
             b"reco",
         ),
     ] {

@@ -1,5 +1,6 @@
 //! Worked runs, with the bytes that they are to give.
-use super::calm::{CONSENT, RAISE, SIGNATURE, enforced};
+use super::calm::{CONSENT, ERASE, RAISE, SIGNATURE, enforced};
+use super::checking::{DATA_POLICY, DATA_SIGNATURE};
 use crate::refusals::Status;
 use std::test::Fail;
 
@@ -116,6 +117,129 @@ fn what_is_barred_goes(rt: HostRuntime) -> Result<(), Fail> {
     Ok(())
 }
 
+const SOON: &[u8] = b"rule soon: forall u. request(u) -> next[0,10] delete(u);";
+
+const HOLD: &[u8] = b"rule hold: forall u. lock(u) -> (not use(u)) until[0,10] unlock(u);";
+
+const CHOICE: &[u8] =
+    b"rule choice: forall u. request(u) -> (eventually[0,5] delete(u)) or once[0,*] consent(u);";
+
+#[test]
+fn what_is_owed_is_served_at_its_deadline(rt: HostRuntime) -> Result<(), Fail> {
+    let alloc = rt.alloc();
+    for (name, policy, log, want) in [
+        (
+            "a step behind it",
+            ERASE,
+            b"@5 request(\"a\"); @40;".as_slice(),
+            b"@5 request(\"a\");\n+35 delete(\"a\");\n@40;\n".as_slice(),
+        ),
+        (
+            "served in time",
+            ERASE,
+            b"@5 request(\"a\");\n@35;\n@35 delete(\"a\");\n@36;\n",
+            b"@5 request(\"a\");\n@35;\n@35 delete(\"a\");\n@36;\n",
+        ),
+        (
+            "the end of the log",
+            ERASE,
+            b"@5 request(\"a\");",
+            b"@5 request(\"a\");\n+35 delete(\"a\");\n",
+        ),
+        (
+            "a tick behind it",
+            ERASE,
+            b"@5 request(\"a\"); >35; >36; @36;",
+            b"@5 request(\"a\");\n+35 delete(\"a\");\n@36;\n",
+        ),
+        (
+            "two at once",
+            ERASE,
+            b"@5 request(\"b\") request(\"a\"); @40;",
+            b"@5 request(\"b\") request(\"a\");\n+35 delete(\"a\") delete(\"b\");\n@40;\n",
+        ),
+        (
+            "two, one after the other",
+            ERASE,
+            b"@5 request(\"b\"); @6 request(\"a\"); @40;",
+            b"@5 request(\"b\");\n@6 request(\"a\");\n+35 delete(\"b\");\n+36 delete(\"a\");\n@40;\n",
+        ),
+        ("nothing owed", ERASE, b"@1; @1; @2;", b"@1;\n@1;\n@2;\n"),
+        (
+            "served at once, and a repeat",
+            ERASE,
+            b"@3 request(\"a\") request(\"a\") delete(\"a\");",
+            b"@3 request(\"a\") delete(\"a\");\n",
+        ),
+        (
+            "by the next step",
+            SOON,
+            b"@5 request(\"a\"); @15;",
+            b"@5 request(\"a\");\n@15 delete(\"a\");\n",
+        ),
+        (
+            "a next step that is late",
+            SOON,
+            b"@5 request(\"a\"); @16;",
+            b"@5 request(\"a\");\n+15 delete(\"a\");\n@16;\n",
+        ),
+        (
+            "barred until it is lifted",
+            HOLD,
+            b"@1 lock(\"a\"); @3 use(\"a\"); @20 use(\"a\");",
+            b"@1 lock(\"a\");\n@3;\n+11 unlock(\"a\");\n@20 use(\"a\");\n",
+        ),
+        (
+            "consented, so nothing owed",
+            CHOICE,
+            b"@1 consent(\"a\");\n@2 request(\"a\");\n@9;\n",
+            b"@1 consent(\"a\");\n@2 request(\"a\");\n@9;\n",
+        ),
+        (
+            "not consented",
+            CHOICE,
+            b"@2 request(\"a\"); @9;",
+            b"@2 request(\"a\");\n+7 delete(\"a\");\n@9;\n",
+        ),
+    ] {
+        let outcome = enforced(alloc, SIGNATURE, policy, log, Vec::new(alloc))?;
+        outcome.assert_is(&rt, name, Status::Done, want, b"");
+    }
+    Ok(())
+}
+
+const DATA_LOG: &[u8] = b"@1 consent(\"ann\") collect(\"ann\",\"mail\");
+@2 use(\"ann\",\"mail\") use(\"bob\",\"mail\");
+@3 share(\"ann\",\"acme\") request(\"bob\");
+@4 lock(\"ann\") breach(250);
+@6 use(\"ann\",\"mail\") revoke(\"ann\");
+@9 notify(\"bob\",\"received\") share(\"ann\",\"terms\");
+@20 use(\"ann\",\"mail\");
+@40 login(\"ann\");
+";
+
+const DATA_ENFORCED: &[u8] = b"@1 consent(\"ann\") collect(\"ann\",\"mail\");
+@2 use(\"ann\",\"mail\") notify(\"ann\",\"terms\");
+@3 request(\"bob\");
+@4 lock(\"ann\") breach(250) alarm();
+@6 revoke(\"ann\");
++7 report(250);
++8 notify(\"bob\",\"received\");
+@9 notify(\"bob\",\"received\") share(\"ann\",\"terms\");
++14 unlock(\"ann\");
+@20;
++33 delete(\"bob\");
+@40 login(\"ann\");
+";
+
+#[test]
+fn twelve_rules_work_together(rt: HostRuntime) -> Result<(), Fail> {
+    let pieces = Vec::new(rt.alloc());
+    let outcome = enforced(rt.alloc(), DATA_SIGNATURE, DATA_POLICY, DATA_LOG, pieces)?;
+    outcome.assert_is(&rt, "twelve rules", Status::Done, DATA_ENFORCED, b"");
+    Ok(())
+}
+
 #[test]
 fn a_guard_may_have_a_column_of_numbers(rt: HostRuntime) -> Result<(), Fail> {
     let alloc = rt.alloc();
@@ -174,11 +298,6 @@ fn a_refused_file_leaves_the_gate_alone(rt: HostRuntime) -> Result<(), Fail> {
         ),
         (
             SIGNATURE,
-            b"rule erase: forall u. request(u) -> eventually[0,30] delete(u);",
-            b"policy: not built\n",
-        ),
-        (
-            SIGNATURE,
             b"rule bar: alarm() -> not use(\"x\"); rule r: forall u. request(u) -> consent(u);",
             b"policy: not enforceable at 53\n",
         ),
@@ -226,6 +345,12 @@ fn a_refused_record_keeps_those_before_it(rt: HostRuntime) -> Result<(), Fail> {
             b"record 2: time 7 is below 9\n",
         ),
         (
+            "falling time, with something owed",
+            b"@5 request(\"a\"); @2;",
+            b"@5 request(\"a\");\n+35 delete(\"a\");\n",
+            b"record 2: time 2 is below 5\n",
+        ),
+        (
             "a tick",
             b"@1; >5; @3;",
             b"@1;\n",
@@ -234,11 +359,11 @@ fn a_refused_record_keeps_those_before_it(rt: HostRuntime) -> Result<(), Fail> {
         (
             "in the middle",
             b"@1 request(\"a\"); @2 foo(); @3 request(\"b\");",
-            b"@1 request(\"a\") alarm();\n",
+            b"@1 request(\"a\");\n+31 delete(\"a\");\n",
             b"record 2: unknown name at 3\n",
         ),
     ] {
-        let outcome = enforced(alloc, SIGNATURE, RAISE, log, Vec::new(alloc))?;
+        let outcome = enforced(alloc, SIGNATURE, ERASE, log, Vec::new(alloc))?;
         outcome.assert_is(&rt, name, Status::Record, output, report);
     }
     Ok(())

@@ -7,7 +7,8 @@ use enf_io::calm_sink::CalmSink;
 use std::test::Fail;
 
 const USAGE: &[u8] =
-    b"usage: enf enforce SIG POLICY [--resume FILE] [--save FILE] | check SIG POLICY | audit SIG POLICY | gen START N | drill START N\n";
+    b"usage: enf enforce SIG POLICY [--resume FILE] [--save FILE] | check SIG POLICY \
+      | audit SIG POLICY | gen START N | drill START N\n";
 
 #[test]
 fn words_and_missing_files_are_told(rt: HostRuntime) -> Result<(), Fail> {

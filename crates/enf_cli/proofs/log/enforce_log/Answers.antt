@@ -22,7 +22,7 @@ loop-log-init g c =
       reader = new.reader ∙ (λ i. reads_on c.args.signature.now (sym (ap (λ (r : Reader). r.rest) new.reader) i));
       room = new.room;
       limits = limits_none c.args.signature.now c.args.log new;
-      done = done_none c.args.signature.now c.args.log laws (c.requires.permits, c.requires.at_now) (g.G.Sink.seen c.args.gate.now) new;
+      done = done_none c.args.signature.now c.args.log laws (c.requires.permits, c.requires.together) (g.G.Sink.seen c.args.gate.now) new;
     }
 
 pub loop-log-preserved : goal.loop-log-preserved
@@ -30,7 +30,7 @@ loop-log-preserved g c =
     let laws = c.enforcer_laws.ensures in
     let inv = c.loop-log.invariant in
     let turn = rw c.in_default.is at c.in_ok-verdict.ensures.turn in
-    let go = goes_on c.args.signature.now c.args.log.enforcer laws (c.requires.permits, c.requires.at_now) (g.G.Sink.seen c.args.gate.now) c.loop-log.log c.go_on.new.log inv.bytes (g.G.Sink.seen c.loop-log.gate) (g.G.Sink.seen c.go_on.new.gate)
+    let go = goes_on c.args.signature.now c.args.log.enforcer laws (c.requires.permits, c.requires.together) (g.G.Sink.seen c.args.gate.now) c.loop-log.log c.go_on.new.log inv.bytes (g.G.Sink.seen c.loop-log.gate) (g.G.Sink.seen c.go_on.new.gate)
     inv.done inv.limits inv.count inv.most inv.left c.in_ok-verdict.ensures.writes turn in
     record { bytes = go.bytes; count = go.count_is; most = go.within; left = go.room_is; reader = go.reader_is; room = c.in_ok-verdict.ensures.room; limits = go.still; done = go.progress }
 
@@ -39,7 +39,7 @@ loop-log-smaller g c =
     let laws = c.enforcer_laws.ensures in
     let inv = c.loop-log.invariant in
     let turn = rw c.in_default.is at c.in_ok-verdict.ensures.turn in
-    let go = goes_on c.args.signature.now c.args.log.enforcer laws (c.requires.permits, c.requires.at_now) (g.G.Sink.seen c.args.gate.now) c.loop-log.log c.go_on.new.log inv.bytes (g.G.Sink.seen c.loop-log.gate) (g.G.Sink.seen c.go_on.new.gate)
+    let go = goes_on c.args.signature.now c.args.log.enforcer laws (c.requires.permits, c.requires.together) (g.G.Sink.seen c.args.gate.now) c.loop-log.log c.go_on.new.log inv.bytes (g.G.Sink.seen c.loop-log.gate) (g.G.Sink.seen c.go_on.new.gate)
     inv.done inv.limits inv.count inv.most inv.left c.in_ok-verdict.ensures.writes turn in
     go.less
 
@@ -48,7 +48,7 @@ returns-in_err-verdict-clause-cut g c policy trace built stands =
     let laws = c.enforcer_laws.ensures in
     let inv = c.loop-log.invariant in
     let p = err_from_is_err_and c.from_residual.result c.from_residual.ensures.1 in
-    rw (p.1, p.2) (cut_run (Option Verdict) c.args.signature.now policy c.args.log.enforcer trace laws (c.requires.permits, c.requires.at_now) built (g.G.Sink.seen c.args.gate.now) inv.bytes c.loop-log.log (g.G.Sink.seen c.loop-log.gate) (g.G.Sink.seen c.go_on.new.gate)
+    rw (p.1, p.2) (cut_run (Option Verdict) c.args.signature.now policy c.args.log.enforcer trace laws (c.requires.permits, c.requires.together) built (g.G.Sink.seen c.args.gate.now) inv.bytes c.loop-log.log (g.G.Sink.seen c.loop-log.gate) (g.G.Sink.seen c.go_on.new.gate)
     (inv.done policy trace built stands) inv.count inv.left c.in_err-verdict.field-0.0 c.in_err-verdict.ensures.cut c.in_err-verdict.ensures.writes)
 
 pub returns-in_err-drain-clause-cut : goal.returns-in_err-drain-clause-cut
@@ -60,10 +60,10 @@ returns-in_err-drain-clause-cut g c policy trace built stands =
     let turn = rw c.in-Some.is at c.in_ok-verdict.ensures.turn in
     let old = c.loop-log.log in
     let cut = c.in_err-drain.field-0.0 in
-    let ended = ends_log c.args.signature.now policy c.args.log.enforcer trace laws (c.requires.permits, c.requires.at_now) built (seen c.args.gate.now) old inv.bytes (seen c.loop-log.gate) (seen c.go_on.new.gate)
+    let ended = ends_log c.args.signature.now policy c.args.log.enforcer trace laws (c.requires.permits, c.requires.together) built (seen c.args.gate.now) old inv.bytes (seen c.loop-log.gate) (seen c.go_on.new.gate)
     (inv.done policy trace built stands) inv.count inv.left c.in_ok-verdict.ensures.writes c.in-Some.verdict turn.2 in
     let drained = subst (λ (e : Enforcing). CutsDrain c.args.signature.now (moment e (seen c.go_on.new.gate)) (seen c.drain.new.sink).told cut) turn.1 c.in_err-drain.ensures.cut in
-    rw (p.1, p.2) (cut_drain c.args.signature.now policy c.args.log.enforcer trace laws (c.requires.permits, c.requires.at_now) built (seen c.args.gate.now) inv.bytes old.reader.rest old.accepted old.enforcer c.in-Some.verdict (seen c.go_on.new.gate) (seen c.drain.new.sink)
+    rw (p.1, p.2) (cut_drain c.args.signature.now policy c.args.log.enforcer trace laws (c.requires.permits, c.requires.together) built (seen c.args.gate.now) inv.bytes old.reader.rest old.accepted old.enforcer c.in-Some.verdict (seen c.go_on.new.gate) (seen c.drain.new.sink)
     ended c.in_err-drain.ensures.reads (Unit {0}) cut drained c.in_err-drain.ensures.writes)
 
 pub returns-in-Some-clause-ran : goal.returns-in-Some-clause-ran
@@ -74,9 +74,9 @@ returns-in-Some-clause-ran g c policy trace built stands =
     let turn = rw c.in-Some.is at c.in_ok-verdict.ensures.turn in
     let old = c.loop-log.log in
     let verdict = c.in-Some.verdict in
-    let ended = ends_log c.args.signature.now policy c.args.log.enforcer trace laws (c.requires.permits, c.requires.at_now) built (seen c.args.gate.now) old inv.bytes (seen c.loop-log.gate) (seen c.go_on.new.gate)
+    let ended = ends_log c.args.signature.now policy c.args.log.enforcer trace laws (c.requires.permits, c.requires.together) built (seen c.args.gate.now) old inv.bytes (seen c.loop-log.gate) (seen c.go_on.new.gate)
     (inv.done policy trace built stands) inv.count inv.left c.in_ok-verdict.ensures.writes verdict turn.2 in
     let drained = subst (λ (e : Enforcing). GivesDrain c.args.signature.now (moment e (seen c.go_on.new.gate)) (moment c.drain.new.enforcer (seen c.drain.new.sink))) turn.1 c.in_ok-drain.ensures.drained in
-    let judged = ran_judged c.args.signature.now policy c.args.log.enforcer trace laws (c.requires.permits, c.requires.at_now) built (seen c.args.gate.now) inv.bytes old.reader.rest old.accepted old.enforcer verdict (seen c.go_on.new.gate) (seen c.drain.new.sink)
+    let judged = ran_judged c.args.signature.now policy c.args.log.enforcer trace laws (c.requires.permits, c.requires.together) built (seen c.args.gate.now) inv.bytes old.reader.rest old.accepted old.enforcer verdict (seen c.go_on.new.gate) (seen c.drain.new.sink)
     ended c.in_ok-drain.ensures.reads c.drain.new.enforcer drained c.in_ok-drain.ensures.writes in
     subst (λ (n : ℕ). RanAsJudged (setting_of c.args.signature.now policy c.args.log.enforcer trace) (record { accepted = n; verdict = verdict }) (seen c.args.gate.now) (seen c.drain.new.sink)) (sym turn.0) judged

@@ -1,4 +1,4 @@
-use Rattle.std.proofs.Common.{◌≡◌, ◌∙◌, List, [], ap, false, inl, map, refl, subst, sym}
+use Rattle.std.proofs.Common.{◌∙◌, [], inl, map, refl, subst, sym}
 use Rattle.std.proofs.lemmas.Result.{err_from_is_err_and}
 use Rattle.enf_io.specs.FileCalls.{FileView}
 use Rattle.enforce_types.specs.PolicyPlans.{ArePlanned}
@@ -7,17 +7,12 @@ use Rattle.enforce_types.specs.Typed.{StoredTyped, typed_of}
 use Rattle.enforcer_core.specs.Answered.{Permits}
 use Rattle.formula_reader.specs.Resolution.{rules_of}
 use Rattle.plan_terms.specs.Plans.{plan_of}
-use Rattle.plan_terms.specs.declared.plans.Plan.{Plan as StoredPlan}
 use Rattle.enf_cli.specs.Owed.{HasPlans}
-use Rattle.enf_cli.specs.Policies.{CanBeBuilt, formulas, look_ahead}
+use Rattle.enf_cli.specs.Policies.{formulas}
 use Rattle.enf_cli.specs.Files.{EndsFile, HoldsPolicy, HoldsRefusedPolicy}
 use Rattle.enf_cli.specs.Logs.{CutsRun, RanAsJudged}
-use Rattle.enf_cli.proofs.RunLemmas.{from_the_start, log_done, log_ends, log_refused, memory_ends, none_ahead, policy_ends, signature_ends}
+use Rattle.enf_cli.proofs.RunLemmas.{from_the_start, log_done, log_ends, log_refused, memory_ends, policy_ends, signature_ends}
 use Rattle.enf_cli.proofs.run.enforce.Goals as goal
-
-pub new-requires : goal.new-requires
-new-requires g c =
-    none_ahead (typed_of c.in_ok-accepted.accepted.typed).plans (ap (λ (ps : List StoredPlan). look_ahead (map plan_of ps)) (sym c.plans.ensures.plans) ∙ sym c.looks_ahead.ensures ∙ c.if-looks_ahead.false)
 
 pub enforce_log-requires-clause-permits : goal.enforce_log-requires-clause-permits
 enforce_log-requires-clause-permits g c =
@@ -52,13 +47,11 @@ returns-in_err-judged g c words report report' form =
     let typed = typed_of c.in_ok-accepted.accepted.typed in
     let planned = c.in_ok-accepted.ensures.typed.planned in
     let holds = subst (λ (v : FileView). HoldsPolicy v.contents c.args.policy_file.now entries policy) first c.in_ok-accepted.ensures.held in
-    let ahead : look_ahead typed.plans ≡ false = ap (λ (ps : List StoredPlan). look_ahead (map plan_of ps)) (sym c.plans.ensures.plans) ∙ sym c.looks_ahead.ensures ∙ c.if-looks_ahead.false in
-    let can : CanBeBuilt entries (formulas policy) = (typed.plans, typed.guards, planned, ahead) in
     let log = c.in_ok-log.ensures in
-    let built : HasPlans entries (formulas policy) c.in_ok-log.log.enforcer = (typed.guards, subst (λ (stored : StoredTyped). ArePlanned entries (formulas policy) (typed_of stored).plans typed.guards) (sym log.enforcer.policy) planned) in
+    let built : HasPlans entries (formulas policy) c.in_ok-log.log.enforcer = subst (λ (stored : StoredTyped). ArePlanned entries (formulas policy) (typed_of stored).plans (typed_of stored).guards) (sym log.enforcer.policy) planned in
     let cut = c.in_err-judged.field-0.0 in
     let short = from_the_start entries (formulas policy) c.in_ok-log.log.enforcer log.enforcer.clock (λ s. CutsRun s (g.G.Sink.seen c.args.gate.now) (g.G.Sink.seen c.enforce_log.new.gate) cut) (c.in_err-judged.ensures.cut (formulas policy) [] built log.stands) in
-    rw (p.1, p.2) (log_ends _ c.args.signature_file.now c.args.policy_file.now form entries policy c.in_ok-signature.ensures.held holds can (c.in_ok-accepted.ensures.same ∙ first) cut short)
+    rw (p.1, p.2) (log_ends _ c.args.signature_file.now c.args.policy_file.now form entries policy c.in_ok-signature.ensures.held holds (c.in_ok-accepted.ensures.same ∙ first) cut short)
 
 pub returns-in_err-conclude : goal.returns-in_err-conclude
 returns-in_err-conclude g c words report report' form =
@@ -69,13 +62,11 @@ returns-in_err-conclude g c words report report' form =
     let typed = typed_of c.in_ok-accepted.accepted.typed in
     let planned = c.in_ok-accepted.ensures.typed.planned in
     let holds = subst (λ (v : FileView). HoldsPolicy v.contents c.args.policy_file.now entries policy) first c.in_ok-accepted.ensures.held in
-    let ahead : look_ahead typed.plans ≡ false = ap (λ (ps : List StoredPlan). look_ahead (map plan_of ps)) (sym c.plans.ensures.plans) ∙ sym c.looks_ahead.ensures ∙ c.if-looks_ahead.false in
-    let can : CanBeBuilt entries (formulas policy) = (typed.plans, typed.guards, planned, ahead) in
     let log = c.in_ok-log.ensures in
-    let built : HasPlans entries (formulas policy) c.in_ok-log.log.enforcer = (typed.guards, subst (λ (stored : StoredTyped). ArePlanned entries (formulas policy) (typed_of stored).plans typed.guards) (sym log.enforcer.policy) planned) in
+    let built : HasPlans entries (formulas policy) c.in_ok-log.log.enforcer = subst (λ (stored : StoredTyped). ArePlanned entries (formulas policy) (typed_of stored).plans (typed_of stored).guards) (sym log.enforcer.policy) planned in
     let judged = c.in_ok-judged.judged in
     let ran = from_the_start entries (formulas policy) c.in_ok-log.log.enforcer log.enforcer.clock (λ s. RanAsJudged s judged (g.G.Sink.seen c.args.gate.now) (g.G.Sink.seen c.enforce_log.new.gate)) (c.in_ok-judged.ensures.ran (formulas policy) [] built log.stands) in
-    rw (p.1, p.2) (log_refused _ c.args.signature_file.now c.args.policy_file.now form entries policy c.in_ok-signature.ensures.held holds can (c.in_ok-accepted.ensures.same ∙ first) judged.accepted judged.verdict ran.ran c.in_err-conclude.field-0.0 ran.count c.in_err-conclude.ensures)
+    rw (p.1, p.2) (log_refused _ c.args.signature_file.now c.args.policy_file.now form entries policy c.in_ok-signature.ensures.held holds (c.in_ok-accepted.ensures.same ∙ first) judged.accepted judged.verdict ran.ran c.in_err-conclude.field-0.0 ran.count c.in_err-conclude.ensures)
 
 pub returns : goal.returns
 returns g c words report report' form =
@@ -85,10 +76,8 @@ returns g c words report report' form =
     let typed = typed_of c.in_ok-accepted.accepted.typed in
     let planned = c.in_ok-accepted.ensures.typed.planned in
     let holds = subst (λ (v : FileView). HoldsPolicy v.contents c.args.policy_file.now entries policy) first c.in_ok-accepted.ensures.held in
-    let ahead : look_ahead typed.plans ≡ false = ap (λ (ps : List StoredPlan). look_ahead (map plan_of ps)) (sym c.plans.ensures.plans) ∙ sym c.looks_ahead.ensures ∙ c.if-looks_ahead.false in
-    let can : CanBeBuilt entries (formulas policy) = (typed.plans, typed.guards, planned, ahead) in
     let log = c.in_ok-log.ensures in
-    let built : HasPlans entries (formulas policy) c.in_ok-log.log.enforcer = (typed.guards, subst (λ (stored : StoredTyped). ArePlanned entries (formulas policy) (typed_of stored).plans typed.guards) (sym log.enforcer.policy) planned) in
+    let built : HasPlans entries (formulas policy) c.in_ok-log.log.enforcer = subst (λ (stored : StoredTyped). ArePlanned entries (formulas policy) (typed_of stored).plans (typed_of stored).guards) (sym log.enforcer.policy) planned in
     let judged = c.in_ok-judged.judged in
     let ran = from_the_start entries (formulas policy) c.in_ok-log.log.enforcer log.enforcer.clock (λ s. RanAsJudged s judged (g.G.Sink.seen c.args.gate.now) (g.G.Sink.seen c.enforce_log.new.gate)) (c.in_ok-judged.ensures.ran (formulas policy) [] built log.stands) in
-    inl (inl (log_done _ c.args.signature_file.now c.args.policy_file.now form entries policy c.in_ok-signature.ensures.held holds can (c.in_ok-accepted.ensures.same ∙ first) judged.accepted judged.verdict ran.ran c.in_ok-conclude.ensures))
+    inl (inl (log_done _ c.args.signature_file.now c.args.policy_file.now form entries policy c.in_ok-signature.ensures.held holds (c.in_ok-accepted.ensures.same ∙ first) judged.accepted judged.verdict ran.ran c.in_ok-conclude.ensures))

@@ -10,7 +10,7 @@ returns-in-Err-clause-outcome g c =
 
 pub returns-in-Err-clause-due : goal.returns-in-Err-clause-due
 returns-in-Err-clause-due g c =
-    dues_of c.one_answer.ensures c.one_text_answer.ensures c.accepted_is_not_refused.ensures c.policy_has_one_answer.ensures.plans c.one_answer-2.ensures _ c.report_ending.result
+    dues_of c.one_answer.ensures c.one_text_answer.ensures c.accepted_is_not_refused.ensures c.one_answer-2.ensures _ c.report_ending.result
     (outcome_of _ c.in-Err.ending c.report_ending.result (c.in-Err.ensures (g.R.Sink.seen c.args.report.now) (g.R.Sink.seen c.report_ending.new.report)) c.report_ending.ensures)
 
 pub returns-in-Ok-clause-outcome : goal.returns-in-Ok-clause-outcome
@@ -21,4 +21,4 @@ returns-in-Ok-clause-outcome g c =
 pub returns-in-Ok-clause-due : goal.returns-in-Ok-clause-due
 returns-in-Ok-clause-due g c =
     let report = g.R.Sink.seen c.args.report.now in
-    dues_of c.one_answer.ensures c.one_text_answer.ensures c.accepted_is_not_refused.ensures c.policy_has_one_answer.ensures.plans c.one_answer-2.ensures _ statuses.Done (done_whole _ refl (c.in-Ok.ensures report report))
+    dues_of c.one_answer.ensures c.one_text_answer.ensures c.accepted_is_not_refused.ensures c.one_answer-2.ensures _ statuses.Done (done_whole _ refl (c.in-Ok.ensures report report))
