@@ -1,7 +1,8 @@
 #!/usr/bin/env bash
 # Measures `enf gen`, and `enf enforce` on what it gives: the rate and the peak memory, and of `enforce` the instructions
 # for each byte where valgrind is installed, for logs of two sizes, under the empty policy and under one rule. Then what a
-# record costs that has many events or wakes one of many rules.
+# record costs that has many events, wakes one of many rules or passes many deadlines, and what the records of a log cost
+# under policies that ask the past and look ahead.
 set -u
 cd "$(dirname "$0")/.." || exit 1
 . scripts/enf.sh
@@ -31,10 +32,10 @@ PYTHON
     }'
 }
 
-cp examples/generated.sig "$work/signature"
+cp examples/generated/generated.sig "$work/signature"
 : > "$work/empty"
 : > "$work/none.log"
-cp examples/generated.policy "$work/raise"
+cp examples/generated/generated.policy "$work/raise"
 bin/enf gen 1 2000 > "$work/tiny.log"
 bin/enf gen 1 20000 > "$work/records.log"
 measure gen small /dev/null "$work/small.log" gen 1 100000
@@ -76,12 +77,21 @@ done
 command -v valgrind > /dev/null || exit 0
 
 # A record of many events that each owe one, and one of half as many.
-echo 'rule r: forall u. request(u) -> delete(u);' > "$work/erase"
+echo 'rule at_once: forall u. request(u) -> delete(u);' > "$work/at-once"
 for count in 1000 2000; do
     echo "@1$(seq -f ' request("u%.0f")' -s '' "$count");" > "$work/$count.log"
 done
+is_enforced at-once &&
+    compare 'instructions for a record of 2,000 requests' "$(for_records at-once 2000)" "$(for_records at-once 1000)"
+
+# The same where each owes one by a deadline, and all the deadlines pass at once.
+echo 'rule erase: forall u. request(u) -> eventually[0,30] delete(u);' > "$work/erase"
+for count in 1000 2000; do
+    (cat "$work/$count.log" && echo '>32;') > "$work/passed-$count.log"
+done
 is_enforced erase &&
-    compare 'instructions for a record of 2,000 requests' "$(for_records erase 2000)" "$(for_records erase 1000)"
+    compare 'instructions for 2,000 deadlines that pass at once' \
+        "$(for_records erase passed-2000)" "$(for_records erase passed-1000)"
 
 # Records that each wake one rule, of sixty-four and of that one alone.
 for rule in $(seq 0 63); do
@@ -94,8 +104,50 @@ is_enforced sixty-four many &&
     compare 'instructions for 1,000 records that wake one of 64 rules' \
         "$(for_records sixty-four woken many)" "$(for_records alone woken many)"
 
-# The records of a generated log under a rule that asks the past.
+# each_record POLICY LOG [SIGNATURE]: what each of 20,000 records takes.
+each_record() {
+    is_enforced "$1" "${3:-signature}" &&
+        echo "$1: $(($(instructions "$@") / 20000)) instructions for each record, all in all"
+}
+
+# The records of a generated log, under a rule that asks the past, one that looks ahead, and a policy of both and an until.
 echo 'rule consent: forall u. use(u) -> once[0,*] consent(u);' > "$work/consent"
-is_enforced consent &&
-    echo "consent: $(($(instructions consent records) / 20000)) instructions for each record, all in all"
+echo 'rule hold: forall u. lock(u) -> (not use(u)) until[0,10] unlock(u);' > "$work/hold"
+cat "$work/consent" "$work/erase" "$work/hold" > "$work/sample"
+each_record consent records
+each_record erase records
+each_record sample records
+
+# Twelve rules of all kinds, over a log of as many records.
+cat > "$work/personal" << 'SIGNATURE'
+consent(text); revoke(text); request(text); collect(text,text); use(text,text) -; share(text,text) -; delete(text) +;
+notify(text,text) +; lock(text); unlock(text) +; breach(int); alarm() +; report(int) +; login(text);
+SIGNATURE
+cat > "$work/twelve" << 'POLICY'
+rule consent: forall u, p. use(u,p) -> (not revoke(u)) since[0,*] consent(u);
+rule purpose: forall u, p. use(u,p) -> once[0,365] collect(u,p);
+rule share: forall u, q. share(u,q) -> once[0,*] notify(u,q);
+rule erase: forall u. request(u) -> eventually[0,30] delete(u);
+rule erased: forall u, p. use(u,p) -> not once[0,*] delete(u);
+rule welcome: forall u. consent(u) -> next[0,5] notify(u,"terms");
+rule hold: forall u. lock(u) -> (forall p. not use(u,p)) until[0,10] unlock(u);
+rule quiet: forall u. request(u) -> always[1,30] forall q. not share(u,q);
+rule breach: forall n. breach(n) -> alarm();
+rule authority: forall n. breach(n) and 100 < n -> eventually[0,3] report(n);
+rule answer: forall u. request(u) -> (eventually[0,5] notify(u,"received")) or delete(u);
+rule silence: forall u, q. share(u,q) -> not prev[0,1] share(u,q);
+POLICY
+/usr/bin/env python3 - > "$work/twelve.log" << 'PYTHON'
+state, time = 1, 0
+kinds = ['consent("u%d")', 'use("u%d","mail")', 'use("u%d","post")', 'share("u%d","acme")', 'collect("u%d","mail")',
+         'login("u%d")', 'request("u%d")', 'lock("u%d")', 'revoke("u%d")', 'breach(%d)']
+def draw():
+    global state
+    state = (state * 1103515245 + 12345) % 2147483648
+    return state // 65536
+for _ in range(20000):
+    time += draw() % 8
+    print('@%d%s;' % (time, ''.join(' ' + kinds[draw() % 10] % (draw() % 200) for _ in range(draw() % 4))))
+PYTHON
+each_record twelve twelve personal
 exit 0

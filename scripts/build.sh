@@ -56,8 +56,8 @@ fi
 [ "$crate" = enf_cli ] || exit 0
 
 # `rt run` links what is proved, and runs it once.
-if ! (cd crates/enf_cli && rt run -- enforce ../../examples/access.sig ../../examples/access.policy \
-    < ../../examples/access.log > /dev/null 2>> "../../$log"); then
+if ! (cd crates/enf_cli && rt run -- enforce ../../examples/access/access.sig ../../examples/access/access.policy \
+    < ../../examples/access/access.log > /dev/null 2>> "../../$log"); then
     echo "The program was not built. The end of $log:" >&2
     tail -n 20 "$log" >&2
     exit 1

@@ -1,6 +1,6 @@
 #!/usr/bin/env bash
 # Enforces the logs of examples/, and shows for each what was changed, the report and the status. One of them is a
-# generated log, which it generates again. Then it checks two policies, of which one is refused.
+# generated log, which it generates again. It checks two policies, of which one is refused.
 set -u
 cd "$(dirname "$0")/.." || exit 1
 work=$(mktemp -d) || exit 1
@@ -22,11 +22,11 @@ show_file() {
     show_lines "examples/$1"
 }
 
-# show_enforced NAME: what was changed in a log.
+# show_enforced NAME FILE: what was changed in a log of examples/.
 show_enforced() {
     echo
-    echo "== enf enforce, on examples/$1.log: '-' came in, '+' goes out in its place"
-    show_changes "examples/$1.log" "$work/$1.output"
+    echo "== enf enforce, on examples/$2: '-' came in, '+' goes out in its place"
+    show_changes "examples/$2" "$work/$1.output"
     show_end "$1"
 }
 
@@ -37,33 +37,38 @@ show_checked() {
     show_end "$1"
 }
 
-say_program
-add_run access examples/access.log enforce access.sig access.policy
-add_run falling examples/falling.log enforce access.sig access.policy
-add_run log /dev/null gen 1 8
-add_run generated examples/generated.log enforce generated.sig generated.policy
-add_run data /dev/null check data.sig data.policy
-add_run reminder /dev/null check data.sig reminder.policy
-make_runs examples
+# enforce_folder NAME: the policy of a folder on its log.
+enforce_folder() {
+    show_file "$1/$1.sig"
+    show_file "$1/$1.policy"
+    show_enforced "$1" "$1/$1.log"
+    want "$1" 0 "examples/$1/$1.enforced"
+}
 
-show_file access.sig
-show_file access.policy
-show_enforced access
-want access 0 examples/access.enforced
-show_enforced falling
-want falling 3 examples/falling.enforced <(echo 'record 2: time 5 is below 7')
-show_file generated.sig
-show_file generated.policy
-echo
-echo "== enf gen 1 8, which is examples/generated.log"
-show_lines "$work/log.output"
-want log 0 examples/generated.log
-show_enforced generated
-want generated 0 examples/generated.enforced
-show_file data.sig
-show_file data.policy
-show_checked data
-want data 0 examples/data.checked
-show_file reminder.policy
+say_program
+mkdir "$work/files"
+cp examples/*/* "$work/files"
+for name in data access safety generated; do
+    add_run "$name" "examples/$name/$name.log" enforce "$name.sig" "$name.policy"
+done
+add_run falling examples/access/falling.log enforce access.sig access.policy
+add_run log /dev/null gen 1 8
+add_run checked /dev/null check data.sig data.policy
+add_run reminder /dev/null check data.sig reminder.policy
+make_runs "$work/files"
+
+enforce_folder data
+show_checked checked
+want checked 0 examples/data/data.checked
+show_file data/reminder.policy
 show_checked reminder
-want reminder 2 examples/reminder.checked
+want reminder 2 examples/data/reminder.checked
+enforce_folder access
+show_enforced falling access/falling.log
+want falling 3 examples/access/falling.enforced <(echo 'record 3: time 5 is below 7')
+enforce_folder safety
+echo
+echo "== enf gen 1 8, which is examples/generated/generated.log"
+show_lines "$work/log.output"
+want log 0 examples/generated/generated.log
+enforce_folder generated

@@ -1,7 +1,9 @@
 consent(text);
+revoke(text);
 request(text);
+breach(text);
+answer(text);
 use(text) -;
 delete(text) +;
-lock(text);
-unlock(text) +;
 notice(text) +;
+reminder(text) +;

@@ -1,5 +1,0 @@
-request(text);
-denied(text);
-forced(text);
-alarm() +;
-lock() +;

@@ -1,0 +1,6 @@
+login(text);
+ban(text);
+lift(text);
+approve(text,text);
+enter(text,text) -;
+logout(text) +;

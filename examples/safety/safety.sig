@@ -1,0 +1,7 @@
+open(text);
+close(text);
+stop(text);
+fault(text);
+acknowledge(text);
+start(text) -;
+alarm(text) +;
