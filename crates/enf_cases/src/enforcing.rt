@@ -1,11 +1,8 @@
-//! Policies enforced on logs: what is done at each step, and the step that goes out.
-ghost use Rattle.std.specs.List.{AllByRecursion};
-ghost use Rattle.std.specs.Prelude.{◌<◌, ◌^◌, OnOk, IsTrue, map};
+//! Policies enforced on logs: what is done at each step, and the step that goes out; or what is pending.
+ghost use Rattle.std.specs.Prelude.{◌<◌, ◌^◌, OnOk};
 ghost use Rattle.enf_cases.specs.Enforcing.{IsFurther, IsNew};
 ghost use Rattle.formula_reader.specs.Resolution.{rules_of};
 ghost use Rattle.formula_reader.specs.WellFormed.{IsWellFormedPolicy};
-ghost use Rattle.obligations.specs.Traces.{LooksAtNow};
-ghost use Rattle.plan_terms.specs.Plans.{plan_of};
 
 use crate::case::CaseError;
 use crate::output::Output;
@@ -17,27 +14,39 @@ use enforce_types::TypedPolicy;
 use enforcer_core::{Enforcer, OutStep, StepOut, StepRefusal};
 use formula_reader::{Policy, read_policy};
 use log_stream::{Found, LogItem, LogMode, LogReader};
-use obligations::LiteralKind;
-use plan_terms::Plan;
+use obligations::{Instance, LiteralKind};
 use signature::Signature;
 use std::alloc::Global;
+use valuations::Valuation;
+
+/// What is told of an enforcer: for each step that goes out what was done at it, as `+` or `-`, the event, `/`, the
+/// number of the leaf and a blank, and the step with a blank; or behind each record, and the drain behind the last one,
+/// what is pending.
+#[derive(Clone, Copy)]
+pub enum Told {
+    Steps,
+    Pending,
+}
 
 // How many records are taken at most, and the greatest time of one.
 const MOST_RECORDS: u32 = 1_000;
 
 const MOST_TIME: u64 = 1_000_000_000_000_000;
 
-/// For each step that goes out what was done at it, as `+` or `-`, the event, `/`, the number of the leaf and a blank,
-/// and the step with a blank. Reads a signature, a policy none of whose plans looks ahead, and a log, with a byte 1
+// How many variables are in scope at most.
+const MOST_IN_SCOPE: usize = 16;
+
+/// What is told of an enforcer over a log, and the drain behind it. Reads a signature, a policy and a log, with a byte 1
 /// between them.
-pub fn answer(alloc: Global, input: &[u8], out: &mut Output) -> Result<(), CaseError> {
+pub fn answer(alloc: Global, told: Told, input: &[u8], out: &mut Output) -> Result<(), CaseError> {
     let (signature, policy, log) = three(input)?;
     let names = read_signature(alloc, signature)?;
-    answer_under(alloc, &names, policy, log, out)
+    answer_under(alloc, told, &names, policy, log, out)
 }
 
 fn answer_under(
     alloc: Global,
+    told: Told,
     names: &Signature,
     policy: &[u8],
     log: &[u8],
@@ -45,7 +54,7 @@ fn answer_under(
 ) -> Result<(), CaseError> {
     let policy = within_limit(policy)?;
     match read_policy(alloc, names, policy) {
-        Ok(policy) => answer_policy(alloc, names, &policy, log, out),
+        Ok(policy) => answer_policy(alloc, told, names, &policy, log, out),
         Err(refusal) => {
             policies::print_refusal(refusal, out);
             Ok(())
@@ -55,6 +64,7 @@ fn answer_under(
 
 fn answer_policy(
     alloc: Global,
+    told: Told,
     names: &Signature,
     policy: &Policy,
     log: &[u8],
@@ -63,7 +73,7 @@ fn answer_policy(
     requires { IsWellFormedPolicy names.now (rules_of policy.now) }
 {
     match TypedPolicy::of(alloc, names, policy) {
-        Ok(typed) => answer_typed(alloc, names, typed, log, out),
+        Ok(typed) => answer_typed(alloc, told, names, typed, log, out),
         Err(refusal) => {
             typing::print_refusal(names, refusal, out);
             Ok(())
@@ -73,37 +83,19 @@ fn answer_policy(
 
 fn answer_typed(
     alloc: Global,
+    told: Told,
     names: &Signature,
     typed: TypedPolicy,
     log: &[u8],
     out: &mut Output,
 ) -> Result<(), CaseError> {
-    if all_look_at_now(typed.plans()) {
-        let mut enforcer = Enforcer::new(alloc, typed)?;
-        enforce(alloc, names, log, &mut enforcer, out)
-    } else {
-        Err(CaseError::Malformed)
-    }
-}
-
-// Whether no plan looks ahead.
-fn all_look_at_now(plans: &[Plan]) -> bool
-    ensures { IsTrue result → AllByRecursion LooksAtNow (map plan_of plans.now) }
-{
-    match plans.split_first() {
-        Some((first, rest)) => is_at_now(first) && all_look_at_now(rest),
-        None => true,
-    }
-}
-
-fn is_at_now(plan: &Plan) -> bool
-    ensures { IsTrue result → LooksAtNow (plan_of plan.now) }
-{
-    !plan.has_future()
+    let mut enforcer = Enforcer::new(alloc, typed)?;
+    enforce(alloc, told, names, log, &mut enforcer, out)
 }
 
 fn enforce(
     alloc: Global,
+    told: Told,
     names: &Signature,
     log: &[u8],
     enforcer: &mut Enforcer,
@@ -113,11 +105,12 @@ fn enforce(
 {
     let mut reader = LogReader::new(alloc, names.duplicate(alloc)?, LogMode::Input);
     reader.feed(log)?;
-    take_records(alloc, names, &mut reader, enforcer, out)
+    take_records(alloc, told, names, &mut reader, enforcer, out)
 }
 
 fn take_records(
     alloc: Global,
+    told: Told,
     names: &Signature,
     reader: &mut LogReader,
     enforcer: &mut Enforcer,
@@ -128,8 +121,8 @@ fn take_records(
     for taken in 0..MOST_RECORDS {
         let _before = taken;
         match reader.next_record(alloc) {
-            Ok(Found::Item(item)) => take(alloc, names, item, enforcer, out)?,
-            Ok(Found::Pending) => return Ok(()),
+            Ok(Found::Item(item)) => take(alloc, told, names, item, enforcer, out)?,
+            Ok(Found::Pending) => return drain(alloc, told, names, enforcer, out),
             Err(_) => return Err(CaseError::Malformed),
         }
     }
@@ -138,6 +131,7 @@ fn take_records(
 
 fn take(
     alloc: Global,
+    told: Told,
     names: &Signature,
     item: LogItem,
     enforcer: &mut Enforcer,
@@ -147,8 +141,32 @@ fn take(
     ensures { OnOk result (IsFurther enforcer.old enforcer.new) }
 {
     let made = made_of(alloc, item, enforcer)?;
-    print_steps(names, made.steps.as_slice(), out);
+    print_made(told, names, &made, enforcer.pending(), out);
     Ok(())
+}
+
+// Lets out what is still owed behind the log.
+fn drain(
+    alloc: Global,
+    told: Told,
+    names: &Signature,
+    enforcer: &mut Enforcer,
+    out: &mut Output,
+) -> Result<(), CaseError>
+    requires { enforcer.old.position < 2 ^ 63 }
+{
+    let made = drained(alloc, enforcer)?;
+    print_made(told, names, &made, enforcer.pending(), out);
+    Ok(())
+}
+
+fn drained(alloc: Global, enforcer: &mut Enforcer) -> Result<StepOut, CaseError>
+    requires { enforcer.old.position < 2 ^ 63 }
+{
+    match enforcer.drain(alloc) {
+        Ok(made) => Ok(made),
+        Err(refusal) => Err(error_of(refusal)),
+    }
 }
 
 fn made_of(alloc: Global, item: LogItem, enforcer: &mut Enforcer) -> Result<StepOut, CaseError>
@@ -196,6 +214,54 @@ fn error_of(refusal: StepRefusal) -> CaseError {
     match refusal {
         StepRefusal::NoMemory => CaseError::NoMemory,
         StepRefusal::Falling { .. } | StepRefusal::Stopped => CaseError::Malformed,
+    }
+}
+
+fn print_made(
+    told: Told,
+    names: &Signature,
+    made: &StepOut,
+    pending: &[Instance],
+    out: &mut Output,
+) {
+    match told {
+        Told::Steps => print_steps(names, made.steps.as_slice(), out),
+        Told::Pending => print_pending(pending, out),
+    }
+}
+
+// The instances that are pending, with `;` behind each, and `/` and a blank.
+fn print_pending(pending: &[Instance], out: &mut Output) {
+    for instance in pending {
+        print_instance(instance, out);
+    }
+    out.bytes(b"/ ");
+}
+
+// The rule and the node, the origin and the window, with blanks between them, and the values.
+fn print_instance(instance: &Instance, out: &mut Output) {
+    out.number(instance.rule.into());
+    print_behind_blank(instance.node.into(), out);
+    print_behind_blank(instance.origin, out);
+    print_behind_blank(instance.low, out);
+    print_behind_blank(instance.high, out);
+    print_valuation(&instance.valuation, out);
+    out.bytes(b";");
+}
+
+fn print_behind_blank(number: u64, out: &mut Output) {
+    out.bytes(b" ");
+    out.number(number);
+}
+
+// For each variable that is bound a blank, its number, `=` and its value.
+fn print_valuation(v: &Valuation, out: &mut Output) {
+    for place in 0..MOST_IN_SCOPE {
+        if let Some((variable, value)) = v.item(place) {
+            print_behind_blank(variable.0.into(), out);
+            out.bytes(b"=");
+            out.value(value);
+        }
     }
 }
 

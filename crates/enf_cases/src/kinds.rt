@@ -1,5 +1,6 @@
 //! The kinds of cases, by name.
 use crate::case::CaseError;
+use crate::enforcing::Told;
 use crate::evaluations::Asking;
 use crate::output::Output;
 use crate::parts::find;
@@ -23,7 +24,7 @@ pub enum Kind {
     Policy,
     Check,
     Begun,
-    Steps,
+    Enforced(Told),
     Log(LogMode),
     Arguments,
     Table,
@@ -37,7 +38,7 @@ pub enum Kind {
     Long,
 }
 
-static KINDS: [(&[u8], Kind); 26] = [
+static KINDS: [(&[u8], Kind); 27] = [
     (b"text", Kind::Text),
     (b"value", Kind::Value),
     (b"compare", Kind::Compare),
@@ -47,7 +48,8 @@ static KINDS: [(&[u8], Kind); 26] = [
     (b"policy", Kind::Policy),
     (b"check", Kind::Check),
     (b"begun", Kind::Begun),
-    (b"steps", Kind::Steps),
+    (b"steps", Kind::Enforced(Told::Steps)),
+    (b"pending", Kind::Enforced(Told::Pending)),
     (b"log", Kind::Log(LogMode::Input)),
     (b"trace", Kind::Log(LogMode::TraceLog)),
     (b"arguments", Kind::Arguments),
@@ -88,7 +90,7 @@ pub fn answer_kind(
         Kind::Policy => policies::answer(alloc, input, out),
         Kind::Check => typing::answer(alloc, input, out),
         Kind::Begun => beginnings::answer(alloc, input, out),
-        Kind::Steps => enforcing::answer(alloc, input, out),
+        Kind::Enforced(told) => enforcing::answer(alloc, told, input, out),
         Kind::Log(mode) => logs::answer(alloc, mode, input, out),
         Kind::Arguments => arguments::answer(alloc, input, out),
         Kind::Table => tables::answer(alloc, input, out),

@@ -9,6 +9,8 @@ mod formulas;
 #[cfg(test)]
 mod found;
 #[cfg(test)]
+mod owed;
+#[cfg(test)]
 mod plans;
 #[cfg(test)]
 mod values;
