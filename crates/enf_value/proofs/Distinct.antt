@@ -1,5 +1,5 @@
 -- What the words of `IndexSet` say of its keys as a list, where `==` at the keys tells exactly whether they are equal.
-use Rattle.std.proofs.Common.{◌≡◌, ℕ, ◌<◌, ◌+◌, Bool, true, false, cond, not, ◌||◌, List, [], ◌∷◌, ◌++◌, length, get_or, take, Contains, refl, sym, ap, subst, ◌∙◌, true≢false, arith, Result, Ok, Err, is_err, slice_get, remove, Some, IfOk, OnErr, MatchResult, if◌then◌else◌, suc, zero}
+use Rattle.std.proofs.Common.{◌≡◌, ℕ, ◌<◌, ◌+◌, Bool, true, false, cond, not, ◌||◌, List, [], ◌∷◌, ◌++◌, length, get_or, take, Contains, refl, sym, ap, subst, ◌∙◌, append_assoc, append-nil, true≢false, arith, Result, Ok, Err, is_err, slice_get, remove, Some, IfOk, OnErr, MatchResult, if◌then◌else◌, suc, zero}
 use Rattle.std.specs.Bool.{Decides}
 use Rattle.std.specs.List.{list_any}
 use Rattle.std.specs.Result.{IsErrAnd}
@@ -7,7 +7,8 @@ use Rattle.std.proofs.lemmas.List.Elements.{Contains-get_or}
 use Rattle.std.proofs.lemmas.List.{take_more}
 use Rattle.indexmap.specs.IndexSet.{insert_key, remove_key}
 use Rattle.enf_value.specs.Decided.{list_any-Decides}
-use Rattle.enf_value.specs.Membership.{HasNoRepeats, Inserts, TakesOut, Removes}
+use Rattle.enf_value.specs.Membership.{HasNoRepeats, Inserts, KeepsFirsts, TakesOut, Removes}
+use Rattle.enf_value.specs.MembershipLaws.{HasNoRepeats-middle}
 
 -- two facts of what is in an `Ok`
 pub ok_both : {T E : Type 0} (r : Result T E) (P Q R : T → Type 0) → IfOk r P → IfOk r Q → ((x : T) → P x → Q x → R x) → IfOk r R
@@ -121,3 +122,21 @@ stays x before there = record { absent = λ t. absurd (true≢false (sym t)); pr
 
 pub goes_last : {X : Type 0} (x : X) (before after : List X) → (Contains before x → ⊥) → after ≡ before ++ x ∷ [] → Inserts x before true after
 goes_last x before after absent is = record { absent = λ t. (absent, is); present = λ f. absurd (true≢false f) }
+
+-- items without repeats are all kept
+pub distinct_kept : {X : Type 0} (before xs : List X) → HasNoRepeats (before ++ xs) → KeepsFirsts before xs (before ++ xs)
+distinct_kept before [] distinct = append-nil before
+distinct_kept before (x ∷ xs) distinct =
+    let behind = append_assoc before (x ∷ []) xs in (
+      true,
+      before ++ x ∷ [],
+      goes_last x before (before ++ x ∷ []) (HasNoRepeats-middle before xs x distinct) refl,
+      subst (λ l. KeepsFirsts (before ++ x ∷ []) xs l) behind (distinct_kept (before ++ x ∷ []) xs (subst HasNoRepeats (sym behind) distinct)),
+    )
+
+-- an item more is put behind those that are kept
+pub firsts_more : {X : Type 0} (before xs middle after : List X) (x : X) (new : Bool) → KeepsFirsts before xs middle → Inserts x middle new after → KeepsFirsts before (xs ++ x ∷ []) after
+firsts_more before [] middle after x new is inserts =
+    (new, after, subst (λ l. Inserts x l new after) is inserts, refl)
+firsts_more before (y ∷ xs) middle after x new (b, next, first, rest) inserts =
+    (b, next, first, firsts_more next xs middle after x new rest inserts)

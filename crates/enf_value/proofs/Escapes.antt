@@ -4,7 +4,6 @@ use Rattle.std.proofs.lemmas.Bool.{eqb-true, eqb-false}
 use Rattle.std.proofs.lemmas.Bool.Decides.{nat_tests}
 use Rattle.std.proofs.Math.ListN.{drop_of_length-le}
 use Rattle.std.proofs.Math.Seq.{drop-cons}
-use Rattle.memchr.specs.Find.{is_byte2}
 use Rattle.enf_value.specs.Tokens.{text_front, with_backslash, with_byte, with_escape}
 use Rattle.enf_value.specs.ValueTokens.{meaning, IsWritten, WrittenAt}
 
@@ -47,13 +46,7 @@ written_plain byte bytes text end quote backslash w = record {
 }
 
 -- bytes before the first quote or backslash, which is a quote, are written as they stand
-other_than : (byte : ℕ) → (is_byte2 34 92 byte ≡ true → ⊥) → (byte ≢ 34) × (byte ≢ 92)
-other_than byte neither = (
-  λ is. neither (subst (λ b. is_byte2 34 92 b ≡ true) (sym is) refl),
-  λ is. neither (subst (λ b. is_byte2 34 92 b ≡ true) (sym is) refl),
-)
-
-pub plain_written : (bytes : List ℕ) (quote : ℕ) → quote < length bytes → ((k : ℕ) → k < quote → is_byte2 34 92 (slice_index bytes k) ≡ true → ⊥) → slice_index bytes quote ≡ 34 → WrittenAt bytes quote (take quote bytes)
+pub plain_written : (bytes : List ℕ) (quote : ℕ) → quote < length bytes → ((k : ℕ) → k < quote → (slice_index bytes k ≢ 34) × (slice_index bytes k ≢ 92)) → slice_index bytes quote ≡ 34 → WrittenAt bytes quote (take quote bytes)
 plain_written [] quote within before is = absurd (omega (arith, within))
 plain_written (byte ∷ bytes) zero within before is = record {
   written = [];
@@ -63,7 +56,7 @@ plain_written (byte ∷ bytes) zero within before is = record {
   pieces = refl;
 }
 plain_written (byte ∷ bytes) (suc quote) within before is =
-    let apart = other_than byte (before 0 (omega arith)) in
+    let apart = before 0 (omega arith) in
     written_plain byte bytes (take quote bytes) quote apart.0 apart.1
     (plain_written bytes quote (omega (arith, within)) (λ k below. before (suc k) (omega (arith, below))) is)
 

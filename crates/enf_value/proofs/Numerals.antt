@@ -1,5 +1,5 @@
 -- The number tokens at the front of bytes, and what `parse` makes of them.
-use Rattle.std.proofs.Common.{◌≡◌, ◌≢◌, ℕ, ◌<◌, ◌≤◌, ◌+◌, ◌-◌, ◌*◌, ◌^◌, ◌==◌, ℤ, pos, negsuc, neg_ℤ, Bool, true, false, cond, inl, inr, List, [], ◌∷◌, ◌++◌, length, get_or, slice_index, take, drop, refl, sym, ap, subst, ◌∙◌, true≢false, arith, if◌then◌else◌, suc, zero, FitsSigned, zero-add, Result, Ok, Err, Some, None, MatchResult}
+use Rattle.std.proofs.Common.{◌≡◌, ◌≢◌, ℕ, ◌<◌, ◌≤◌, ◌+◌, ◌-◌, ◌*◌, ◌^◌, ◌==◌, ℤ, pos, negsuc, neg_ℤ, Bool, true, false, cond, inl, inr, List, [], ◌∷◌, ◌++◌, length, get_or, slice_index, take, drop, refl, sym, ap, subst, ◌∙◌, true≢false, arith, if◌then◌else◌, suc, zero, FitsSigned, add-zero, zero-add, Result, Ok, Err, Some, None, MatchResult}
 use Rattle.std.specs.Char.{is_ascii_digit, digit_value}
 use Rattle.std.specs.List.{prefix_len}
 use Rattle.std.specs.Int.{w64}
@@ -9,9 +9,10 @@ use Rattle.std.specs.Str.Parse.{AllDigits, IsNumeral, digits_value, signed_digit
 use Rattle.std.proofs.lemmas.Bool.{eqb-true}
 use Rattle.std.proofs.lemmas.Bool.Decides.{nat_tests}
 use Rattle.std.proofs.lemmas.Int.Digits.{digits_value_more}
-use Rattle.std.proofs.lemmas.List.{take-append-drop, length-take-le}
+use Rattle.std.proofs.lemmas.List.{get_or-drop, length-drop, length-take-le, take-append-drop, take-append-le}
 use Rattle.std.proofs.lemmas.Result.{Ok-from_Ok_iff, OkIff-at_ok}
 use Rattle.std.proofs.lemmas.Str.{IsUtf8-from_ascii}
+use Rattle.std.proofs.lemmas.Str.Parse.{digits_value-take-le}
 use Rattle.std.proofs.Math.Seq.{take-append_seam}
 use Rattle.enf_value.specs.ValueTokens.{IsNumberToken, IsNoDigit, IsNumber, TokenAt}
 use Rattle.enf_value.specs.declared.values.Value.TheVariants.{Num}
@@ -212,14 +213,101 @@ all_digits_more (x ∷ xs) (suc i) within each digit =
     let more : suc (i + 1) ≡ suc i + 1 = omega arith in
     subst (λ n. AllDigits 10 (take n (x ∷ xs))) more (each.0, all_digits_more xs i (omega (arith, within)) each.1 digit)
 
--- the number that digits alone write is the token at the front
-pub plain_token : (bytes : List ℕ) (end number : ℕ) → end ≡ end_of bytes → end ≤ length bytes → IsNumeral 10 (take end bytes) → number ≡ digits_value 10 (take end bytes) → number < 2 ^ 63 → TokenAt bytes 0 end (Num (pos number))
-plain_token bytes end number at within numeral is small = record {
-  token = take end bytes;
-  rest = drop end bytes;
-  splits = sym (take-append-drop end bytes);
-  ends = sym (length-take-le end bytes within) ∙ sym (zero-add (length (take end bytes)));
-  stands = inl (numeral, ap pos is);
-  whole = subst (λ n. IsNoDigit (drop n bytes)) (sym at) (behind_end bytes);
-  fits = small;
-}
+-- as many digits as there are, with no digit behind them, are the digits at the front
+pub digits_end : (xs : List ℕ) (count : ℕ) → count ≤ length xs → AllDigits 10 (take count xs) → (count < length xs → is_ascii_digit (get_or xs count 0) ≡ false) → prefix_len is_ascii_digit xs ≡ count
+digits_end [] count within each end = omega (arith, within)
+digits_end (x ∷ xs) zero within each end =
+    ap (λ b. cond b (1 + prefix_len is_ascii_digit xs) 0) (end (omega arith))
+digits_end (x ∷ xs) (suc count) within each end =
+    let r = range_from_digit x each.0 in
+    ap (λ b. cond b (1 + prefix_len is_ascii_digit xs) 0) (test_from_range x r.0 r.1) ∙ one_more _
+    ∙ ap suc (digits_end xs count (omega (arith, within)) each.1 (λ below. end (omega (arith, below))))
+
+-- and never more of them than those
+pub digits_within : (xs : List ℕ) (count : ℕ) → count ≤ length xs → AllDigits 10 (take count xs) → count ≤ prefix_len is_ascii_digit xs
+digits_within xs zero within each = omega arith
+digits_within [] (suc count) within each = absurd (omega (arith, within))
+digits_within (x ∷ xs) (suc count) within each =
+    let r = range_from_digit x each.0 in
+    let first : prefix_len is_ascii_digit (x ∷ xs) ≡ 1 + prefix_len is_ascii_digit xs = ap (λ b. cond b (1 + prefix_len is_ascii_digit xs) 0) (test_from_range x r.0 r.1) in
+    let rest = digits_within xs count (omega (arith, within)) each.1 in omega (arith, first, rest)
+
+-- a number that begins with no minus is written by all digits at its place
+plain_numeral : (bytes : List ℕ) (at end number : ℕ) → slice_index bytes at ≢ 45 → (t : TokenAt bytes at end (Num (pos number))) → IsNumeral 10 t.token × (number ≡ digits_value 10 t.token) × (prefix_len is_ascii_digit (drop at bytes) ≡ length t.token)
+plain_numeral bytes at end number first t = by t.token t.splits t.stands
+  where
+    by : (token : List ℕ) → drop at bytes ≡ token ++ t.rest → IsNumberToken token (pos number) → IsNumeral 10 token × (number ≡ digits_value 10 token) × (prefix_len is_ascii_digit (drop at bytes) ≡ length token)
+    by token splits (inl (numeral, is)) =
+        (numeral, cc, ap (prefix_len is_ascii_digit) splits ∙ all_digits token t.rest numeral.1 t.whole)
+    by token splits (inr (digits, split, numeral, is)) =
+        let there : get_or (drop at bytes) 0 0 ≡ 45 = ap (λ l. get_or l 0 0) (splits ∙ ap (λ l. l ++ t.rest) split) in
+        absurd (first (ap (λ n. get_or bytes n 0) (sym (add-zero at)) ∙ sym (get_or-drop at bytes 0 0) ∙ there))
+
+-- so digits at its place write no more than it
+pub no_larger : (bytes : List ℕ) (at end number count : ℕ) → slice_index bytes at ≢ 45 → TokenAt bytes at end (Num (pos number)) → count ≤ length (drop at bytes) → AllDigits 10 (take count (drop at bytes)) → digits_value 10 (take count (drop at bytes)) < 2 ^ 63
+no_larger bytes at end number count first t within each =
+    let numeral = plain_numeral bytes at end number first t in
+    let most : count ≤ length t.token = subst (λ n. count ≤ n) numeral.2 (digits_within (drop at bytes) count within each) in
+    let cut = ap (take count) t.splits ∙ take-append-le count t.token t.rest most in
+    let lower = digits_value-take-le 10 t.token count (omega arith) in
+    let fits : number < 2 ^ 63 = t.fits in
+    let same = numeral.1 in
+    subst (λ l. digits_value 10 l < 2 ^ 63) (sym cut) (omega (arith, lower, fits, same))
+
+-- and there is one at least
+pub some_digit : (bytes : List ℕ) (at end number : ℕ) → slice_index bytes at ≢ 45 → TokenAt bytes at end (Num (pos number)) → 0 < prefix_len is_ascii_digit (drop at bytes)
+some_digit bytes at end number first t =
+    let numeral = plain_numeral bytes at end number first t in
+    let some : 0 < length t.token = numeral.0.0 in
+    let all = numeral.2 in omega (arith, some, all)
+
+-- the number that digits alone write is the token at their place
+pub plain_token : (bytes : List ℕ) (at count number : ℕ) → count ≤ length (drop at bytes) → 0 < count → prefix_len is_ascii_digit (drop at bytes) ≡ count → AllDigits 10 (take count (drop at bytes)) → number ≡ digits_value 10 (take count (drop at bytes)) → number < 2 ^ 63 → TokenAt bytes at (at + count) (Num (pos number))
+plain_token bytes at count number within some all each is small =
+    let rest = drop at bytes in
+    let size = length-take-le count rest within in
+    record {
+      token = take count rest;
+      rest = drop count rest;
+      splits = sym (take-append-drop count rest);
+      ends = ap (λ n. at + n) (sym size);
+      stands = inl ((omega (arith, some, size), each), ap pos is);
+      whole = subst (λ n. IsNoDigit (drop n rest)) all (behind_digits rest);
+      fits = small;
+    }
+
+-- digits begin with a byte that is no minus
+pub no_minus : (bytes : List ℕ) (at count : ℕ) → 0 < count → count ≤ length (drop at bytes) → AllDigits 10 (take count (drop at bytes)) → slice_index bytes at ≢ 45
+no_minus bytes at zero some within each is = omega (arith, some)
+no_minus bytes at (suc count) some within each is =
+    by (drop at bytes) within each (get_or-drop at bytes 0 0 ∙ ap (λ n. get_or bytes n 0) (add-zero at) ∙ is)
+  where
+    by : (rest : List ℕ) → suc count ≤ length rest → AllDigits 10 (take (suc count) rest) → get_or rest 0 0 ≡ 45 → ⊥
+    by [] within each is = omega (arith, within)
+    by (x ∷ rest) within each is = let r = range_from_digit x each.0 in omega (arith, r.0, is)
+
+-- the digits from a place on, where a loop stands
+at_end : (bytes : List ℕ) (at end : ℕ) → at ≤ end → get_or (drop at bytes) (end - at) 0 ≡ get_or bytes end 0
+at_end bytes at end onward =
+    let there : at + (end - at) ≡ end = omega arith in
+    get_or-drop at bytes (end - at) 0 ∙ ap (λ n. get_or bytes n 0) there
+
+pub digit_more : (bytes : List ℕ) (at end number : ℕ) → at ≤ end → end < length bytes → is_ascii_digit (get_or bytes end 0) ≡ true → number ≡ digits_value 10 (take (end - at) (drop at bytes)) → AllDigits 10 (take (end - at) (drop at bytes)) → (10 * number + (get_or bytes end 0 - 48) ≡ digits_value 10 (take (end + 1 - at) (drop at bytes))) × AllDigits 10 (take (end + 1 - at) (drop at bytes))
+digit_more bytes at end number onward below digit is each =
+    let size = length-drop at bytes in
+    let within : end - at < length (drop at bytes) = omega (arith, size, onward, below) in
+    let here = at_end bytes at end onward in
+    let test = ap is_ascii_digit here ∙ digit in
+    let next : end - at + 1 ≡ end + 1 - at = omega (arith, onward) in (
+      ap (λ b. 10 * number + (b - 48)) (sym here) ∙ one_digit_more (drop at bytes) (end - at) number within test is ∙ ap (λ n. digits_value 10 (take n (drop at bytes))) next,
+      subst (λ n. AllDigits 10 (take n (drop at bytes))) next (all_digits_more (drop at bytes) (end - at) within each (digit_from_test (get_or (drop at bytes) (end - at) 0) test)),
+    )
+
+pub all_passed : (bytes : List ℕ) (at end : ℕ) → at ≤ end → end ≤ length bytes → AllDigits 10 (take (end - at) (drop at bytes)) → (end < length bytes → is_ascii_digit (get_or bytes end 0) ≡ false) → prefix_len is_ascii_digit (drop at bytes) ≡ end - at
+all_passed bytes at end onward within each none =
+    let size = length-drop at bytes in
+    digits_end (drop at bytes) (end - at) (omega (arith, size, onward, within)) each
+    (λ below. ap is_ascii_digit (at_end bytes at end onward) ∙ none (omega (arith, size, onward, within, below)))
+
+pub within_rest : (bytes : List ℕ) (at end : ℕ) → end ≤ length bytes → end - at ≤ length (drop at bytes)
+within_rest bytes at end within = let size = length-drop at bytes in omega (arith, size, within)

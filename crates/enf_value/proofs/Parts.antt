@@ -51,6 +51,13 @@ escaped_plain byte plain =
     let e = not_same byte 9 (λ is. omega (arith, is, great)) in
     λ i. if a i then 92 ∷ 34 ∷ [] else (if b i then 92 ∷ 92 ∷ [] else (if c i then 92 ∷ 110 ∷ [] else (if d i then 92 ∷ 114 ∷ [] else (if e i then 92 ∷ 116 ∷ [] else byte ∷ []))))
 
+pub plain_more : (bytes : List ℕ) (i : ℕ) → i < length bytes → has Plain (get_or bytes i 0) ≡ true → flat_map escaped (take i bytes) ≡ take i bytes → flat_map escaped (take (i + 1) bytes) ≡ take (i + 1) bytes
+plain_more bytes i within plain known =
+    let byte = get_or bytes i 0 in
+    let more = take_more bytes i 0 within in
+    let one = escaped_plain byte plain in
+    ap (flat_map escaped) more ∙ flat_map-append escaped (take i bytes) (byte ∷ []) ∙ (λ j. known j ++ (one j ++ [])) ∙ sym more
+
 one_more : (n : ℕ) → 1 + n ≡ suc n
 one_more n = omega arith
 

@@ -22,6 +22,12 @@ pub record Inserts {X : Type 0} (x : X) (before : List X) (new : Bool) (after : 
   pub absent : new ≡ true → (Contains before x → ⊥) × (after ≡ before ++ x ∷ [])
   pub present : new ≡ false → Contains before x × (after ≡ before)
 
+-- items put one after another behind those before them, each where it is not there already
+abbrev pub KeepsFirsts : {X : Type 0} → List X → List X → List X → Type 0
+KeepsFirsts before [] after = after ≡ before
+KeepsFirsts {X = X} before (x ∷ xs) after =
+    (new : Bool) × (next : List X) × Inserts x before new next × KeepsFirsts next xs after
+
 -- x was taken out of a list without repeats, and the rest keeps its order
 pub record TakesOut {X : Type 0} (x : X) (before after : List X) : Type 0 where
   pub front : List X

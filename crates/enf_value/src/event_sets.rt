@@ -3,7 +3,7 @@ ghost use Rattle.std.specs.Prelude.{◌≡◌, ◌↔◌, ◌<◌, ◌≤◌, �
 ghost use Rattle.std.specs.Prelude.{IfOk, IfErr, IfNone, IfSome, OnErr, slice_get};
 ghost use Rattle.std.specs.Option.{option_copied};
 ghost use Rattle.indexmap.specs.IndexSet.{spare};
-ghost use Rattle.enf_value.specs.Membership.{HasNoRepeats, Inserts, Removes};
+ghost use Rattle.enf_value.specs.Membership.{HasNoRepeats, Inserts, KeepsFirsts, Removes};
 
 use crate::events::Event;
 use crate::items::Duplicate;
@@ -49,6 +49,35 @@ impl EventSet {
     {
         EventSet {
             events: Stored::Few(Vec::new(alloc)),
+        }
+    }
+
+    /// The events of a vector, of each the first. Where they are few and none stands twice, it takes no memory.
+    pub fn from_vec(alloc: Global, events: Vec<Event>) -> Result<EventSet, NoMemory>
+        ensures { IfOk result (λ set. KeepsFirsts [] events.items set) }
+    {
+        if events.len() <= MOST_SEARCHED && are_distinct(events.as_slice()) {
+            return Ok(EventSet {
+                events: Stored::Few(events),
+            });
+        }
+        let mut set = EventSet::new(alloc);
+        for event in events {
+            set.insert(event).map_err(|_event| NoMemory)?;
+        }
+        Ok(set)
+    }
+
+    /// The memory that its events took, where they have no table.
+    pub fn into_room(self) -> Option<Vec<Event>>
+        ensures { IfSome result (λ room. room.items ≡ []) }
+    {
+        match self.events {
+            Stored::Few(mut few) => {
+                few.clear();
+                Some(few)
+            }
+            Stored::Many(_) => None,
         }
     }
 
@@ -124,6 +153,18 @@ impl EventSet {
             Stored::Many(many) => many.as_slice(),
         }
     }
+}
+
+// Whether no event stands twice.
+fn are_distinct(events: &[Event]) -> bool
+    ensures { IsTrue result ↔ HasNoRepeats events.now }
+{
+    for place in 1..events.len() {
+        if is_among(&events[..place], &events[place]) {
+            return false;
+        }
+    }
+    true
 }
 
 // Whether an event is in a table.

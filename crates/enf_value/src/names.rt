@@ -32,7 +32,7 @@ impl ByteKind {
         match self {
             ByteKind::Digit => byte.is_ascii_digit(),
             ByteKind::Letter => byte.is_ascii_alphabetic(),
-            ByteKind::Word => byte.is_ascii_alphanumeric() || byte == b'_',
+            ByteKind::Word => byte.is_ascii_alphabetic() || byte.is_ascii_digit() || byte == b'_',
             ByteKind::Comment => byte != b'\n',
             ByteKind::Plain => byte >= b' ' && byte != b'"' && byte != b'\\',
         }

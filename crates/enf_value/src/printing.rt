@@ -1,5 +1,5 @@
 //! The canonical texts of values and of numbers.
-ghost use Rattle.std.specs.Prelude.{◌≡◌, ◌++◌, ◌∷◌, ◌<◌, ◌≤◌, [], IfOk, OnOk, OnErr, decimal, length, take};
+ghost use Rattle.std.specs.Prelude.{◌≡◌, ◌++◌, ◌∷◌, ◌<◌, ◌≤◌, [], IfOk, IsTrue, OnOk, OnErr, decimal, length, take};
 ghost use Rattle.std.specs.Fmt.{signed_decimal};
 ghost use Rattle.std.specs.List.{flat_map};
 ghost use Rattle.enf_value.specs.Spelling.{spelled, escaped, quoted, AppendsPart};
@@ -49,8 +49,24 @@ fn print_text(bytes: &[u8], out: &mut Vec<u8>) -> Result<(), NoMemory>
     ensures err { OnErr result (AppendsPart (quoted bytes.now) out.old.items out.new.items) }
 {
     print_byte(b'"', out)?;
-    print_escaped(bytes, out)?;
+    if is_plain(bytes) {
+        print_bytes(bytes, out)?;
+    } else {
+        print_escaped(bytes, out)?;
+    }
     print_byte(b'"', out)
+}
+
+// Whether each byte stands for itself.
+fn is_plain(bytes: &[u8]) -> bool
+    ensures { IsTrue result → flat_map escaped bytes.now ≡ bytes.now }
+{
+    for byte in bytes {
+        if !ByteKind::Plain.has(*byte) {
+            return false;
+        }
+    }
+    true
 }
 
 fn print_escaped(bytes: &[u8], out: &mut Vec<u8>) -> Result<(), NoMemory>

@@ -1,9 +1,8 @@
 //! The tokens of values, read where they begin.
-ghost use Rattle.std.specs.Prelude.{◌≡◌, ◌<◌, ◌≤◌, ◌+◌, ◌==◌, ◌^◌, ℕ, ℤ, List, length, take, drop, slice_index};
+ghost use Rattle.std.specs.Prelude.{◌≡◌, ◌≢◌, ◌<◌, ◌≤◌, ◌+◌, ◌==◌, ◌^◌, ℕ, ℤ, pos, List, length, take, drop, slice_index};
 ghost use Rattle.std.specs.Prelude.{IfOk, IfSome, IfNone, if◌then◌else◌};
 ghost use Rattle.std.specs.Char.{is_ascii_digit};
 ghost use Rattle.std.specs.List.{prefix_len};
-ghost use Rattle.std.specs.Str.Parse.{IsNumeral, digits_value};
 ghost use Rattle.enf_value.specs.Text.{IsText};
 ghost use Rattle.enf_value.specs.ValueTokens.{TokenAt, WrittenAt, meaning};
 ghost use Rattle.enf_value.specs.declared.values.Value.{Value as AnyValue};
@@ -13,7 +12,6 @@ use crate::memory::NoMemory;
 use crate::names::ByteKind;
 use crate::texts::{TextRefusal, TextValue};
 use crate::values::Value;
-use memchr::memchr2;
 use std::alloc::Global;
 
 /// The value of the number or text token that begins at a place, and the place behind it; none where no token
@@ -58,34 +56,40 @@ fn read_number(bytes: &[u8]) -> Option<(i64, usize)>
     ensures some { IfSome result (λ read. TokenAt bytes.now 0 read.1 (Num read.0)) }
     ensures none { IfNone result ((number : ℤ) (end : ℕ) → TokenAt bytes.now 0 end (Num number) → ⊥) }
 {
-    let end = number_end(bytes);
-    if let Some(number) = plain_number(&bytes[..end]) {
+    if let Some((number, end)) = read_digits(bytes, 0) {
         return Some((number as i64, end));
     }
+    let end = number_end(bytes);
     let number = str::from_utf8(&bytes[..end]).ok()?.parse().ok()?;
     Some((number, end))
 }
 
-// A number up to this one can have any digit behind it, and is still below 2^63.
-const MOST_BEFORE_A_DIGIT: u64 = 922_337_203_685_477_579;
+// A number above this one is 2^63 or more with any digit behind it.
+const MOST_BEFORE_A_DIGIT: u64 = 922_337_203_685_477_580;
 
-// The number that digits alone write, where it is sure to fit.
-fn plain_number(digits: &[u8]) -> Option<u64>
-    ensures numeral { IfSome result (λ number. IsNumeral 10 digits.now) }
-    ensures value { IfSome result (λ number. number ≡ digits_value 10 digits.now) }
-    ensures small { IfSome result (λ number. number < 2 ^ 63) }
+/// The number below 2^63 that digits alone write at a place, and the place behind them; none where no such number
+/// stands there.
+pub fn read_digits(bytes: &[u8], at: usize) -> Option<(u64, usize)>
+    requires { at ≤ length bytes.now }
+    ensures some { IfSome result (λ read. TokenAt bytes.now at read.1 (Num (pos read.0))) }
+    ensures digits { IfSome result (λ read. slice_index bytes.now at ≢ 45) }
+    ensures within { IfSome result (λ read. (at < read.1) × (read.1 ≤ length bytes.now) × (read.0 < 2 ^ 63)) }
+    ensures none { IfNone result ((number end : ℕ) → slice_index bytes.now at ≢ 45
+        → TokenAt bytes.now at end (Num (pos number)) → ⊥) }
 {
-    if digits.is_empty() {
-        return None;
-    }
     let mut number = 0;
-    for digit in digits {
-        if !digit.is_ascii_digit() || number > MOST_BEFORE_A_DIGIT {
+    let mut end = at;
+    while end < bytes.len() && bytes[end].is_ascii_digit() {
+        if number > MOST_BEFORE_A_DIGIT {
             return None;
         }
-        number = 10 * number + (*digit - b'0') as u64;
+        number = 10 * number + (bytes[end] - b'0') as u64;
+        end += 1;
     }
-    Some(number)
+    if end == at || number > i64::MAX as u64 {
+        return None;
+    }
+    Some((number, end))
 }
 
 // Where a minus and digits at the front end.
@@ -121,10 +125,14 @@ fn plain_end(bytes: &[u8]) -> Option<usize>
     ensures written { IfSome result (λ quote. WrittenAt bytes.now quote (take quote bytes.now)) }
     ensures within { IfSome result (λ quote. quote < length bytes.now) }
 {
-    match memchr2(b'"', b'\\', bytes) {
-        Some(place) if bytes[place] == b'"' => Some(place),
-        _ => None,
+    for (place, byte) in bytes.iter().enumerate() {
+        match *byte {
+            b'"' => return Some(place),
+            b'\\' => return None,
+            _ => {}
+        }
     }
+    None
 }
 
 // The text, where its bytes are one, and the place behind its last quote.

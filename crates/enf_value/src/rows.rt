@@ -56,6 +56,14 @@ impl Row {
         self.values.push(value)
     }
 
+    /// Puts a value last; for want of memory nothing changes.
+    pub fn put(&mut self, value: Value) -> Result<(), NoMemory>
+        ensures ok { OnOk result (self.new ≡ self.old ++ value ∷ []) }
+        ensures err { OnErr result (self.new ≡ self.old) }
+    {
+        self.values.put(value)
+    }
+
     /// The value at a place, counted from 0.
     pub fn get(&self, place: usize) -> Option<&Value>
         ensures { option_copied result ≡ slice_get self.now place }

@@ -53,6 +53,15 @@ impl<T: Default + Drop> ShortList<T> {
         }
     }
 
+    /// Puts an item last; for want of memory nothing changes.
+    pub fn put(&mut self, item: T) -> Result<(), NoMemory>
+        ensures ok { OnOk result (self.new ≡ self.old ++ item ∷ []) }
+        ensures err { OnErr result (self.new ≡ self.old) }
+    {
+        self.items.push(item)?;
+        Ok(())
+    }
+
     /// Puts an item last, or hands it back for want of memory.
     pub fn push(&mut self, item: T) -> Result<(), T>
         ensures ok { OnOk result (self.new ≡ self.old ++ item ∷ []) }

@@ -1,5 +1,5 @@
 //! Texts: UTF-8 of at most 1,024 bytes.
-ghost use Rattle.std.specs.Prelude.{◌≡◌, ◌↔◌, ◌<◌, ◌≤◌, ◌==◌, IfOk, IsErrOf, length};
+ghost use Rattle.std.specs.Prelude.{◌≡◌, ◌↔◌, ◌<◌, ◌≤◌, ◌==◌, IfOk, IsErrOf, IsTrue, length};
 ghost use Rattle.std.specs.Str.{IsUtf8};
 ghost use Rattle.std.proofs.Common.{rules};
 ghost use Rattle.std.specs.Cmp.{partial_order_from_own_ties};
@@ -37,18 +37,25 @@ impl From<AllocError> for TextRefusal {
 /// A text, seen as its bytes.
 #[derive(Debug, Drop)]
 pub struct TextValue {
-    text: String,
+    text: Vec<u8>,
 }
 
 impl Model for TextValue {
-    ghost use Rattle.std.specs.Prelude.{List, ℕ, string_bytes};
+    ghost use Rattle.std.specs.Prelude.{List, ℕ};
     ghost use Rattle.enf_value.specs.Text.{IsText};
 
     ghost Value = { List ℕ };
 
-    ghost view = { λ t. string_bytes t.text };
+    ghost view = { λ t. t.text.items };
 
-    ghost invariant = { λ t. IsText (string_bytes t.text) };
+    ghost invariant = { λ t. IsText t.text.items };
+}
+
+// Whether the bytes are UTF-8, which needs no look at characters where all are ASCII.
+fn is_utf8(bytes: &[u8]) -> bool
+    ensures { IsTrue result ↔ IsUtf8 bytes.now }
+{
+    bytes.is_ascii() || str::from_utf8(bytes).is_ok()
 }
 
 impl TextValue {
@@ -63,12 +70,12 @@ impl TextValue {
         if bytes.len() > MOST_TEXT_BYTES {
             return Err(TextRefusal::TooLong);
         }
-        match str::from_utf8(bytes) {
-            Ok(text) => Ok(TextValue {
-                text: String::from_str(alloc, text)?,
-            }),
-            Err(_) => Err(TextRefusal::NotUtf8),
+        if !is_utf8(bytes) {
+            return Err(TextRefusal::NotUtf8);
         }
+        Ok(TextValue {
+            text: Vec::from_slice(alloc, bytes)?,
+        })
     }
 
     /// The bytes of the text.
@@ -76,14 +83,14 @@ impl TextValue {
         ensures value { result.now ≡ self.now }
         ensures text { IsText self.now }
     {
-        self.text.as_bytes()
+        self.text.as_slice()
     }
 }
 
 impl Duplicate for TextValue {
     fn duplicate(&self, alloc: Global) -> Result<TextValue, NoMemory> {
         Ok(TextValue {
-            text: String::from_str(alloc, self.text.as_str())?,
+            text: Vec::from_slice(alloc, self.text.as_slice())?,
         })
     }
 }
@@ -132,6 +139,7 @@ impl Hash for TextValue {
     ghost respects_eq = { Prim.search (hashing, rules) };
 
     fn hash<H: Hasher>(&self, state: &mut H) {
-        self.text.hash(state);
+        state.write(self.text.as_slice());
+        state.write_u8(0xff);
     }
 }

@@ -1,6 +1,9 @@
-//! The names of a log, each found without a look at the others.
+//! The names of a log: a few are searched, more of them are found without a look at the others.
 ghost use Rattle.std.specs.Prelude.{◌≡◌, ◌≤◌, ◌++◌, ◌∷◌, [], Contains, IfNone, IfOk, IfSome, List, OnErr, OnOk};
-ghost use Rattle.std.specs.Prelude.{Result, Some, length, slice_get};
+ghost use Rattle.std.specs.Prelude.{Result, Some, Vec as AnyVec, length, position, slice_get, ℕ};
+ghost use Rattle.std.specs.Map.{keys_of};
+ghost use Rattle.std.specs.Str.{bytes_eq};
+ghost use Rattle.std.specs.declared.alloc.Global.{Global as AnyGlobal};
 ghost use Rattle.std.specs.Option.{option_copied, option_map};
 ghost use Rattle.enf_value.specs.declared.events.NameId.{NameId as NameNumber};
 ghost use Rattle.signature.specs.Grammar.{IsNew, IsSignature, names, number_of};
@@ -15,6 +18,9 @@ use enf_value::{Duplicate, MOST_FILE_BYTES, NameId, NoMemory};
 use indexmap::IndexMap;
 use std::alloc::Global;
 use std::marker::Model;
+
+// How many names are searched one after another at most. Above that they are found by their hash.
+const MOST_SEARCHED: usize = 16;
 
 /// A list of names with their columns and marks, by the order of declaration.
 #[derive(Drop)]
@@ -33,6 +39,25 @@ impl Model for Signature {
     ghost view = { λ s. map (λ pair. pair.1) s.entries.entries };
 
     ghost invariant = { λ s. AreKeyed s.entries.entries × IsSignature (map (λ pair. pair.1) s.entries.entries) };
+}
+
+// The number of the entry with a name.
+fn index_of(entries: &IndexMap<Vec<u8>, NameEntry>, text: &[u8]) -> Option<usize>
+    ensures { result ≡ position (λ (name : AnyVec ℕ AnyGlobal). bytes_eq text.now name.items)
+        (keys_of entries.now.entries) }
+{
+    if entries.len() > MOST_SEARCHED {
+        return entries.get_index_of(text);
+    }
+    searched(entries, text)
+}
+
+// The same by a search, which takes no hash.
+fn searched(entries: &IndexMap<Vec<u8>, NameEntry>, text: &[u8]) -> Option<usize>
+    ensures { result ≡ position (λ (name : AnyVec ℕ AnyGlobal). bytes_eq text.now name.items)
+        (keys_of entries.now.entries) }
+{
+    entries.keys().position(|name| text == name.as_slice())
 }
 
 impl Signature {
@@ -93,7 +118,7 @@ impl Signature {
             → option_map (λ entry. entry.text) (slice_get self.now name.0) ≡ Some text.now → result ≡ Some name }
         ensures none { IfNone result (Contains (names self.now) text.now → ⊥) }
     {
-        let number = self.entries.get_index_of(text)?;
+        let number = index_of(&self.entries, text)?;
         Some(NameId(number as u32))
     }
 }

@@ -4,7 +4,7 @@ use Rattle.std.proofs.Math.Facts.{to_z-of_z, to_z_pos}
 use Rattle.std.proofs.lemmas.Result.{MatchResult-at_ok}
 use Rattle.enf_value.specs.ValueTokens.{TokenAt}
 use Rattle.enf_value.specs.declared.values.Value.TheVariants.{Num}
-use Rattle.enf_value.proofs.Numerals.{err_utf8, none_ok, ok_some, front_utf8, front_parses, parsed_front, plain_token, fits_from_number}
+use Rattle.enf_value.proofs.Numerals.{err_utf8, none_ok, ok_some, front_utf8, front_parses, parsed_front, fits_from_number}
 use Rattle.enf_value.proofs.reading.read_number.Goals as goal
 
 pub returns-in_err-ok-clause-none : goal.returns-in_err-ok-clause-none
@@ -27,5 +27,4 @@ returns-clause-some c =
 
 pub returns-in-Some-clause-some : goal.returns-in-Some-clause-some
 returns-in-Some-clause-some c =
-    let token = plain_token c.args.bytes.now c.number_end-end.result c.in-Some.number c.number_end-end.ensures.end c.number_end-end.ensures.within c.in-Some.ensures.numeral c.in-Some.ensures.value c.in-Some.ensures.small in
-    subst (λ n. TokenAt c.args.bytes.now 0 c.number_end-end.result (Num n)) (sym (to_z_pos w64 c.in-Some.ensures.small)) token
+    subst (λ n. TokenAt c.args.bytes.now 0 c.in-Some.end (Num n)) (sym (to_z_pos w64 c.in-Some.ensures.within.2)) c.in-Some.ensures.some

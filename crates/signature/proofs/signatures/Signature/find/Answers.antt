@@ -7,7 +7,7 @@ use Rattle.signature.proofs.signatures.Signature.find.Goals as goal
 
 pub returns : goal.returns
 returns c =
-    let number : Some c.in_ok-number.number ≡ number_of c.args.self.now c.args.text.now = c.in_ok-number.ensures.index ∙ number_is c.args.text.now c.self.inside.entries.entries c.self.invariant.0 ∙ ap (λ entries. number_of entries c.args.text.now) c.self.view_is in
+    let number : Some c.in_ok-number.number ≡ number_of c.args.self.now c.args.text.now = c.in_ok-number.ensures ∙ number_is c.args.text.now c.self.inside.entries.entries c.self.invariant.0 ∙ ap (λ entries. number_of entries c.args.text.now) c.self.view_is in
     record {
       number = number;
       found = number_found c.args.self.now c.args.text.now c.in_ok-number.number (sym number);
@@ -18,7 +18,7 @@ returns c =
 pub returns-in_err-number : goal.returns-in_err-number
 returns-in_err-number c =
     let is : c.from_residual.result ≡ None = search rules in
-    let number : None ≡ number_of c.args.self.now c.args.text.now = c.in_err-number.ensures.index ∙ number_is c.args.text.now c.self.inside.entries.entries c.self.invariant.0 ∙ ap (λ entries. number_of entries c.args.text.now) c.self.view_is in
+    let number : None ≡ number_of c.args.self.now c.args.text.now = c.in_err-number.ensures ∙ number_is c.args.text.now c.self.inside.entries.entries c.self.invariant.0 ∙ ap (λ entries. number_of entries c.args.text.now) c.self.view_is in
     rw is (record {
       number = number;
       found = tt;
