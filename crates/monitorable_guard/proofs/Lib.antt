@@ -14,6 +14,7 @@ pub mod AskLemmas
 pub mod RowsLemmas
 pub mod EvaluationLemmas
 pub mod EventLemmas
+pub mod StandingLemmas
 pub mod LeastLemmas
 pub mod CycleLemmas
 pub mod KindLemmas

@@ -12,3 +12,4 @@ pub mod Evaluation
 pub mod Rows
 pub mod Answers
 pub mod Events
+pub mod Standing

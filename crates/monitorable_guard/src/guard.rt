@@ -1,7 +1,8 @@
 //! Guards: formulas that can be evaluated over finite tables, with the variables that are bound.
-ghost use Rattle.std.specs.Prelude.{◌≡◌, ◌↔◌, ◌⊎◌, IfOk, IfErr, OnOk, IsTrue, Contains};
+ghost use Rattle.std.specs.Prelude.{◌≡◌, ◌↔◌, ◌⊎◌, List, IfOk, IfErr, IfSome, OnOk, IsTrue, Contains};
+ghost use Rattle.enf_value.specs.Valuations.{Valuation as Bound};
 ghost use Rattle.valuations.specs.Scopes.{bound_in};
-ghost use Rattle.valuations.specs.Tables.{IsTable};
+ghost use Rattle.valuations.specs.Tables.{IsTable, Relation};
 ghost use Rattle.monitorable_guard.specs.Evaluation.{AreOpen, CanEvaluate, HasKnownValues, HoldsFor};
 ghost use Rattle.enf_formula.specs.Formulas.{tree_of};
 ghost use Rattle.enf_formula.specs.FreeVariables.{IsFree};
@@ -14,6 +15,7 @@ use crate::evaluation::{Present, holds, rows_over};
 use crate::events::StepEvents;
 use crate::operators::{are_bound, open_beside};
 use crate::past::{Past, PastTables};
+use crate::rows::{Rows, are_variables, told};
 use crate::safety::is_safe;
 use crate::scopes::{is_free_within, with_free};
 use enf_formula::Formula;
@@ -209,6 +211,51 @@ impl Guard {
         let present = Present { events, past };
         let columns = self.columns().duplicate(alloc)?;
         rows_over(alloc, &present, self.formula(), 0, &scope, columns)
+    }
+
+    /// The same, where the arguments of the events of an atom stay where they are, if its terms are the columns.
+    pub fn rows_under<'r, P: Past>(
+        &'r self,
+        alloc: Global,
+        events: &'r StepEvents<'_>,
+        past: &P,
+        v: &Frame<'_>,
+    ) -> Result<Rows<'r>, NoMemory>
+        requires { CanEvaluate (tree_of self.now.formula) self.now.bound (P.tables past.now)
+            (bound_in v.now) }
+        ensures table { IfOk result IsTable }
+        ensures columns { IfOk result (λ t. AreOpen (tree_of self.now.formula) self.now.bound
+            t.columns) }
+        ensures rows { IfOk result (HoldsFor events.now (P.tables past.now)
+            (tree_of self.now.formula) self.now.bound (bound_in v.now)) }
+        ensures known { IfOk result (HasKnownValues events.now (P.tables past.now)
+            (tree_of self.now.formula) self.now.bound (bound_in v.now)) }
+    {
+        if let Some(rows) = self.told_by(events) {
+            return Ok(rows);
+        }
+        Ok(Rows::of(self.evaluate_under(alloc, events, past, v)?))
+    }
+
+    // The rows of an atom whose terms are the columns: the arguments of its events, where they are rows of a table.
+    fn told_by<'r>(&'r self, events: &'r StepEvents<'_>) -> Option<Rows<'r>>
+        ensures table { IfSome result IsTable }
+        ensures columns { IfSome result (λ t. AreOpen (tree_of self.now.formula) self.now.bound
+            t.columns) }
+        ensures rows { IfSome result (λ t. (tables : List Relation) (v : Bound)
+            → HoldsFor events.now tables (tree_of self.now.formula) self.now.bound v t) }
+        ensures known { IfSome result (λ t. (tables : List Relation) (v : Bound)
+            → HasKnownValues events.now tables (tree_of self.now.formula) self.now.bound v t) }
+    {
+        let Formula::Atom(_, name, terms) = self.formula() else {
+            return None;
+        };
+        let columns = self.columns().as_slice();
+        if are_variables(terms.as_slice(), columns) {
+            told(columns, events.named(*name))
+        } else {
+            None
+        }
     }
 
     /// Whether the formula holds at a step, where all its free variables are bound. No table is made of it, and memory

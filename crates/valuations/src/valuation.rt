@@ -64,6 +64,13 @@ impl Valuation {
         None
     }
 
+    /// Each variable that is bound, with its value, in rising number.
+    pub fn bindings(&self) -> &[(VarId, Value)]
+        ensures { result.now ≡ bindings self.now }
+    {
+        self.bindings.as_slice()
+    }
+
     /// The binding at a place, in rising variable number, counted from 0.
     pub fn item(&self, place: usize) -> Option<(VarId, &Value)>
         ensures { option_map (λ found. (found.0, found.1.now)) result ≡ slice_get (bindings self.now) place }
