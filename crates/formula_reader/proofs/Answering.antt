@@ -49,3 +49,5 @@ only_refusal entries rules (FreeVariable place) answer h is = answers_same entri
 only_refusal entries rules (Rebound place) answer h is = answers_same entries rules (Err (Rebound place)) answer (h (λ e. cc)) is
 only_refusal entries rules (Limit place) answer h is = answers_same entries rules (Err (Limit place)) answer (h (λ e. cc)) is
 only_refusal entries rules NoMemory answer h is = tt
+
+pub ruleset all_rules = (gives_rules, only_rules, gives_refusal, only_refusal)

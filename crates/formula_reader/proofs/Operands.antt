@@ -117,3 +117,7 @@ pub body_resolved : (entries : List NameEntry) (a b : Variables) (xs : List Bind
     → formula_in entries b.names.items b.scope.items f ≡ Some p
     → body_in entries a xs f ≡ Some p
 body_resolved entries a b xs f p l h = rw (← l.names, ← l.scope) h
+
+pub ruleset both_operands = (both_passes, left_refuses, right_refuses, both_resolved)
+
+pub ruleset bound_operand = (bound_passes, binder_refuses, body_refuses, body_resolved)

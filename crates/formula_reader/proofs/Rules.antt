@@ -44,3 +44,5 @@ rule_resolved entries rule old new formula fresh p e =
     let f : formula_in entries [] [] rule.formula ≡ Some formula = rw (← fresh.names, ← fresh.scope) e in
     let v : bound_names rule.formula ≡ new.names.items = sym (p.names ∙ ap (λ (ns : List (List ℕ)). ns ++ bound_names rule.formula) fresh.names) in
     ap (option_map (rule_with rule)) f ∙ ap (λ (ns : List (List ℕ)). let r : Rule = record { name = rule.name; formula = formula; vars = ns; place = rule.place } in Some r) v
+
+pub ruleset one_rule = (rule_passes, rule_refuses, rule_resolved)

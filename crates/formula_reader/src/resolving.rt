@@ -311,7 +311,7 @@ impl Resolver<'_> {
 
     // Two operands in turn.
     #[cycle(formulas)]
-    #[tactic(auto, using(crate::proofs::Operands::both_passes, crate::proofs::Operands::left_refuses, crate::proofs::Operands::right_refuses, crate::proofs::Operands::both_resolved))]
+    #[tactic(auto, using(crate::proofs::Operands::both_operands))]
     fn resolve_both(
         &self,
         variables: &mut Variables,
@@ -334,7 +334,7 @@ impl Resolver<'_> {
 
     // A quantifier's variables, and the formula in which they are in scope.
     #[cycle(formulas)]
-    #[tactic(auto, using(crate::proofs::Operands::bound_passes, crate::proofs::Operands::binder_refuses, crate::proofs::Operands::body_refuses, crate::proofs::Operands::body_resolved))]
+    #[tactic(auto, using(crate::proofs::Operands::bound_operand))]
     fn resolve_bound(
         &self,
         variables: &mut Variables,
@@ -359,7 +359,7 @@ impl Resolver<'_> {
     }
 
     // A rule, whose variables are numbered anew.
-    #[tactic(auto, using(crate::proofs::Rules::rule_passes, crate::proofs::Rules::rule_refuses, crate::proofs::Rules::rule_resolved))]
+    #[tactic(auto, using(crate::proofs::Rules::one_rule))]
     fn resolve_rule(&self, rule: &SyntaxRule) -> Result<Rule, PolicyRefusal>
         ensures value { IfOk result
             (λ resolved. rule_in self.now.signature.now (syntax_rule_of rule.now) ≡ Some (rule_of resolved)) }
@@ -395,7 +395,7 @@ impl Resolver<'_> {
 }
 
 /// The policy of a syntax tree under a signature, or the first refusal in the order of the text.
-#[tactic(auto, using(crate::proofs::Answering::gives_rules, crate::proofs::Answering::only_rules, crate::proofs::Answering::gives_refusal, crate::proofs::Answering::only_refusal))]
+#[tactic(auto, using(crate::proofs::Answering::all_rules))]
 pub fn resolve(
     alloc: Global,
     signature: &Signature,
