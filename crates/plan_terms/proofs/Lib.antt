@@ -4,3 +4,5 @@ pub mod TriggerLemmas
 pub mod CaseLemmas
 pub mod ColumnLemmas
 pub mod StandingLemmas
+pub mod OwedCases
+pub mod OwedLemmas

@@ -1,6 +1,8 @@
 pub mod Plans
 pub mod Nodes
 pub mod PlanFormula
+pub mod Lost
+pub mod Owed
 pub mod Scopes
 pub mod Guards
 pub mod Limits

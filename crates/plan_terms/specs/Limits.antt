@@ -1,5 +1,5 @@
 -- The limits of plans: how many nodes they have, and when the intervals of operators on the future end.
-use Rattle.std.specs.Prelude.{◌<◌, ◌≤◌, List, length}
+use Rattle.std.specs.Prelude.{ℕ, ◌<◌, ◌≤◌, List, length}
 use Rattle.std.specs.List.{AllByRecursion, flat_map}
 use Rattle.enf_value.specs.declared.limits.TheConstants.{MOST_INTERVAL_END, MOST_NODES}
 use Rattle.plan_terms.specs.Nodes.{nodes}
@@ -39,3 +39,10 @@ EndsLater (Next node place high body) = 0 < high
 -- no interval of the plans ends at once
 abbrev pub AllEndLater : List Plan → Type 0
 AllEndLater plans = AllByRecursion EndsLater (flat_map nodes plans)
+
+-- the end of the interval of a node with a deadline
+abbrev pub window_end : Plan → ℕ
+window_end (Eventually node place low high body) = high
+window_end (Until node place low high left right) = high
+window_end (Next node place high body) = high
+window_end plan = 0

@@ -1,6 +1,6 @@
 -- The nodes of a plan and their numbers.
 use Rattle.std.specs.Prelude.{◌≡◌, ℕ, Bool, true, false, nat_eq, List, [], ◌∷◌, ◌++◌, Some, slice_get}
-use Rattle.std.specs.List.{find}
+use Rattle.std.specs.List.{find, list_any}
 use Rattle.plan_terms.specs.Plans.{Plan, Cause, Suppress, Both, Either, TestOr, Guarded, Eventually, Always}
 use Rattle.plan_terms.specs.Plans.{Until, Next}
 
@@ -50,6 +50,10 @@ is_future (Eventually node place low high body) = true
 is_future (Always node place low high body) = true
 is_future (Until node place low high left right) = true
 is_future (Next node place high body) = true
+
+-- some node of the plan is one
+abbrev pub has_future : Plan → Bool
+has_future plan = list_any is_future (nodes plan)
 
 -- the node has a deadline: the end of its window is the last time at which it can be met
 abbrev pub has_deadline : Plan → Bool

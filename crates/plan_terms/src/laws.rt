@@ -1,11 +1,15 @@
 //! Laws of plans, each the contract of a function with an empty body.
 ghost use Rattle.plan_terms.specs.Columns.{ColumnsAreVariables};
+ghost use Rattle.plan_terms.specs.Lost.{LostStaysLost};
 ghost use Rattle.plan_terms.specs.Nodes.{NumberIsPlace};
+ghost use Rattle.plan_terms.specs.Owed.{LeadsOn, OwedLeadsOn, OwedStaysOwed};
 ghost use Rattle.plan_terms.specs.ScopeLaws.{FoundBeginsWithScope, FoundEndsInTime, FoundHasListedGuards};
 ghost use Rattle.plan_terms.specs.ScopeLaws.{FoundHasRisingScope, FoundHasSafeGuards, FoundIsFirst, FoundIsScoped};
 ghost use Rattle.plan_terms.specs.ScopeLaws.{FreeIsInScope, NodesHaveScopes};
 ghost use Rattle.plan_terms.specs.Standing.{FoundStandIn, NodesStandIn, PlansStandIn};
 ghost use Rattle.plan_terms.specs.Triggers.{TriggersAreMet};
+
+use enf_formula::laws::dependence;
 
 /// Where the nodes are numbered in pre-order from 0, the node with a number is the one at that place.
 pub fn number_is_place()
@@ -51,3 +55,17 @@ pub fn nodes_stand_in_plans()
 pub fn columns_are_variables()
     ensures { ColumnsAreVariables }
 {}
+
+/// What is lost stays lost at a later clock, and behind steps that are not before the clock.
+pub fn lost_stays_lost()
+    ensures { LostStaysLost }
+{}
+
+/// So what is owed stays owed, where guards and tests look back alone, and what it leads to is owed too.
+pub fn owed_stays_owed()
+    ensures leads { LeadsOn }
+    ensures owed { OwedStaysOwed }
+    ensures more { OwedLeadsOn }
+{
+    dependence();
+}

@@ -1,9 +1,9 @@
 //! What can be read off a plan: its nodes, and whether it looks ahead.
 ghost use Rattle.std.specs.Prelude.{◌≡◌, ◌<◌, ◌^◌, length};
-ghost use Rattle.std.specs.List.{find, list_any};
+ghost use Rattle.std.specs.List.{find};
 ghost use Rattle.std.specs.Option.{option_copied, option_map};
 ghost use Rattle.plan_terms.specs.Plans.{plan_of};
-ghost use Rattle.plan_terms.specs.Nodes.{nodes, has_number, is_future, number_of};
+ghost use Rattle.plan_terms.specs.Nodes.{nodes, has_number, has_future, number_of};
 
 use crate::plans::Plan;
 
@@ -70,7 +70,7 @@ impl Plan {
 
     /// Whether some node is `Eventually`, `Always`, `Until` or `Next`.
     pub fn has_future(&self) -> bool
-        ensures { result ≡ list_any is_future (nodes (plan_of self.now)) }
+        ensures { result ≡ has_future (plan_of self.now) }
     {
         match self {
             Plan::Cause { .. } | Plan::Suppress { .. } => false,

@@ -1,9 +1,11 @@
 //! Worked cases of plans, each a clause of a function with an empty body.
-ghost use Rattle.std.specs.Prelude.{◌≡◌, [], ◌∷◌, true, false, length, Some, None};
+ghost use Rattle.std.specs.Prelude.{◌≡◌, [], ◌∷◌, true, false, length, pos, Some, None};
 ghost use Rattle.std.specs.List.{list_any};
 ghost use Rattle.enf_formula.specs.Cases.{x, name_p, name_q, formula_p, formula_p_x, formula_q, within};
+ghost use Rattle.enf_formula.specs.Cases.{empty_step, p_with_q, two_steps};
 ghost use Rattle.enf_formula.specs.Formulas as tree;
 ghost use Rattle.plan_terms.specs.Cases.{numbers, node_with, cause_q_x, each_soon, soon_q_x, guards_soon};
+ghost use Rattle.plan_terms.specs.Cases.{IsLostNow, IsOwedBy, IsOwedSoon, Moves, MovesFor, cause_p, cause_q};
 ghost use Rattle.plan_terms.specs.Cases.{wait, choice, wait_and_choice, twice_one, y, each_of, p_y, some_p};
 ghost use Rattle.plan_terms.specs.Changes.{NothingClashes};
 ghost use Rattle.plan_terms.specs.Guards.{GuardsAreListed, GuardsAreSafe, IsFresh, all_guards};
@@ -16,6 +18,7 @@ ghost use Rattle.plan_terms.specs.Nodes.{nodes, has_deadline, is_future, IsNumbe
 ghost use Rattle.plan_terms.specs.PlanFormula.{formula_for};
 ghost use Rattle.plan_terms.specs.Plans as plan;
 ghost use Rattle.enf_value.specs.declared.terms.Term.TheVariants.{Var};
+ghost use Rattle.enf_value.specs.declared.values.Value.TheVariants.{Num};
 
 /// Nodes and their numbers.
 pub fn numbered_nodes()
@@ -135,4 +138,65 @@ pub fn well_formed()
     ensures guard_of_none { AreWellFormed [] guards_soon → ⊥ }
     ensures not_numbered { AreWellFormed (twice_one ∷ []) [] → ⊥ }
     ensures clash { NothingClashes (plan.Both 0 (plan.Cause 1 3 name_q []) (plan.Suppress 2 5 name_q []) ∷ []) → ⊥ }
+{}
+
+/// What a node leads to at a position: sides, and the bodies of tests, guards and `next`.
+pub fn moves_now()
+    ensures both_left { Moves two_steps (plan.Both 0 (cause_p 1) (cause_q 2)) 0 (cause_p 1) 0 }
+    ensures both_right { Moves two_steps (plan.Both 0 (cause_p 1) (cause_q 2)) 0 (cause_q 2) 0 }
+    ensures both_elsewhere { Moves two_steps (plan.Both 0 (cause_p 1) (cause_q 2)) 0 (cause_p 1) 1 → ⊥ }
+    ensures either_left { Moves empty_step (plan.Either 0 (cause_p 1) (cause_q 2)) 0 (cause_p 1) 0 }
+    ensures either_right { Moves empty_step (plan.Either 0 (cause_p 1) (cause_q 2)) 0 (cause_q 2) 0 }
+    ensures right_side_holds { Moves two_steps (plan.Either 0 (cause_p 1) (cause_q 2)) 0 (cause_p 1) 0 → ⊥ }
+    ensures left_side_holds { Moves two_steps (plan.Either 0 (cause_p 1) (cause_q 2)) 1 (cause_q 2) 1 → ⊥ }
+    ensures side_looks_ahead { Moves two_steps (plan.Either 0 (plan.Eventually 1 0 0 10 (cause_q 2)) (cause_p 3)) 0
+        (cause_p 3) 0 }
+    ensures test_fails { Moves two_steps (plan.TestOr 0 0 formula_p (cause_q 1)) 0 (cause_q 1) 0 }
+    ensures test_holds { Moves two_steps (plan.TestOr 0 0 formula_p (cause_q 1)) 1 (cause_q 1) 1 → ⊥ }
+    ensures guard_holds { MovesFor p_with_q (Num (pos 1)) }
+    ensures guard_fails { MovesFor p_with_q (Num (pos 2)) → ⊥ }
+    ensures next { Moves two_steps (plan.Next 0 0 10 (cause_p 1)) 0 (cause_p 1) 1 }
+    ensures next_at_last { Moves two_steps (plan.Next 0 0 10 (cause_p 1)) 1 (cause_p 1) 2 → ⊥ }
+    ensures leaf { Moves two_steps (cause_p 0) 0 (cause_p 0) 0 → ⊥ }
+    ensures other_leaf { Moves two_steps (plan.Suppress 0 0 name_q []) 0 (plan.Suppress 0 0 name_q []) 0 → ⊥ }
+{}
+
+/// What a node with a window leads to, from the first of two steps on.
+pub fn moves_ahead()
+    ensures always_first { Moves two_steps (plan.Always 0 0 3 5 (cause_p 1)) 0 (cause_p 1) 1 }
+    ensures always_last { Moves two_steps (plan.Always 0 0 1 3 (cause_p 1)) 0 (cause_p 1) 1 }
+    ensures always_before { Moves two_steps (plan.Always 0 0 4 6 (cause_p 1)) 0 (cause_p 1) 1 → ⊥ }
+    ensures always_past { Moves two_steps (plan.Always 0 0 0 2 (cause_p 1)) 0 (cause_p 1) 1 → ⊥ }
+    ensures eventually_at_once { Moves two_steps (plan.Eventually 0 0 0 5 (cause_p 1)) 0 (cause_p 1) 0 }
+    ensures eventually_not_met { Moves two_steps (plan.Eventually 0 0 0 5 (cause_p 1)) 0 (cause_p 1) 1 }
+    ensures eventually_was_met { Moves two_steps (plan.Eventually 0 0 0 5 (cause_q 1)) 0 (cause_q 1) 1 → ⊥ }
+    ensures eventually_met_too_early { Moves two_steps (plan.Eventually 0 0 1 5 (cause_q 1)) 0 (cause_q 1) 1 }
+    ensures eventually_past { Moves two_steps (plan.Eventually 0 0 0 2 (cause_p 1)) 0 (cause_p 1) 1 → ⊥ }
+    ensures until_not_met { Moves two_steps (plan.Until 0 0 0 5 (cause_q 1) (cause_p 2)) 0 (cause_p 2) 1 }
+    ensures until_was_met { Moves two_steps (plan.Until 0 0 0 5 (cause_p 1) (cause_q 2)) 0 (cause_q 2) 1 → ⊥ }
+    ensures left_side_until_then { Moves two_steps (plan.Until 0 0 0 5 (cause_q 1) (cause_p 2)) 0 (cause_q 1) 0 }
+    ensures left_side_no_longer { Moves two_steps (plan.Until 0 0 0 5 (cause_q 1) (cause_p 2)) 0 (cause_q 1) 1 → ⊥ }
+    ensures left_side_before { Moves two_steps (plan.Until 0 0 3 5 (cause_p 1) (cause_q 2)) 0 (cause_p 1) 0 }
+    ensures left_side_past { Moves two_steps (plan.Until 0 0 0 2 (cause_q 1) (cause_p 2)) 0 (cause_q 1) 1 → ⊥ }
+{}
+
+/// What is lost.
+pub fn lost()
+    ensures absent { IsLostNow two_steps 3 (cause_p 0) 0 }
+    ensures present { IsLostNow two_steps 3 (cause_q 0) 0 → ⊥ }
+    ensures not_to_be_there { IsLostNow two_steps 3 (plan.Suppress 0 0 name_q []) 0 }
+    ensures to_come { IsLostNow two_steps 3 (cause_p 0) 2 → ⊥ }
+    ensures last_moment { IsLostNow two_steps 5 (plan.Eventually 0 0 0 2 (cause_q 1)) 1 → ⊥ }
+    ensures too_late { IsLostNow two_steps 6 (plan.Eventually 0 0 0 2 (cause_q 1)) 1 }
+{}
+
+/// What is owed: the roots of the rules at each position, and what they lead to.
+pub fn owed()
+    ensures root { IsOwedBy 1 (cause_q 0) 1 }
+    ensures another_rule { IsOwedBy 0 (cause_q 0) 1 → ⊥ }
+    ensures no_rule { IsOwedBy 2 (cause_q 0) 1 → ⊥ }
+    ensures behind_the_trace { IsOwedBy 1 (cause_q 0) 2 → ⊥ }
+    ensures below_a_guard { IsOwedSoon p_with_q soon_q_x (Num (pos 1)) 0 }
+    ensures two_moves { IsOwedSoon p_with_q cause_q_x (Num (pos 1)) 0 }
+    ensures not_a_root { IsOwedSoon empty_step soon_q_x (Num (pos 1)) 0 → ⊥ }
 {}

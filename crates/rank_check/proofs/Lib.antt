@@ -13,3 +13,5 @@ pub mod CheckLemmas
 pub mod RanksExist
 pub mod AnswerLemmas
 pub mod CaseLemmas
+pub mod OwedLemmas
+pub mod NotLostLemmas

@@ -3,7 +3,8 @@ use Rattle.std.specs.Prelude.{List, [], ◌∷◌}
 use Rattle.enf_value.specs.declared.events.NameId.{NameId}
 use Rattle.enf_formula.specs.Cases.{name_p, name_q, formula_p, formula_q}
 use Rattle.enf_formula.specs.Formulas as tree
-use Rattle.plan_terms.specs.Plans.{Plan, Cause, Suppress, Both, Guarded, Eventually, Always, Until, Next}
+use Rattle.plan_terms.specs.Cases.{cause_q}
+use Rattle.plan_terms.specs.Plans.{Plan, Cause, Suppress, Both, Either, Guarded, Eventually, Always, Until, Next}
 
 -- a third name
 abbrev pub name_r : NameId
@@ -50,3 +51,20 @@ q_until_p = Until 0 4 0 10 (Cause 1 5 name_q []) (Suppress 2 6 name_p [])
 -- q() is to be there, and not to be there
 abbrev pub both_ways : Plan
 both_ways = Both 0 (Cause 1 3 name_q []) (Suppress 2 5 name_q [])
+
+-- eventually[0,1] q()
+abbrev pub q_soon : Plan
+q_soon = Eventually 1 0 0 1 (cause_q 2)
+
+-- plans without the mark, since it looks ahead as one of two sides that do, as a body, and as a right side:
+-- (eventually[0,1] q()) or eventually[0,9] q()
+abbrev pub q_soon_or_later : List Plan
+q_soon_or_later = Either 0 q_soon (Eventually 3 0 0 9 (cause_q 4)) ∷ []
+
+-- eventually[0,9] eventually[0,1] q()
+abbrev pub at_last_q_soon : List Plan
+at_last_q_soon = Eventually 0 0 0 9 q_soon ∷ []
+
+-- (not p()) until[0,9] eventually[0,1] q()
+abbrev pub no_p_until_q_soon : List Plan
+no_p_until_q_soon = Until 0 0 0 9 (Suppress 3 0 name_p []) q_soon ∷ []

@@ -3,9 +3,9 @@ use Rattle.std.specs.Prelude.{ℕ, ◌+◌, ◌-◌, ◌*◌, max, min, List, []
 use Rattle.std.specs.Prelude.{slice_index_or}
 use Rattle.std.specs.List.{flat_map}
 use Rattle.enf_value.specs.declared.events.NameId.{NameId}
+pub use Rattle.plan_terms.specs.Limits.{window_end}
 use Rattle.plan_terms.specs.Nodes.{has_deadline, nodes}
-use Rattle.plan_terms.specs.Plans.{Plan, Eventually}
-use Rattle.plan_terms.specs.Plans.{Until, Next}
+use Rattle.plan_terms.specs.Plans.{Plan}
 use Rattle.plan_terms.specs.Changes.{caused_below}
 
 -- the greatest number of a list, 0 where there is none
@@ -21,13 +21,6 @@ least_with most (n ∷ ns) = min n (least_with most ns)
 -- how many nodes a plan has
 abbrev pub size : Plan → ℕ
 size plan = length (nodes plan)
-
--- the end of the interval of a node with a deadline
-abbrev pub window_end : Plan → ℕ
-window_end (Eventually node place low high body) = high
-window_end (Until node place low high left right) = high
-window_end (Next node place high body) = high
-window_end plan = 0
 
 -- all of them
 abbrev pub with_deadlines : List Plan → List Plan

@@ -5,6 +5,7 @@ pub mod Horizon
 pub mod Walks
 pub mod Survey
 pub mod Transparent
+pub mod Transparency
 pub mod Refusals
 pub mod Ranked
 pub mod Limits

@@ -1,10 +1,16 @@
 //! Worked cases of roles, triggers, ranks and the mark, each a clause of a function with an empty body.
-ghost use Rattle.std.specs.Prelude.{◌≡◌, [], ◌∷◌, true, false, None, Some};
-ghost use Rattle.enf_formula.specs.Cases.{name_p, name_q, formula_p, formula_q, x};
+ghost use Rattle.std.specs.Prelude.{◌≡◌, [], ◌∷◌, map, true, false, None, Some};
+ghost use Rattle.enf_value.specs.Valuations.{no_values};
+ghost use Rattle.enf_formula.specs.Cases.{empty_step, name_p, name_q, formula_p, formula_q, x};
 ghost use Rattle.enf_formula.specs.Formulas as tree;
+ghost use Rattle.trace_meaning.specs.Good.{Good};
 ghost use Rattle.plan_terms.specs.Cases.{each_soon, soon_q_x};
+ghost use Rattle.plan_terms.specs.Lost.{IsLost};
+ghost use Rattle.plan_terms.specs.Owed.{IsOwed};
+ghost use Rattle.plan_terms.specs.PlanFormula.{formula_for};
 ghost use Rattle.plan_terms.specs.Plans as plan;
 ghost use Rattle.rank_check.specs.Cases.{two_in_turn, three_in_turn, then_always_q, no_p_until_q, next_no_p};
+ghost use Rattle.rank_check.specs.Cases.{at_last_q_soon, no_p_until_q_soon, q_soon, q_soon_or_later};
 ghost use Rattle.rank_check.specs.Cases.{in_a_row, q_until_p, both_ways, name_r, guarded_twice, then_always_guarded};
 ghost use Rattle.rank_check.specs.Chains.{IsOnCycle, IsRank};
 ghost use Rattle.rank_check.specs.Horizon.{class_of, horizon_of};
@@ -63,4 +69,19 @@ pub fn horizons()
     ensures right_ahead { is_transparent (plan.Until 0 1 0 5 (plan.Cause 1 2 name_q []) soon_q_x ∷ []) ≡ false }
     ensures left_ahead { is_transparent (plan.Until 0 1 0 5 soon_q_x (plan.Cause 1 2 name_q []) ∷ []) ≡ true }
     ensures always_ahead { is_transparent (plan.Always 0 1 0 5 soon_q_x ∷ []) ≡ true }
+{}
+
+/// Without the mark a node can be owed and lost though the trace can be continued well: where it looks ahead as one of
+/// two such sides, as a body, and as a right side.
+pub fn without_the_mark()
+    ensures lost { IsLost empty_step 5 q_soon no_values 0 }
+    ensures side_not_marked { is_transparent q_soon_or_later ≡ false }
+    ensures side_owed { IsOwed q_soon_or_later empty_step 5 0 q_soon no_values 0 }
+    ensures side_good { Good (map formula_for q_soon_or_later) empty_step 5 }
+    ensures body_not_marked { is_transparent at_last_q_soon ≡ false }
+    ensures body_owed { IsOwed at_last_q_soon empty_step 5 0 q_soon no_values 0 }
+    ensures body_good { Good (map formula_for at_last_q_soon) empty_step 5 }
+    ensures right_not_marked { is_transparent no_p_until_q_soon ≡ false }
+    ensures right_owed { IsOwed no_p_until_q_soon empty_step 5 0 q_soon no_values 0 }
+    ensures right_good { Good (map formula_for no_p_until_q_soon) empty_step 5 }
 {}
