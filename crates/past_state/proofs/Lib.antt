@@ -19,6 +19,7 @@ pub mod RunLemmas
 pub mod OrderLemmas
 pub mod CommitLemmas
 pub mod SameNames
+pub mod UnreadLemmas
 pub mod PastLemmas
 pub mod BuildingLemmas
 pub mod KeepingLemmas

@@ -70,6 +70,10 @@ TablesStand trace step tables =
 abbrev pub past_names : List PlacedGuard → List NameId
 past_names guards = names_of (all_operators (formulas guards))
 
+-- the names that the guards look for, at a step or before it
+abbrev pub guard_names : List PlacedGuard → List NameId
+guard_names guards = names_of (formulas guards)
+
 -- they were made at this time by evaluation at these events
 abbrev pub AreMadeOf : Past → ℕ → List Event → PastTables → Type 0
 AreMadeOf past time events tables = (tables.guards ≡ past.guards)
@@ -138,6 +142,18 @@ GuardsWillHold past time events tables = (trace : List Step) (step : Step) → s
     → ((x : VarId) → IsFree x (formula_of g) → IsSome (value_at v x))
     → HoldsNow events (tables_of g tables) v (formula_of g)
     ↔ Sat (trace ++ step ∷ []) (length trace) v (formula_of g)
+
+-- where the events of a step change of names alone that no guard looks for, its tables stay those of the step, and by
+-- them the guards hold where they are satisfied
+abbrev pub UnreadTablesStay : Type 0
+UnreadTablesStay = (past : Past) (time : ℕ) (events others : List Event) (tables : PastTables)
+    → HaveSameOf (guard_names past.guards) events others → AreOf past time events tables
+    → AreOf past time others tables
+
+abbrev pub UnreadGuardsHold : Type 0
+UnreadGuardsHold = (past : Past) (time : ℕ) (events others : List Event) (tables : PastTables)
+    → HaveSameOf (guard_names tables.guards) events others → GuardsWillHold past time events tables
+    → GuardsWillHold past time others tables
 
 -- v binds the guard's bound variables
 abbrev pub BindsBound : List PlacedGuard → ℕ → Valuation → Type 0

@@ -3,7 +3,7 @@ ghost use Rattle.past_state.specs.Counts.{NoMoreThanNodes};
 ghost use Rattle.past_state.specs.Known.{TablesAreKnown};
 ghost use Rattle.past_state.specs.Laws.{SinceAnswers, SinceGoesOn, OnceAnswers, OnceGoesOn, HistoricallyIsDenied};
 ghost use Rattle.past_state.specs.Laws.{PrevAnswers, PrevGoesOn};
-ghost use Rattle.past_state.specs.Past.{RunStands, CommitStands, TablesStay};
+ghost use Rattle.past_state.specs.Past.{RunStands, CommitStands, TablesStay, UnreadGuardsHold, UnreadTablesStay};
 ghost use Rattle.past_state.specs.Restoring.{KeptAreWithinBounds};
 
 use enf_formula::laws::{dependence, is_classical};
@@ -61,6 +61,15 @@ pub fn steps_stand()
 pub fn tables_stay()
     ensures { TablesStay }
 {}
+
+/// Where the events of a step change of names alone that no guard looks for, its tables stay those of the step, and the
+/// guards hold by them where they are satisfied.
+pub fn unread_tables_stay()
+    ensures are { UnreadTablesStay }
+    ensures hold { UnreadGuardsHold }
+{
+    dependence();
+}
 
 /// Whatever was committed before: each value of the tables that are made at a step is one of its events, of the
 /// constants of the guards, or of a row that is kept.

@@ -9,6 +9,7 @@ pub mod kept;
 pub mod laws;
 pub mod left;
 pub mod memories;
+mod names;
 pub mod operators;
 pub mod past;
 mod restoring;

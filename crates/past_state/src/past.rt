@@ -1,5 +1,5 @@
 //! What the operators on the past of guards remember.
-ghost use Rattle.std.specs.Prelude.{◌≡◌, ◌↔◌, ◌≤◌, ℕ, [], None, IfOk, OnOk, All, Contains, IsTrue};
+ghost use Rattle.std.specs.Prelude.{◌≡◌, ◌↔◌, ◌≤◌, ℕ, List, [], None, IfOk, OnOk, All, Contains, IsTrue};
 ghost use Rattle.valuations.specs.Scopes.{bound_in};
 ghost use Rattle.valuations.specs.Tables.{IsTable};
 
@@ -8,12 +8,13 @@ use crate::guards::PlacedGuard;
 use crate::kept::KeptRows;
 use crate::laws::{steps_stand, tables_are_known};
 use crate::memories::StepTables;
+use crate::names::GuardNames;
 use crate::operators::{OperatorStates, commit_shared, run, some_reads};
 use enf_value::event_sets::EventSet;
 use enf_value::events::NameId;
 use enf_value::memory::NoMemory;
 use monitorable_guard::laws::present_is_satisfied;
-use monitorable_guard::{Guard, StepEvents};
+use monitorable_guard::{Guard, Rows, StepEvents};
 use std::alloc::Global;
 use std::marker::Model;
 use std::rc::Rc;
@@ -24,10 +25,14 @@ use valuations::{Frame, Table, Valuation};
 pub struct PastState {
     pub(crate) guards: Rc<Vec<PlacedGuard>>,
     pub(crate) operators: Rc<OperatorStates>,
+    // the names that the guards look for
+    pub(crate) names: GuardNames,
 }
 
 impl Model for PastState {
-    ghost use Rattle.past_state.specs.Past.{Past, IsPast};
+    ghost use Rattle.std.specs.Prelude.{◌↔◌, Contains};
+    ghost use Rattle.enf_value.specs.declared.events.NameId.{NameId};
+    ghost use Rattle.past_state.specs.Past.{Past, IsPast, guard_names};
     ghost use Rattle.past_state.specs.PastCodes.{past_code};
 
     ghost Value = { Past };
@@ -39,7 +44,7 @@ impl Model for PastState {
     ghost invariant = { λ s. IsPast (record {
       guards = s.guards.value.items;
       operators = s.operators.value.items.items;
-    }) };
+    }) × ((name : NameId) → Contains s.names name ↔ Contains (guard_names s.guards.value.items) name) };
 }
 
 /// The tables of the operators on the past of those guards at a step.
@@ -76,8 +81,9 @@ impl Model for Tables {
 }
 
 impl PastState {
+    ghost use Rattle.enf_value.specs.declared.steps.Step.{Step};
     ghost use Rattle.past_state.specs.Past.{AreOf, AreOfBut, PastStands, TablesWillStand, CommittedWillStand};
-    ghost use Rattle.past_state.specs.Past.{GuardsWillHold, PastCommitted, past_names};
+    ghost use Rattle.past_state.specs.Past.{GuardsWillHold, PastCommitted, guard_names, past_names};
     ghost use Rattle.past_state.specs.Guarded.{AreCopies, IsFreshGuard};
     ghost use Rattle.past_state.specs.Known.{AreKnown, AreThoseOrKnown};
     ghost use Rattle.past_state.specs.LastTimes.{AreAtLast};
@@ -135,11 +141,26 @@ impl PastState {
         })
     }
 
+    /// Whether no guard has an operator on the past: then nothing is remembered, and it stands for each trace.
+    pub fn is_empty(&self) -> bool
+        ensures none { IsTrue result ↔ (self.now.operators ≡ []) }
+        ensures stands { IsTrue result → (trace : List Step) → PastStands trace self.now }
+    {
+        self.operators.items.is_empty()
+    }
+
     /// Whether an operator on the past of a guard looks for events of the name.
     pub fn reads(&self, name: NameId) -> bool
         ensures { IsTrue result ↔ Contains (past_names self.now.guards) name }
     {
         some_reads(self.operators.items.as_slice(), name)
+    }
+
+    /// Whether a guard looks for events of the name, at a step or before it.
+    pub fn looks_for(&self, name: NameId) -> bool
+        ensures { IsTrue result ↔ Contains (guard_names self.now.guards) name }
+    {
+        self.names.has(name)
     }
 
     /// The tables at a step with these events, of the tables at that step before its events of the name changed. They
@@ -257,6 +278,28 @@ impl Tables {
         let placed = &self.guards[guard as usize];
         let past = self.behind(placed.start);
         placed.guard.evaluate_under(alloc, events, &past, v)
+    }
+
+    /// The same, where rows that are the arguments of events stay where they are.
+    pub fn told_under<'t>(
+        &'t self,
+        alloc: Global,
+        guard: u32,
+        events: &'t StepEvents<'_>,
+        v: &Frame<'_>,
+    ) -> Result<Rows<'t>, NoMemory>
+        requires within { guard < length self.now.guards }
+        requires binds { BindsBound self.now.guards guard (bound_in v.now) }
+        ensures table { IfOk result IsTable }
+        ensures columns { IfOk result (HasOpenColumns self.now guard) }
+        ensures evaluated { IfOk result (AreEvaluated self.now guard events.now (bound_in v.now)) }
+        ensures satisfied { IfOk result (AreSatisfied self.now guard events.now (bound_in v.now)) }
+        ensures known { IfOk result (IsKnownOfGuard self.now guard events.now (bound_in v.now)) }
+    {
+        present_is_satisfied();
+        let placed = &self.guards[guard as usize];
+        let past = self.behind(placed.start);
+        placed.guard.rows_under(alloc, events, &past, v)
     }
 
     /// Whether the valuation satisfies the guard, all of whose free variables are bound, at the step.

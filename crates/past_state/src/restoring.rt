@@ -12,6 +12,7 @@ ghost use Rattle.past_state.specs.Restored.{IsRestoredSlot, IsRestoredWindow};
 use crate::guards::{place_all, push_all};
 use crate::kept::KeptRows;
 use crate::memories::Memory;
+use crate::names::GuardNames;
 use crate::operators::{OperatorState, OperatorStates};
 use crate::past::PastState;
 use enf_formula::laws::dependence;
@@ -51,9 +52,14 @@ impl PastState {
         let counts = push_all(alloc, guards, &mut operators)?;
         let items = restore_each(alloc, operators, last, rows)?;
         let placed = place_all(alloc, guards, counts)?;
+        let names = GuardNames::of(alloc, placed.as_slice())?;
         let guards = Rc::new(alloc, placed)?;
         let operators = Rc::new(alloc, OperatorStates { items })?;
-        Ok(PastState { guards, operators })
+        Ok(PastState {
+            guards,
+            operators,
+            names,
+        })
     }
 }
 

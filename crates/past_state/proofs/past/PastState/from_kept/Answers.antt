@@ -1,8 +1,8 @@
-use Rattle.std.proofs.Common.{◌↔◌, All, Contains, ap, sym, subst, map, reverse, arith}
+use Rattle.std.proofs.Common.{◌∙◌, ◌↔◌, All, Contains, ap, sym, subst, map, reverse, arith}
 use Rattle.past_state.specs.GuardLaws.{copies_formulas}
 use Rattle.past_state.specs.Guarded.{tree_in}
 use Rattle.past_state.specs.Operators.{all_operators}
-use Rattle.past_state.specs.Past.{IsPast, formulas}
+use Rattle.past_state.specs.Past.{IsPast, formulas, guard_names}
 use Rattle.past_state.specs.LastTimes.{IsAtLast}
 use Rattle.past_state.specs.Runs.{AllStand, AreUpToTimeOf}
 use Rattle.past_state.specs.Saved.{StoresAt}
@@ -21,12 +21,14 @@ place_all-requires-clause-few c =
     omega (arith, few_outermost (map tree_in c.args.guards.now) c.new-operators.result.items c.push_all.new.out.items c.new-operators.ensures.items c.in_ok-counts.ensures.pushed, c.push_all.new.out.ok.0, c.push_all.new.out.small)
 
 pub invariant_of-result : goal.invariant_of-result
-invariant_of-result c =
-    subst (λ s. IsPast (record { guards = c.in_ok-guards.guards.value.items; operators = s.items.items })) (sym c.in_ok-operators.ensures.ok)
-    (subst (λ l. IsPast (record { guards = l; operators = c.in_ok-items.items.items })) (ap (λ v. v.items) (sym c.in_ok-guards.ensures.ok))
-    (still_past (record { guards = c.in_ok-placed.placed.items; operators = c.push_all.new.out.items }) c.in_ok-items.items.items
-    (new_past c.args.guards.now c.in_ok-placed.placed.items c.new-operators.result.items c.push_all.new.out.items c.in_ok-placed.ensures.copies c.in_ok-placed.ensures.begin c.in_ok-placed.ensures.past c.requires.fresh c.new-operators.ensures.items c.in_ok-counts.ensures.pushed)
-    (same_kinds c.args.last c.args.rows 0 c.push_all.new.out.items c.in_ok-items.items.items c.in_ok-items.ensures)))
+invariant_of-result c = (
+  subst (λ s. IsPast (record { guards = c.in_ok-guards.guards.value.items; operators = s.items.items })) (sym c.in_ok-operators.ensures.ok)
+      (subst (λ l. IsPast (record { guards = l; operators = c.in_ok-items.items.items })) (ap (λ v. v.items) (sym c.in_ok-guards.ensures.ok))
+      (still_past (record { guards = c.in_ok-placed.placed.items; operators = c.push_all.new.out.items }) c.in_ok-items.items.items
+      (new_past c.args.guards.now c.in_ok-placed.placed.items c.new-operators.result.items c.push_all.new.out.items c.in_ok-placed.ensures.copies c.in_ok-placed.ensures.begin c.in_ok-placed.ensures.past c.requires.fresh c.new-operators.ensures.items c.in_ok-counts.ensures.pushed)
+      (same_kinds c.args.last c.args.rows 0 c.push_all.new.out.items c.in_ok-items.items.items c.in_ok-items.ensures))),
+  λ name. subst (λ l. Contains c.in_ok-names.names name ↔ Contains (guard_names l) name) (c.as_slice.ensures.value ∙ ap (λ v. v.items) (sym c.in_ok-guards.ensures.ok)) (c.in_ok-names.ensures name),
+)
 
 pub returns-clause-last : goal.returns-clause-last
 returns-clause-last c = subst (λ s. All (λ o. IsAtLast c.args.last o.memory) s.items.items) (sym c.in_ok-operators.ensures.ok)

@@ -20,7 +20,7 @@ overflow_cast-window c = omega (
   arith,
   c.requires,
   ap (λ p. length (all_operators (formulas p.guards))) c.self.view_is,
-  counted (record { guards = c.self.inside.guards.value.items; operators = c.self.inside.operators.value.items.items }) c.self.invariant,
+  counted (record { guards = c.self.inside.guards.value.items; operators = c.self.inside.operators.value.items.items }) c.self.invariant.0,
   ap length (c.as_slice-operators.ensures.value ∙ ap (λ s. s.items.items) c.deref.ensures),
 )
 
@@ -39,4 +39,4 @@ returns-clause-exact c = subst (λ p. AreRowsOf p c.from_vec.result) c.self.view
 
 pub returns-clause-kept : goal.returns-clause-kept
 returns-clause-kept c = subst (λ p. AreRowsKept p c.from_vec.result) c.self.view_is (λ trace stand.
-    kept_of_trace trace (all_operators (formulas c.self.inside.guards.value.items)) c.self.inside.operators.value.items.items c.from_vec.result c.self.invariant.kept stand (saved_all c))
+    kept_of_trace trace (all_operators (formulas c.self.inside.guards.value.items)) c.self.inside.operators.value.items.items c.from_vec.result c.self.invariant.0.kept stand (saved_all c))

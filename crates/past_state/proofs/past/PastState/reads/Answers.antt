@@ -8,4 +8,4 @@ use Rattle.past_state.proofs.past.PastState.reads.Goals as goal
 pub returns : goal.returns
 returns c = subst (λ p. IsTrue c.some_reads.result ↔ Contains (past_names p.guards) c.args.name) c.self.view_is
     (iff_then (subst (λ l. IsTrue c.some_reads.result ↔ Contains (operator_names l) c.args.name) (c.as_slice.ensures.value ∙ ap (λ s. s.items.items) c.deref.ensures) c.some_reads.ensures)
-    (operators_names _ c.self.invariant c.args.name))
+    (operators_names _ c.self.invariant.0 c.args.name))

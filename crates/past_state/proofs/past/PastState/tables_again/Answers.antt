@@ -13,10 +13,10 @@ returns-then-some_reads-clause-known c = IfOk-weaker c.tables.result (AreKnown c
 told : (c : goal.Else-some_reads) → IsTrue c.some_reads.result ↔ Contains (past_names c.args.self.now.guards) c.args.changed
 told c = subst (λ p. IsTrue c.some_reads.result ↔ Contains (past_names p.guards) c.args.changed) c.self.view_is
     (iff_then (subst (λ l. IsTrue c.some_reads.result ↔ Contains (operator_names l) c.args.changed) (c.as_slice.ensures.value ∙ ap (λ s. s.items.items) c.deref.ensures) c.some_reads.ensures)
-    (operators_names _ c.self.invariant c.args.changed))
+    (operators_names _ c.self.invariant.0 c.args.changed))
 
 is_past : (c : goal.Else-some_reads) → IsPast c.args.self.now
-is_past c = subst IsPast c.self.view_is c.self.invariant
+is_past c = subst IsPast c.self.view_is c.self.invariant.0
 
 are : (c : goal.Else-some_reads) → AreOf c.args.self.now c.args.time c.args.events.now c.args.tables
 are c = but_unread c.args.self.now c.args.time c.args.changed c.args.events.now c.args.tables (λ there. true≢false (sym ((told c).1 there) ∙ c.if-some_reads.false)) c.requires.were
