@@ -11,5 +11,7 @@ pub mod Readers
 pub mod OneReading
 pub mod OneLog
 pub mod Plain
+pub mod Ahead
+pub mod FrontRecords
 pub mod PrintedTokens
 pub mod RoundTrips

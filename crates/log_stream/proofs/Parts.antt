@@ -1,5 +1,5 @@
 -- The parts of a record as its reader puts them together.
-use Rattle.std.proofs.Common.{◌≡◌, ℕ, ◌+◌, ◌<◌, ◌≤◌, ◌==◌, nat_lt, Bool, true, false, List, [], ◌∷◌, ◌++◌, length, map, Option, None, Some, Result, Ok, Err, Contains, if◌then◌else◌, refl, sym, ap, subst, ◌∙◌, arith, append_assoc, slice_get, length-append, unwrap_or}
+use Rattle.std.proofs.Common.{◌≡◌, ℕ, ◌+◌, ◌<◌, ◌≤◌, ◌==◌, nat_lt, Bool, true, false, List, [], ◌∷◌, ◌++◌, length, Option, None, Some, Result, Ok, Err, Contains, if◌then◌else◌, refl, sym, ap, subst, ◌∙◌, arith, append_assoc, slice_get, length-append, unwrap_or, IsTrue, ◌↔◌, true≢false}
 use Rattle.std.specs.List.{flat_map}
 use Rattle.std.specs.Bool.{Decides}
 use Rattle.std.specs.Option.{option_map, option_and_then, option_or}
@@ -7,7 +7,7 @@ use Rattle.std.proofs.lemmas.Bool.Decides.{nat_tests}
 use Rattle.std.proofs.lemmas.List.{append-nil, length-map, map-append}
 use Rattle.std.proofs.lemmas.List.Concat.{flat_map-append}
 use Rattle.enf_value.specs.Decided.{has_event, has_event-Decides}
-use Rattle.enf_value.specs.Membership.{Inserts}
+use Rattle.enf_value.specs.Membership.{Inserts, KeepsFirsts}
 use Rattle.std.specs.Borrow.{Bor}
 use Rattle.std.specs.Option.{IfSome}
 use Rattle.enf_value.specs.declared.events.Event.{Event}
@@ -20,8 +20,8 @@ use Rattle.trace_meaning.specs.declared.kinds.StepKind.{StepKind}
 use Rattle.log_stream.specs.declared.items.LogMode.{LogMode}
 use Rattle.log_stream.specs.declared.items.LogRefusal.{LogRefusal}
 use Rattle.log_stream.specs.declared.items.LogRefusal.TheVariants.{BadRecord, UnknownName, Arity, SortClash, TooLong, TimeTooLarge, Truncated, NoMemory}
-use Rattle.log_stream.specs.Judgement.{clash, entry_with, event_of, event_refusal, event_refusal_by, events_of, first_refusal, put, put_all, values_of}
-use Rattle.log_stream.specs.States.{State, Start, Events, Named, Opened, Valued, Comma, IsBadFrom, Fails, GivesAnswer, Judges, JudgesAll, JudgesEvent, PutsEvent, ReadsEvent, ReadsEvents, ReadsRow, argument_at, clash_at, event_at, next, run, sorted_event}
+use Rattle.log_stream.specs.Judgement.{clash, entry_with, event_of, event_refusal, event_refusal_by, first_refusal, put, put_all, values_of}
+use Rattle.log_stream.specs.States.{State, Start, Events, Named, Opened, Valued, Comma, IsBadFrom, Fails, GivesAnswer, Judges, JudgesAll, JudgesEvent, PutsEvent, ReadsEvent, ReadsRow, ReadsUpTo, argument_at, clash_at, event_at, next, run, so_far, sorted_event}
 use Rattle.log_stream.specs.Tokens.{Mark, Name, Argument, StandsAt, Leads}
 use Rattle.log_stream.specs.Written.{WrittenArgument, WrittenEvent, event_tokens, row_tokens}
 use Rattle.log_stream.proofs.Machine.{row_push, run_events, run_onto, run_values, some_is}
@@ -186,7 +186,7 @@ event_read entries bytes from next inside to name found sorts row clashes event 
     )
 
 -- what an insertion leaves
-pub inserts_put : (events : List Event) (event : Event) (fresh : Bool) (after : List Event) → Inserts event events fresh after → after ≡ put events event
+inserts_put : (events : List Event) (event : Event) (fresh : Bool) (after : List Event) → Inserts event events fresh after → after ≡ put events event
 inserts_put events event fresh after i = by fresh refl (has_event events event) refl
   where
     d : Decides (has_event events event) (Contains events event)
@@ -200,6 +200,12 @@ inserts_put events event fresh after i = by fresh refl (has_event events event) 
     by true e false h = (i.absent e).1
     by false e true h = (i.present e).1
     by false e false h = absurd (clash_of (d.1 (i.present e).0) h)
+
+-- and what insertions one after another leave
+pub firsts_put : (before events after : List Event) → KeepsFirsts before events after → after ≡ put_all before events
+firsts_put before [] after is = is
+firsts_put before (event ∷ events) after (fresh, between, first, rest) =
+    firsts_put between events after rest ∙ ap (λ l. put_all l events) (inserts_put before event fresh between first)
 
 -- events so far, each judged
 pub record AreEventsSoFar (entries : List NameEntry) (bytes : List ℕ) (from : ℕ) (events : Result (List Event) LogRefusal) (count place : ℕ) : Type 0 where
@@ -221,17 +227,10 @@ first_refusal-push entries (x ∷ events) event = by (event_refusal entries x) (
     by None h = h
     by (Some r) h = refl
 
-put_all-push : (before events : List Event) (event : Event) → put_all before (events ++ event ∷ []) ≡ put (put_all before events) event
-put_all-push before [] event = refl
-put_all-push before (x ∷ events) event = put_all-push (put before x) events event
-
-events_of-push : (entries : List NameEntry) (events : List WrittenEvent) (event : WrittenEvent) → events_of entries (events ++ event ∷ []) ≡ put (events_of entries events) (event_of entries event)
-events_of-push entries events event = ap (put_all []) (map-append (event_of entries) events (event ∷ [])) ∙ put_all-push [] (map (event_of entries) events) (event_of entries event)
-
 judged_more : (entries : List NameEntry) (written : List WrittenEvent) (one : WrittenEvent) (events : Result (List Event) LogRefusal) (event : Result Event LogRefusal) (after : Result (List Event) LogRefusal) → JudgesAll entries written events → Judges entries one event → PutsEvent events event after → JudgesAll entries (written ++ one ∷ []) after
 judged_more entries written one (Ok events) (Ok event) after all here puts =
     subst (JudgesAll entries (written ++ one ∷ [])) (sym puts)
-    (first_refusal-push entries written one ∙ (λ j. option_or (all.0 j) (here.0 j)), (λ j. put (all.1 j) (here.1 j)) ∙ sym (events_of-push entries written one))
+    (first_refusal-push entries written one ∙ (λ j. option_or (all.0 j) (here.0 j)), (λ j. all.1 j ++ here.1 j ∷ []) ∙ sym (map-append (event_of entries) written (one ∷ [])))
 judged_more entries written one (Ok events) (Err refusal) after all here puts =
     subst (JudgesAll entries (written ++ one ∷ [])) (sym puts) (first_refusal-push entries written one ∙ (λ j. option_or (all.0 j) (here j)))
 judged_more entries written one (Err refusal) event after all here puts =
@@ -249,11 +248,12 @@ events_more entries bytes from events count place next event after so (one, lead
   within = within;
 }
 
-pub events_done : (entries : List NameEntry) (bytes : List ℕ) (from : ℕ) (events : Result (List Event) LogRefusal) (count place end : ℕ) → AreEventsSoFar entries bytes from events count place → count ≤ MOST_EVENTS → Leads bytes place (Mark 59 ∷ []) end → ReadsEvents entries bytes from events end
-events_done entries bytes from events count place end so few l = record {
+pub events_done : (entries : List NameEntry) (bytes : List ℕ) (from : ℕ) (events : Result (List Event) LogRefusal) (count place : ℕ) → AreEventsSoFar entries bytes from events count place → count ≤ MOST_EVENTS → StandsAt bytes place (place + 1) (Mark 59) → ReadsUpTo entries bytes from events place
+events_done entries bytes from events count place so few ends = record {
   written = so.written;
   few = omega (arith, so.counted);
-  leads = leads-append bytes from place end (flat_map event_tokens so.written) (Mark 59 ∷ []) so.leads l;
+  leads = so.leads;
+  ends = ends;
   judged = so.judged;
 }
 
@@ -294,3 +294,16 @@ sorts_known None sorts number known are n entry e = cc
 sorts_known (Some f) sorts number known are n entry e =
     let same : (f.0.0, f.1.now) ≡ (n, entry) = some_is (f.0.0, f.1.now) (n, entry) e in
     (known ∙ ap (λ (p : ℕ × NameEntry). Some p.0) same, are ∙ ap (λ (p : ℕ × NameEntry). p.1.sorts) same)
+
+-- an event or its refusal is put behind those before it
+pub puts_event : (events after : List Event) (event : Event) (refused : Option LogRefusal) → after ≡ events ++ event ∷ [] → PutsEvent (so_far events refused) (Ok event) (so_far after refused)
+puts_event events after event None is = ap Ok is
+puts_event events after event (Some refusal) is = refl
+
+pub puts_refusal : (events : List Event) (refusal : LogRefusal) (refused after : Option LogRefusal) → after ≡ option_or refused (Some refusal) → PutsEvent (so_far events refused) (Err refusal) (so_far events after)
+puts_refusal events refusal None after is = ap (so_far events) is
+puts_refusal events refusal (Some first) after is = ap (so_far events) is
+
+-- no semicolon stands where none was found
+pub none_ends : (found : Bool) (bytes : List ℕ) (at : ℕ) → IsTrue found ↔ StandsAt bytes at (at + 1) (Mark 59) → found ≡ false → (end : ℕ) → StandsAt bytes at end (Mark 59) → ⊥
+none_ends found bytes at test is end (below, byte, ends) = true≢false (sym (test.1 (below, byte, refl)) ∙ is)

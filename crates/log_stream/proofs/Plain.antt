@@ -27,7 +27,7 @@ stays_append scan a b h k = (
   after_onward scan a b ∙ ap (λ s. scan_after s b) h.1 ∙ k.1,
 )
 
-stays_one : (scan : Scan) (byte : ℕ) (bytes : List ℕ) → (is_outside scan && (byte == 59)) ≡ false → scan_behind scan byte ≡ scan → Stays scan bytes → Stays scan (byte ∷ bytes)
+pub stays_one : (scan : Scan) (byte : ℕ) (bytes : List ℕ) → (is_outside scan && (byte == 59)) ≡ false → scan_behind scan byte ≡ scan → Stays scan bytes → Stays scan (byte ∷ bytes)
 stays_one scan byte bytes e is h = (
   ap (λ b. if b then Some 1 else option_map (λ n. n + 1) (length_to_end (scan_behind scan byte) bytes)) e ∙ ap (λ s. option_map (λ n. n + 1) (length_to_end s bytes)) is ∙ ap (option_map (λ n. n + 1)) h.0,
   ap (λ s. scan_after s bytes) is ∙ h.1,
@@ -49,7 +49,7 @@ plain_stays (byte ∷ bytes) plain =
 digit_plain : (x : ℕ) → digit_value x < 10 → (x ≢ 34) × (x ≢ 59)
 digit_plain x h = (λ e. absurd (grind (arith, nat_tests)), λ e. absurd (grind (arith, nat_tests)))
 
-digits_plain : (digits : List ℕ) → AllDigits 10 digits → ArePlain digits
+pub digits_plain : (digits : List ℕ) → AllDigits 10 digits → ArePlain digits
 digits_plain [] all = tt
 digits_plain (x ∷ digits) all = let p = digit_plain x all.0 in (p.0, p.1, digits_plain digits all.1)
 

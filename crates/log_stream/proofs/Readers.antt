@@ -1,6 +1,7 @@
 -- What a call of a reader does, by what stands at the front of its rest.
-use Rattle.std.proofs.Common.{◌≡◌, ℕ, ◌-◌, ◌<◌, ◌≤◌, List, [], length, take, drop, Option, None, Ok, Err, inr, refl, sym, ap, subst, ◌∙◌, arith, length-drop}
-use Rattle.std.proofs.lemmas.List.{drop-drop, drop_all, take_all}
+use Rattle.std.proofs.Common.{◌≡◌, ℕ, ◌+◌, ◌-◌, ◌<◌, ◌≤◌, List, [], length, take, drop, Option, None, Some, Bool, false, true≢false, Ok, Err, inr, refl, sym, ap, subst, ◌∙◌, arith, length-drop}
+use Rattle.std.proofs.lemmas.List.{drop-drop, drop_all, take-take, take_all}
+use Rattle.std.specs.Option.{is_some}
 use Rattle.signature.specs.declared.entries.NameEntry.{NameEntry}
 use Rattle.log_stream.specs.declared.items.Found.TheVariants.{Item}
 use Rattle.log_stream.specs.declared.items.LogItem.{LogItem}
@@ -12,10 +13,10 @@ use Rattle.log_stream.specs.declared.scanning.Scan.TheVariants.{Outside}
 use Rattle.log_stream.specs.Judgement.{IsAnswer}
 use Rattle.log_stream.specs.Logs.{IsPending, IsTruncated, behind_blanks, length_to_end, record_bytes}
 use Rattle.log_stream.specs.Readers.{Reader, ReadsNext}
-use Rattle.log_stream.specs.Scanning.{BeginsAt, IsLasting, IsReader, IsScanned, IsWholeAt, lasting, scan_after}
-use Rattle.log_stream.specs.States.{GivesAnswer}
+use Rattle.log_stream.specs.Scanning.{BeginsAt, IsLasting, IsReader, IsScanned, IsWholeAt, StandsWhole, lasting, scan_after}
+use Rattle.log_stream.specs.States.{GivesAnswer, ReadsFront}
 use Rattle.log_stream.proofs.Steps.{refusal_judged}
-use Rattle.log_stream.proofs.Windows.{behind_not_blank}
+use Rattle.log_stream.proofs.Windows.{behind_not_blank, nothing_scanned, same_number, whole_alone, whole_at}
 use Rattle.log_stream.specs.declared.limits.TheConstants.{MOST_RECORD_BYTES}
 
 abbrev pub reader_at : List NameEntry → LogMode → List ℕ → Option LogRefusal → Reader
@@ -81,3 +82,40 @@ truncated_at bytes front begin pending begins some =
 
 pub nothing_left : (bytes : List ℕ) (front begin : ℕ) → BeginsAt bytes front begin → length bytes ≤ begin → behind_blanks (drop front bytes) ≡ []
 nothing_left bytes front begin begins all = sym begins.rest_is ∙ drop_all begin bytes all
+
+-- the record that stands at the front, read before its end was looked for
+pub stands_ahead : (entries : List NameEntry) (mode : LogMode) (bytes : List ℕ) (from begin most n : ℕ) (item : LogItem) → BeginsAt bytes from begin → take (begin + most - begin) (drop begin bytes) ≡ take MOST_RECORD_BYTES (drop begin bytes) → ReadsFront entries mode (take (begin + most - begin) (drop begin bytes)) (Ok (item, n)) → StandsWhole entries mode bytes from item (begin + n)
+stands_ahead entries mode bytes from begin most n item begins window reads =
+    let read = subst (λ l. ReadsFront entries mode l (Ok (item, n))) window reads in
+    let whole = whole_at bytes from begin 0 Outside n (begin + n) (nothing_scanned (drop from bytes) Outside refl) begins n read.0 (omega arith) refl in
+    let short = whole.short in
+    let ends = whole.ends in
+    let few : n ≤ MOST_RECORD_BYTES = omega (arith, short, ends) in
+    let count : n ≡ begin + n - begin = omega arith in
+    record {
+      begin = begin;
+      whole = whole;
+      answer = subst (λ l. IsAnswer entries mode l (Ok item)) (take-take n MOST_RECORD_BYTES (drop begin bytes) few ∙ ap (λ k. take k (drop begin bytes)) count) read.1;
+    }
+
+-- behind it nothing was scanned
+pub behind_item : (bytes : List ℕ) (front end scanned : ℕ) (scan : Scan) (refused : Option LogRefusal) → scanned ≡ 0 → end ≤ length bytes → IsReader bytes front scanned scan refused → IsReader bytes end scanned scan refused
+behind_item bytes front end scanned scan refused none within reader =
+    let outside : scan ≡ Outside = reader.scanned_is.scan_is ∙ ap (λ n. scan_after Outside (take n (drop front bytes))) none in
+    record {
+      within = within;
+      scanned_is = subst (λ n. IsScanned (drop end bytes) n scan) (sym none) (nothing_scanned (drop end bytes) scan outside);
+      lasting = reader.lasting;
+    }
+
+-- the answer to the bytes of one record alone
+pub item_alone : (entries : List NameEntry) (mode : LogMode) (bytes : List ℕ) (front begin end n : ℕ) (item : LogItem) → IsWholeAt bytes front begin end → ReadsFront entries mode (take (end - begin) (drop begin bytes)) (Ok (item, n)) → IsAnswer entries mode (take (end - begin) (drop begin bytes)) (Ok item)
+item_alone entries mode bytes front begin end n item w reads =
+    let alone = whole_alone bytes front begin end w in
+    let all = same_number n (length (take (end - begin) (drop begin bytes))) (sym reads.0 ∙ alone) in
+    subst (λ l. IsAnswer entries mode l (Ok item)) (ap (λ k. take k (take (end - begin) (drop begin bytes))) all ∙ take_all (length (take (end - begin) (drop begin bytes))) (take (end - begin) (drop begin bytes)) (omega arith)) reads.1
+
+-- no refusal was answered
+pub no_refusal : (refused : Option LogRefusal) (found : Bool) → found ≡ is_some refused → found ≡ false → refused ≡ None
+no_refusal None found is none = refl
+no_refusal (Some refusal) found is none = absurd (true≢false (sym is ∙ none))

@@ -3,6 +3,7 @@ use Rattle.std.proofs.Common.{◌≡◌, ℕ, ◌<◌, ◌≤◌, nat_lt, ◌==�
 use Rattle.std.specs.Option.{option_map, option_or}
 use Rattle.std.specs.List.{flat_map}
 use Rattle.std.proofs.lemmas.Bool.Decides.{nat_tests}
+use Rattle.enf_value.specs.Membership.{KeepsFirsts}
 use Rattle.enf_value.specs.declared.events.Event.{Event}
 use Rattle.signature.specs.declared.entries.NameEntry.{NameEntry}
 use Rattle.signature.specs.declared.entries.Sort.{Sort}
@@ -14,14 +15,14 @@ use Rattle.log_stream.specs.declared.items.LogMode.{LogMode}
 use Rattle.log_stream.specs.declared.items.LogMode.TheVariants.{Input, TraceLog}
 use Rattle.log_stream.specs.declared.items.LogRefusal.{LogRefusal}
 use Rattle.log_stream.specs.declared.items.LogRefusal.TheVariants.{BadRecord, UnknownName, Arity, SortClash, TooLong, TimeTooLarge, Truncated, NoMemory}
-use Rattle.log_stream.specs.Judgement.{clash, event_refusal, event_refusal_by, entry_with, events_of, first_refusal, judged, judged_step}
+use Rattle.log_stream.specs.Judgement.{clash, event_refusal, event_refusal_by, entry_with, events_of, first_refusal, judged, judged_step, put_all}
 use Rattle.trace_meaning.specs.Records.{most_time}
-use Rattle.log_stream.specs.States.{Start, Marked, Ticking, Ticked, Events, Done, Fails, GivesAnswer, ReadsEvents, next, run}
+use Rattle.log_stream.specs.States.{Start, Marked, Ticking, Ticked, Events, Fails, GivesAnswer, ReadsEvents, next, run}
 use Rattle.log_stream.specs.Tokens.{Mark, Time, StandsAt, Leads}
 use Rattle.log_stream.specs.Written.{WrittenEvent, Written, Line, TickLine, IsRead, IsSpelled, event_tokens, mark_of, tokens_of}
-use Rattle.log_stream.proofs.Machine.{run_onto, run_tokens}
-use Rattle.log_stream.proofs.Parts.{fails_bad, fails_gives}
-use Rattle.log_stream.proofs.Reading.{bad_behind, bad_here, fails_behind, leads-append, stuck_done, stuck_marked, stuck_start, stuck_ticked, stuck_ticking}
+use Rattle.log_stream.proofs.Machine.{run_onto}
+use Rattle.log_stream.proofs.Parts.{fails_bad, fails_gives, firsts_put}
+use Rattle.log_stream.proofs.Reading.{bad_behind, bad_here, fails_behind, leads-append, stuck_marked, stuck_start, stuck_ticked, stuck_ticking}
 
 -- the state behind the mark of a step
 run_mark : (mode : LogMode) (kind : StepKind) → IsRead mode kind → run mode Start (Mark (mark_of kind) ∷ []) ≡ Some (Marked kind)
@@ -50,14 +51,6 @@ step_with_bad_events entries mode kind bytes from next time refusal read l t fai
 step_leads : (entries : List NameEntry) (kind : StepKind) (bytes : List ℕ) (from next time end : ℕ) (events : Result (List Event) LogRefusal) → Leads bytes 0 (Mark (mark_of kind) ∷ []) from → Leads bytes from (Time time ∷ []) next → (r : ReadsEvents entries bytes next events end) → Leads bytes 0 (tokens_of (Line kind time r.written)) end
 step_leads entries kind bytes from next time end events l t r =
     leads-append bytes 0 next end (Mark (mark_of kind) ∷ Time time ∷ []) (flat_map event_tokens r.written ++ Mark 59 ∷ []) (head_leads kind bytes from next time l t) r.leads
-
-pub step_ends_early : (entries : List NameEntry) (mode : LogMode) (kind : StepKind) (bytes : List ℕ) (from next time end : ℕ) (events : Result (List Event) LogRefusal) (refusal : LogRefusal) → IsRead mode kind → Leads bytes 0 (Mark (mark_of kind) ∷ []) from → Leads bytes from (Time time ∷ []) next → ReadsEvents entries bytes next events end → (end ≡ length bytes → ⊥) → refusal ≡ BadRecord end → GivesAnswer entries mode bytes (Err refusal)
-step_ends_early entries mode kind bytes from next time end events refusal read l t r early is =
-    let written = Line kind time r.written in
-    fails_gives entries mode bytes refusal
-    (fails_bad mode bytes 0 Start end refusal is
-    (bad_behind mode bytes 0 end Start (Done written) (tokens_of written) end (step_leads entries kind bytes from next time end events l t r) (run_tokens mode written (read, r.few))
-    (bad_here mode bytes end (Done written) (stuck_done mode bytes end written early))))
 
 -- a step is spelled
 pub step_spelled : (entries : List NameEntry) (mode : LogMode) (kind : StepKind) (bytes : List ℕ) (from next time end : ℕ) (events : Result (List Event) LogRefusal) → IsRead mode kind → Leads bytes 0 (Mark (mark_of kind) ∷ []) from → Leads bytes from (Time time ∷ []) next → (r : ReadsEvents entries bytes next events end) → end ≡ length bytes → IsSpelled mode bytes (Line kind time r.written)
@@ -151,12 +144,13 @@ step_refused entries mode kind bytes from next time end refusal read l t r whole
     (in_time (most_time kind) time (Err TimeTooLarge) (judged_step kind time (events_of entries r.written) (first_refusal entries r.written)) h ∙ ap (judged_step kind time (events_of entries r.written)) r.judged)
     (λ place e. subst IsJudged (err_is refusal (BadRecord place) e) (events_judged entries r.written refusal r.judged))
 
-pub step_read : (entries : List NameEntry) (mode : LogMode) (kind : StepKind) (bytes : List ℕ) (from next time end : ℕ) (events : List Event) → IsRead mode kind → Leads bytes 0 (Mark (mark_of kind) ∷ []) from → Leads bytes from (Time time ∷ []) next → ReadsEvents entries bytes next (Ok events) end → end ≡ length bytes → time ≤ most_time kind → GivesAnswer entries mode bytes (Ok (items.Step kind time events))
-step_read entries mode kind bytes from next time end events read l t r whole h = (
+pub step_read : (entries : List NameEntry) (mode : LogMode) (kind : StepKind) (bytes : List ℕ) (from next time end : ℕ) (events set : List Event) → IsRead mode kind → Leads bytes 0 (Mark (mark_of kind) ∷ []) from → Leads bytes from (Time time ∷ []) next → ReadsEvents entries bytes next (Ok events) end → KeepsFirsts [] events set → end ≡ length bytes → time ≤ most_time kind → GivesAnswer entries mode bytes (Ok (items.Step kind time set))
+step_read entries mode kind bytes from next time end events set read l t r firsts whole h = (
   Line kind time r.written,
   step_spelled entries mode kind bytes from next time end (Ok events) read l t r whole,
   in_time (most_time kind) time (Err TimeTooLarge) (judged_step kind time (events_of entries r.written) (first_refusal entries r.written)) h
-      ∙ ap (judged_step kind time (events_of entries r.written)) r.judged.0 ∙ ap (λ es. Ok (items.Step kind time es)) (sym r.judged.1),
+      ∙ ap (judged_step kind time (events_of entries r.written)) r.judged.0
+      ∙ ap (λ es. Ok (items.Step kind time es)) (sym (firsts_put [] events set firsts ∙ ap (put_all []) r.judged.1)),
 )
 
 -- ticks
@@ -177,13 +171,6 @@ tick_without_end entries mode bytes from next time refusal l t none is =
 
 tick_leads : (bytes : List ℕ) (from next time end : ℕ) → Leads bytes 0 (Mark 62 ∷ []) from → Leads bytes from (Time time ∷ []) next → Leads bytes next (Mark 59 ∷ []) end → Leads bytes 0 (tokens_of (TickLine time)) end
 tick_leads bytes from next time end l t s = leads-append bytes 0 next end (Mark 62 ∷ Time time ∷ []) (Mark 59 ∷ []) (tick_head bytes from next time l t) s
-
-pub tick_ends_early : (entries : List NameEntry) (mode : LogMode) (bytes : List ℕ) (from next time end : ℕ) (refusal : LogRefusal) → Leads bytes 0 (Mark 62 ∷ []) from → Leads bytes from (Time time ∷ []) next → Leads bytes next (Mark 59 ∷ []) end → (end ≡ length bytes → ⊥) → refusal ≡ BadRecord end → GivesAnswer entries mode bytes (Err refusal)
-tick_ends_early entries mode bytes from next time end refusal l t s early is =
-    fails_gives entries mode bytes refusal
-    (fails_bad mode bytes 0 Start end refusal is
-    (bad_behind mode bytes 0 end Start (Done (TickLine time)) (tokens_of (TickLine time)) end (tick_leads bytes from next time end l t s) refl
-    (bad_here mode bytes end (Done (TickLine time)) (stuck_done mode bytes end (TickLine time) early))))
 
 pub tick_too_late : (entries : List NameEntry) (mode : LogMode) (bytes : List ℕ) (from next time end : ℕ) → Leads bytes 0 (Mark 62 ∷ []) from → Leads bytes from (Time time ∷ []) next → Leads bytes next (Mark 59 ∷ []) end → end ≡ length bytes → most_time System < time → GivesAnswer entries mode bytes (Err TimeTooLarge)
 tick_too_late entries mode bytes from next time end l t s whole h =

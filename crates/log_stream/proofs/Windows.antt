@@ -1,5 +1,5 @@
 -- The record at the front of a rest, as a scan finds it.
-use Rattle.std.proofs.Common.{◌≡◌, ℕ, ◌+◌, ◌-◌, ◌<◌, ◌≤◌, ◌==◌, ◌&&◌, suc, zero, min, Bool, true, false, List, [], ◌∷◌, ◌++◌, ◌⊎◌, inl, inr, length, take, drop, slice_index, Option, None, Some, IsTrue, if◌then◌else◌, refl, sym, ap, subst, ◌∙◌, arith, length-drop, length-take}
+use Rattle.std.proofs.Common.{◌≡◌, ℕ, ◌+◌, ◌-◌, ◌<◌, ◌≤◌, ◌==◌, ◌&&◌, suc, zero, min, Bool, true, false, List, [], ◌∷◌, ◌++◌, ◌⊎◌, inl, inr, length, take, drop, slice_index, Option, None, Some, IsTrue, if◌then◌else◌, refl, sym, ap, subst, ◌∙◌, arith, length-drop, length-take, add-one}
 use Rattle.std.specs.Option.{option_map}
 use Rattle.std.proofs.lemmas.List.{drop-drop, get_or-drop, take-append-drop, take-take, take_all, take_min}
 use Rattle.enf_value.specs.Tokens.{is_blank}
@@ -47,7 +47,7 @@ zero_or_more : (n : ℕ) → (n ≡ 0) ⊎ (0 < n)
 zero_or_more zero = inl refl
 zero_or_more (suc n) = inr (omega arith)
 
-nothing_scanned : (rest : List ℕ) (scan : Scan) → scan ≡ Outside → IsScanned rest 0 scan
+pub nothing_scanned : (rest : List ℕ) (scan : Scan) → scan ≡ Outside → IsScanned rest 0 scan
 nothing_scanned rest scan e = record { within = omega arith; short = omega arith; endless = refl; scan_is = e; begun = λ h. absurd (omega arith) }
 
 -- what was scanned stays so behind blanks
@@ -144,3 +144,47 @@ pub open_scan : (bytes : List ℕ) (from begin scanned : ℕ) (scan after : Scan
 open_scan bytes from begin scanned scan after is begins short e =
     let scanned_is = subst (λ r. IsScanned r scanned scan) (sym begins.rest_is) (scanned_behind (drop from bytes) scanned scan is) in
     e ∙ sym (found_onward (drop begin bytes) scanned scan scanned_is).1 ∙ ap (scan_after Outside) (take_all MOST_RECORD_BYTES (drop begin bytes) (omega (arith, short)) ∙ begins.rest_is)
+
+pub same_number : (a b : ℕ) → Some a ≡ Some b → a ≡ b
+same_number a b e = cc
+
+-- the first end of bytes is that of those up to it
+pub cut_end : (scan : Scan) (bytes : List ℕ) (n : ℕ) → length_to_end scan bytes ≡ Some n → length_to_end scan (take n bytes) ≡ Some n
+cut_end scan [] n e = cc
+cut_end scan (byte ∷ bytes) n e = by (is_outside scan && (byte == 59)) refl e (λ m is. cut_end (scan_behind scan byte) bytes m is)
+  where
+    inner : (o : Option ℕ) → option_map (λ x. x + 1) o ≡ Some n → (m : ℕ) × (o ≡ Some m) × (m + 1 ≡ n)
+    inner None e = cc
+    inner (Some m) e = (m, refl, some_number (m + 1) n e)
+      where
+        some_number : (a b : ℕ) → Some a ≡ Some b → a ≡ b
+        some_number a b e = cc
+
+    one : Some 1 ≡ Some n → 1 ≡ n
+    one e = cc
+
+    by : (b : Bool) → (is_outside scan && (byte == 59)) ≡ b → (if b then Some 1 else option_map (λ x. x + 1) (length_to_end (scan_behind scan byte) bytes)) ≡ Some n → ((m : ℕ) → length_to_end (scan_behind scan byte) bytes ≡ Some m → length_to_end (scan_behind scan byte) (take m bytes) ≡ Some m) → length_to_end scan (take n (byte ∷ bytes)) ≡ Some n
+    by true t e later =
+        subst (λ k. length_to_end scan (take k (byte ∷ bytes)) ≡ Some k) (one e)
+        (ap (λ b. if b then Some 1 else option_map (λ x. x + 1) (length_to_end (scan_behind scan byte) [])) t)
+    by false t e later =
+        let i = inner (length_to_end (scan_behind scan byte) bytes) e in
+        let more : suc i.0 ≡ n = omega (arith, i.2) in
+        subst (λ k. length_to_end scan (take k (byte ∷ bytes)) ≡ Some k) more
+        (ap (λ b. if b then Some 1 else option_map (λ x. x + 1) (length_to_end (scan_behind scan byte) (take i.0 bytes))) t
+        ∙ ap (option_map (λ x. x + 1)) (later i.0 i.1) ∙ ap Some (add-one i.0))
+
+-- so a whole record ends at the end of its own bytes
+pub whole_alone : (bytes : List ℕ) (from begin end : ℕ) → IsWholeAt bytes from begin end → length_to_end Outside (take (end - begin) (drop begin bytes)) ≡ Some (length (take (end - begin) (drop begin bytes)))
+whole_alone bytes from begin end w =
+    let rest = drop begin bytes in
+    let found : length_to_end Outside (take MOST_RECORD_BYTES (drop begin bytes)) ≡ Some w.n = ap record_length w.begins.rest_is ∙ w.whole in
+    let within = end_within Outside (take MOST_RECORD_BYTES (drop begin bytes)) w.n found in
+    let long = length-take MOST_RECORD_BYTES (drop begin bytes) in
+    let cut = cut_end Outside (take MOST_RECORD_BYTES (drop begin bytes)) w.n found in
+    let same : take w.n (take MOST_RECORD_BYTES (drop begin bytes)) ≡ take w.n (drop begin bytes) = take-take w.n MOST_RECORD_BYTES (drop begin bytes) w.short in
+    let size = length-take w.n (drop begin bytes) in
+    let all : w.n ≡ length (take w.n (drop begin bytes)) = omega (arith, size, within.1, long) in
+    let count : w.n ≡ end - begin = omega (arith, w.ends) in
+    subst (λ k. length_to_end Outside (take k (drop begin bytes)) ≡ Some (length (take k (drop begin bytes)))) count
+    (ap (length_to_end Outside) (sym same) ∙ cut ∙ ap Some all)

@@ -1,8 +1,12 @@
 -- How far a scan for a record's end has come.
-use Rattle.std.specs.Prelude.{◌≡◌, ℕ, ◌+◌, ◌<◌, ◌≤◌, false, List, [], ◌∷◌, length, take, drop, Option, None, Some}
-use Rattle.std.specs.Prelude.{slice_index}
+use Rattle.std.specs.Prelude.{◌≡◌, ℕ, ◌+◌, ◌-◌, ◌<◌, ◌≤◌, false, List, [], ◌∷◌, length, take, drop, Option, None, Some}
+use Rattle.std.specs.Prelude.{Ok, slice_index}
 use Rattle.std.specs.Option.{option_map}
 use Rattle.enf_value.specs.Tokens.{is_blank}
+use Rattle.signature.specs.declared.entries.NameEntry.{NameEntry}
+use Rattle.log_stream.specs.declared.items.LogItem.{LogItem}
+use Rattle.log_stream.specs.declared.items.LogMode.{LogMode}
+use Rattle.log_stream.specs.Judgement.{IsAnswer}
 use Rattle.log_stream.specs.declared.scanning.Scan.{Scan}
 use Rattle.log_stream.specs.declared.scanning.Scan.TheVariants.{Outside}
 use Rattle.log_stream.specs.declared.scanning.Scanned.{Scanned}
@@ -61,6 +65,13 @@ pub record IsWholeAt (bytes : List ℕ) (from begin end : ℕ) : Type 0 where
   pub ends : end ≡ begin + n
   pub within : end ≤ length bytes
   pub short : n ≤ MOST_RECORD_BYTES
+
+-- and it is this item
+pub record StandsWhole (entries : List NameEntry) (mode : LogMode) (bytes : List ℕ) (from : ℕ) (item : LogItem)
+    (end : ℕ) : Type 0 where
+  pub begin : ℕ
+  pub whole : IsWholeAt bytes from begin end
+  pub answer : IsAnswer entries mode (take (end - begin) (drop begin bytes)) (Ok item)
 
 -- what begins behind the blanks at a place: a whole record, one that is too long, or one that is not whole, with the
 -- place of the scan at the end

@@ -1,6 +1,6 @@
 -- What has come of a record behind its tokens, one after another, and where nothing can follow.
-use Rattle.std.specs.Prelude.{◌≡◌, ℕ, ◌≤◌, ◌==◌, nat_lt, List, [], ◌∷◌, ◌++◌, length, Option, None, Some, Result, Ok}
-use Rattle.std.specs.Prelude.{Err, if◌then◌else◌}
+use Rattle.std.specs.Prelude.{◌≡◌, ℕ, ◌+◌, ◌≤◌, ◌==◌, nat_lt, List, [], ◌∷◌, ◌++◌, length, map, take, Option, None, Some}
+use Rattle.std.specs.Prelude.{Err, Ok, Result, if◌then◌else◌}
 use Rattle.std.specs.List.{flat_map}
 use Rattle.std.specs.Option.{option_and_then}
 use Rattle.enf_value.specs.declared.events.Event.{Event}
@@ -14,11 +14,12 @@ use Rattle.log_stream.specs.declared.items.LogMode.{LogMode}
 use Rattle.log_stream.specs.declared.items.LogMode.TheVariants.{Input, TraceLog}
 use Rattle.log_stream.specs.declared.items.LogRefusal.{LogRefusal}
 use Rattle.log_stream.specs.declared.items.LogRefusal.TheVariants.{BadRecord, UnknownName, Arity, SortClash, NoMemory}
-use Rattle.log_stream.specs.Judgement.{IsAnswer, clash, event_of, event_refusal, events_of, first_refusal, has_sort}
-use Rattle.log_stream.specs.Judgement.{put, values_of}
+use Rattle.log_stream.specs.Judgement.{IsAnswer, clash, event_of, event_refusal, first_refusal, has_sort, values_of}
+use Rattle.log_stream.specs.Logs.{length_to_end}
 use Rattle.log_stream.specs.Tokens.{Token, Mark, Time, Name, Argument, StandsAt, Leads}
 use Rattle.log_stream.specs.Written.{WrittenArgument, WrittenEvent, Written, Line, TickLine, row_tokens, event_tokens}
 use Rattle.log_stream.specs.declared.limits.TheConstants.{MOST_EVENTS}
+use Rattle.log_stream.specs.declared.scanning.Scan.TheVariants.{Outside}
 
 -- what has come of a record
 pub data State : Type 0 where
@@ -118,9 +119,10 @@ abbrev pub ReadsEvent : List NameEntry → List ℕ → (from : ℕ) → Result 
 ReadsEvent entries bytes from event to =
     (written : WrittenEvent) × Leads bytes from (event_tokens written) to × Judges entries written event
 
--- the events that are written, or the first refusal among them
+-- the events that are written, repeats included, or the first refusal among them
 abbrev pub JudgesAll : List NameEntry → List WrittenEvent → Result (List Event) LogRefusal → Type 0
-JudgesAll entries written (Ok events) = (first_refusal entries written ≡ None) × (events ≡ events_of entries written)
+JudgesAll entries written (Ok events) =
+    (first_refusal entries written ≡ None) × (events ≡ map (event_of entries) written)
 JudgesAll entries written (Err refusal) = first_refusal entries written ≡ Some refusal
 
 -- the events that are read behind a time, up to the semicolon
@@ -129,6 +131,15 @@ pub record ReadsEvents (entries : List NameEntry) (bytes : List ℕ) (from : ℕ
   pub written : List WrittenEvent
   pub few : length written ≤ MOST_EVENTS
   pub leads : Leads bytes from (flat_map event_tokens written ++ Mark 59 ∷ []) to
+  pub judged : JudgesAll entries written events
+
+-- the same where the semicolon stands at a place
+pub record ReadsUpTo (entries : List NameEntry) (bytes : List ℕ) (from : ℕ)
+    (events : Result (List Event) LogRefusal) (at : ℕ) : Type 0 where
+  pub written : List WrittenEvent
+  pub few : length written ≤ MOST_EVENTS
+  pub leads : Leads bytes from (flat_map event_tokens written) at
+  pub ends : StandsAt bytes at (at + 1) (Mark 59)
   pub judged : JudgesAll entries written events
 
 -- the answer of a call is that of the bytes, unless there was no memory
@@ -149,6 +160,19 @@ JudgesEvent (Some found) row clashes place event =
 -- what comes of events, or of the first refusal among them, by an event more
 abbrev pub PutsEvent : Result (List Event) LogRefusal → Result Event LogRefusal → Result (List Event) LogRefusal
     → Type 0
-PutsEvent (Ok events) (Ok event) after = after ≡ Ok (put events event)
+PutsEvent (Ok events) (Ok event) after = after ≡ Ok (events ++ event ∷ [])
 PutsEvent (Ok events) (Err refusal) after = after ≡ Err refusal
 PutsEvent (Err refusal) event after = after ≡ Err refusal
+
+-- events, or the first refusal among them
+abbrev pub so_far : List Event → Option LogRefusal → Result (List Event) LogRefusal
+so_far events None = Ok events
+so_far events (Some refusal) = Err refusal
+
+-- the record at the front of bytes, and how many bytes it has; or, where the bytes are those of one record alone, its
+-- refusal, unless there was no memory
+abbrev pub ReadsFront : List NameEntry → LogMode → List ℕ → Result (LogItem × ℕ) LogRefusal → Type 0
+ReadsFront entries mode bytes (Ok read) =
+    (length_to_end Outside bytes ≡ Some read.1) × IsAnswer entries mode (take read.1 bytes) (Ok read.0)
+ReadsFront entries mode bytes (Err refusal) =
+    length_to_end Outside bytes ≡ Some (length bytes) → GivesAnswer entries mode bytes (Err refusal)

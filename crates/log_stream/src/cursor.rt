@@ -4,13 +4,13 @@ ghost use Rattle.enf_value.specs.Tokens.{is_blank};
 ghost use Rattle.enf_value.specs.declared.values.Value.{Value as AnyValue};
 ghost use Rattle.log_stream.specs.Tokens.{Argument, IsGap, Leads, Mark, Name, StandsAt, Time};
 
-use enf_value::{ByteKind, NoMemory, Value, read_value};
+use enf_value::{ByteKind, NoMemory, Value, read_digits, read_value};
 use std::alloc::Global;
 
 fn is_blank(byte: u8) -> bool
     ensures { result ≡ is_blank byte }
 {
-    matches!(byte, b' ' | b'\t' | b'\r' | b'\n')
+    byte <= b' ' && matches!(byte, b' ' | b'\t' | b'\r' | b'\n')
 }
 
 // The first place from here on that has no blank.
@@ -40,27 +40,14 @@ pub(crate) fn behind_mark(bytes: &[u8], at: usize, mark: u8) -> Option<usize>
 }
 
 // The time that stands here, and the place of the next token.
-pub(crate) fn time_at(
-    alloc: Global,
-    bytes: &[u8],
-    at: usize,
-) -> Result<Option<(u64, usize)>, NoMemory>
+pub(crate) fn time_at(bytes: &[u8], at: usize) -> Option<(u64, usize)>
     requires { at ≤ length bytes.now }
-    ensures some { IfOk result (λ found. IfSome found (λ read. Leads bytes.now at (Time read.0 ∷ []) read.1)) }
-    ensures within { IfOk result (λ found. IfSome found (λ read. (at < read.1) × (read.1 ≤ length bytes.now))) }
-    ensures none { IfOk result (λ found. IfNone found ((time end : ℕ) → StandsAt bytes.now at end (Time time) → ⊥)) }
+    ensures some { IfSome result (λ read. Leads bytes.now at (Time read.0 ∷ []) read.1) }
+    ensures within { IfSome result (λ read. (at < read.1) × (read.1 ≤ length bytes.now)) }
+    ensures none { IfNone result ((time end : ℕ) → StandsAt bytes.now at end (Time time) → ⊥) }
 {
-    if at < bytes.len() && bytes[at] == b'-' {
-        return Ok(None);
-    }
-    match read_value(alloc, bytes, at)? {
-        Some((Value::Num(number), end)) => Ok(Some((
-            number.unsigned_abs(),
-            skip_blanks(bytes, end),
-        ))),
-        Some((Value::Text(_), _)) => Ok(None),
-        None => Ok(None),
-    }
+    let (time, end) = read_digits(bytes, at)?;
+    Some((time, skip_blanks(bytes, end)))
 }
 
 // The name that stands here, and the place of the next token.

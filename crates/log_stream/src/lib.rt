@@ -16,5 +16,6 @@ pub mod worked_cases;
 
 pub use items::{Found, LogItem, LogMode, LogRefusal};
 pub use limits::{MOST_EVENTS, MOST_RECORD_BYTES};
-pub use lines::write_step;
+pub use lines::{print_event, write_step};
 pub use reader::LogReader;
+pub use records::has_sort;

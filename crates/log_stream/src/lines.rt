@@ -54,8 +54,9 @@ fn print_events(signature: &Signature, events: &[Event], out: &mut Vec<u8>) -> R
     Ok(())
 }
 
-// An event behind a space.
-fn print_event(signature: &Signature, event: &Event, out: &mut Vec<u8>) -> Result<(), NoMemory>
+/// Appends an event behind a space; for want of memory a front of it is appended. Of a name that the signature lacks
+/// nothing is printed.
+pub fn print_event(signature: &Signature, event: &Event, out: &mut Vec<u8>) -> Result<(), NoMemory>
     ensures ok { OnOk result (out.new.items
         ≡ out.old.items ++ 32 ∷ spelled_event (names_of signature.now) event.now) }
     ensures err { OnErr result (AppendsPart (32 ∷ spelled_event (names_of signature.now) event.now)

@@ -1,12 +1,14 @@
 //! A log that comes in pieces, read record by record.
-ghost use Rattle.std.specs.Prelude.{◌≡◌, ◌≤◌, ◌++◌, [], None, OnErr, OnOk, drop, length};
+ghost use Rattle.std.specs.Prelude.{◌≡◌, ◌≤◌, ◌++◌, [], IfNone, IfSome, None, Ok, OnErr, OnOk, drop, length};
 ghost use Rattle.log_stream.specs.Logs.{IsPending};
 ghost use Rattle.log_stream.specs.Readers.{EndsAt, ReadsNext, fed};
-ghost use Rattle.log_stream.specs.Scanning.{lasting};
+ghost use Rattle.log_stream.specs.Scanning.{StandsWhole, lasting};
+ghost use Rattle.log_stream.specs.declared.items.Found.TheVariants.{Item as FoundItem};
 
 use crate::cursor::skip_blanks;
 use crate::fronts::{Front, front_at};
-use crate::items::{Found, LogMode, LogRefusal};
+use crate::items::{Found, LogItem, LogMode, LogRefusal};
+use crate::limits::MOST_RECORD_BYTES;
 use crate::records::read_record;
 use crate::scanning::Scan;
 use enf_value::NoMemory;
@@ -68,6 +70,26 @@ fn lasting(refusal: LogRefusal) -> Option<LogRefusal>
     }
 }
 
+// The record that begins behind the blanks at a place, read where it stands with no look for its end before, and the
+// place behind it. None says nothing: then its end is looked for.
+fn read_ahead(
+    alloc: Global,
+    signature: &Signature,
+    mode: LogMode,
+    bytes: &[u8],
+    front: usize,
+) -> Option<(LogItem, usize)>
+    requires { front ≤ length bytes.now }
+    ensures { IfSome result (λ read. StandsWhole signature.now mode bytes.now front read.0 read.1) }
+{
+    let begin = skip_blanks(bytes, front);
+    let most = MOST_RECORD_BYTES.min(bytes.len() - begin);
+    match read_record(alloc, signature, mode, &bytes[begin..begin + most]) {
+        Ok((item, length)) => Some((item, begin + length)),
+        Err(_) => None,
+    }
+}
+
 impl LogReader {
     /// A reader to which nothing was fed.
     pub fn new(alloc: Global, signature: Signature, mode: LogMode) -> LogReader
@@ -100,13 +122,40 @@ impl LogReader {
     pub fn next_record(&mut self, alloc: Global) -> Result<Found, LogRefusal>
         ensures { ReadsNext self.old result self.new }
     {
+        match self.taken_ahead(alloc) {
+            Some(item) => Ok(Found::Item(item)),
+            None => self.found(alloc),
+        }
+    }
+
+    // Takes the record at the front where it can be read with no look for its end; none says nothing.
+    fn taken_ahead(&mut self, alloc: Global) -> Option<LogItem>
+        ensures some { IfSome result (λ item. ReadsNext self.old (Ok (FoundItem item)) self.new) }
+        ensures none { IfNone result (self.new ≡ self.old) }
+    {
+        if self.refused.is_some() {
+            return None;
+        }
+        if self.scanned > 0 {
+            return None;
+        }
+        let bytes = self.bytes.as_slice();
+        let (item, end) = read_ahead(alloc, &self.signature, self.mode, bytes, self.front)?;
+        self.front = end;
+        Some(item)
+    }
+
+    // The next record by a look for its end.
+    fn found(&mut self, alloc: Global) -> Result<Found, LogRefusal>
+        ensures { ReadsNext self.old result self.new }
+    {
         if let Some(refusal) = self.refused {
             return Err(refusal);
         }
         match front_at(&self.bytes, self.front, self.scanned, self.scan) {
             Front::Whole { begin, end } => {
                 match read_record(alloc, &self.signature, self.mode, &self.bytes[begin..end]) {
-                    Ok(item) => {
+                    Ok((item, _length)) => {
                         self.front = end;
                         self.scanned = 0;
                         self.scan = Scan::Outside;

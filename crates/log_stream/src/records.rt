@@ -1,14 +1,17 @@
 //! One record, read from its bytes.
-ghost use Rattle.std.specs.Prelude.{◌≡◌, ◌<◌, ◌≤◌, ◌∷◌, [], ℕ, List, IfErr, IfOk, IfSome, Some, length, slice_get};
-ghost use Rattle.std.specs.Option.{option_map};
+ghost use Rattle.std.specs.Prelude.{◌≡◌, ◌↔◌, ◌<◌, ◌≤◌, ◌+◌, ◌∷◌, [], ℕ, List, IfErr, IfOk, IfSome, IsTrue, None};
+ghost use Rattle.std.specs.Prelude.{OnOk, Result, Some, length, slice_get};
+ghost use Rattle.std.specs.Option.{option_map, option_or};
 ghost use Rattle.signature.specs.Grammar.{number_of};
 ghost use Rattle.signature.specs.declared.entries.NameEntry.{NameEntry as AnyEntry};
 ghost use Rattle.trace_meaning.specs.declared.kinds.StepKind.{StepKind as AnyKind};
 ghost use Rattle.log_stream.specs.declared.items.LogMode.{LogMode as AnyMode};
 ghost use Rattle.log_stream.specs.Judgement.{entry_with, has_sort};
 ghost use Rattle.trace_meaning.specs.Records.{most_time};
-ghost use Rattle.log_stream.specs.States.{Events, Fails, GivesAnswer, JudgesEvent, Opened, PutsEvent};
-ghost use Rattle.log_stream.specs.States.{ReadsEvent, ReadsEvents, ReadsRow, clash_at};
+ghost use Rattle.enf_value.specs.declared.events.Event.{Event as AnyEvent};
+ghost use Rattle.log_stream.specs.declared.items.LogRefusal.{LogRefusal as AnyRefusal};
+ghost use Rattle.log_stream.specs.States.{Events, Fails, JudgesEvent, Opened, PutsEvent, ReadsEvent, ReadsFront};
+ghost use Rattle.log_stream.specs.States.{ReadsRow, ReadsUpTo, clash_at, so_far};
 ghost use Rattle.log_stream.specs.Tokens.{Leads, Mark, StandsAt};
 ghost use Rattle.log_stream.specs.Written.{IsRead, WrittenEvent, mark_of};
 
@@ -19,9 +22,6 @@ use enf_value::{Event, EventSet, NameId, NoMemory, Place, Row, Value};
 use signature::{NameEntry, Signature, Sort};
 use std::alloc::Global;
 use trace_meaning::StepKind;
-
-// What is written, under the signature: what it says, or its refusal.
-type Judged<T> = Result<T, LogRefusal>;
 
 // The greatest time of a step.
 fn most_time(kind: StepKind) -> u64
@@ -42,7 +42,8 @@ fn bad_at(place: usize) -> LogRefusal
     }
 }
 
-fn has_sort(sort: Sort, value: &Value) -> bool
+/// Whether a value is of a sort.
+pub fn has_sort(sort: Sort, value: &Value) -> bool
     ensures { result ≡ has_sort sort value.now }
 {
     matches!(
@@ -61,42 +62,46 @@ fn clash_at(sorts: &[Sort], column: usize, value: &Value, place: Place) -> Optio
     }
 }
 
-// The arguments of an event, where the first of another sort begins, and the place of the next token.
-#[derive(Drop)]
-struct Arguments {
-    row: Row,
-    clash: Option<Place>,
-    next: usize,
+// Keeps the place of the first value of another sort.
+fn note_clash(clash: &mut Option<Place>, sorts: &[Sort], column: usize, value: &Value, place: Place)
+    ensures { clash.new ≡ option_or clash.old (clash_at (slice_get sorts.now column) value.now place) }
+{
+    if clash.is_none() {
+        *clash = clash_at(sorts, column, value, place);
+    }
 }
 
-// Reads the arguments behind `(`, up to and with `)`.
+// Reads the arguments behind `(`, up to and with `)`, into an empty row, and where the first of another sort begins. It
+// gives the place of the next token.
 fn read_row(
     alloc: Global,
     sorts: &[Sort],
     bytes: &[u8],
     from: usize,
-) -> Result<Arguments, LogRefusal>
+    row: &mut Row,
+    clash: &mut Option<Place>,
+) -> Result<usize, LogRefusal>
     requires within { from ≤ length bytes.now }
     requires short { length bytes.now ≤ MOST_RECORD_BYTES }
-    ensures ok { IfOk result (λ read. ReadsRow sorts.now bytes.now from read.row read.clash read.next) }
-    ensures within { IfOk result (λ read. (from < read.next) × (read.next ≤ length bytes.now)) }
+    requires empty { row.old ≡ [] }
+    requires clear { clash.old ≡ None }
+    ensures ok { IfOk result (λ next. ReadsRow sorts.now bytes.now from row.new clash.new next) }
+    ensures within { IfOk result (λ next. (from < next) × (next ≤ length bytes.now)) }
     ensures err { IfErr result (λ refusal. (mode : AnyMode) (kind : AnyKind) (time : ℕ) (events : List WrittenEvent)
         (place : ℕ) (name : List ℕ) → Fails mode bytes.now from (Opened kind time events place name) refusal) }
 {
-    let mut row = Row::new(alloc);
-    let mut clash = None;
     if let Some(next) = behind_mark(bytes, from, b')') {
-        return Ok(Arguments { row, clash, next });
+        return Ok(next);
     }
     let mut place = from;
     loop {
         let Some((value, next)) = value_at(alloc, bytes, place)? else {
             return Err(bad_at(place));
         };
-        clash = clash.or(clash_at(sorts, row.len(), &value, place as Place));
-        row.push(value).map_err(|_value| NoMemory)?;
+        note_clash(clash, sorts, row.len(), &value, place as Place);
+        row.put(value)?;
         if let Some(next) = behind_mark(bytes, next, b')') {
-            return Ok(Arguments { row, clash, next });
+            return Ok(next);
         }
         let Some(after) = behind_mark(bytes, next, b',') else {
             return Err(bad_at(next));
@@ -118,38 +123,59 @@ fn declared<'a>(signature: &'a Signature, name: &[u8]) -> Option<(NameId, &'a Na
 // The event of a name and its arguments, or its refusal.
 fn judged(
     declared: Option<(NameId, &NameEntry)>,
-    arguments: Arguments,
+    row: Row,
+    clash: Option<Place>,
     place: Place,
-) -> Judged<Event>
-    ensures { JudgesEvent (option_map (λ found. (found.0.0, found.1.now)) declared.entry)
-        arguments.row arguments.clash place result }
+) -> Result<Event, LogRefusal>
+    ensures { JudgesEvent (option_map (λ found. (found.0.0, found.1.now)) declared.entry) row clash place result }
 {
     let Some((name, entry)) = declared else {
         return Err(LogRefusal::UnknownName { place });
     };
-    if arguments.row.len() != entry.sorts.len() {
+    if row.len() != entry.sorts.len() {
         return Err(LogRefusal::Arity { place });
     }
-    match arguments.clash {
+    match clash {
         Some(place) => Err(LogRefusal::SortClash { place }),
-        None => Ok(Event {
-            name,
-            args: arguments.row,
-        }),
+        None => Ok(Event { name, args: row }),
     }
 }
 
-// Reads an event: what it is under the signature, and the place of the next token.
+// Puts an event last, or keeps the first refusal.
+fn put_event(
+    event: Result<Event, LogRefusal>,
+    events: &mut Vec<Event>,
+    refused: &mut Option<LogRefusal>,
+) -> Result<(), NoMemory>
+    ensures { OnOk result (PutsEvent (so_far events.old.items refused.old) event
+        (so_far events.new.items refused.new)) }
+{
+    match event {
+        Ok(event) => events.push(event).map_err(|_failed| NoMemory),
+        Err(refusal) => {
+            if refused.is_none() {
+                *refused = Some(refusal);
+            }
+            Ok(())
+        }
+    }
+}
+
+// Reads an event and puts it last, or keeps the first refusal. It gives the place of the next token.
 fn read_event(
     alloc: Global,
     signature: &Signature,
     bytes: &[u8],
     from: usize,
-) -> Result<(Judged<Event>, usize), LogRefusal>
+    events: &mut Vec<Event>,
+    refused: &mut Option<LogRefusal>,
+) -> Result<usize, LogRefusal>
     requires within { from ≤ length bytes.now }
     requires short { length bytes.now ≤ MOST_RECORD_BYTES }
-    ensures ok { IfOk result (λ read. ReadsEvent signature.now bytes.now from read.0 read.1) }
-    ensures within { IfOk result (λ read. (from < read.1) × (read.1 ≤ length bytes.now)) }
+    ensures ok { IfOk result (λ next. (event : Result AnyEvent AnyRefusal)
+        × ReadsEvent signature.now bytes.now from event next
+        × PutsEvent (so_far events.old.items refused.old) event (so_far events.new.items refused.new)) }
+    ensures within { IfOk result (λ next. (from < next) × (next ≤ length bytes.now)) }
     ensures err { IfErr result (λ refusal. (mode : AnyMode) (kind : AnyKind) (time : ℕ) (events : List WrittenEvent)
         → length events < MOST_EVENTS → ((end : ℕ) → StandsAt bytes.now from end (Mark 59) → ⊥)
         → Fails mode bytes.now from (Events kind time events) refusal) }
@@ -165,122 +191,116 @@ fn read_event(
         Some((_, entry)) => entry.sorts.as_slice(),
         None => &[],
     };
-    let arguments = read_row(alloc, sorts, bytes, inside)?;
-    let next = arguments.next;
-    Ok((judged(declared, arguments, from as Place), next))
+    let mut row = Row::new(alloc);
+    let mut clash = None;
+    let next = read_row(alloc, sorts, bytes, inside, &mut row, &mut clash)?;
+    put_event(judged(declared, row, clash, from as Place), events, refused)?;
+    Ok(next)
 }
 
-// Puts an event behind those before it, or keeps the first refusal.
-fn with_event(events: Judged<EventSet>, event: Judged<Event>) -> Result<Judged<EventSet>, NoMemory>
-    ensures { IfOk result (PutsEvent events event) }
+// Whether a record ends here.
+fn ends_here(bytes: &[u8], at: usize) -> bool
+    ensures { IsTrue result ↔ StandsAt bytes.now at (at + 1) (Mark 59) }
 {
-    match (events, event) {
-        (Ok(mut events), Ok(event)) => {
-            events.insert(event).map_err(|_event| NoMemory)?;
-            Ok(Ok(events))
-        }
-        (Ok(_), Err(refusal)) => Ok(Err(refusal)),
-        (Err(refusal), _) => Ok(Err(refusal)),
-    }
+    at < bytes.len() && bytes[at] == b';'
 }
 
-// Reads the events behind a time, up to and with the semicolon.
+// Reads the events behind a time into an empty vector, repeats included, or keeps the first refusal. It gives the place
+// of the semicolon behind them.
 fn read_events(
     alloc: Global,
     signature: &Signature,
     bytes: &[u8],
     from: usize,
-) -> Result<(Judged<EventSet>, usize), LogRefusal>
+    events: &mut Vec<Event>,
+    refused: &mut Option<LogRefusal>,
+) -> Result<usize, LogRefusal>
     requires within { from ≤ length bytes.now }
     requires short { length bytes.now ≤ MOST_RECORD_BYTES }
-    ensures ok { IfOk result (λ read. ReadsEvents signature.now bytes.now from read.0 read.1) }
-    ensures within { IfOk result (λ read. read.1 ≤ length bytes.now) }
+    requires empty { events.old.items ≡ [] }
+    requires clear { refused.old ≡ None }
+    ensures ok { IfOk result (λ at. ReadsUpTo signature.now bytes.now from (so_far events.new.items refused.new) at) }
     ensures err { IfErr result (λ refusal. (mode : AnyMode) (kind : AnyKind) (time : ℕ)
         → Fails mode bytes.now from (Events kind time []) refusal) }
 {
-    let mut events = Ok(EventSet::new(alloc));
     let mut place = from;
     for _count in 0..MOST_EVENTS {
-        if let Some(end) = behind_mark(bytes, place, b';') {
-            return Ok((events, end));
+        if ends_here(bytes, place) {
+            return Ok(place);
         }
-        let (event, next) = read_event(alloc, signature, bytes, place)?;
-        events = with_event(events, event)?;
-        place = next;
+        place = read_event(alloc, signature, bytes, place, events, refused)?;
     }
-    match behind_mark(bytes, place, b';') {
-        Some(end) => Ok((events, end)),
-        None => Err(bad_at(place)),
+    if ends_here(bytes, place) {
+        Ok(place)
+    } else {
+        Err(bad_at(place))
     }
 }
 
-// Reads what is behind the mark of a step.
+// Reads what is behind the mark of a step, and gives how many bytes the record has.
 fn read_step(
     alloc: Global,
     signature: &Signature,
     kind: StepKind,
     bytes: &[u8],
     from: usize,
-) -> Result<LogItem, LogRefusal>
+) -> Result<(LogItem, usize), LogRefusal>
     requires within { from ≤ length bytes.now }
     requires short { length bytes.now ≤ MOST_RECORD_BYTES }
     ensures { (mode : AnyMode) → IsRead mode kind → Leads bytes.now 0 (Mark (mark_of kind) ∷ []) from
-        → GivesAnswer signature.now mode bytes.now result }
+        → ReadsFront signature.now mode bytes.now result }
 {
-    let Some((time, next)) = time_at(alloc, bytes, from)? else {
+    let Some((time, next)) = time_at(bytes, from) else {
         return Err(bad_at(from));
     };
-    let (events, end) = read_events(alloc, signature, bytes, next)?;
-    if end != bytes.len() {
-        return Err(bad_at(end));
-    }
+    let mut events = Vec::new(alloc);
+    let mut refused = None;
+    let at = read_events(alloc, signature, bytes, next, &mut events, &mut refused)?;
     if time > most_time(kind) {
         return Err(LogRefusal::TimeTooLarge);
     }
-    Ok(LogItem::Step {
-        kind,
-        time,
-        events: events?,
-    })
+    if let Some(refusal) = refused {
+        return Err(refusal);
+    }
+    let events = EventSet::from_vec(alloc, events)?;
+    Ok((LogItem::Step { kind, time, events }, at + 1))
 }
 
-// Reads what is behind the mark of a tick.
-fn read_tick(alloc: Global, bytes: &[u8], from: usize) -> Result<LogItem, LogRefusal>
+// Reads what is behind the mark of a tick, and gives how many bytes the record has.
+fn read_tick(bytes: &[u8], from: usize) -> Result<(LogItem, usize), LogRefusal>
     requires within { from ≤ length bytes.now }
     requires short { length bytes.now ≤ MOST_RECORD_BYTES }
     ensures { (entries : List AnyEntry) (mode : AnyMode) → Leads bytes.now 0 (Mark 62 ∷ []) from
-        → GivesAnswer entries mode bytes.now result }
+        → ReadsFront entries mode bytes.now result }
 {
-    let Some((time, next)) = time_at(alloc, bytes, from)? else {
+    let Some((time, next)) = time_at(bytes, from) else {
         return Err(bad_at(from));
     };
-    let Some(end) = behind_mark(bytes, next, b';') else {
+    if !ends_here(bytes, next) {
         return Err(bad_at(next));
-    };
-    if end != bytes.len() {
-        return Err(bad_at(end));
     }
     if time > most_time(StepKind::System) {
         return Err(LogRefusal::TimeTooLarge);
     }
-    Ok(LogItem::Tick { time })
+    Ok((LogItem::Tick { time }, next + 1))
 }
 
-// Reads the bytes of one record, all of them.
+// Reads the record at the front of bytes, and gives how many it has; what is behind it counts for nothing. A refusal is
+// that of the record where the bytes are those of one record alone.
 pub(crate) fn read_record(
     alloc: Global,
     signature: &Signature,
     mode: LogMode,
     bytes: &[u8],
-) -> Result<LogItem, LogRefusal>
+) -> Result<(LogItem, usize), LogRefusal>
     requires { length bytes.now ≤ MOST_RECORD_BYTES }
-    ensures { GivesAnswer signature.now mode bytes.now result }
+    ensures { ReadsFront signature.now mode bytes.now result }
 {
     if let Some(next) = behind_mark(bytes, 0, b'@') {
         return read_step(alloc, signature, StepKind::System, bytes, next);
     }
     if let Some(next) = behind_mark(bytes, 0, b'>') {
-        return read_tick(alloc, bytes, next);
+        return read_tick(bytes, next);
     }
     if mode == LogMode::TraceLog {
         if let Some(next) = behind_mark(bytes, 0, b'+') {

@@ -19,13 +19,13 @@ returns-in_default-behind_mark-clause-err c = λ mode kind time events few none.
     fails_bad mode c.args.bytes.now c.args.from (Events kind time events) c.in-Some.next c.bad_at-in_default-behind_mark.result c.bad_at-in_default-behind_mark.ensures
     (event_without_open mode c.args.bytes.now c.args.from c.in-Some.next c.in-Some.name.now kind time events few c.in-Some.ensures.some c.in_default-behind_mark.ensures.none)
 
-pub returns-in_err-arguments-clause-err : goal.returns-in_err-arguments-clause-err
-returns-in_err-arguments-clause-err c =
+pub returns-in_err-next-clause-err : goal.returns-in_err-next-clause-err
+returns-in_err-next-clause-err c =
     let p = err_from_is_err_and c.from_residual.result c.from_residual.ensures.1 in
     rw (p.1, p.2)
     (λ mode kind time events few none.
-    event_with_bad_row mode c.args.bytes.now c.args.from c.in-Some.next c.in-Some-behind_mark.inside c.in-Some.name.now kind time events c.in_err-arguments.field-0.0 few c.in-Some.ensures.some c.in-Some-behind_mark.ensures.some
-    (c.in_err-arguments.ensures.err mode kind time events c.args.from c.in-Some.name.now))
+    event_with_bad_row mode c.args.bytes.now c.args.from c.in-Some.next c.in-Some-behind_mark.inside c.in-Some.name.now kind time events c.in_err-next.field-0.0 few c.in-Some.ensures.some c.in-Some-behind_mark.ensures.some
+    (c.in_err-next.ensures.err mode kind time events c.args.from c.in-Some.name.now))
 
 pub returns-clause-ok : goal.returns-clause-ok
 returns-clause-ok c =
@@ -34,8 +34,9 @@ returns-clause-ok c =
       | in-Some-declared w ↦ rw w.in-Some-declared.is (ap (λ (s : Bor (List Sort)). s.now) w.sorts-is ∙ w.as_slice-sorts.ensures)
       | in-None w ↦ rw w.in-None.is tt
     ] in
-    event_read c.args.signature.now c.args.bytes.now c.args.from c.in-Some.next c.in-Some-behind_mark.inside c.in_ok-arguments.arguments.next c.in-Some.name.now (found_of found) c.match-declared.sorts.now c.in_ok-arguments.arguments.row c.in_ok-arguments.arguments.clash c.judged.result
-    c.in-Some.ensures.some c.in-Some-behind_mark.ensures.some c.in_ok-arguments.ensures.ok
+    let read = event_read c.args.signature.now c.args.bytes.now c.args.from c.in-Some.next c.in-Some-behind_mark.inside c.in_ok-next.next c.in-Some.name.now (found_of found) c.match-declared.sorts.now c.read_row.new.row c.read_row.new.clash c.judged.result
+    c.in-Some.ensures.some c.in-Some-behind_mark.ensures.some c.in_ok-next.ensures.ok
     (entry_found found (entry_with c.args.signature.now c.in-Some.name.now) c.declared-declared.ensures.entry)
     (sorts_known found c.match-declared.sorts.now (number_of c.args.signature.now c.in-Some.name.now) c.declared-declared.ensures.number are)
-    c.judged.ensures
+    c.judged.ensures in
+    (c.judged.result, read, c.in_ok-put_event.ensures)

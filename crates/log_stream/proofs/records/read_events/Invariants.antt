@@ -1,5 +1,7 @@
+use Rattle.log_stream.specs.States.{so_far}
 use Rattle.log_stream.proofs.Parts.{AreEventsSoFar}
 use Rattle.log_stream.proofs.records.read_events.Given as goal
 
 abbrev pub invariant-loop-count : goal.invariant-loop-count
-invariant-loop-count l = AreEventsSoFar l.signature l.bytes l.from l.events l._count l.place
+invariant-loop-count l =
+    AreEventsSoFar l.signature l.bytes l.from (so_far l.events.items l.refused) l._count l.place
