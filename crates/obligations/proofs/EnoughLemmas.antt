@@ -16,11 +16,11 @@ use Rattle.enf_formula.specs.Past.{is_past}
 use Rattle.enf_formula.specs.Satisfaction.{HoldsUntil, IsAmong, Sat, elapsed}
 use Rattle.enf_value.specs.Membership.{IsIn}
 use Rattle.enf_value.specs.ListLaws.{AllByRecursion-contains}
-use Rattle.plan_terms.specs.Nodes.{nodes, number_of}
+use Rattle.plan_terms.specs.Nodes.{has_future, nodes, number_of}
 use Rattle.plan_terms.specs.PlanFormula.{formula_for, from_to}
 use Rattle.plan_terms.specs.Plans.{Plan, Cause, Suppress, Both, Either, TestOr, Guarded, Eventually, Always}
 use Rattle.plan_terms.specs.Plans.{Until, Next}
-use Rattle.obligations.specs.Begun.{Begun, LacksNothing, LacksSome, Takes, Where, begun_now, has_future, time_now}
+use Rattle.obligations.specs.Begun.{Begun, LacksNothing, LacksSome, Takes, Where, begun_now, time_now}
 use Rattle.plan_terms.specs.Guards.{GuardLooksBack}
 use Rattle.plan_terms.specs.Standing.{IsNamed}
 use Rattle.obligations.specs.Missing.{Missing, MissingIsOne, HasSome, IsAbsent, IsPresent, LiteralUnless, MissesEither, MissesUntil, OfEvent, cause, suppress}

@@ -21,8 +21,9 @@ use Rattle.plan_terms.specs.Plans.{Plan, Cause, Suppress, Both, Either, TestOr, 
 use Rattle.plan_terms.specs.Plans.{Until, Next}
 use Rattle.valuations.specs.Just.{Binds}
 use Rattle.obligations.specs.Asked.{CanAskIn, FitsScope, IsGuardAt}
+use Rattle.plan_terms.specs.Nodes.{has_future}
 use Rattle.obligations.specs.Begun.{BeginsAlways, BeginsOrWaits, Begun, LacksNothing, LacksSome, Takes, TakesPresent, Where}
-use Rattle.obligations.specs.Begun.{WithBehind, begun_now, has_future}
+use Rattle.obligations.specs.Begun.{WithBehind, begun_now}
 use Rattle.obligations.specs.Existing.{BegunExists, MissingExists}
 use Rattle.obligations.specs.Missing.{HasSome, IsAbsent, IsPresent, LiteralUnless, MissesEither, MissesUntil, MissesAlways, Missing, OfEvent, cause, suppress}
 use Rattle.obligations.specs.Rows.{AreRowsOf, HoldsLast, last_position}

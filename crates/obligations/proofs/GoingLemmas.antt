@@ -10,13 +10,13 @@ use Rattle.enf_value.specs.declared.terms.VarId.{VarId}
 use Rattle.enf_value.specs.declared.values.Value.{Value}
 use Rattle.enf_formula.specs.Formulas.{Formula}
 use Rattle.plan_terms.specs.Limits.{EndsInTime}
-use Rattle.plan_terms.specs.Nodes.{is_future, nodes}
+use Rattle.plan_terms.specs.Nodes.{has_future, is_future, nodes}
 use Rattle.plan_terms.specs.Plans.{Plan, Cause, Suppress, Both, Either, TestOr, Guarded, Eventually, Always}
 use Rattle.plan_terms.specs.Plans.{Until, Next}
 use Rattle.plan_terms.specs.ScopeLaws.{FoundIsFirst}
 use Rattle.plan_terms.specs.Standing.{IsNamed, StandsIn, node_in}
 use Rattle.obligations.specs.Asked.{CanAsk, CanAskIn, FitsScope}
-use Rattle.obligations.specs.Begun.{BeginsOrWaits, Begun, LacksNothing, LacksSome, Where, WithBehind, begun_now, has_future, time_now}
+use Rattle.obligations.specs.Begun.{BeginsOrWaits, Begun, LacksNothing, LacksSome, Where, WithBehind, begun_now, time_now}
 use Rattle.obligations.specs.Existing.{AfterExists, BegunCanBeAsked, BegunExists, GoesCanBeAsked, GoesExists, MissingExists, MissingOfExists, PendCanBeAsked, PendExists}
 use Rattle.obligations.specs.Missing.{Missing}
 use Rattle.obligations.specs.Pending.{After, AtNode, BecomesAt, BeginsInWindow, BegunByRoots, Goes, IsNowIn, MissesAt, PendsBehind}

@@ -26,3 +26,9 @@ pub mod CarryLemmas
 pub mod RootLemmas
 pub mod SleepLemmas
 pub mod PatientLemmas
+pub mod OwedCases
+pub mod OwingLemmas
+pub mod HeldLemmas
+pub mod LosingLemmas
+pub mod ServingLemmas
+pub mod ServedLemmas

@@ -9,8 +9,9 @@ use Rattle.plan_terms.specs.Plans.{Plan, Cause, Suppress, Both, Either, TestOr, 
 use Rattle.plan_terms.specs.Plans.{Until, Next}
 use Rattle.obligations.specs.Missing.{Missing, MissingIsOne, HasSome, LiteralUnless, MissesEither, MissesUntil, MissesAlways, OfEvent}
 use Rattle.obligations.specs.Missing.{IsAbsent, IsPresent, cause, suppress}
+use Rattle.plan_terms.specs.Nodes.{has_future}
 use Rattle.obligations.specs.Begun.{Begun, BeginsAlways, BeginsOrWaits, LacksNothing, LacksSome, Takes, TakesPresent, Where}
-use Rattle.obligations.specs.Begun.{WithBehind, begun_now, has_future}
+use Rattle.obligations.specs.Begun.{WithBehind, begun_now}
 use Rattle.obligations.specs.Pending.{After, AfterIsOne, AtNode, BecomesAt, BegunByRoots, BegunIsOne, IsNowIn}
 use Rattle.obligations.specs.Pending.{MissesAt, MissingOfIsOne, PendIsOne, PendsBehind, node_of}
 use Rattle.obligations.specs.Rows.{Gathers, RowsAreOne}

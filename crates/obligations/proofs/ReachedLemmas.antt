@@ -18,13 +18,13 @@ use Rattle.enf_value.specs.declared.terms.VarId.{VarId}
 use Rattle.enf_value.specs.declared.values.Value.{Value}
 use Rattle.enf_formula.specs.Formulas.{Formula}
 use Rattle.plan_terms.specs.Guards.{GuardLooksBack}
-use Rattle.plan_terms.specs.Nodes.{nodes, number_of}
+use Rattle.plan_terms.specs.Nodes.{has_future, nodes, number_of}
 use Rattle.plan_terms.specs.Plans.{Plan, Cause, Suppress, Both, Either, TestOr, Guarded, Eventually, Always}
 use Rattle.plan_terms.specs.Plans.{Until, Next}
 use Rattle.plan_terms.specs.ScopeLaws.{FoundIsFirst}
 use Rattle.plan_terms.specs.Standing.{IsNamed, StandsIn, node_in}
 use Rattle.plan_terms.specs.Triggers.{TriggersAreMet, triggers}
-use Rattle.obligations.specs.Begun.{Begun, BeginsAlways, BeginsOrWaits, LacksNothing, WithBehind, begun_now, has_future}
+use Rattle.obligations.specs.Begun.{Begun, BeginsAlways, BeginsOrWaits, LacksNothing, WithBehind, begun_now}
 use Rattle.obligations.specs.Missing.{Missing, MissesAlways, MissesUntil, IsAbsent, IsPresent, LiteralUnless, OfEvent, cause, suppress}
 use Rattle.obligations.specs.Pending.{After, AtNode, BecomesAt, Goes, PendsBehind, node_of}
 use Rattle.obligations.specs.Reached.{AreMet, BegunByRoots-contains, BegunIsNamed, BegunIsReached, Gathers-contains, IsBegunBy, IsBegunIn, IsMissedIn, IsReached, MissedIsReached, PendCame, PendingWasBegun, ReachedIsInside}

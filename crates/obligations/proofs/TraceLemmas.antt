@@ -13,7 +13,7 @@ use Rattle.enf_value.specs.declared.terms.VarId.{VarId}
 use Rattle.enf_value.specs.declared.values.Value.{Value}
 use Rattle.enf_formula.specs.Laws.{PastDecides}
 use Rattle.enf_formula.specs.Satisfaction.{Sat}
-use Rattle.plan_terms.specs.Nodes.{has_number, is_future, nodes}
+use Rattle.plan_terms.specs.Nodes.{has_future, has_number, is_future, nodes}
 use Rattle.plan_terms.specs.PlanFormula.{formula_for}
 use Rattle.plan_terms.specs.Plans.{Plan, Cause, Suppress, Both, Either, TestOr, Guarded, Eventually, Always}
 use Rattle.plan_terms.specs.Plans.{Until, Next}
@@ -21,7 +21,7 @@ use Rattle.plan_terms.specs.ScopeLaws.{AtEach-found, AtEach-from_nodes, AtEach-n
 use Rattle.plan_terms.specs.Scopes.{scoped_at}
 use Rattle.trace_meaning.specs.Continuation.{last_time}
 use Rattle.trace_meaning.specs.Laws.{LastIsAtTheEnd}
-use Rattle.obligations.specs.Begun.{Begun, LacksNothing, has_future, time_now}
+use Rattle.obligations.specs.Begun.{Begun, LacksNothing, time_now}
 use Rattle.plan_terms.specs.Guards.{GuardLooksBack}
 use Rattle.plan_terms.specs.Standing.{IsNamed, StandsIn, nodes_of}
 use Rattle.obligations.specs.Pending.{After, AtNode, BecomesAt, BegunByRoots, Goes, HasDeadline, IsClean, IsCleanAt, MissingOf, PendsBehind, node_of}

@@ -1,11 +1,10 @@
 -- What a plan begins at the last position of a trace, whose events leave nothing missing of it.
 use Rattle.std.specs.Prelude.{◌≡◌, ℕ, zero, suc, ◌+◌, Bool, true, false, List, [], ◌∷◌, ◌++◌, ◌⊎◌}
-use Rattle.std.specs.List.{list_any}
 use Rattle.enf_value.specs.Data.{step_at}
 use Rattle.enf_value.specs.Valuations.{Valuation, with_values}
 use Rattle.enf_value.specs.declared.steps.Step.{Step}
 use Rattle.enf_value.specs.declared.values.Value.{Value}
-use Rattle.plan_terms.specs.Nodes.{nodes, is_future}
+use Rattle.plan_terms.specs.Nodes.{has_future}
 use Rattle.plan_terms.specs.Plans.{Plan, Cause, Suppress, Both, Either, TestOr, Guarded, Eventually, Always}
 use Rattle.plan_terms.specs.Plans.{Until, Next}
 use Rattle.obligations.specs.Missing.{Missing, HasSome}
@@ -42,10 +41,6 @@ Takes trace side v Begins Else = (LacksNothing trace side v × Begins) ⊎ (Lack
 abbrev pub Where : Bool → Type 0 → Type 0 → Type 0
 Where true First Second = First
 Where false First Second = Second
-
--- an operator on the future stands in the plan
-abbrev pub has_future : Plan → Bool
-has_future plan = list_any is_future (nodes plan)
 
 -- a side that does not look ahead is asked; one that looks ahead is passed over
 abbrev pub TakesPresent : List Step → Plan → Valuation → (Begins Else : Type 0) → Type 0

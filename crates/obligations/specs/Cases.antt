@@ -6,19 +6,23 @@ use Rattle.enf_value.specs.declared.steps.Step.{Step}
 use Rattle.enf_value.specs.declared.terms.Term.TheVariants.{Var}
 use Rattle.enf_value.specs.declared.values.Value.{Value}
 use Rattle.enf_value.specs.declared.values.Value.TheVariants.{Num}
-use Rattle.enf_formula.specs.Cases.{at_time, event_p_of, event_q_of, formula_p_x, name_p, name_q, x}
+use Rattle.enf_formula.specs.Cases.{at_time, event_p, event_p_of, event_q_of, formula_p_x, name_q, x}
 use Rattle.enf_formula.specs.Formulas.{Formula, True, False}
+use Rattle.trace_meaning.specs.declared.kinds.StepKind.{StepKind}
+use Rattle.trace_meaning.specs.declared.kinds.StepKind.TheVariants.{System}
 use Rattle.plan_terms.specs.Plans.{Plan, Cause, Suppress, Guarded, Eventually, Always, Until, Next}
+pub use Rattle.plan_terms.specs.Cases.{cause_p}
 use Rattle.obligations.specs.Begun.{Begun}
+use Rattle.obligations.specs.Justified.{IsJustified}
 use Rattle.obligations.specs.Pending.{MissingOf, After, Pend}
 use Rattle.obligations.specs.Residuals.{Residual}
 use Rattle.obligations.specs.declared.instances.Instance.{Instance}
+use Rattle.obligations.specs.declared.actions.Action.{Action}
 use Rattle.obligations.specs.declared.literals.Literal.{Literal}
+use Rattle.obligations.specs.declared.literals.LiteralKind.{LiteralKind}
+use Rattle.obligations.specs.declared.literals.LiteralKind.TheVariants as kind
 
--- p() is to be there, and q() is not to be
-abbrev pub cause_p : (node : ℕ) → Plan
-cause_p node = Cause node 0 name_p []
-
+-- q() is not to be there
 abbrev pub bar_q : (node : ℕ) → Plan
 bar_q node = Suppress node 0 name_q []
 
@@ -129,3 +133,39 @@ Owes trace plan from = Residual (plan ∷ []) trace from (waiting 0 3 6)
 -- just these are pending behind the trace, under one rule
 abbrev pub Pends : List Step → Plan → List Instance → Type 0
 Pends trace plan pending = Pend (plan ∷ []) trace pending
+
+-- an action at a time and the second position for a node of the first rule, which was begun at a position
+abbrev pub then_for : (time node leaf origin : ℕ) → Action
+then_for time node leaf origin = record {
+  kind = kind.Cause;
+  event = event_p;
+  time = time;
+  position = 1;
+  rule = 0;
+  node = node;
+  leaf = leaf;
+  origin = origin;
+  valuation = no_values;
+}
+
+-- an action at time 5 and the first position, for the root of a rule
+abbrev pub at_once_for : LiteralKind → Event → (rule leaf : ℕ) → Action
+at_once_for k event rule leaf = record {
+  kind = k;
+  event = event;
+  time = 5;
+  position = 0;
+  rule = rule;
+  node = 0;
+  leaf = leaf;
+  origin = 0;
+  valuation = no_values;
+}
+
+-- it is justified at a first step with these events, under p() and no q()
+abbrev pub IsRightAtOnce : List Event → Action → Type 0
+IsRightAtOnce events action = IsJustified (cause_p 0 ∷ bar_q 0 ∷ []) [] System (at_time 5 events) action
+
+-- an action is justified at a second step without events, under p() within ten units
+abbrev pub IsRightThen : List Step → StepKind → (time : ℕ) → Action → Type 0
+IsRightThen trace k time action = IsJustified (soon_p 0 0 ∷ []) trace k (at_time time []) action

@@ -4,6 +4,7 @@ pub mod Begun
 pub mod Pending
 pub mod Residuals
 pub mod Enough
+pub mod Losing
 pub mod Traces
 pub mod Asked
 pub mod Waiting
@@ -18,4 +19,5 @@ pub mod Founding
 pub mod Reached
 pub mod Patient
 pub mod Unread
+pub mod Justified
 pub mod Cases

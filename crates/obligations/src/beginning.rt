@@ -1,10 +1,10 @@
 //! The instances that plans begin at a step, one after another.
-ghost use Rattle.std.specs.Prelude.{◌≡◌, ◌∷◌, [], ◌++◌, ◌≤◌, OnOk, List, Contains};
+ghost use Rattle.std.specs.Prelude.{◌≡◌, ◌∷◌, [], ◌++◌, ◌≤◌, OnOk, List, Contains, true};
 ghost use Rattle.std.specs.List.{AllByRecursion};
 ghost use Rattle.enf_value.specs.declared.limits.TheConstants.{MOST_INTERVAL_END};
 ghost use Rattle.enf_value.specs.declared.values.Value.{Value as AnyValue};
 ghost use Rattle.plan_terms.specs.Limits.{EndsInTime};
-ghost use Rattle.plan_terms.specs.Nodes.{nodes};
+ghost use Rattle.plan_terms.specs.Nodes.{is_future, nodes};
 ghost use Rattle.plan_terms.specs.Plans.{plan_of};
 ghost use Rattle.valuations.specs.Scopes.{bound_in, filled};
 ghost use Rattle.obligations.specs.Adding.{AddsAsked, begun_by};
@@ -19,9 +19,10 @@ use crate::instances::Instance;
 use crate::now::Now;
 use crate::sides::side_taken;
 use enf_value::memory::NoMemory;
+use monitorable_guard::Rows;
 use plan_terms::Plan;
 use std::alloc::Global;
-use valuations::{Frame, Table};
+use valuations::Frame;
 
 // Puts the instances last that the plan of a rule begins where it is begun at the step.
 #[cycle(beginning)]
@@ -56,9 +57,33 @@ pub fn begin_behind<'a>(
             begin_behind(alloc, rule, body, &*v, now, into)
         }
         Plan::Guarded { guard, body, .. } => {
-            let rows = now.tables.rows_under(alloc, *guard, now.ordered, &*v)?;
+            let rows = now.tables.told_under(alloc, *guard, now.ordered, &*v)?;
             begin_under(alloc, rule, body, &rows, &*v, now, into)
         }
+        Plan::Eventually { .. } | Plan::Always { .. } | Plan::Until { .. } | Plan::Next { .. } => {
+            begin_later(alloc, rule, plan, &*v, now, into)
+        }
+    }
+}
+
+// The same of a node on the future: the instance of it, if it waits, and what of it is begun at once.
+#[cycle(beginning)]
+fn begin_later<'a>(
+    alloc: Global,
+    rule: u32,
+    plan: &Plan,
+    v: &'a Frame<'a>,
+    now: &Now<'_>,
+    into: &mut Vec<Instance>,
+) -> Result<(), NoMemory>
+    requires asked { CanAsk (guards_at now.now.tables.now) (plan_of plan.now) (bound_in v.now) }
+    requires ends { AllByRecursion EndsInTime (nodes (plan_of plan.now)) }
+    requires in_time { now.now.time ≤ MOST_TIME }
+    requires future { is_future (plan_of plan.now) ≡ true }
+    ensures { OnOk result (AddsAsked now.now rule (plan_of plan.now)
+        (λ trace. Begun trace rule (plan_of plan.now) (bound_in v.now)) into.old.items into.new.items) }
+{
+    match plan {
         Plan::Eventually {
             node,
             low,
@@ -101,6 +126,7 @@ pub fn begin_behind<'a>(
         Plan::Next { node, high, .. } => {
             push_begun(alloc, rule, *node, (0, *high), &*v, now, into)
         }
+        _ => Ok(()),
     }
 }
 
@@ -110,7 +136,7 @@ fn begin_under<'a>(
     alloc: Global,
     rule: u32,
     body: &Plan,
-    rows: &'a Table,
+    rows: &'a Rows<'a>,
     v: &'a Frame<'a>,
     now: &Now<'_>,
     into: &mut Vec<Instance>,
@@ -123,8 +149,8 @@ fn begin_under<'a>(
         (plan_of body.now) (filled (bound_in v.now) rows.now.columns row)) rows.now.rows)
         into.old.items into.new.items) }
 {
-    for row in rows.rows() {
-        let inner = Frame::Row(&*v, rows.columns().as_slice(), row.as_slice());
+    for place in 0..rows.len() {
+        let inner = Frame::Row(&*v, rows.columns(), rows.row(place));
         begin_behind(alloc, rule, body, &inner, now, into)?;
     }
     Ok(())

@@ -15,9 +15,10 @@ use crate::leaves::{cause_missing, is_there, suppress_missing};
 use crate::literals::Literal;
 use crate::now::Now;
 use enf_value::memory::NoMemory;
+use monitorable_guard::Rows;
 use plan_terms::Plan;
 use std::alloc::Global;
-use valuations::{Frame, Table};
+use valuations::Frame;
 
 // The first literal that the plan misses where it is begun at the step, if it misses any.
 #[cycle(finding)]
@@ -66,7 +67,7 @@ pub fn find_missing<'a>(
             find_missing(alloc, body, &*v, now)
         }
         Plan::Guarded { guard, body, .. } => {
-            let rows = now.tables.rows_under(alloc, *guard, now.ordered, &*v)?;
+            let rows = now.tables.told_under(alloc, *guard, now.ordered, &*v)?;
             find_under(alloc, body, &rows, &*v, now)
         }
         Plan::Always { low, body, .. } => {
@@ -95,7 +96,7 @@ pub fn find_missing<'a>(
 fn find_under<'a>(
     alloc: Global,
     body: &Plan,
-    rows: &'a Table,
+    rows: &'a Rows<'a>,
     v: &'a Frame<'a>,
     now: &Now<'_>,
 ) -> Result<Option<Literal>, NoMemory>
@@ -108,8 +109,8 @@ fn find_under<'a>(
         (IsWantedUnder now.now (plan_of body.now) (bound_in v.now) rows.now)) }
 {
     missing_exists();
-    for row in rows.rows() {
-        let inner = Frame::Row(&*v, rows.columns().as_slice(), row.as_slice());
+    for place in 0..rows.len() {
+        let inner = Frame::Row(&*v, rows.columns(), rows.row(place));
         if let Some(literal) = find_missing(alloc, body, &inner, now)? {
             return Ok(Some(literal));
         }

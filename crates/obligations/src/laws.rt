@@ -4,6 +4,9 @@ ghost use Rattle.obligations.specs.Enough.{NothingMissedIsEnough, NothingMissedI
 ghost use Rattle.obligations.specs.Existing.{AfterExists, BegunCanBeAsked, BegunExists, GoesCanBeAsked, GoesExists};
 ghost use Rattle.obligations.specs.Existing.{MissingExists, MissingOfExists, PendCanBeAsked, PendExists};
 ghost use Rattle.obligations.specs.Founding.{CanBeAsked, NowStands, WellFormedCanBeAsked, WellFormedStand};
+ghost use Rattle.obligations.specs.Losing.{DeadlineIsNeeded, MissedIsServed, MissedIsServedPending};
+ghost use Rattle.obligations.specs.Losing.{PendingIsEarlier, PendingIsOwed};
+ghost use Rattle.obligations.specs.Losing.{SomethingMissedIsLostPending};
 ghost use Rattle.obligations.specs.Missing.{MissingIsOne};
 ghost use Rattle.obligations.specs.Pending.{AfterIsOne, BegunIsOne, MissingOfIsOne, PendIsOne};
 ghost use Rattle.obligations.specs.Reached.{BegunIsNamed, BegunIsReached, MissedIsReached, PendCame};
@@ -15,7 +18,9 @@ ghost use Rattle.obligations.specs.Unread.{UnreadInstanceStaysMet, UnreadLeavesR
 
 use enf_formula::laws;
 use monitorable_guard::laws::{safe_has_rows, safe_values_are_known};
-use plan_terms::laws::{nodes_have_scopes, nodes_stand_in_plans, triggers_are_met};
+use plan_terms::laws::{
+    lost_stays_lost, nodes_have_scopes, nodes_stand_in_plans, owed_stays_owed, triggers_are_met,
+};
 use trace_meaning::laws::last_time_of_trace;
 
 /// A guard has one list of rows at most, and a plan misses one list of literals.
@@ -46,6 +51,32 @@ pub fn something_missed_is_lost()
     ensures { SomethingMissedIsLost }
 {
     laws::dependence();
+}
+
+/// What is pending behind a clean trace is owed there, and where it misses something at a step more, it is lost.
+pub fn pending_is_owed()
+    ensures owed { PendingIsOwed }
+    ensures earlier { PendingIsEarlier }
+    ensures needed { DeadlineIsNeeded }
+    ensures lost { SomethingMissedIsLostPending }
+{
+    laws::dependence();
+    nodes_have_scopes();
+    last_time_of_trace();
+    lost_stays_lost();
+    owed_stays_owed();
+}
+
+/// What misses something leads to the leaves that want it: what is begun at a step, and what was pending before.
+pub fn missed_is_served()
+    ensures begun { MissedIsServed }
+    ensures pending { MissedIsServedPending }
+{
+    laws::dependence();
+    nodes_have_scopes();
+    last_time_of_trace();
+    lost_stays_lost();
+    owed_stays_owed();
 }
 
 /// Where nothing was missed along a trace, it is enough to meet what is pending behind it; plans that do not look ahead

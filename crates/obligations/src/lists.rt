@@ -15,9 +15,10 @@ use crate::leaves::{cause_missing, suppress_missing};
 use crate::literals::Literal;
 use crate::now::Now;
 use enf_value::memory::NoMemory;
+use monitorable_guard::Rows;
 use plan_terms::Plan;
 use std::alloc::Global;
-use valuations::{Frame, Table};
+use valuations::Frame;
 
 // Puts the literals last that the plan misses where it is begun at the step.
 #[cycle(listing)]
@@ -70,7 +71,7 @@ pub fn push_missing<'a>(
             push_missing(alloc, body, &*v, now, out)
         }
         Plan::Guarded { guard, body, .. } => {
-            let rows = now.tables.rows_under(alloc, *guard, now.ordered, &*v)?;
+            let rows = now.tables.told_under(alloc, *guard, now.ordered, &*v)?;
             push_under(alloc, body, &rows, &*v, now, out)
         }
         Plan::Always { low, body, .. } => {
@@ -99,7 +100,7 @@ pub fn push_missing<'a>(
 fn push_under<'a>(
     alloc: Global,
     body: &Plan,
-    rows: &'a Table,
+    rows: &'a Rows<'a>,
     v: &'a Frame<'a>,
     now: &Now<'_>,
     out: &mut Vec<Literal>,
@@ -111,8 +112,8 @@ fn push_under<'a>(
     ensures wanted { OnOk result (AddsOf (IsWantedUnder now.now (plan_of body.now) (bound_in v.now) rows.now)
         out.old.items out.new.items) }
 {
-    for row in rows.rows() {
-        let inner = Frame::Row(&*v, rows.columns().as_slice(), row.as_slice());
+    for place in 0..rows.len() {
+        let inner = Frame::Row(&*v, rows.columns(), rows.row(place));
         push_missing(alloc, body, &inner, now, out)?;
     }
     Ok(())

@@ -7,9 +7,13 @@ ghost use Rattle.obligations.specs.Cases.{at_5, always_p, bar_q, cause_p, each_q
 ghost use Rattle.obligations.specs.Cases.{no_q_until_p, p_of_1, q_of_1, q_of_2, soon_p, two_and_one, waiting, Begins};
 ghost use Rattle.obligations.specs.Cases.{begun_at_5, begun_then, each_next, next_for, one, second_at_5, then_at, two};
 ghost use Rattle.obligations.specs.Cases.{Misses, Becomes, Owes, Pends};
+ghost use Rattle.obligations.specs.Cases.{IsRightAtOnce, IsRightThen, at_once_for, then_for};
+ghost use Rattle.obligations.specs.Justified.{IsNeeded};
 ghost use Rattle.obligations.specs.Missing.{Missing, cause, suppress};
 ghost use Rattle.obligations.specs.Pending.{IsClean, IsReady, NoneIsOver, Pend};
+ghost use Rattle.obligations.specs.declared.literals.LiteralKind.TheVariants as kind;
 ghost use Rattle.plan_terms.specs.Plans as plan;
+ghost use Rattle.trace_meaning.specs.declared.kinds.StepKind.TheVariants.{Inserted, System};
 
 /// What leaves and connectives miss.
 pub fn missing_now()
@@ -226,4 +230,37 @@ pub fn clean()
     ensures no_deadline { NoneIsOver (always_p 0 0 ∷ []) (begun_at_5 0 5 15 ∷ []) 16 }
     ensures ready { IsReady (cause_p 0 ∷ []) (at_5 (event_p ∷ [])) 5 }
     ensures not_ready_before { IsReady (cause_p 0 ∷ []) (at_5 (event_p ∷ [])) 4 → ⊥ }
+{}
+
+/// Actions at the first step, for the roots of rules.
+pub fn justified_at_once()
+    ensures absent { IsRightAtOnce [] (at_once_for kind.Cause event_p 0 0) }
+    ensures there { IsRightAtOnce (event_p ∷ []) (at_once_for kind.Cause event_p 0 0) → ⊥ }
+    ensures to_be_absent { IsRightAtOnce (event_q ∷ []) (at_once_for kind.Suppress event_q 1 0) }
+    ensures not_there { IsRightAtOnce [] (at_once_for kind.Suppress event_q 1 0) → ⊥ }
+    ensures another_rule { IsRightAtOnce (event_q ∷ []) (at_once_for kind.Cause event_p 1 0) → ⊥ }
+    ensures another_event { IsRightAtOnce [] (at_once_for kind.Cause event_q 0 0) → ⊥ }
+    ensures another_leaf { IsRightAtOnce [] (at_once_for kind.Cause event_p 0 1) → ⊥ }
+    ensures no_rule { IsRightAtOnce [] (at_once_for kind.Cause event_p 2 0) → ⊥ }
+{}
+
+/// Actions at a later step, for an operator that was begun at time 5 and has to be met by time 15.
+pub fn justified_later()
+    ensures at_the_deadline { IsRightThen (at_5 []) Inserted 15 (then_for 15 0 1 0) }
+    ensures before_it { IsRightThen (at_5 []) Inserted 14 (then_for 14 0 1 0) → ⊥ }
+    ensures at_a_step_of_the_system { IsRightThen (at_5 []) System 15 (then_for 15 0 1 0) → ⊥ }
+    ensures met_in_time { IsRightThen (at_5 (event_p ∷ [])) Inserted 15 (then_for 15 0 1 0) → ⊥ }
+    ensures another_origin { IsRightThen (at_5 []) Inserted 15 (then_for 15 0 1 1) → ⊥ }
+    ensures leaf_for_node { IsRightThen (at_5 []) Inserted 15 (then_for 15 1 1 0) → ⊥ }
+    ensures node_for_leaf { IsRightThen (at_5 []) Inserted 15 (then_for 15 0 0 0) → ⊥ }
+    ensures another_time { IsRightThen (at_5 []) Inserted 15 (then_for 16 0 1 0) → ⊥ }
+{}
+
+/// Steps that are inserted behind one at time 5: for p() within ten units, and for p() always in ten units.
+pub fn needed()
+    ensures at_the_deadline { IsNeeded (soon_p 0 0 ∷ []) (at_5 []) 15 }
+    ensures before_it { IsNeeded (soon_p 0 0 ∷ []) (at_5 []) 14 → ⊥ }
+    ensures met_in_time { IsNeeded (soon_p 0 0 ∷ []) (at_5 (event_p ∷ [])) 15 → ⊥ }
+    ensures no_deadline { IsNeeded (always_p 0 0 ∷ []) (at_5 []) 15 → ⊥ }
+    ensures no_rule { IsNeeded [] (at_5 []) 15 → ⊥ }
 {}

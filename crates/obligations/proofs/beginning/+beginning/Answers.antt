@@ -1,8 +1,9 @@
 use Rattle.std.specs.Prelude.{true, false, None, ◌+◌}
-use Rattle.std.proofs.Common.{rules, ◌≡◌, ◌<◌, ◌≤◌, ◌∙◌, List, [], length, get_or, take, refl, ⊎_elim, sym, subst, arith}
+use Rattle.std.proofs.Common.{rules, ◌≡◌, ◌<◌, ◌≤◌, List, [], length, take, refl, ⊎_elim, sym, subst, arith}
 use Rattle.std.specs.List.{AllByRecursion}
 use Rattle.std.specs.Option.{option_copied, option_map}
 use Rattle.std.proofs.lemmas.List.{take_all}
+use Rattle.std.proofs.lemmas.Option.{get_or_from_slice_get}
 use Rattle.std.proofs.lemmas.Result.{on_ok_weaker}
 use Rattle.enf_value.specs.Valuations.{Valuation}
 use Rattle.enf_value.specs.declared.values.Value.{Value}
@@ -23,8 +24,8 @@ use Rattle.obligations.proofs.BegunLemmas.{eventually_at_once, eventually_waits,
 use Rattle.obligations.proofs.BegunLemmas.{side_inside, side_smaller, test_begins, test_begins_nothing, until_at_once, until_waits}
 use Rattle.obligations.proofs.WantedLemmas.{in_left, in_right}
 use Rattle.obligations.proofs.beginning.+beginning.Goals as goal
-use Rattle.obligations.proofs.beginning.+beginning.Goals.{begin_behind-else-low-eq0-via-then-low-eq0+in_ok-misses_nothing-in-Eventually+else-branch-2, begin_behind-else-low-eq0-via-else-low-eq0}
-use Rattle.obligations.proofs.beginning.+beginning.Goals.{begin_behind-else-low-eq0-2-via-then-low-eq0-2+in_ok-misses_nothing-in-Until+else-branch-3, begin_behind-else-low-eq0-2-via-else-low-eq0-2}
+use Rattle.obligations.proofs.beginning.+beginning.Goals.{begin_later-else-low-eq0-via-then-low-eq0+in_ok-misses_nothing-in-Eventually+else-branch, begin_later-else-low-eq0-via-else-low-eq0}
+use Rattle.obligations.proofs.beginning.+beginning.Goals.{begin_later-else-low-eq0-2-via-then-low-eq0-2+in_ok-misses_nothing-in-Until+else-branch-2, begin_later-else-low-eq0-2-via-else-low-eq0-2}
 
 pub begin_behind-begin_behind-requires-in-Both : goal.begin_behind-begin_behind-requires-in-Both
 begin_behind-begin_behind-requires-in-Both t c =
@@ -82,13 +83,13 @@ begin_behind-returns-then-branch t c =
     subst (λ p. Puts c.args.now.now c.args.rule (bound_in c.args.v.now) (plan_of p) c.args.into.now.items c.args.into.now.items) (sym c.in-TestOr.is)
     (test_begins_nothing c.args.now.now c.args.rule (bound_in c.args.v.now) c.in-TestOr.guard (tree_of c.in-TestOr.test.value) c.requires.asked.scope can.0.0 c.requires.asked.fits.binds can.0.1 c.in_ok-holds_under-in-TestOr.field-0 c.in_ok-holds_under-in-TestOr.ensures.evaluated c.in-TestOr.node (plan_of c.in-TestOr.body.value) c.if-branch.true c.args.into.now.items)
 
-pub begin_behind-rows_under-requires-clause-within : goal.begin_behind-rows_under-requires-clause-within
-begin_behind-rows_under-requires-clause-within t c =
+pub begin_behind-told_under-requires-clause-within : goal.begin_behind-told_under-requires-clause-within
+begin_behind-told_under-requires-clause-within t c =
     let can = subst (λ p. CanAskIn (guards_at c.args.now.now.tables.now) (plan_of p) c.requires.asked.scope) c.in-Guarded.is c.requires.asked.can in
     within c.args.now.now.tables.now c.in-Guarded.guard (tree_of c.in-Guarded.test.value) c.requires.asked.scope can.0.0
 
-pub begin_behind-rows_under-requires-clause-binds : goal.begin_behind-rows_under-requires-clause-binds
-begin_behind-rows_under-requires-clause-binds t c =
+pub begin_behind-told_under-requires-clause-binds : goal.begin_behind-told_under-requires-clause-binds
+begin_behind-told_under-requires-clause-binds t c =
     let can = subst (λ p. CanAskIn (guards_at c.args.now.now.tables.now) (plan_of p) c.requires.asked.scope) c.in-Guarded.is c.requires.asked.can in
     binds_bound c.args.now.now.tables.now c.in-Guarded.guard (tree_of c.in-Guarded.test.value) c.requires.asked.scope can.0.0 (bound_in c.args.v.now) c.requires.asked.fits.binds
 
@@ -108,47 +109,47 @@ begin_behind-begin_under-requires t c =
       ),
     )
 
-pub begin_behind-returns-then-branch-2 : goal.begin_behind-returns-then-branch-2
-begin_behind-returns-then-branch-2 t c =
-    on_ok_weaker c.begin_behind-then-branch-2.result (λ puts.
-    subst (λ p. Puts c.args.now.now c.args.rule (bound_in c.args.v.now) (plan_of p) c.args.into.now.items c.begin_behind-then-branch-2.new.into.items) (sym c.in-Eventually.is)
+pub begin_later-returns-then-branch : goal.begin_later-returns-then-branch
+begin_later-returns-then-branch t c =
+    on_ok_weaker c.begin_behind.result (λ puts.
+    subst (λ p. Puts c.args.now.now c.args.rule (bound_in c.args.v.now) (plan_of p) c.args.into.now.items c.begin_behind.new.into.items) (sym c.in-Eventually.is)
     (eventually_at_once c.args.now.now c.args.rule (bound_in c.args.v.now) c.in-Eventually.node c.in-Eventually.place c.in-Eventually.low c.in-Eventually.high (plan_of c.in-Eventually.body.value) (omega (arith, c.if-low-eq0.true))
-    (subst (λ p. TellsNothing c.args.now.now (plan_of p) (bound_in c.args.v.now) true) c.deref-then-low-eq0.ensures (subst (λ b. TellsNothing c.args.now.now (plan_of c.deref-then-low-eq0.result.now) (bound_in c.args.v.now) b) c.if-branch-2.true c.in_ok-misses_nothing-in-Eventually.ensures))
-    c.args.into.now.items c.begin_behind-then-branch-2.new.into.items (subst (λ p. Puts c.args.now.now c.args.rule (bound_in c.args.v.now) (plan_of p) c.args.into.now.items c.begin_behind-then-branch-2.new.into.items) c.deref-then-branch-2.ensures puts)))
-    c.begin_behind-then-branch-2.ensures
+    (subst (λ p. TellsNothing c.args.now.now (plan_of p) (bound_in c.args.v.now) true) c.deref.ensures (subst (λ b. TellsNothing c.args.now.now (plan_of c.deref.result.now) (bound_in c.args.v.now) b) c.if-branch.true c.in_ok-misses_nothing-in-Eventually.ensures))
+    c.args.into.now.items c.begin_behind.new.into.items (subst (λ p. Puts c.args.now.now c.args.rule (bound_in c.args.v.now) (plan_of p) c.args.into.now.items c.begin_behind.new.into.items) c.deref-then-branch.ensures puts)))
+    c.begin_behind.ensures
 
-pub begin_behind-returns-then-low-gt0 : goal.begin_behind-returns-then-low-gt0
-begin_behind-returns-then-low-gt0 t c =
+pub begin_later-returns-then-low-gt0 : goal.begin_later-returns-then-low-gt0
+begin_later-returns-then-low-gt0 t c =
     subst (λ p. Puts c.args.now.now c.args.rule (bound_in c.args.v.now) (plan_of p) c.args.into.now.items c.push_begun-in-Always.new.into.items) (sym c.in-Always.is)
     (always_later c.args.now.now c.args.rule (bound_in c.args.v.now) c.in-Always.node c.in-Always.place c.in-Always.low c.in-Always.high (plan_of c.in-Always.body.value) c.if-low-gt0.true (subst (λ p. CanAsk (guards_at c.args.now.now.tables.now) (plan_of p) (bound_in c.args.v.now)) c.in-Always.is c.requires.asked) (subst (λ p. AllByRecursion EndsInTime (nodes (plan_of p))) c.in-Always.is c.requires.ends) c.args.into.now.items c.push_begun-in-Always.new.into.items c.in_ok-push_begun-in-Always.ensures)
 
-pub begin_behind-begin_behind-requires-then-branch-3 : goal.begin_behind-begin_behind-requires-then-branch-3
-begin_behind-begin_behind-requires-then-branch-3 t c =
+pub begin_later-begin_behind-requires-then-branch-2 : goal.begin_later-begin_behind-requires-then-branch-2
+begin_later-begin_behind-requires-then-branch-2 t c =
     let can = subst (λ p. CanAskIn (guards_at c.args.now.now.tables.now) (plan_of p) c.requires.asked.scope) c.in-Until.is c.requires.asked.can in
-    let smaller : length (nodes (plan_of c.deref-then-branch-3.result.now)) < length (nodes (plan_of c.args.plan.now)) =
-    subst (λ p. length (nodes (plan_of p)) < length (nodes (plan_of c.args.plan.now))) (sym c.deref-then-branch-3.ensures)
+    let smaller : length (nodes (plan_of c.deref-then-branch-2.result.now)) < length (nodes (plan_of c.args.plan.now)) =
+    subst (λ p. length (nodes (plan_of p)) < length (nodes (plan_of c.args.plan.now))) (sym c.deref-then-branch-2.ensures)
     (subst (λ p. length (nodes (plan_of c.in-Until.right.value)) < length (nodes (plan_of p))) (sym c.in-Until.is) (right_smaller (Until c.in-Until.node c.in-Until.place c.in-Until.low c.in-Until.high (plan_of c.in-Until.left.value) (plan_of c.in-Until.right.value)) (plan_of c.in-Until.left.value) (plan_of c.in-Until.right.value))) in (
       omega (arith, smaller),
       (
-        subst (λ p. CanAsk (guards_at c.args.now.now.tables.now) (plan_of p) (bound_in c.args.v.now)) (sym c.deref-then-branch-3.ensures) (record { scope = c.requires.asked.scope; can = can.2; fits = c.requires.asked.fits }),
+        subst (λ p. CanAsk (guards_at c.args.now.now.tables.now) (plan_of p) (bound_in c.args.v.now)) (sym c.deref-then-branch-2.ensures) (record { scope = c.requires.asked.scope; can = can.2; fits = c.requires.asked.fits }),
         (
-          subst (λ p. AllByRecursion EndsInTime (nodes (plan_of p))) (sym c.deref-then-branch-3.ensures) (all_inside EndsInTime (plan_of c.in-Until.right.value) (Until c.in-Until.node c.in-Until.place c.in-Until.low c.in-Until.high (plan_of c.in-Until.left.value) (plan_of c.in-Until.right.value)) (in_right (Until c.in-Until.node c.in-Until.place c.in-Until.low c.in-Until.high (plan_of c.in-Until.left.value) (plan_of c.in-Until.right.value)) (plan_of c.in-Until.left.value) (plan_of c.in-Until.right.value)) (subst (λ p. AllByRecursion EndsInTime (nodes (plan_of p))) c.in-Until.is c.requires.ends)),
+          subst (λ p. AllByRecursion EndsInTime (nodes (plan_of p))) (sym c.deref-then-branch-2.ensures) (all_inside EndsInTime (plan_of c.in-Until.right.value) (Until c.in-Until.node c.in-Until.place c.in-Until.low c.in-Until.high (plan_of c.in-Until.left.value) (plan_of c.in-Until.right.value)) (in_right (Until c.in-Until.node c.in-Until.place c.in-Until.low c.in-Until.high (plan_of c.in-Until.left.value) (plan_of c.in-Until.right.value)) (plan_of c.in-Until.left.value) (plan_of c.in-Until.right.value)) (subst (λ p. AllByRecursion EndsInTime (nodes (plan_of p))) c.in-Until.is c.requires.ends)),
           c.requires.in_time,
         ),
       ),
     )
 
-pub begin_behind-returns-then-branch-3 : goal.begin_behind-returns-then-branch-3
-begin_behind-returns-then-branch-3 t c =
-    on_ok_weaker c.begin_behind-then-branch-3.result (λ puts.
-    subst (λ p. Puts c.args.now.now c.args.rule (bound_in c.args.v.now) (plan_of p) c.args.into.now.items c.begin_behind-then-branch-3.new.into.items) (sym c.in-Until.is)
+pub begin_later-returns-then-branch-2 : goal.begin_later-returns-then-branch-2
+begin_later-returns-then-branch-2 t c =
+    on_ok_weaker c.begin_behind-then-branch-2.result (λ puts.
+    subst (λ p. Puts c.args.now.now c.args.rule (bound_in c.args.v.now) (plan_of p) c.args.into.now.items c.begin_behind-then-branch-2.new.into.items) (sym c.in-Until.is)
     (until_at_once c.args.now.now c.args.rule (bound_in c.args.v.now) c.in-Until.node c.in-Until.place c.in-Until.low c.in-Until.high (plan_of c.in-Until.left.value) (plan_of c.in-Until.right.value) (omega (arith, c.if-low-eq0-2.true))
-    (subst (λ p. TellsNothing c.args.now.now (plan_of p) (bound_in c.args.v.now) true) c.deref-then-low-eq0-2.ensures (subst (λ b. TellsNothing c.args.now.now (plan_of c.deref-then-low-eq0-2.result.now) (bound_in c.args.v.now) b) c.if-branch-3.true c.in_ok-misses_nothing-in-Until.ensures))
-    c.args.into.now.items c.begin_behind-then-branch-3.new.into.items (subst (λ p. Puts c.args.now.now c.args.rule (bound_in c.args.v.now) (plan_of p) c.args.into.now.items c.begin_behind-then-branch-3.new.into.items) c.deref-then-branch-3.ensures puts)))
-    c.begin_behind-then-branch-3.ensures
+    (subst (λ p. TellsNothing c.args.now.now (plan_of p) (bound_in c.args.v.now) true) c.deref-then-low-eq0-2.ensures (subst (λ b. TellsNothing c.args.now.now (plan_of c.deref-then-low-eq0-2.result.now) (bound_in c.args.v.now) b) c.if-branch-2.true c.in_ok-misses_nothing-in-Until.ensures))
+    c.args.into.now.items c.begin_behind-then-branch-2.new.into.items (subst (λ p. Puts c.args.now.now c.args.rule (bound_in c.args.v.now) (plan_of p) c.args.into.now.items c.begin_behind-then-branch-2.new.into.items) c.deref-then-branch-2.ensures puts)))
+    c.begin_behind-then-branch-2.ensures
 
-pub begin_behind-begin_behind-requires-in-Until : goal.begin_behind-begin_behind-requires-in-Until
-begin_behind-begin_behind-requires-in-Until t c =
+pub begin_later-begin_behind-requires-in-Until : goal.begin_later-begin_behind-requires-in-Until
+begin_later-begin_behind-requires-in-Until t c =
     let can = subst (λ p. CanAskIn (guards_at c.args.now.now.tables.now) (plan_of p) c.requires.asked.scope) c.in-Until.is c.requires.asked.can in
     let smaller : length (nodes (plan_of c.deref-in-Until.result.now)) < length (nodes (plan_of c.args.plan.now)) =
     subst (λ p. length (nodes (plan_of p)) < length (nodes (plan_of c.args.plan.now))) (sym c.deref-in-Until.ensures)
@@ -211,40 +212,40 @@ begin_behind-returns-in_ok-rows-in-Guarded t c =
     (subst (λ p. AddsAsked c.args.now.now c.args.rule (plan_of p) (λ trace. Gathers (λ row. Begun trace c.args.rule (plan_of p) (filled (bound_in c.args.v.now) c.in_ok-rows-in-Guarded.rows.columns row)) c.in_ok-rows-in-Guarded.rows.rows) c.args.into.now.items c.begin_under.new.into.items) c.deref-in-Guarded.ensures puts)))
     c.begin_under.ensures
 
-pub begin_behind-returns-else-low-eq0 : goal.begin_behind-returns-else-low-eq0
-begin_behind-returns-else-low-eq0 t c =
+pub begin_later-returns-else-low-eq0 : goal.begin_later-returns-else-low-eq0
+begin_later-returns-else-low-eq0 t c =
     on_ok_weaker c.push_begun.result (λ grown.
     subst (λ p. Puts c.args.now.now c.args.rule (bound_in c.args.v.now) (plan_of p) c.args.into.now.items c.push_begun.new.into.items) (sym c.in-Eventually.is)
     (eventually_waits c.args.now.now c.args.rule (bound_in c.args.v.now) c.in-Eventually.node c.in-Eventually.place c.in-Eventually.low c.in-Eventually.high (plan_of c.in-Eventually.body.value)
     (λ at_once. elim c.else-low-eq0.branch [
-      | begin_behind-else-low-eq0-via-then-low-eq0+in_ok-misses_nothing-in-Eventually+else-branch-2 w ↦ (subst (λ p. TellsNothing c.args.now.now (plan_of p) (bound_in c.args.v.now) false) w.deref-then-low-eq0.ensures (subst (λ b. TellsNothing c.args.now.now (plan_of w.deref-then-low-eq0.result.now) (bound_in c.args.v.now) b) w.if-branch-2.false w.in_ok-misses_nothing-in-Eventually.ensures))
-      | begin_behind-else-low-eq0-via-else-low-eq0 w ↦ absurd (omega (arith, at_once, w.if-low-eq0.false))
+      | begin_later-else-low-eq0-via-then-low-eq0+in_ok-misses_nothing-in-Eventually+else-branch w ↦ (subst (λ p. TellsNothing c.args.now.now (plan_of p) (bound_in c.args.v.now) false) w.deref.ensures (subst (λ b. TellsNothing c.args.now.now (plan_of w.deref.result.now) (bound_in c.args.v.now) b) w.if-branch.false w.in_ok-misses_nothing-in-Eventually.ensures))
+      | begin_later-else-low-eq0-via-else-low-eq0 w ↦ absurd (omega (arith, at_once, w.if-low-eq0.false))
     ])
     (subst (λ p. CanAsk (guards_at c.args.now.now.tables.now) (plan_of p) (bound_in c.args.v.now)) c.in-Eventually.is c.requires.asked) (subst (λ p. AllByRecursion EndsInTime (nodes (plan_of p))) c.in-Eventually.is c.requires.ends) c.args.into.now.items c.push_begun.new.into.items grown))
     c.push_begun.ensures
 
-pub begin_behind-returns-else-low-gt0 : goal.begin_behind-returns-else-low-gt0
-begin_behind-returns-else-low-gt0 t c =
+pub begin_later-returns-else-low-gt0 : goal.begin_later-returns-else-low-gt0
+begin_later-returns-else-low-gt0 t c =
     on_ok_weaker c.begin_behind-in-Always.result (λ puts.
     subst (λ p. Puts c.args.now.now c.args.rule (bound_in c.args.v.now) (plan_of p) c.args.into.now.items c.begin_behind-in-Always.new.into.items) (sym c.in-Always.is)
     (always_at_once c.args.now.now c.args.rule (bound_in c.args.v.now) c.in-Always.node c.in-Always.place c.in-Always.low c.in-Always.high (plan_of c.in-Always.body.value) (λ later. absurd (omega (arith, later, c.if-low-gt0.false)))
     (subst (λ p. CanAsk (guards_at c.args.now.now.tables.now) (plan_of p) (bound_in c.args.v.now)) c.in-Always.is c.requires.asked) (subst (λ p. AllByRecursion EndsInTime (nodes (plan_of p))) c.in-Always.is c.requires.ends) c.args.into.now.items c.push_begun-in-Always.new.into.items c.begin_behind-in-Always.new.into.items c.in_ok-push_begun-in-Always.ensures (subst (λ p. Puts c.args.now.now c.args.rule (bound_in c.args.v.now) (plan_of p) c.push_begun-in-Always.new.into.items c.begin_behind-in-Always.new.into.items) c.deref-in-Always.ensures puts)))
     c.begin_behind-in-Always.ensures
 
-pub begin_behind-returns-in_ok-push_begun-in-Until : goal.begin_behind-returns-in_ok-push_begun-in-Until
-begin_behind-returns-in_ok-push_begun-in-Until t c =
+pub begin_later-returns-in_ok-push_begun-in-Until : goal.begin_later-returns-in_ok-push_begun-in-Until
+begin_later-returns-in_ok-push_begun-in-Until t c =
     on_ok_weaker c.begin_behind-in-Until.result (λ puts.
     subst (λ p. Puts c.args.now.now c.args.rule (bound_in c.args.v.now) (plan_of p) c.args.into.now.items c.begin_behind-in-Until.new.into.items) (sym c.in-Until.is)
     (until_waits c.args.now.now c.args.rule (bound_in c.args.v.now) c.in-Until.node c.in-Until.place c.in-Until.low c.in-Until.high (plan_of c.in-Until.left.value) (plan_of c.in-Until.right.value)
     (λ at_once. elim c.else-low-eq0-2.branch [
-      | begin_behind-else-low-eq0-2-via-then-low-eq0-2+in_ok-misses_nothing-in-Until+else-branch-3 w ↦ (subst (λ p. TellsNothing c.args.now.now (plan_of p) (bound_in c.args.v.now) false) w.deref-then-low-eq0-2.ensures (subst (λ b. TellsNothing c.args.now.now (plan_of w.deref-then-low-eq0-2.result.now) (bound_in c.args.v.now) b) w.if-branch-3.false w.in_ok-misses_nothing-in-Until.ensures))
-      | begin_behind-else-low-eq0-2-via-else-low-eq0-2 w ↦ absurd (omega (arith, at_once, w.if-low-eq0-2.false))
+      | begin_later-else-low-eq0-2-via-then-low-eq0-2+in_ok-misses_nothing-in-Until+else-branch-2 w ↦ (subst (λ p. TellsNothing c.args.now.now (plan_of p) (bound_in c.args.v.now) false) w.deref-then-low-eq0-2.ensures (subst (λ b. TellsNothing c.args.now.now (plan_of w.deref-then-low-eq0-2.result.now) (bound_in c.args.v.now) b) w.if-branch-2.false w.in_ok-misses_nothing-in-Until.ensures))
+      | begin_later-else-low-eq0-2-via-else-low-eq0-2 w ↦ absurd (omega (arith, at_once, w.if-low-eq0-2.false))
     ])
     (subst (λ p. CanAsk (guards_at c.args.now.now.tables.now) (plan_of p) (bound_in c.args.v.now)) c.in-Until.is c.requires.asked) (subst (λ p. AllByRecursion EndsInTime (nodes (plan_of p))) c.in-Until.is c.requires.ends) c.args.into.now.items c.push_begun-in-Until.new.into.items c.begin_behind-in-Until.new.into.items c.in_ok-push_begun-in-Until.ensures (subst (λ p. Puts c.args.now.now c.args.rule (bound_in c.args.v.now) (plan_of p) c.push_begun-in-Until.new.into.items c.begin_behind-in-Until.new.into.items) c.deref-in-Until.ensures puts)))
     c.begin_behind-in-Until.ensures
 
-pub begin_behind-returns-in-Next : goal.begin_behind-returns-in-Next
-begin_behind-returns-in-Next t c =
+pub begin_later-returns-in-Next : goal.begin_later-returns-in-Next
+begin_later-returns-in-Next t c =
     on_ok_weaker c.push_begun-in-Next.result (λ grown.
     subst (λ p. Puts c.args.now.now c.args.rule (bound_in c.args.v.now) (plan_of p) c.args.into.now.items c.push_begun-in-Next.new.into.items) (sym c.in-Next.is)
     (next_begun c.args.now.now c.args.rule (bound_in c.args.v.now) c.in-Next.node c.in-Next.place c.in-Next.high (plan_of c.in-Next.body.value) (subst (λ p. CanAsk (guards_at c.args.now.now.tables.now) (plan_of p) (bound_in c.args.v.now)) c.in-Next.is c.requires.asked) (subst (λ p. AllByRecursion EndsInTime (nodes (plan_of p))) c.in-Next.is c.requires.ends) c.args.into.now.items c.push_begun-in-Next.new.into.items grown))
@@ -268,27 +269,27 @@ begin_behind-returns-in-Cause-2 t c =
     (asked_nothing c.args.now.now c.args.rule (Suppress k.0 k.1 k.2 k.3) (λ trace. Begun trace c.args.rule (Suppress k.0 k.1 k.2 k.3) (bound_in c.args.v.now)) c.args.into.now.items (λ trace is. refl)))
     c.in-Cause.is
 
-pub begin_under-loop-row-init : goal.begin_under-loop-row-init
-begin_under-loop-row-init t c =
+pub begin_under-loop-place-init : goal.begin_under-loop-place-init
+begin_under-loop-place-init t c =
     asked_nothing c.args.now.now c.args.rule (plan_of c.args.body.now) (λ trace. Gathers (λ r. Begun trace c.args.rule (plan_of c.args.body.now) (filled (bound_in c.args.v.now) c.args.rows.now.columns r)) []) c.args.into.now.items (λ trace is. refl)
 
-pub begin_under-loop-row-preserved : goal.begin_under-loop-row-preserved
-begin_under-loop-row-preserved t c =
-    let row = c.row-item.result in
-    let all : c.rows-row-items.result.now ≡ c.args.rows.now.rows = c.rows-row-items.ensures.rows in
-    let inner : filled (bound_in c.args.v.now) c.as_slice.result.now c.as_slice-in-loop-row.result.now ≡ filled (bound_in c.args.v.now) c.args.rows.now.columns row = (λ i. filled (bound_in c.args.v.now) ((c.as_slice.ensures ∙ c.columns.ensures.columns) i) (c.as_slice-in-loop-row.ensures i)) in
+pub begin_under-loop-place-preserved : goal.begin_under-loop-place-preserved
+begin_under-loop-place-preserved t c =
+    let row = c.row.result.now in
+    let long : c.len-place-end.result ≡ length c.args.rows.now.rows = c.len-place-end.ensures in
+    let inner : filled (bound_in c.args.v.now) c.columns.result.now row ≡ filled (bound_in c.args.v.now) c.args.rows.now.columns row = (λ i. filled (bound_in c.args.v.now) (c.columns.ensures i) row) in
     asked_both c.args.now.now c.args.rule (plan_of c.args.body.now) (plan_of c.args.body.now) (plan_of c.args.body.now) (λ n there. there) (λ n there. there)
-    (λ trace. Gathers (λ r. Begun trace c.args.rule (plan_of c.args.body.now) (filled (bound_in c.args.v.now) c.args.rows.now.columns r)) (take c.loop-row.row-index c.args.rows.now.rows))
+    (λ trace. Gathers (λ r. Begun trace c.args.rule (plan_of c.args.body.now) (filled (bound_in c.args.v.now) c.args.rows.now.columns r)) (take c.loop-place.place c.args.rows.now.rows))
     (λ trace. Begun trace c.args.rule (plan_of c.args.body.now) (filled (bound_in c.args.v.now) c.args.rows.now.columns row))
-    (λ trace. Gathers (λ r. Begun trace c.args.rule (plan_of c.args.body.now) (filled (bound_in c.args.v.now) c.args.rows.now.columns r)) (take (c.loop-row.row-index + 1) c.args.rows.now.rows))
-    c.args.into.now.items c.loop-row.into.items c.begin_behind.new.into.items
-    (λ trace xs ys before is. gathers_one_more (λ r. Begun trace c.args.rule (plan_of c.args.body.now) (filled (bound_in c.args.v.now) c.args.rows.now.columns r)) c.args.rows.now.rows c.loop-row.row-index row xs ys
-    (subst (λ (l : List (List Value)). c.loop-row.row-index < length l) all c.loop-row-test.true) (subst (λ l. row ≡ get_or l c.loop-row.row-index row) all c.row-item.is) before is)
-    c.loop-row.invariant
-    (subst (λ (v : Valuation). AddsAsked c.args.now.now c.args.rule (plan_of c.args.body.now) (λ trace. Begun trace c.args.rule (plan_of c.args.body.now) v) c.loop-row.into.items c.begin_behind.new.into.items) inner c.in_ok-begin_behind.ensures)
+    (λ trace. Gathers (λ r. Begun trace c.args.rule (plan_of c.args.body.now) (filled (bound_in c.args.v.now) c.args.rows.now.columns r)) (take (c.loop-place.place + 1) c.args.rows.now.rows))
+    c.args.into.now.items c.loop-place.into.items c.begin_behind.new.into.items
+    (λ trace xs ys before is. gathers_one_more (λ r. Begun trace c.args.rule (plan_of c.args.body.now) (filled (bound_in c.args.v.now) c.args.rows.now.columns r)) c.args.rows.now.rows c.loop-place.place row xs ys
+    (subst (λ n. c.loop-place.place < n) long c.loop-place-test.true) (sym (get_or_from_slice_get c.args.rows.now.rows c.loop-place.place row row c.row.ensures)) before is)
+    c.loop-place.invariant
+    (subst (λ (v : Valuation). AddsAsked c.args.now.now c.args.rule (plan_of c.args.body.now) (λ trace. Begun trace c.args.rule (plan_of c.args.body.now) v) c.loop-place.into.items c.begin_behind.new.into.items) inner c.in_ok-begin_behind.ensures)
 
 pub begin_under-returns : goal.begin_under-returns
 begin_under-returns t c =
-    let all : c.rows-row-items.result.now ≡ c.args.rows.now.rows = c.rows-row-items.ensures.rows in
-    subst (λ (l : List (List Value)). AddsAsked c.args.now.now c.args.rule (plan_of c.args.body.now) (λ trace. Gathers (λ r. Begun trace c.args.rule (plan_of c.args.body.now) (filled (bound_in c.args.v.now) c.args.rows.now.columns r)) l) c.args.into.now.items c.loop-row.into.items)
-    (take_all c.loop-row.row-index c.args.rows.now.rows (subst (λ (l : List (List Value)). length l ≤ c.loop-row.row-index) all c.loop-row-test.false)) c.loop-row.invariant
+    let long : c.len-place-end.result ≡ length c.args.rows.now.rows = c.len-place-end.ensures in
+    subst (λ (l : List (List Value)). AddsAsked c.args.now.now c.args.rule (plan_of c.args.body.now) (λ trace. Gathers (λ r. Begun trace c.args.rule (plan_of c.args.body.now) (filled (bound_in c.args.v.now) c.args.rows.now.columns r)) l) c.args.into.now.items c.loop-place.into.items)
+    (take_all c.loop-place.place c.args.rows.now.rows (subst (λ n. n ≤ c.loop-place.place) long c.loop-place-test.false)) c.loop-place.invariant

@@ -1,6 +1,7 @@
 use Rattle.std.specs.Prelude.{IfSome, None, Some, false, not}
-use Rattle.std.proofs.Common.{rules, ◌≡◌, ◌<◌, ◌≤◌, ◌∙◌, List, [], length, get_or, sym, subst, arith}
+use Rattle.std.proofs.Common.{rules, ◌≡◌, ◌<◌, ◌≤◌, List, [], length, sym, subst, arith}
 use Rattle.std.proofs.lemmas.List.{take_all}
+use Rattle.std.proofs.lemmas.Option.{get_or_from_slice_get}
 use Rattle.std.proofs.lemmas.Result.{IfOk-weaker}
 use Rattle.enf_value.specs.declared.steps.Step.{Step}
 use Rattle.enf_value.specs.declared.values.Value.{Value}
@@ -31,13 +32,13 @@ find_missing-returns-then-branch-2-clause-first t c =
     subst (λ p. First c.args.now.now (bound_in c.args.v.now) (plan_of p) None) (sym c.in-TestOr.is)
     (test_none c.args.now.now (bound_in c.args.v.now) c.in-TestOr.guard (tree_of c.in-TestOr.test.value) c.requires.scope can.0.0 c.requires.fits.binds c.in-TestOr.node (plan_of c.in-TestOr.body.value) can.0.1 c.in_ok-holds_under-in-TestOr.field-0 c.in_ok-holds_under-in-TestOr.ensures.evaluated c.if-branch-2.true)
 
-pub find_missing-rows_under-requires-clause-within : goal.find_missing-rows_under-requires-clause-within
-find_missing-rows_under-requires-clause-within t c =
+pub find_missing-told_under-requires-clause-within : goal.find_missing-told_under-requires-clause-within
+find_missing-told_under-requires-clause-within t c =
     let can = subst (λ p. CanAskIn (guards_at c.args.now.now.tables.now) (plan_of p) c.requires.scope) c.in-Guarded.is c.requires.can in
     within c.args.now.now.tables.now c.in-Guarded.guard (tree_of c.in-Guarded.test.value) c.requires.scope can.0.0
 
-pub find_missing-rows_under-requires-clause-binds : goal.find_missing-rows_under-requires-clause-binds
-find_missing-rows_under-requires-clause-binds t c =
+pub find_missing-told_under-requires-clause-binds : goal.find_missing-told_under-requires-clause-binds
+find_missing-told_under-requires-clause-binds t c =
     let can = subst (λ p. CanAskIn (guards_at c.args.now.now.tables.now) (plan_of p) c.requires.scope) c.in-Guarded.is c.requires.can in
     binds_bound c.args.now.now.tables.now c.in-Guarded.guard (tree_of c.in-Guarded.test.value) c.requires.scope can.0.0 (bound_in c.args.v.now) c.requires.fits.binds
 
@@ -171,31 +172,31 @@ find_missing-returns-else-low-eq0-clause-wanted t c =
 
 pub find_under-returns-in-Some-clause-first : goal.find_under-returns-in-Some-clause-first
 find_under-returns-in-Some-clause-first t c =
-    let row = c.row-item.result in
-    let all : c.rows-row-items.result.now ≡ c.args.rows.now.rows = c.rows-row-items.ensures.rows in
-    let inner : filled (bound_in c.args.v.now) c.as_slice.result.now c.as_slice-in-loop-row.result.now ≡ filled (bound_in c.args.v.now) c.args.rows.now.columns row = (λ i. filled (bound_in c.args.v.now) ((c.as_slice.ensures ∙ c.columns.ensures.columns) i) (c.as_slice-in-loop-row.ensures i)) in
-    let below = subst (λ (l : List (List Value)). c.loop-row.row-index < length l) all c.loop-row-test.true in
-    let at = subst (λ l. row ≡ get_or l c.loop-row.row-index row) all c.row-item.is in
-    λ trace is. gathers_first (λ row. Missing trace (plan_of c.args.body.now) (filled (bound_in c.args.v.now) c.args.rows.now.columns row)) c.args.rows.now.rows c.loop-row.row-index row c.in-Some.literal below at
+    let row = c.row.result.now in
+    let long : c.len-place-end.result ≡ length c.args.rows.now.rows = c.len-place-end.ensures in
+    let inner : filled (bound_in c.args.v.now) c.columns.result.now row ≡ filled (bound_in c.args.v.now) c.args.rows.now.columns row = (λ i. filled (bound_in c.args.v.now) (c.columns.ensures i) row) in
+    let below = subst (λ n. c.loop-place.place < n) long c.loop-place-test.true in
+    let at = sym (get_or_from_slice_get c.args.rows.now.rows c.loop-place.place row row c.row.ensures) in
+    λ trace is. gathers_first (λ row. Missing trace (plan_of c.args.body.now) (filled (bound_in c.args.v.now) c.args.rows.now.columns row)) c.args.rows.now.rows c.loop-place.place row c.in-Some.literal below at
     (λ r there. c.missing_exists.ensures.missing (guards_at c.args.now.now.tables.now) trace (plan_of c.args.body.now) (filled (bound_in c.args.v.now) c.args.rows.now.columns r) (c.requires r there))
-    (c.loop-row.invariant trace is)
-    (subst (λ v. FirstOf (Missing trace (plan_of c.args.body.now) v) (Some c.in-Some.literal)) inner (subst (FirstOf (Missing trace (plan_of c.args.body.now) (filled (bound_in c.args.v.now) c.as_slice.result.now c.as_slice-in-loop-row.result.now))) c.in-Some.is (c.in_ok-literal.ensures.first trace is)))
+    (c.loop-place.invariant trace is)
+    (subst (λ v. FirstOf (Missing trace (plan_of c.args.body.now) v) (Some c.in-Some.literal)) inner (subst (FirstOf (Missing trace (plan_of c.args.body.now) (filled (bound_in c.args.v.now) c.columns.result.now row))) c.in-Some.is (c.in_ok-literal.ensures.first trace is)))
 
-pub find_under-loop-row-preserved : goal.find_under-loop-row-preserved
-find_under-loop-row-preserved t c =
-    let row = c.row-item.result in
-    let all : c.rows-row-items.result.now ≡ c.args.rows.now.rows = c.rows-row-items.ensures.rows in
-    let inner : filled (bound_in c.args.v.now) c.as_slice.result.now c.as_slice-in-loop-row.result.now ≡ filled (bound_in c.args.v.now) c.args.rows.now.columns row = (λ i. filled (bound_in c.args.v.now) ((c.as_slice.ensures ∙ c.columns.ensures.columns) i) (c.as_slice-in-loop-row.ensures i)) in
-    let below = subst (λ (l : List (List Value)). c.loop-row.row-index < length l) all c.loop-row-test.true in
-    let at = subst (λ l. row ≡ get_or l c.loop-row.row-index row) all c.row-item.is in
-    λ trace is. gathers_one_more (λ row. Missing trace (plan_of c.args.body.now) (filled (bound_in c.args.v.now) c.args.rows.now.columns row)) c.args.rows.now.rows c.loop-row.row-index row [] [] below at (c.loop-row.invariant trace is)
-    (subst (λ v. Missing trace (plan_of c.args.body.now) v []) inner (subst (FirstOf (Missing trace (plan_of c.args.body.now) (filled (bound_in c.args.v.now) c.as_slice.result.now c.as_slice-in-loop-row.result.now))) c.in_default.is (c.in_ok-literal.ensures.first trace is)))
+pub find_under-loop-place-preserved : goal.find_under-loop-place-preserved
+find_under-loop-place-preserved t c =
+    let row = c.row.result.now in
+    let long : c.len-place-end.result ≡ length c.args.rows.now.rows = c.len-place-end.ensures in
+    let inner : filled (bound_in c.args.v.now) c.columns.result.now row ≡ filled (bound_in c.args.v.now) c.args.rows.now.columns row = (λ i. filled (bound_in c.args.v.now) (c.columns.ensures i) row) in
+    let below = subst (λ n. c.loop-place.place < n) long c.loop-place-test.true in
+    let at = sym (get_or_from_slice_get c.args.rows.now.rows c.loop-place.place row row c.row.ensures) in
+    λ trace is. gathers_one_more (λ row. Missing trace (plan_of c.args.body.now) (filled (bound_in c.args.v.now) c.args.rows.now.columns row)) c.args.rows.now.rows c.loop-place.place row [] [] below at (c.loop-place.invariant trace is)
+    (subst (λ v. Missing trace (plan_of c.args.body.now) v []) inner (subst (FirstOf (Missing trace (plan_of c.args.body.now) (filled (bound_in c.args.v.now) c.columns.result.now row))) c.in_default.is (c.in_ok-literal.ensures.first trace is)))
 
 pub find_under-returns-clause-first : goal.find_under-returns-clause-first
 find_under-returns-clause-first t c =
-    let all : c.rows-row-items.result.now ≡ c.args.rows.now.rows = c.rows-row-items.ensures.rows in
+    let long : c.len-place-end.result ≡ length c.args.rows.now.rows = c.len-place-end.ensures in
     λ trace is. subst (λ (l : List (List Value)). Gathers (λ row. Missing trace (plan_of c.args.body.now) (filled (bound_in c.args.v.now) c.args.rows.now.columns row)) l [])
-    (take_all c.loop-row.row-index c.args.rows.now.rows (subst (λ (l : List (List Value)). length l ≤ c.loop-row.row-index) all c.loop-row-test.false)) (c.loop-row.invariant trace is)
+    (take_all c.loop-place.place c.args.rows.now.rows (subst (λ n. n ≤ c.loop-place.place) long c.loop-place-test.false)) (c.loop-place.invariant trace is)
 
 pub misses_nothing-returns-in-Cause : goal.misses_nothing-returns-in-Cause
 misses_nothing-returns-in-Cause t c =

@@ -18,6 +18,6 @@ decreases-find_under l = 2 * length (nodes (plan_of l.body.now)) + 1
 abbrev pub decreases-misses_nothing : goal.decreases-misses_nothing
 decreases-misses_nothing l = 2 * length (nodes (plan_of l.plan.now)) + 1
 
-abbrev pub invariant-find_under-loop-row : goal.invariant-find_under-loop-row
-invariant-find_under-loop-row l = (trace : List Step) → IsNowOf l.now trace
-    → Gathers (λ row. Missing trace (plan_of l.body) (filled (bound_in l.v) l.rows.columns row)) (take l.row-index l.rows.rows) []
+abbrev pub invariant-find_under-loop-place : goal.invariant-find_under-loop-place
+invariant-find_under-loop-place l = (trace : List Step) → IsNowOf l.now trace
+    → Gathers (λ row. Missing trace (plan_of l.body) (filled (bound_in l.v) l.rows.columns row)) (take l.place l.rows.rows) []

@@ -1,7 +1,9 @@
 use Rattle.std.specs.Prelude.{true, false, ◌+◌}
-use Rattle.std.proofs.Common.{rules, ◌≡◌, Contains, ◌<◌, ◌≤◌, ◌∙◌, List, length, get_or, take, sym, subst, arith}
+use Rattle.std.proofs.Common.{rules, ◌≡◌, ◌<◌, ◌≤◌, List, length, take, sym, subst, arith}
 use Rattle.std.proofs.lemmas.List.{take_all}
+use Rattle.std.proofs.lemmas.Option.{get_or_from_slice_get}
 use Rattle.std.proofs.lemmas.Result.{on_ok_weaker}
+use Rattle.enf_value.specs.ListLaws.{there_from_get}
 use Rattle.enf_value.specs.Valuations.{Valuation}
 use Rattle.enf_value.specs.declared.values.Value.{Value}
 use Rattle.enf_formula.specs.Formulas.{tree_of}
@@ -47,13 +49,13 @@ push_missing-returns-then-branch-2-clause-listed t c =
     (test_nothing c.args.now.now (bound_in c.args.v.now) c.in-TestOr.guard (tree_of c.in-TestOr.test.value) c.requires.scope can.0.0 c.requires.fits.binds
     c.in-TestOr.node (plan_of c.in-TestOr.body.value) c.args.out.now.items can.0.1 c.in_ok-holds_under-in-TestOr.field-0 c.in_ok-holds_under-in-TestOr.ensures.evaluated c.if-branch-2.true)
 
-pub push_missing-rows_under-requires-clause-within : goal.push_missing-rows_under-requires-clause-within
-push_missing-rows_under-requires-clause-within t c =
+pub push_missing-told_under-requires-clause-within : goal.push_missing-told_under-requires-clause-within
+push_missing-told_under-requires-clause-within t c =
     let can = subst (λ p. CanAskIn (guards_at c.args.now.now.tables.now) (plan_of p) c.requires.scope) c.in-Guarded.is c.requires.can in
     within c.args.now.now.tables.now c.in-Guarded.guard (tree_of c.in-Guarded.test.value) c.requires.scope can.0.0
 
-pub push_missing-rows_under-requires-clause-binds : goal.push_missing-rows_under-requires-clause-binds
-push_missing-rows_under-requires-clause-binds t c =
+pub push_missing-told_under-requires-clause-binds : goal.push_missing-told_under-requires-clause-binds
+push_missing-told_under-requires-clause-binds t c =
     let can = subst (λ p. CanAskIn (guards_at c.args.now.now.tables.now) (plan_of p) c.requires.scope) c.in-Guarded.is c.requires.can in
     binds_bound c.args.now.now.tables.now c.in-Guarded.guard (tree_of c.in-Guarded.test.value) c.requires.scope can.0.0 (bound_in c.args.v.now) c.requires.fits.binds
 
@@ -130,32 +132,32 @@ push_missing-returns-else-low-eq0-clause-listed t c =
     (subst (λ p. Adds c.args.now.now (λ trace. Missing trace (plan_of p) (bound_in c.args.v.now)) c.args.out.now.items c.push_missing-in-Until.new.out.items) c.deref-in-Until.ensures adds)))
     c.push_missing-in-Until.ensures.listed
 
-pub push_under-loop-row-preserved : goal.push_under-loop-row-preserved
-push_under-loop-row-preserved t c =
-    let row = c.row-item.result in
-    let all : c.rows-row-items.result.now ≡ c.args.rows.now.rows = c.rows-row-items.ensures.rows in
-    let inner : filled (bound_in c.args.v.now) c.as_slice.result.now c.as_slice-in-loop-row.result.now ≡ filled (bound_in c.args.v.now) c.args.rows.now.columns row = (λ i. filled (bound_in c.args.v.now) ((c.as_slice.ensures ∙ c.columns.ensures.columns) i) (c.as_slice-in-loop-row.ensures i)) in (
+pub push_under-loop-place-preserved : goal.push_under-loop-place-preserved
+push_under-loop-place-preserved t c =
+    let row = c.row.result.now in
+    let long : c.len-place-end.result ≡ length c.args.rows.now.rows = c.len-place-end.ensures in
+    let inner : filled (bound_in c.args.v.now) c.columns.result.now row ≡ filled (bound_in c.args.v.now) c.args.rows.now.columns row = (λ i. filled (bound_in c.args.v.now) (c.columns.ensures i) row) in (
       adds_both c.args.now.now
-          (λ trace. Gathers (λ r. Missing trace (plan_of c.args.body.now) (filled (bound_in c.args.v.now) c.args.rows.now.columns r)) (take c.loop-row.row-index c.args.rows.now.rows))
+          (λ trace. Gathers (λ r. Missing trace (plan_of c.args.body.now) (filled (bound_in c.args.v.now) c.args.rows.now.columns r)) (take c.loop-place.place c.args.rows.now.rows))
           (λ trace. Missing trace (plan_of c.args.body.now) (filled (bound_in c.args.v.now) c.args.rows.now.columns row))
-          (λ trace. Gathers (λ r. Missing trace (plan_of c.args.body.now) (filled (bound_in c.args.v.now) c.args.rows.now.columns r)) (take (c.loop-row.row-index + 1) c.args.rows.now.rows))
-          c.args.out.now.items c.loop-row.out.items c.push_missing.new.out.items
-          (λ trace xs ys before is. gathers_one_more (λ r. Missing trace (plan_of c.args.body.now) (filled (bound_in c.args.v.now) c.args.rows.now.columns r)) c.args.rows.now.rows c.loop-row.row-index row xs ys
-          (subst (λ (l : List (List Value)). c.loop-row.row-index < length l) all c.loop-row-test.true) (subst (λ l. row ≡ get_or l c.loop-row.row-index row) all c.row-item.is) before is)
-          c.loop-row.invariant.0
-          (subst (λ (v : Valuation). Adds c.args.now.now (λ trace. Missing trace (plan_of c.args.body.now) v) c.loop-row.out.items c.push_missing.new.out.items) inner c.in_ok-push_missing.ensures.listed),
-      adds_more (IsWantedUnder c.args.now.now (plan_of c.args.body.now) (bound_in c.args.v.now) c.args.rows.now) c.args.out.now.items c.loop-row.out.items c.push_missing.new.out.items
-          c.loop-row.invariant.1
-          (adds_of (IsWanted c.args.now.now (plan_of c.args.body.now) (filled (bound_in c.args.v.now) c.args.rows.now.columns row)) (IsWantedUnder c.args.now.now (plan_of c.args.body.now) (bound_in c.args.v.now) c.args.rows.now) c.loop-row.out.items c.push_missing.new.out.items
-          (λ l wanted. record { row = row; there = subst (λ (l : List (List Value)). Contains l row) all (c.loop-row.row-index, c.loop-row-test.true, sym c.row-item.is); wanted = wanted })
-          (subst (λ (v : Valuation). AddsOf (IsWanted c.args.now.now (plan_of c.args.body.now) v) c.loop-row.out.items c.push_missing.new.out.items) inner c.in_ok-push_missing.ensures.wanted)),
+          (λ trace. Gathers (λ r. Missing trace (plan_of c.args.body.now) (filled (bound_in c.args.v.now) c.args.rows.now.columns r)) (take (c.loop-place.place + 1) c.args.rows.now.rows))
+          c.args.out.now.items c.loop-place.out.items c.push_missing.new.out.items
+          (λ trace xs ys before is. gathers_one_more (λ r. Missing trace (plan_of c.args.body.now) (filled (bound_in c.args.v.now) c.args.rows.now.columns r)) c.args.rows.now.rows c.loop-place.place row xs ys
+          (subst (λ n. c.loop-place.place < n) long c.loop-place-test.true) (sym (get_or_from_slice_get c.args.rows.now.rows c.loop-place.place row row c.row.ensures)) before is)
+          c.loop-place.invariant.0
+          (subst (λ (v : Valuation). Adds c.args.now.now (λ trace. Missing trace (plan_of c.args.body.now) v) c.loop-place.out.items c.push_missing.new.out.items) inner c.in_ok-push_missing.ensures.listed),
+      adds_more (IsWantedUnder c.args.now.now (plan_of c.args.body.now) (bound_in c.args.v.now) c.args.rows.now) c.args.out.now.items c.loop-place.out.items c.push_missing.new.out.items
+          c.loop-place.invariant.1
+          (adds_of (IsWanted c.args.now.now (plan_of c.args.body.now) (filled (bound_in c.args.v.now) c.args.rows.now.columns row)) (IsWantedUnder c.args.now.now (plan_of c.args.body.now) (bound_in c.args.v.now) c.args.rows.now) c.loop-place.out.items c.push_missing.new.out.items
+          (λ l wanted. record { row = row; there = there_from_get c.args.rows.now.rows c.loop-place.place row c.row.ensures; wanted = wanted })
+          (subst (λ (v : Valuation). AddsOf (IsWanted c.args.now.now (plan_of c.args.body.now) v) c.loop-place.out.items c.push_missing.new.out.items) inner c.in_ok-push_missing.ensures.wanted)),
     )
 
 pub push_under-returns-clause-listed : goal.push_under-returns-clause-listed
 push_under-returns-clause-listed t c =
-    let all : c.rows-row-items.result.now ≡ c.args.rows.now.rows = c.rows-row-items.ensures.rows in
-    subst (λ (l : List (List Value)). Adds c.args.now.now (λ trace. Gathers (λ r. Missing trace (plan_of c.args.body.now) (filled (bound_in c.args.v.now) c.args.rows.now.columns r)) l) c.args.out.now.items c.loop-row.out.items)
-    (take_all c.loop-row.row-index c.args.rows.now.rows (subst (λ (l : List (List Value)). length l ≤ c.loop-row.row-index) all c.loop-row-test.false)) c.loop-row.invariant.0
+    let long : c.len-place-end.result ≡ length c.args.rows.now.rows = c.len-place-end.ensures in
+    subst (λ (l : List (List Value)). Adds c.args.now.now (λ trace. Gathers (λ r. Missing trace (plan_of c.args.body.now) (filled (bound_in c.args.v.now) c.args.rows.now.columns r)) l) c.args.out.now.items c.loop-place.out.items)
+    (take_all c.loop-place.place c.args.rows.now.rows (subst (λ n. n ≤ c.loop-place.place) long c.loop-place-test.false)) c.loop-place.invariant.0
 
 pub push_missing-returns-in_ok-cause_missing-in-Cause-clause-wanted : goal.push_missing-returns-in_ok-cause_missing-in-Cause-clause-wanted
 push_missing-returns-in_ok-cause_missing-in-Cause-clause-wanted t c =
@@ -215,7 +217,7 @@ push_missing-returns-in_ok-rows-in-Guarded-clause-wanted t c =
     c.push_under.ensures.wanted
 
 pub push_under-returns-clause-wanted : goal.push_under-returns-clause-wanted
-push_under-returns-clause-wanted t c = c.loop-row.invariant.1
+push_under-returns-clause-wanted t c = c.loop-place.invariant.1
 
 pub push_missing-returns-in_ok-push_missing-in-Both-clause-wanted : goal.push_missing-returns-in_ok-push_missing-in-Both-clause-wanted
 push_missing-returns-in_ok-push_missing-in-Both-clause-wanted t c =

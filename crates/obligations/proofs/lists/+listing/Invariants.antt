@@ -14,7 +14,7 @@ decreases-push_missing l = 2 * length (nodes (plan_of l.plan.now))
 abbrev pub decreases-push_under : goal.decreases-push_under
 decreases-push_under l = 2 * length (nodes (plan_of l.body.now)) + 1
 
-abbrev pub invariant-push_under-loop-row : goal.invariant-push_under-loop-row
-invariant-push_under-loop-row l =
-    Adds l.now (λ trace. Gathers (λ row. Missing trace (plan_of l.body) (filled (bound_in l.v) l.rows.columns row)) (take l.row-index l.rows.rows)) l.fn.out.items l.out.items
+abbrev pub invariant-push_under-loop-place : goal.invariant-push_under-loop-place
+invariant-push_under-loop-place l =
+    Adds l.now (λ trace. Gathers (λ row. Missing trace (plan_of l.body) (filled (bound_in l.v) l.rows.columns row)) (take l.place l.rows.rows)) l.fn.out.items l.out.items
     × AddsOf (IsWantedUnder l.now (plan_of l.body) (bound_in l.v) l.rows) l.fn.out.items l.out.items
