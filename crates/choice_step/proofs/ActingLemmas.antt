@@ -1,12 +1,12 @@
 -- What is left of what a root misses after an action on a name that no plan looks for, and the first that misses something
 -- there.
-use Rattle.std.proofs.Common.{◌≡◌, ◌⊎◌, ◌↔◌, ℕ, zero, suc, ◌+◌, ◌<◌, Bool, List, [], ◌∷◌, ◌++◌, Some, length, map, Contains, drop, get_or, take, refl, sym, subst, ap, ◌∙◌, ⊎_elim, inl, inr, arith, length-append}
+use Rattle.std.proofs.Common.{◌≡◌, ◌↔◌, ℕ, zero, suc, ◌+◌, ◌<◌, Bool, List, [], ◌∷◌, ◌++◌, Some, length, map, Contains, drop, get_or, take, refl, sym, subst, ap, ◌∙◌, ⊎_elim, inl, inr, arith, append-nil, append_assoc, length-append}
 use Rattle.std.specs.Prelude.{slice_get}
 use Rattle.std.specs.List.{AllByRecursion, flat_map}
 use Rattle.std.proofs.lemmas.List.Elements.{Contains-append_left, Contains-append_right, Contains-push, Contains-push_cases}
 use Rattle.std.proofs.lemmas.Option.{none-some, same_Some}
 use Rattle.enf_value.specs.Data.{no_step, step_at}
-use Rattle.enf_value.specs.ListLaws.{AllByRecursion-contains, Contains-append, first_or_later, here, later}
+use Rattle.enf_value.specs.ListLaws.{AllByRecursion-append, AllByRecursion-contains, Contains-append, first_or_later, here, later}
 use Rattle.enf_value.specs.Membership.{HasNoRepeats}
 use Rattle.enf_value.specs.MembershipLaws.{HasNoRepeats-middle}
 use Rattle.enf_value.specs.Valuations.{no_values}
@@ -15,7 +15,9 @@ use Rattle.enf_value.specs.declared.events.NameId.{NameId}
 use Rattle.enf_value.specs.declared.steps.Step.{Step}
 use Rattle.enf_value.specs.declared.terms.VarId.{VarId}
 use Rattle.enf_formula.specs.Formulas.{Formula}
-use Rattle.past_state.specs.Past.{Past}
+use Rattle.enf_formula.specs.Names.{HaveSameOf}
+use Rattle.past_state.specs.Past.{Past, guard_names}
+use Rattle.plan_terms.specs.Changes.{NothingClashes}
 use Rattle.plan_terms.specs.Nodes.{nodes}
 use Rattle.plan_terms.specs.Plans.{Plan, Cause, Suppress, Both, Either, TestOr, Guarded, Eventually, Always, Until, Next}
 use Rattle.obligations.specs.Asked.{Changes, IsLeaf, placed_guard}
@@ -31,17 +33,20 @@ use Rattle.obligations.specs.declared.instances.Instance.{Instance}
 use Rattle.obligations.specs.declared.literals.Literal.{Literal}
 use Rattle.obligations.specs.declared.literals.LiteralKind.{LiteralKind}
 use Rattle.obligations.specs.declared.literals.LiteralKind.TheVariants as kind
-use Rattle.choice_step.specs.Acting.{AllCanBeAsked, CanGoOn, IsFoundBehind}
-use Rattle.choice_step.specs.Choice.{Applies, IsFirst, MissesNothing, Root, Waiting, action_at, all_asked, is_forced, roots_from, with_step}
-use Rattle.choice_step.specs.Looking.{AreLiteralsBehind, GoesOn, IsActionFor, IsLeftAt, IsLiteralBehind, IsWantedBehind, IsWantedFrom, WillBeLeft, WillBeMet, WillFind}
+use Rattle.choice_step.specs.Acting.{AllCanBeAsked, AreSpared, AreSparedBehind, GoesFrom, HasNoChoices, IsFoundFrom}
+use Rattle.choice_step.specs.Choice.{Applies, MissesNothing, Root, Waiting, action_at, all_asked, is_forced, roots_from, with_step}
+use Rattle.choice_step.specs.Looking.{AreLiteralsBehind, GoesOn, IsActionFor, IsLeftAt, IsLiteralBehind, IsWantedFrom, WillBeLeft, WillBeMetBefore, WillFind}
+use Rattle.choice_step.specs.declared.looking.Place.{Place}
 use Rattle.choice_step.proofs.ActionLemmas.{in_whole, not_behind}
 use Rattle.choice_step.proofs.ChoiceLemmas.{last_step}
-use Rattle.choice_step.proofs.LookingLemmas.{found_behind}
+use Rattle.choice_step.proofs.LookingLemmas.{found_behind, one_more_root, root_first}
+use Rattle.choice_step.proofs.LoopLemmas.{role_of_leaf}
+use Rattle.choice_step.proofs.SparedLemmas.{spared_unread}
 
 -- ---- steps that differ in the event of an action
 
 -- what holds of each step and itself, and of the two last ones, holds of the steps at each position
-at_each : (P : Step → Step → Type 0) → ((s : Step) → P s s) → (a b : Step) → P a b → (trace : List Step) (i : ℕ)
+pub at_each : (P : Step → Step → Type 0) → ((s : Step) → P s s) → (a b : Step) → P a b → (trace : List Step) (i : ℕ)
     → P (step_at (trace ++ a ∷ []) i) (step_at (trace ++ b ∷ []) i)
 at_each P same a b last [] zero = last
 at_each P same a b last [] (suc i) = same no_step
@@ -201,7 +206,7 @@ module _ (met : UnreadStaysMet) (instances_met : UnreadInstanceStaysMet) (rest :
   differ : DiffersIn k event.name S S'
   differ = differs k event events after trace time applies
 
-  roots_stay : (rule number : ℕ) (ps : List Plan) → CanAskRoots guards ps → AllByRecursion (IsUnreadIn k event.name) ps
+  pub roots_stay : (rule number : ℕ) (ps : List Plan) → CanAskRoots guards ps → AllByRecursion (IsUnreadIn k event.name) ps
       → AllByRecursion (MissesNothing plans inserted S) (roots_from number (take rule ps))
       → AllByRecursion (MissesNothing plans inserted S') (roots_from number (take rule ps))
   roots_stay zero number ps can are none = tt
@@ -216,7 +221,7 @@ module _ (met : UnreadStaysMet) (instances_met : UnreadInstanceStaysMet) (rest :
       ap (λ (s : Step). s.time) (last_step trace (record { time = time; events = events }))
       ∙ sym (ap (λ (s : Step). s.time) (last_step trace (record { time = time; events = after })))
 
-  instances_stay : (is : List Instance) → AllByRecursion (CanAskOf guards plans) is
+  pub instances_stay : (is : List Instance) → AllByRecursion (CanAskOf guards plans) is
       → AllByRecursion (MissesNothing plans inserted S) (map Waiting is)
       → AllByRecursion (MissesNothing plans inserted S') (map Waiting is)
   instances_stay [] can none = tt
@@ -256,18 +261,6 @@ module _ (met : UnreadStaysMet) (instances_met : UnreadInstanceStaysMet) (rest :
 -- ---- the first
 
 module _ (plans : List Plan) (inserted : Bool) (trace : List Step) where
-  root_first : (rule number : ℕ) (ps : List Plan) (k : ℕ) (plan : Plan) (literal : Literal) (more : List Literal) → number ≡ rule + k
-      → slice_get ps k ≡ Some plan → AllByRecursion (MissesNothing plans inserted trace) (roots_from rule (take k ps))
-      → Missing trace plan no_values (literal ∷ more)
-      → IsFirst plans inserted trace (roots_from rule ps) (Root number plan) literal
-  root_first rule number [] k plan literal more at e none misses = absurd (none-some plan e)
-  root_first rule number (first ∷ ps) zero plan literal more at e none misses =
-      let same : first ≡ plan = same_Some first plan e in
-      let number_is : rule ≡ number = omega (arith, at) in
-      inl ((λ i. Root (number_is i) (same i)), more, subst (λ p. Missing trace p no_values (literal ∷ more)) (sym same) misses)
-  root_first rule number (first ∷ ps) (suc k) plan literal more at e none misses =
-      inr (none.0, root_first (suc rule) number ps k plan literal more (omega (arith, at)) e none.1 misses)
-
   pub found_root : (pending : List Instance) (rule : ℕ) (plan : Plan) (literal : Literal) (more : List Literal) (action : Action)
       → slice_get plans rule ≡ Some plan → AllByRecursion (MissesNothing plans inserted trace) (map Waiting pending)
       → AllByRecursion (MissesNothing plans inserted trace) (roots_from 0 (take rule plans))
@@ -275,7 +268,43 @@ module _ (plans : List Plan) (inserted : Bool) (trace : List Step) where
       → IsActionFor plans inserted trace (all_asked plans pending) (Some action)
   found_root pending rule plan literal more action there instances roots misses is =
       found_behind plans inserted trace (map Waiting pending) (roots_from 0 plans) (Some action) instances
-      (Root rule plan, literal, root_first 0 rule plans rule plan literal more (omega arith) there roots misses, is)
+      (Root rule plan, literal, root_first plans inserted trace 0 rule plans rule plan literal more (omega arith) there roots misses, is)
+
+-- ---- actions on names that nothing looks for
+
+-- lists behind the same list
+behind_same : {X : Type 0} (xs ys zs : List X) → xs ++ ys ≡ xs ++ zs → ys ≡ zs
+behind_same [] ys zs same = same
+behind_same (x ∷ xs) ys zs same = behind_same xs ys zs (ap (drop 1) same)
+
+pub spared_none : (names : List NameId) (actions : List Action) → AreSparedBehind names actions actions
+spared_none names actions = ([], sym (append-nil actions), tt)
+
+abbrev IsSpared : List NameId → Action → Type 0
+IsSpared names action = Contains names action.event.name → ⊥
+
+pub spared_more : (names : List NameId) (before between : List Action) (action : Action) (after : List Action)
+    → AreSparedBehind names before between → (Contains names action.event.name → ⊥) → after ≡ between ++ action ∷ []
+    → AreSparedBehind names before after
+spared_more names before between action after spared this is = (
+  spared.0 ++ action ∷ [],
+  is ∙ (ap (λ l. l ++ action ∷ []) spared.1 ∙ append_assoc before spared.0 (action ∷ [])),
+  AllByRecursion-append (IsSpared names) spared.0 (action ∷ []) spared.2 (this, tt),
+)
+
+pub spared_behind : (names : List NameId) (before between after : List Action) → AreSparedBehind names before between
+    → AreSparedBehind names between after → AreSparedBehind names before after
+spared_behind names before between after first next = (
+  first.0 ++ next.0,
+  next.1 ∙ (ap (λ l. l ++ next.0) first.1 ∙ append_assoc before first.0 next.0),
+  AllByRecursion-append (IsSpared names) first.0 next.0 first.2 next.2,
+)
+
+-- those that are spared are the ones that came behind
+pub spared_those : (names : List NameId) (before more after : List Action) → AreSparedBehind names before after
+    → after ≡ before ++ more → AreSpared names more
+spared_those names before more after spared is =
+    subst (AreSpared names) (behind_same before spared.0 more (sym spared.1 ∙ is)) spared.2
 
 -- ---- actions one behind the other
 
@@ -294,16 +323,6 @@ module _ (plans : List Plan) (pending : List Instance) (past : Past) (inserted :
   )
   goes_more given before (a ∷ actions) between action after (next, found, is_wanted, does, more) finds wanted applies =
       (next, found, is_wanted, does, goes_more given next actions between action after more finds wanted applies)
-
-  pub from_here : (events : List Event) (action : Action) → IsWantedBehind plans pending past events action
-      → IsWantedFrom plans pending past events events action
-  from_here events action wanted = record {
-    leaf = wanted.leaf;
-    there = wanted.there;
-    is = wanted.is;
-    changes = wanted.changes;
-    known = wanted.known;
-  }
 
   -- an action of a root for a literal that is wanted
   pub wanted_from : (given events : List Event) (rule : ℕ) (plan : Plan) (literal : Literal) (action : Action)
@@ -352,6 +371,23 @@ module _ (plans : List Plan) (pending : List Instance) (past : Past) (inserted :
         missing = l.missing;
       }
 
+  some_waiting : (forced : Bool) (now : List Step) (n : ℕ) (xs : List Instance)
+      → AllByRecursion (MissesNothing plans forced now) (map Waiting xs)
+      → AllByRecursion (MissesNothing plans forced now) (map Waiting (take n xs))
+  some_waiting forced now zero xs all = tt
+  some_waiting forced now (suc n) [] all = tt
+  some_waiting forced now (suc n) (x ∷ xs) all = (all.0, some_waiting forced now n xs all.1)
+
+  -- where none is left, the root misses nothing
+  pub met_behind : (events : List Event) (rule instances : ℕ) → WillBeLeft plans pending past inserted time position events rule []
+      → WillBeMetBefore plans pending past inserted time position events (record { instances = instances; rules = rule + 1 })
+  met_behind events rule instances left trace stands long not_later =
+      let l = left trace stands long not_later in
+      let now : List Step = with_step trace time events in (
+        some_waiting inserted now instances pending l.instances,
+        one_more_root plans inserted now plans rule l.plan l.there l.roots (subst (Missing now l.plan no_values) l.those l.missing),
+      )
+
   -- one that is wanted is the first that is missed
   pub finds_literal : (events : List Event) (rule : ℕ) (literal : Literal) (literals : List Literal) (action : Action)
       → Changes literal.kind literal.event events
@@ -372,6 +408,40 @@ module _ (plans : List Plan) (pending : List Instance) (past : Past) (inserted :
       (subst (Missing now l.plan no_values) has.3 l.missing) at)
       (λ lacks. absurd (lacks.0 (wanted_now trace events literal changes)))
       l.those
+
+  -- the step keeps its events of the names that are looked for
+  pub names_stay : (given before : List Event) (actions : List Action) (after : List Event) (names : List NameId)
+      → GoesOn plans pending past inserted time position given before actions after → AreSpared names actions
+      → HaveSameOf names before after
+  names_stay given before [] after names is spared event named =
+      (λ there. subst (λ l. Contains l event) (sym is) there, λ there. subst (λ l. Contains l event) is there)
+  names_stay given before (action ∷ actions) after names (between, finds, wanted, applies, more) spared event named =
+      let first = others_stay action.kind action.event before between applies event (λ same. spared.0 (subst (Contains names) same named)) in
+      let rest = names_stay given between actions after names more spared.1 event named in
+      (λ there. rest.0 (first.0 there), λ there. first.1 (rest.1 there))
+
+  -- actions lead on behind those that led there
+  pub goes_behind : (given before : List Event) (actions : List Action) (between : List Event) (more : List Action) (after : List Event)
+      → GoesOn plans pending past inserted time position given before actions between
+      → GoesOn plans pending past inserted time position given between more after
+      → GoesOn plans pending past inserted time position given before (actions ++ more) after
+  goes_behind given before [] between more after is goes =
+      subst (λ l. GoesOn plans pending past inserted time position given l more after) is goes
+  goes_behind given before (a ∷ actions) between more after (next, finds, wanted, applies, rest) goes =
+      (next, finds, wanted, applies, goes_behind given next actions between more after rest goes)
+
+  -- and behind what was found
+  pub acted_behind : (given before events after : List Event) (actions between all : List Action) (action : Action) (rule : ℕ)
+      (literals : List Literal) → IsFoundFrom plans pending past inserted time position given before action rule literals
+      → Applies action.kind action.event before events → between ≡ actions ++ action ∷ []
+      → GoesFrom plans pending past inserted time position given events between after all
+      → (more : List Action) × (all ≡ actions ++ action ∷ more)
+      × GoesOn plans pending past inserted time position given before (action ∷ more) after
+  acted_behind given before events after actions between all action rule literals found applies pushed goes = (
+    goes.0,
+    goes.1 ∙ (ap (λ l. l ++ goes.0) pushed ∙ append_assoc actions (action ∷ []) goes.0),
+    (events, found.finds, found.wanted, applies, goes.2),
+  )
 
   module _ (met : UnreadStaysMet) (instances_met : UnreadInstanceStaysMet) (rest : UnreadLeavesRest) (can : AllCanBeAsked plans pending past) where
     abbrev guards : List (Formula × List VarId)
@@ -402,35 +472,54 @@ module _ (plans : List Plan) (pending : List Instance) (past : Past) (inserted :
         l.those)
 
     -- after the first action what is left of all of them
-    pub left_first : (events after : List Event) (rule : ℕ) (action : Action) (literals : List Literal)
-        → 0 < length literals → Applies action.kind action.event events after → CanGoOn plans rule action.kind action.event.name
-        → IsFoundBehind plans pending past inserted time position events action rule literals
+    pub left_first : (given events after : List Event) (rule : ℕ) (action : Action) (literals : List Literal)
+        → 0 < length literals → Applies action.kind action.event events after
+        → AllByRecursion (IsUnreadIn action.kind action.event.name) plans → HasNoChoices plans rule
+        → IsFoundFrom plans pending past inserted time position given events action rule literals
         → WillBeLeft plans pending past inserted time position after rule literals
-    left_first events after rule action literals some applies goes found trace stands long not_later =
+    left_first given events after rule action literals some applies unread goes found trace stands long not_later =
         let was = found.rest trace stands long not_later some in
-        left_after met instances_met rest plans inserted guards action.kind action.event events after trace time applies goes.unread
+        left_after met instances_met rest plans inserted guards action.kind action.event events after trace time applies unread
         pending rule goes.plan literals literals can.roots can.instances goes.there goes.plain was.0 was.1.0
         (was.1.1 goes.plan goes.there goes.plain) (λ left those. those)
 
-    -- the first so many that missed nothing miss nothing after an action on a name that no plan looks for
-    pub met_behind : (events after : List Event) (from : ℕ) (k : LiteralKind) (event : Event) → Applies k event events after
-        → AllByRecursion (IsUnreadIn k event.name) plans → WillBeMet plans pending past inserted time position events from
-        → WillBeMet plans pending past inserted time position after from
-    met_behind events after from k event applies unread met_before trace stands long not_later =
-        instances_stay met instances_met rest plans inserted guards k event events after trace time applies unread
-        (take from pending) (some_can from pending can.instances) (met_before trace stands long not_later)
-      where
-        some_can : (n : ℕ) (is : List Instance) → AllByRecursion (CanAskOf guards plans) is → AllByRecursion (CanAskOf guards plans) (take n is)
-        some_can zero is all = tt
-        some_can (suc n) [] all = tt
-        some_can (suc n) (i ∷ is) all = (all.0, some_can n is all.1)
+    pub left_spared : NothingClashes plans → (given events after : List Event) (rule : ℕ) (action : Action) (literals : List Literal)
+        → 0 < length literals → Applies action.kind action.event events after
+        → (Contains (guard_names past.guards) action.event.name → ⊥) → HasNoChoices plans rule
+        → IsFoundFrom plans pending past inserted time position given events action rule literals
+        → WillBeLeft plans pending past inserted time position after rule literals
+    left_spared nothing given events after rule action literals some applies apart goes found =
+        let wanted = found.wanted in
+        left_first given events after rule action literals some applies
+        (spared_unread plans past.guards action.kind action.event.name nothing
+        (role_of_leaf plans wanted.leaf action.kind action.leaf action.event wanted.there wanted.is) can.roots apart)
+        goes found
 
-    pub keeps_place : (events after : List Event) (from place : ℕ) (k : LiteralKind) (event : Event) → Applies k event events after
-        → (place ≡ 0) ⊎ ((place ≡ from) × AllByRecursion (IsUnreadIn k event.name) plans)
-        → WillBeMet plans pending past inserted time position events from
-        → WillBeMet plans pending past inserted time position after place
-    keeps_place events after from place k event applies which met_before =
-        ⊎_elim
-        (λ start. subst (WillBeMet plans pending past inserted time position after) (sym start) (λ trace stands long not_later. tt))
-        (λ kept. subst (WillBeMet plans pending past inserted time position after) (sym kept.0) (met_behind events after from k event applies kept.1 met_before))
-        which
+    -- ---- what stays after actions that nothing looks for
+
+    instances_all : (n : ℕ) (is : List Instance) → AllByRecursion (CanAskOf guards plans) is
+        → AllByRecursion (CanAskOf guards plans) (take n is)
+    instances_all zero is all = tt
+    instances_all (suc n) [] all = tt
+    instances_all (suc n) (i ∷ is) all = (all.0, instances_all n is all.1)
+
+    -- what was met before a place is met there
+    pub place_stays : NothingClashes plans → (given before : List Event) (actions : List Action) (after : List Event) (place : Place)
+        → GoesOn plans pending past inserted time position given before actions after
+        → AreSpared (guard_names past.guards) actions
+        → WillBeMetBefore plans pending past inserted time position before place
+        → WillBeMetBefore plans pending past inserted time position after place
+    place_stays nothing given before [] after place is spared was =
+        subst (λ l. WillBeMetBefore plans pending past inserted time position l place) (sym is) was
+    place_stays nothing given before (action ∷ actions) after place (between, finds, wanted, applies, more) spared was =
+        let unread : AllByRecursion (IsUnreadIn action.kind action.event.name) plans =
+        spared_unread plans past.guards action.kind action.event.name nothing
+        (role_of_leaf plans wanted.leaf action.kind action.leaf action.event wanted.there wanted.is) can.roots spared.0
+        in
+        place_stays nothing given between actions after place more spared.1
+        (λ trace stands long later. let at = was trace stands long later in (
+          instances_stay met instances_met rest plans inserted guards action.kind action.event before between trace time applies unread
+              (take place.instances pending) (instances_all place.instances pending can.instances) at.0,
+          roots_stay met instances_met rest plans inserted guards action.kind action.event before between trace time applies unread
+              place.rules 0 plans can.roots unread at.1,
+        ))

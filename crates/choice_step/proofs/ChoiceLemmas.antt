@@ -124,7 +124,7 @@ distinct_applied Cause event before after trace events wanted distinct is =
 distinct_applied Suppress event before after trace events wanted distinct taken =
     subst HasNoRepeats (sym taken.is) (distinct_rest taken.front taken.back event (subst HasNoRepeats taken.was distinct))
 
-first_leaves_distinct : (plans : List Plan) (trace : List Step) (pending : List Instance) (inserted : Bool) (time : ℕ)
+pub first_leaves_distinct : (plans : List Plan) (trace : List Step) (pending : List Instance) (inserted : Bool) (time : ℕ)
     (before after : List Event) (asked : Candidate) (literal : Literal) → HasNoRepeats before
     → IsFirst plans inserted (with_step trace time before) (all_asked plans pending) asked literal
     → Applies literal.kind literal.event before after → HasNoRepeats after

@@ -9,7 +9,12 @@ pub mod PossibleLemmas
 pub mod UniverseLemmas
 pub mod StepLemmas
 pub mod LoopLemmas
+pub mod PlaceLemmas
+pub mod SparedLemmas
 pub mod SomeLemmas
 pub mod GoingLemmas
 pub mod WakingLemmas
+pub mod IdleLemmas
 pub mod ActingLemmas
+pub mod JustifyLemmas
+pub mod AsleepLemmas

@@ -4,17 +4,17 @@ use Rattle.std.specs.Prelude.{IfSome, slice_get}
 use Rattle.std.specs.FinMap.{get-empty}
 use Rattle.std.specs.List.{AllByRecursion, find, flat_map}
 use Rattle.std.proofs.lemmas.List.Elements.{Contains-append_left, Contains-append_right}
-use Rattle.std.proofs.lemmas.Option.{none-some}
+use Rattle.std.proofs.lemmas.Option.{none-some, same_Some}
 use Rattle.enf_value.specs.ListLaws.{AllByRecursion-append, AllByRecursion-find, AllByRecursion-from_contains, Contains-append, first_or_later, later, none_in_nil, there_from_get}
 use Rattle.enf_value.specs.Valuations.{Valuation, no_values, variable_cmp}
 use Rattle.enf_value.specs.declared.steps.Step.{Step}
 use Rattle.enf_value.specs.declared.values.Value.{Value}
 use Rattle.plan_terms.specs.Nodes.{has_number, nodes}
-use Rattle.plan_terms.specs.Plans.{Plan, Cause, Suppress, Both, Either, TestOr, Guarded, Eventually, Always, Until, Next, plan_of}
+use Rattle.plan_terms.specs.Plans.{Plan, Cause, Suppress, Both, Either, TestOr, Guarded, Eventually, Always, Until, Next}
 use Rattle.plan_terms.specs.Standing.{nodes_of}
-use Rattle.plan_terms.specs.declared.plans.Plan as stored
 use Rattle.obligations.specs.Asked.{IsBound, IsKnownAt, IsNowOf, IsWanted}
 use Rattle.obligations.specs.Begun.{time_now}
+use Rattle.obligations.specs.Missing.{Missing}
 use Rattle.obligations.specs.Pending.{node_of}
 use Rattle.obligations.specs.Waiting.{FirstMissing, FirstMissingOf, FirstOf, IsWantedOf}
 use Rattle.obligations.specs.declared.actions.Action.{Action}
@@ -22,66 +22,83 @@ use Rattle.obligations.specs.declared.instances.Instance.{Instance}
 use Rattle.obligations.specs.declared.literals.Literal.{Literal}
 use Rattle.obligations.specs.declared.now.Now.{Now}
 use Rattle.choice_step.specs.Choice.{Candidate, IsFirst, Misses, MissesNothing, Root, Waiting, action_at, action_for, is_forced, roots_from}
-use Rattle.choice_step.specs.Looking.{IsActionFor, IsKnownFor, IsLiteralAt, IsWantedAt, MetBefore}
+use Rattle.choice_step.specs.Looking.{IsActionFor, IsKnownFor, IsLiteralAt, IsWantedAt}
 use Rattle.choice_step.proofs.FiniteLemmas.{Contains-flat_map}
 
 module _ (plans : List Plan) (inserted : Bool) (trace : List Step) where
   abbrev pub MissesFirst : Candidate → Literal → Type 0
   MissesFirst asked literal = (rest : List Literal) × Misses plans inserted trace asked (literal ∷ rest)
 
-  abbrev pub Met : List Instance → ℕ → Type 0
-  Met xs k = MetBefore plans inserted trace xs k
+  -- so many of the first miss nothing
+  abbrev pub NoneBefore : List Instance → ℕ → Type 0
+  NoneBefore xs k = AllByRecursion (MissesNothing plans inserted trace) (map Waiting (take k xs))
 
   pub first_waiting : (xs : List Instance) (k : ℕ) (x : Instance) (literal : Literal) → k < length xs → x ≡ get_or xs k x
-      → Met xs k → MissesFirst (Waiting x) literal → IsFirst plans inserted trace (map Waiting xs) (Waiting x) literal
+      → NoneBefore xs k → MissesFirst (Waiting x) literal → IsFirst plans inserted trace (map Waiting xs) (Waiting x) literal
   first_waiting [] k x literal within is none misses = absurd (omega (arith, within))
   first_waiting (y ∷ xs) zero x literal within is none misses =
       inl (ap Waiting (sym is), misses.0, subst (λ z. Misses plans inserted trace (Waiting z) (literal ∷ misses.0)) is misses.1)
   first_waiting (y ∷ xs) (suc k) x literal within is none misses =
       inr (none.0, first_waiting xs k x literal (omega (arith, within)) is none.1 misses)
 
-  pub none_waiting : (xs : List Instance) (k : ℕ) → length xs ≤ k → Met xs k
+  pub none_waiting : (xs : List Instance) (k : ℕ) → length xs ≤ k → NoneBefore xs k
       → AllByRecursion (MissesNothing plans inserted trace) (map Waiting xs)
   none_waiting [] k within none = tt
   none_waiting (y ∷ xs) zero within none = absurd (omega (arith, within))
   none_waiting (y ∷ xs) (suc k) within none = (none.0, none_waiting xs k (omega (arith, within)) none.1)
 
-  -- all of them
-  pub all_met : (xs : List Instance) (k : ℕ) → AllByRecursion (MissesNothing plans inserted trace) (map Waiting xs) → Met xs k
-  all_met xs zero all = tt
-  all_met [] (suc k) all = tt
-  all_met (x ∷ xs) (suc k) all = (all.0, all_met xs k all.1)
+  -- where all miss nothing, so do as many as there are
+  pub all_waiting : (xs : List Instance) → AllByRecursion (MissesNothing plans inserted trace) (map Waiting xs)
+      → NoneBefore xs (length xs)
+  all_waiting [] none = tt
+  all_waiting (y ∷ xs) none = (none.0, all_waiting xs none.1)
+
+  next_waiting : (xs : List Instance) (k : ℕ) (x : Instance) → k < length xs → x ≡ get_or xs k x → NoneBefore xs k
+      → MissesNothing plans inserted trace (Waiting x) → NoneBefore xs (suc k)
+  next_waiting [] k x within is none this = absurd (omega (arith, within))
+  next_waiting (y ∷ xs) zero x within is none this =
+      (subst (λ z. MissesNothing plans inserted trace (Waiting z)) is this, tt)
+  next_waiting (y ∷ xs) (suc k) x within is none this = (none.0, next_waiting xs k x (omega (arith, within)) is none.1 this)
+
+  -- one more that misses nothing
+  pub one_more_waiting : (xs : List Instance) (k : ℕ) (x : Instance) → k < length xs → x ≡ get_or xs k x → NoneBefore xs k
+      → MissesNothing plans inserted trace (Waiting x) → NoneBefore xs (k + 1)
+  one_more_waiting xs k x within is none this =
+      subst (NoneBefore xs) {x = suc k} {y = k + 1} (omega arith) (next_waiting xs k x within is none this)
 
   -- the same of the roots of rules
-  abbrev pub NoRootBefore : List stored.Plan → ℕ → Type 0
-  NoRootBefore xs k = (j : ℕ) (d : stored.Plan) → j < k → MissesNothing plans inserted trace (Root j (plan_of (get_or xs j d)))
+  abbrev NoRootBefore : (rule : ℕ) → List Plan → ℕ → Type 0
+  NoRootBefore rule ps k = AllByRecursion (MissesNothing plans inserted trace) (roots_from rule (take k ps))
 
-  pub first_root : (rule : ℕ) (xs : List stored.Plan) (k number : ℕ) (x : stored.Plan) (literal : Literal) → k < length xs
-      → x ≡ get_or xs k x → number ≡ rule + k → NoRootBefore xs k → MissesFirst (Root number (plan_of x)) literal
-      → IsFirst plans inserted trace (roots_from rule (map plan_of xs)) (Root number (plan_of x)) literal
-  first_root rule [] k number x literal within is at none misses = absurd (omega (arith, within))
-  first_root rule (y ∷ xs) zero number x literal within is at none misses =
-      let same : rule ≡ number = omega (arith, at) in
-      inl (λ i. Root (same i) (plan_of (sym is i)), misses.0, subst (λ z. Misses plans inserted trace (Root rule (plan_of z)) (literal ∷ misses.0)) is misses.1)
-  first_root rule (y ∷ xs) (suc k) number x literal within is at none misses =
-      inr (
-        none 0 y (omega arith),
-        first_root (suc rule) xs k number x literal (omega (arith, within)) is (omega (arith, at)) (λ j d below. none (suc j) d (omega (arith, below))) misses,
-      )
+  pub root_first : (rule number : ℕ) (ps : List Plan) (k : ℕ) (plan : Plan) (literal : Literal) (more : List Literal) → number ≡ rule + k
+      → slice_get ps k ≡ Some plan → NoRootBefore rule ps k → Missing trace plan no_values (literal ∷ more)
+      → IsFirst plans inserted trace (roots_from rule ps) (Root number plan) literal
+  root_first rule number [] k plan literal more at e none misses = absurd (none-some plan e)
+  root_first rule number (first ∷ ps) zero plan literal more at e none misses =
+      let same : first ≡ plan = same_Some first plan e in
+      let number_is : rule ≡ number = omega (arith, at) in
+      inl ((λ i. Root (number_is i) (same i)), more, subst (λ p. Missing trace p no_values (literal ∷ more)) (sym same) misses)
+  root_first rule number (first ∷ ps) (suc k) plan literal more at e none misses =
+      inr (none.0, root_first (suc rule) number ps k plan literal more (omega (arith, at)) e none.1 misses)
 
-  pub no_root : (rule : ℕ) (xs : List stored.Plan) (k : ℕ) → length xs ≤ k → NoRootBefore xs k
-      → AllByRecursion (MissesNothing plans inserted trace) (roots_from rule (map plan_of xs))
+  pub no_root : (rule : ℕ) (ps : List Plan) (k : ℕ) → length ps ≤ k → NoRootBefore rule ps k
+      → AllByRecursion (MissesNothing plans inserted trace) (roots_from rule ps)
   no_root rule [] k within none = tt
-  no_root rule (y ∷ xs) zero within none = absurd (omega (arith, within))
-  no_root rule (y ∷ xs) (suc k) within none =
-      (none 0 y (omega arith), no_root (suc rule) xs k (omega (arith, within)) (λ j d below. none (suc j) d (omega (arith, below))))
+  no_root rule (p ∷ ps) zero within none = absurd (omega (arith, within))
+  no_root rule (p ∷ ps) (suc k) within none = (none.0, no_root (suc rule) ps k (omega (arith, within)) none.1)
 
-  pub roots_before : (rule : ℕ) (xs : List stored.Plan) (k : ℕ) → NoRootBefore xs k
-      → AllByRecursion (MissesNothing plans inserted trace) (roots_from rule (take k (map plan_of xs)))
-  roots_before rule xs zero none = tt
-  roots_before rule [] (suc k) none = tt
-  roots_before rule (y ∷ xs) (suc k) none =
-      (none 0 y (omega arith), roots_before (suc rule) xs k (λ j d below. none (suc j) d (omega (arith, below))))
+  next_root : (rule number : ℕ) (ps : List Plan) (k : ℕ) (plan : Plan) → number ≡ rule + k → slice_get ps k ≡ Some plan
+      → NoRootBefore rule ps k → MissesNothing plans inserted trace (Root number plan) → NoRootBefore rule ps (suc k)
+  next_root rule number [] k plan at e none this = absurd (none-some plan e)
+  next_root rule number (first ∷ ps) zero plan at e none this =
+      (subst (λ p. Missing trace p no_values []) (sym (same_Some first plan e)) this, tt)
+  next_root rule number (first ∷ ps) (suc k) plan at e none this =
+      (none.0, next_root (suc rule) number ps k plan (omega (arith, at)) e none.1 this)
+
+  pub one_more_root : (ps : List Plan) (k : ℕ) (plan : Plan) → slice_get ps k ≡ Some plan → NoRootBefore 0 ps k
+      → MissesNothing plans inserted trace (Root k plan) → NoRootBefore 0 ps (k + 1)
+  one_more_root ps k plan e none this =
+      subst (NoRootBefore 0 ps) {x = suc k} {y = k + 1} (omega arith) (next_root 0 k ps k plan (omega arith) e none this)
 
   -- what a pending instance misses first, by the answer of the call, and whether it misses nothing
   at_its_time : (now : Now) (i : Instance) (forced : Bool) (found other : Option Literal) → IsNowOf now trace
@@ -114,28 +131,6 @@ module _ (plans : List Plan) (inserted : Bool) (trace : List Step) where
   pub stays_root : (rule : ℕ) (plan : Plan) (v : Valuation) (found : Option Literal) → v ≡ no_values → found ≡ None
       → FirstMissing trace plan v found → MissesNothing plans inserted trace (Root rule plan)
   stays_root rule plan v found none same misses = at_root plan v found None none same misses
-
-  -- one more that misses nothing
-  met_next : (xs : List Instance) (k : ℕ) (x : Instance) → k < length xs → x ≡ get_or xs k x → Met xs k
-      → MissesNothing plans inserted trace (Waiting x) → Met xs (suc k)
-  met_next [] k x within is none this = absurd (omega (arith, within))
-  met_next (y ∷ xs) zero x within is none this = (subst (λ z. MissesNothing plans inserted trace (Waiting z)) is this, tt)
-  met_next (y ∷ xs) (suc k) x within is none this = (none.0, met_next xs k x (omega (arith, within)) is none.1 this)
-
-  pub one_more_waiting : (xs : List Instance) (k : ℕ) (x : Instance) → k < length xs → x ≡ get_or xs k x → Met xs k
-      → MissesNothing plans inserted trace (Waiting x) → Met xs (k + 1)
-  one_more_waiting xs k x within is none this =
-      subst (Met xs) {x = suc k} {y = k + 1} (omega arith) (met_next xs k x within is none this)
-
-  pub one_more_root : (xs : List stored.Plan) (k : ℕ) (x : stored.Plan) → k < length xs → x ≡ get_or xs k x → NoRootBefore xs k
-      → MissesNothing plans inserted trace (Root k (plan_of x)) → NoRootBefore xs (k + 1)
-  one_more_root [] k x within is none this j d below = absurd (omega (arith, within))
-  one_more_root (y ∷ xs) zero x within is none this zero d below =
-      subst (λ z. MissesNothing plans inserted trace (Root 0 (plan_of z))) is this
-  one_more_root (y ∷ xs) zero x within is none this (suc j) d below = absurd (omega (arith, below))
-  one_more_root (y ∷ xs) (suc k) x within is none this zero d below = none 0 d (omega arith)
-  one_more_root (y ∷ xs) (suc k) x within is none this (suc j) d below =
-      one_more_root xs k x (omega (arith, within)) is (λ i e before. none (suc i) e (omega (arith, before))) this j d (omega (arith, below))
 
   -- those that are asked later change nothing where one was found
   first_of_more : (xs ys : List Candidate) (asked : Candidate) (literal : Literal) → IsFirst plans inserted trace xs asked literal

@@ -38,13 +38,13 @@ from_flat_map f (x ∷ xs) y there =
     (λ back. let found = from_flat_map f xs y back in (found.0, Contains-append_right (x ∷ []) xs found.0 found.1, found.2))
     (Contains-append (f x) (flat_map f xs) y there)
 
-caused_by_leaf : (plans : List Plan) (leaf : Plan) (name : NameId) → Contains (flat_map nodes plans) leaf
+pub caused_by_leaf : (plans : List Plan) (leaf : Plan) (name : NameId) → Contains (flat_map nodes plans) leaf
     → Contains (cause_of leaf) name → IsCaused plans name
 caused_by_leaf plans leaf name there is =
     let plan = from_flat_map nodes plans leaf there in
     Contains-flat_map caused_below plans plan.0 name plan.1 (Contains-flat_map cause_of (nodes plan.0) leaf name plan.2 is)
 
-suppressed_by_leaf : (plans : List Plan) (leaf : Plan) (name : NameId) → Contains (flat_map nodes plans) leaf
+pub suppressed_by_leaf : (plans : List Plan) (leaf : Plan) (name : NameId) → Contains (flat_map nodes plans) leaf
     → Contains (suppress_of leaf) name → IsSuppressed plans name
 suppressed_by_leaf plans leaf name there is =
     let plan = from_flat_map nodes plans leaf there in

@@ -3,38 +3,63 @@ use Rattle.std.specs.Prelude.{IfNone, IfSome}
 use Rattle.std.specs.Option.{option_map}
 use Rattle.std.proofs.Common.{◌≡◌, ◌↔◌, ℕ, ◌≤◌, Bool, List, [], ◌∷◌, ◌++◌, Contains, Option, None, Some, length, refl, sym, subst, ap, ◌∙◌, ⊎_elim, inl, inr, arith, length-append}
 use Rattle.enf_value.specs.declared.events.Event.{Event}
+use Rattle.enf_value.specs.declared.events.NameId.{NameId}
 use Rattle.enf_value.specs.declared.steps.Step.{Step}
 use Rattle.enf_value.specs.declared.values.Value.{Value}
+use Rattle.enf_formula.specs.Laws.{NamesDecide}
+use Rattle.enf_formula.specs.Names.{AreSameOf, HaveSameOf, names_in}
 use Rattle.enf_formula.specs.Satisfaction.{Sat}
 use Rattle.monitorable_guard.specs.Present.{HoldsNow}
 use Rattle.trace_meaning.specs.Continuation.{last_time}
 use Rattle.past_state.specs.Known.{AreKnown, IsConstantOf}
-use Rattle.past_state.specs.Past.{AreOf, GuardsWillHold, Past, PastStands, PastTables, formula_of, formulas, tables_of}
+use Rattle.past_state.specs.GuardLaws.{looks_at}
+use Rattle.past_state.specs.Past.{AreOf, GuardsWillHold, Past, PastStands, PastTables, formula_of, formulas, guard_names, tables_of}
 use Rattle.plan_terms.specs.Plans.{Plan}
+use Rattle.obligations.specs.Asked.{IsNowOf}
 use Rattle.obligations.specs.Rows.{last_position}
+use Rattle.obligations.specs.declared.now.Now.{Now}
 use Rattle.obligations.specs.declared.actions.Action.{Action}
 use Rattle.obligations.specs.declared.instances.Instance.{Instance}
 use Rattle.choice_step.specs.Choice.{with_step}
 use Rattle.obligations.specs.declared.literals.Literal.{Literal}
-use Rattle.choice_step.specs.Acting.{IsFoundBehind}
-use Rattle.choice_step.specs.Looking.{IsKnownBehind, IsKnownFor, IsLiteralAt, IsLiteralBehind, IsStepOf, IsWantedAt, IsWantedBehind, WillFind, WillHaveFound}
+use Rattle.choice_step.specs.Acting.{IsFoundFrom}
+use Rattle.choice_step.specs.Looking.{IsKnownBehind, IsKnownFor, IsLiteralAt, IsLiteralBehind, IsWantedAt, IsWantedFrom, WillFind, WillHaveFound}
 use Rattle.choice_step.specs.declared.looking.Found.{Found}
+use Rattle.choice_step.proofs.ActingLemmas.{at_each}
 use Rattle.choice_step.proofs.ChoiceLemmas.{last_step}
 
-pub step_of : (past : Past) (time position : ℕ) (events : List Event) (tables : PastTables) (trace : List Step)
-    → GuardsWillHold past time events tables → PastStands trace past → length trace ≡ position → last_time trace ≤ time
-    → IsStepOf time position events tables (with_step trace time events)
-step_of past time position events tables trace hold stands long later =
-    let step : Step = record { time = time; events = events } in
+-- steps behind a trace with the same events of some names
+same_behind : (names : List NameId) (trace : List Step) (time : ℕ) (events others : List Event) → HaveSameOf names events others
+    → AreSameOf names (with_step trace time events) (with_step trace time others)
+same_behind names trace time events others same =
+    let a : Step = record { time = time; events = events } in
+    let b : Step = record { time = time; events = others } in
+    record {
+      long = length-append trace (a ∷ []) ∙ sym (length-append trace (b ∷ []));
+      times = at_each (λ s t. s.time ≡ t.time) (λ s. refl) a b refl trace;
+      events = at_each (λ s t. HaveSameOf names s.events t.events) (λ s event named. (λ there. there, λ there. there)) a b same trace;
+    }
+
+-- a step with the order and the tables of one that has the same events of the names that guards look for
+pub now_of : NamesDecide → (past : Past) (now : Now) (trace : List Step) → GuardsWillHold past now.time now.ordered.now now.tables.now
+    → HaveSameOf (guard_names now.tables.now.guards) now.ordered.now now.events.now → PastStands trace past
+    → length trace ≡ now.position → last_time trace ≤ now.time → IsNowOf now (with_step trace now.time now.events.now)
+now_of decide past now trace hold same stands long later =
+    let before : Step = record { time = now.time; events = now.ordered.now } in
+    let step : Step = record { time = now.time; events = now.events.now } in
     let last : length trace ≡ last_position (trace ++ step ∷ []) = omega (arith, length-append trace (step ∷ [])) in
     record {
       some = omega (arith, length-append trace (step ∷ []));
-      position_is = sym last ∙ long;
-      time_is = ap (λ (s : Step). s.time) (last_step trace step);
-      events_are = ap (λ (s : Step). s.events) (last_step trace step);
+      position = sym last ∙ long;
+      time = ap (λ (s : Step). s.time) (last_step trace step);
+      events = ap (λ (s : Step). s.events) (last_step trace step);
       guards = λ number g is v binds.
-          subst (λ n. HoldsNow events (tables_of g tables) v (formula_of g) ↔ Sat (trace ++ step ∷ []) n v (formula_of g)) last
-          (hold trace step refl refl later stands number g is v binds);
+          let told = hold trace before refl refl later stands number g is v binds in
+          let meant = decide (trace ++ before ∷ []) (trace ++ step ∷ []) (length trace) v (formula_of g)
+          (same_behind (names_in (formula_of g)) trace now.time now.ordered.now now.events.now
+          (λ event named. same event (looks_at now.tables.now.guards number g event.name is named))) in
+          subst (λ n. HoldsNow now.ordered.now (tables_of g now.tables.now) v (formula_of g) ↔ Sat (trace ++ step ∷ []) n v (formula_of g)) last
+          (λ holds. meant.0 (told.0 holds), λ sat. told.1 (meant.1 sat));
     }
 
 known_behind : (plans : List Plan) (pending : List Instance) (past : Past) (time : ℕ) (events : List Event) (tables : PastTables)
@@ -58,15 +83,15 @@ known_behind plans pending past time events tables are known value is =
     others))
     is
 
-pub wanted_behind : (plans : List Plan) (pending : List Instance) (past : Past) (time : ℕ) (events : List Event) (tables : PastTables)
-    (action : Action) → AreOf past time events tables → AreKnown past events tables
-    → IsWantedAt plans pending events events tables action → IsWantedBehind plans pending past events action
-wanted_behind plans pending past time events tables action are known wanted = record {
+wanted_from_at : (plans : List Plan) (pending : List Instance) (past : Past) (time : ℕ) (given events : List Event) (tables : PastTables)
+    (action : Action) → AreOf past time given tables → AreKnown past given tables
+    → IsWantedAt plans pending events given tables action → IsWantedFrom plans pending past given events action
+wanted_from_at plans pending past time given events tables action are known wanted = record {
   leaf = wanted.leaf;
   there = wanted.there;
   is = wanted.is;
   changes = wanted.changes;
-  known = λ value arg. known_behind plans pending past time events tables are known value (wanted.known value arg);
+  known = λ value arg. known_behind plans pending past time given tables are known value (wanted.known value arg);
 }
 
 literal_behind : (plans : List Plan) (pending : List Instance) (past : Past) (time : ℕ) (events : List Event) (tables : PastTables)
@@ -79,25 +104,25 @@ literal_behind plans pending past time events tables literal are known at = reco
   known = λ value arg. known_behind plans pending past time events tables are known value (at.known value arg);
 }
 
--- what was found at a step behind a past state, where something else holds
-module _ (plans : List Plan) (pending : List Instance) (past : Past) (inserted : Bool) (time position : ℕ) (events : List Event)
-    (Met : Type 0) where
+module _ (plans : List Plan) (inserted : Bool) (pending : List Instance) (past : Past) (time position : ℕ) (events : List Event) where
   pub if_none : (found : Option Found)
-      → (Met → WillFind plans pending past inserted time position events (option_map (λ f. f.action) found))
-      → IfNone found (Met → WillFind plans pending past inserted time position events None)
+      → WillFind plans pending past inserted time position events (option_map (λ f. f.action) found)
+      → IfNone found (WillFind plans pending past inserted time position events None)
   if_none None finds = finds
   if_none (Some f) finds = tt
 
-  pub found_behind_past : (tables : PastTables) (found : Option Found) → AreOf past time events tables → AreKnown past events tables
-      → (Met → WillFind plans pending past inserted time position events (option_map (λ f. f.action) found))
-      → IfSome found (λ f. Met → WillHaveFound plans pending past inserted time position events f.rule f.literals.items)
-      → IfSome found (λ f. IsWantedAt plans pending events events tables f.action)
-      → IfSome found (λ f. (literal : Literal) → Contains f.literals.items literal → IsLiteralAt plans pending events tables literal)
-      → IfSome found (λ f. Met → IsFoundBehind plans pending past inserted time position events f.action f.rule f.literals.items)
-  found_behind_past tables None are known finds rest wanted literals = tt
-  found_behind_past tables (Some f) are known finds rest wanted literals = λ met. record {
-    finds = finds met;
-    rest = rest met;
-    wanted = wanted_behind plans pending past time events tables f.action are known wanted;
-    literals_are = λ literal there. literal_behind plans pending past time events tables literal are known (literals literal there);
-  }
+-- what was found at a step behind a past state
+pub found_behind_past : (plans : List Plan) (pending : List Instance) (past : Past) (inserted : Bool) (time position : ℕ)
+    (given events : List Event) (tables : PastTables) (found : Option Found) → AreOf past time given tables → AreKnown past given tables
+    → WillFind plans pending past inserted time position events (option_map (λ f. f.action) found)
+    → IfSome found (λ f. WillHaveFound plans pending past inserted time position events f.rule f.literals.items)
+    → IfSome found (λ f. IsWantedAt plans pending events given tables f.action)
+    → IfSome found (λ f. (literal : Literal) → Contains f.literals.items literal → IsLiteralAt plans pending given tables literal)
+    → IfSome found (λ f. IsFoundFrom plans pending past inserted time position given events f.action f.rule f.literals.items)
+found_behind_past plans pending past inserted time position given events tables None are known finds rest wanted literals = tt
+found_behind_past plans pending past inserted time position given events tables (Some f) are known finds rest wanted literals = record {
+  finds = finds;
+  rest = rest;
+  wanted = wanted_from_at plans pending past time given events tables f.action are known wanted;
+  literals_are = λ literal there. literal_behind plans pending past time given tables literal are known (literals literal there);
+}

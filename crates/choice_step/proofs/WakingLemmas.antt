@@ -1,28 +1,33 @@
 -- A rule whose root is a guard with triggers misses nothing where the step has no event of them.
-use Rattle.std.proofs.Common.{rules, ◌≡◌, ℕ, zero, suc, ◌<◌, Bool, true, false, List, [], ◌∷◌, Option, None, Some, All, Contains, length, map, get_or, refl, sym, subst, ap, ◌∙◌, arith}
+use Rattle.std.proofs.Common.{rules, ◌≡◌, ℕ, zero, suc, ◌<◌, Bool, true, false, List, [], ◌∷◌, Option, None, Some, ◌++◌, All, Contains, length, map, get_or, refl, sym, subst, ap, ◌∙◌, ⊎_elim, arith}
 use Rattle.std.specs.Borrow.{Bor}
-use Rattle.std.specs.Option.{option_map}
+use Rattle.std.specs.Option.{option_map, option_or}
 use Rattle.std.specs.Prelude.{not, slice_get}
 use Rattle.std.specs.List.Sorted.{IsStrictlySortedBy}
-use Rattle.std.proofs.lemmas.List.Elements.{All-contains, All-nil}
-use Rattle.std.proofs.lemmas.Option.{none-some}
+use Rattle.std.proofs.lemmas.List.Elements.{All-contains, All-from_recursion, All-nil, Contains-append_cases, Contains-append_left, Contains-append_right}
+use Rattle.std.proofs.lemmas.Option.{none-some, same_Some}
 use Rattle.enf_value.specs.Data.{step_at}
-use Rattle.enf_value.specs.ListLaws.{none_in_nil}
+use Rattle.enf_value.specs.ListLaws.{AllByRecursion-from_contains, none_in_nil}
 use Rattle.enf_value.specs.Valuations.{Valuation, with_values}
 use Rattle.enf_value.specs.declared.events.Event.{Event}
 use Rattle.enf_value.specs.declared.events.NameId.{NameId}
 use Rattle.enf_value.specs.declared.steps.Step.{Step}
 use Rattle.enf_value.specs.declared.terms.VarId.{VarId}
-use Rattle.enf_formula.specs.Formulas.{Formula}
+use Rattle.enf_formula.specs.Formulas.{Formula, And, Atom, Exists, Or}
+use Rattle.enf_formula.specs.Names.{HaveSameOf, names_in}
 use Rattle.monitorable_guard.specs.Events.{shown}
 use Rattle.plan_terms.specs.Plans.{Plan, Cause, Suppress, Both, Either, TestOr, Guarded, Eventually, Always, Until, Next, plan_of}
 use Rattle.plan_terms.specs.declared.plans.Plan as stored
-use Rattle.plan_terms.specs.Triggers.{TriggersAreMet, guard_triggers, triggers}
+use Rattle.past_state.specs.GuardLaws.{looks_at}
+use Rattle.past_state.specs.Past.{IsGuard, formula_of, guard_names}
+use Rattle.past_state.specs.declared.guards.PlacedGuard.{PlacedGuard}
+use Rattle.plan_terms.specs.Triggers.{TriggersAreMet, guard_triggers, of_each, triggers}
+use Rattle.obligations.specs.Asked.{CanAsk, placed_guard}
 use Rattle.obligations.specs.Missing.{Missing}
 use Rattle.obligations.specs.Rows.{AreRowsOf, last_position}
 use Rattle.choice_step.specs.Waking.{HasNoneOf, IsAway}
 
-no_row : (trace : List Step) (v : Valuation) (xs : List VarId) (test : Formula) (names : List NameId) → TriggersAreMet
+pub no_row : (trace : List Step) (v : Valuation) (xs : List VarId) (test : Formula) (names : List NameId) → TriggersAreMet
     → triggers test ≡ Some names → All (IsAway (step_at trace (last_position trace)).events) names
     → AreRowsOf trace v xs test []
 unfolding IsStrictlySortedBy
@@ -50,16 +55,87 @@ sleeps trace (Always node place low high body) v names met are away = absurd (no
 sleeps trace (Until node place low high left right) v names met are away = absurd (none-some names are)
 sleeps trace (Next node place high body) v names met are away = absurd (none-some names are)
 
--- so it is of the rule of a number
-pub rule_sleeps : (trace : List Step) (plan : Plan) (v : Valuation) (events : List Event) (at : Option (Option (List NameId)))
-    → TriggersAreMet → at ≡ Some (guard_triggers plan) → (step_at trace (last_position trace)).events ≡ events
-    → HasNoneOf at events → Missing trace plan v []
-rule_sleeps trace plan v events at met is same away =
-    by (guard_triggers plan) refl (subst (λ o. HasNoneOf o events) is away)
+-- ---- the triggers of a guard are among its names
+
+either_within : (a b : Option (List NameId)) (xs ys : List NameId)
+    → ((names : List NameId) → a ≡ Some names → (name : NameId) → Contains names name → Contains xs name)
+    → ((names : List NameId) → b ≡ Some names → (name : NameId) → Contains names name → Contains ys name)
+    → (names : List NameId) → option_or a b ≡ Some names → (name : NameId) → Contains names name → Contains (xs ++ ys) name
+either_within None b xs ys front back names is name there = Contains-append_right xs ys name (back names is name there)
+either_within (Some own) b xs ys front back names is name there = Contains-append_left xs ys name (front names is name there)
+
+each_within : (a b : Option (List NameId)) (xs ys : List NameId)
+    → ((names : List NameId) → a ≡ Some names → (name : NameId) → Contains names name → Contains xs name)
+    → ((names : List NameId) → b ≡ Some names → (name : NameId) → Contains names name → Contains ys name)
+    → (names : List NameId) → of_each a b ≡ Some names → (name : NameId) → Contains names name → Contains (xs ++ ys) name
+each_within None b xs ys front back names is name there = absurd (none-some names is)
+each_within (Some own) None xs ys front back names is name there = absurd (none-some names is)
+each_within (Some own) (Some others) xs ys front back names is name there =
+    ⊎_elim
+    (λ left. Contains-append_left xs ys name (front own refl name left))
+    (λ right. Contains-append_right xs ys name (back others refl name right))
+    (Contains-append_cases own others name (subst (λ l. Contains l name) (sym (same_Some (own ++ others) names is)) there))
+
+triggers_within : (f : Formula) (names : List NameId) → triggers f ≡ Some names → (name : NameId) → Contains names name
+    → Contains (names_in f) name
+triggers_within (Atom place own terms) names is name there = subst (λ l. Contains l name) (sym (same_Some (own ∷ []) names is)) there
+triggers_within (And place g h) names is name there =
+    either_within (triggers g) (triggers h) (names_in g) (names_in h) (triggers_within g) (triggers_within h) names is name there
+triggers_within (Or place g h) names is name there =
+    each_within (triggers g) (triggers h) (names_in g) (names_in h) (triggers_within g) (triggers_within h) names is name there
+triggers_within (Exists place xs g) names is name there = triggers_within g names is name there
+triggers_within f names is name there = absurd (none-some names is)
+
+-- the guard of a plan that can be asked is among those of the step
+guard_at : (guards : List PlacedGuard) (number : ℕ) (test : Formula) (scope : List VarId)
+    → slice_get (map placed_guard guards) number ≡ Some (test, scope)
+    → (g : PlacedGuard) × IsGuard guards number g × (formula_of g ≡ test)
+guard_at [] number test scope is = absurd (none-some (test, scope) is)
+guard_at (g ∷ guards) zero test scope is =
+    (g, refl, ap (λ (p : Formula × List VarId). p.0) (same_Some (placed_guard g) (test, scope) is))
+guard_at (g ∷ guards) (suc number) test scope is = guard_at guards number test scope is
+
+pub test_named : (guards : List PlacedGuard) (number : ℕ) (test : Formula) (scope : List VarId)
+    → slice_get (map placed_guard guards) number ≡ Some (test, scope) → (name : NameId) → Contains (names_in test) name
+    → Contains (guard_names guards) name
+test_named guards number test scope is name there =
+    let g = guard_at guards number test scope is in
+    looks_at guards number g.0 name g.1 (subst (λ f. Contains (names_in f) name) (sym g.2) there)
+
+named_within : (guards : List PlacedGuard) (plan : Plan) (v : Valuation) (names : List NameId) → CanAsk (map placed_guard guards) plan v
+    → guard_triggers plan ≡ Some names → (name : NameId) → Contains names name → Contains (guard_names guards) name
+named_within guards (Guarded node xs guard test body) v names can are name there =
+    test_named guards guard test can.scope can.can.0.0.listed name (triggers_within test names are name there)
+named_within guards (Cause node place own terms) v names can are name there = absurd (none-some names are)
+named_within guards (Suppress node place own terms) v names can are name there = absurd (none-some names are)
+named_within guards (Both node left right) v names can are name there = absurd (none-some names are)
+named_within guards (Either node left right) v names can are name there = absurd (none-some names are)
+named_within guards (TestOr node guard test body) v names can are name there = absurd (none-some names are)
+named_within guards (Eventually node place low high body) v names can are name there = absurd (none-some names are)
+named_within guards (Always node place low high body) v names can are name there = absurd (none-some names are)
+named_within guards (Until node place low high left right) v names can are name there = absurd (none-some names are)
+named_within guards (Next node place high body) v names can are name there = absurd (none-some names are)
+
+still_away : (within names : List NameId) (ordered events : List Event) → HaveSameOf within ordered events
+    → ((name : NameId) → Contains names name → Contains within name) → All (IsAway ordered) names → All (IsAway events) names
+still_away within names ordered events same inside away =
+    All-from_recursion (IsAway events) names (AllByRecursion-from_contains (IsAway events) names (λ name there event among is.
+    All-contains (IsAway ordered) names name away there event
+    ((same event (inside event.name (subst (Contains names) (sym is) there))).1 among) is))
+
+-- so it is of the rule of a number, also where the events were in order before they changed in other names
+pub rule_sleeps : (trace : List Step) (plan : Plan) (v : Valuation) (guards : List PlacedGuard) (ordered events : List Event)
+    (at : Option (Option (List NameId))) → TriggersAreMet → CanAsk (map placed_guard guards) plan v → at ≡ Some (guard_triggers plan)
+    → (step_at trace (last_position trace)).events ≡ events → HaveSameOf (guard_names guards) ordered events
+    → HasNoneOf at ordered → Missing trace plan v []
+rule_sleeps trace plan v guards ordered events at met can is same alike away =
+    by (guard_triggers plan) refl (subst (λ o. HasNoneOf o ordered) is away)
   where
-    by : (own : Option (List NameId)) → guard_triggers plan ≡ own → HasNoneOf (Some own) events → Missing trace plan v []
+    by : (own : Option (List NameId)) → guard_triggers plan ≡ own → HasNoneOf (Some own) ordered → Missing trace plan v []
     by None are away = absurd away
-    by (Some names) are away = sleeps trace plan v names met are (subst (λ l. All (IsAway l) names) (sym same) away)
+    by (Some names) are away =
+        sleeps trace plan v names met are (subst (λ l. All (IsAway l) names) (sym same)
+        (still_away (guard_names guards) names ordered events alike (named_within guards plan v names can are) away))
 
 -- ---- lists
 
@@ -76,7 +152,7 @@ get_map f [] k = refl
 get_map f (x ∷ xs) zero = refl
 get_map f (x ∷ xs) (suc k) = get_map f xs k
 
-get_is : {X : Type 0} (xs : List X) (k : ℕ) (x : X) → k < length xs → x ≡ get_or xs k x → slice_get xs k ≡ Some x
+pub get_is : {X : Type 0} (xs : List X) (k : ℕ) (x : X) → k < length xs → x ≡ get_or xs k x → slice_get xs k ≡ Some x
 get_is [] k x within is = absurd (omega (arith, within))
 get_is (y ∷ xs) zero x within is = λ i. Some (sym is i)
 get_is (y ∷ xs) (suc k) x within is = get_is xs k x (omega (arith, within)) is
@@ -91,3 +167,9 @@ trigger_of plans k plan within is =
 pub plan_at : (plans : List stored.Plan) (k : ℕ) (plan : stored.Plan) → k < length plans → plan ≡ get_or plans k plan
     → slice_get (map plan_of plans) k ≡ Some (plan_of plan)
 plan_at plans k plan within is = get_map plan_of plans k ∙ ap (option_map plan_of) (get_is plans k plan within is)
+
+-- there is one at each place below the length
+pub some_at : {X : Type 0} (xs : List X) (k : ℕ) → k < length xs → (x : X) × (x ≡ get_or xs k x)
+some_at [] k within = absurd (omega (arith, within))
+some_at (x ∷ xs) zero within = (x, refl)
+some_at (x ∷ xs) (suc k) within = some_at xs k (omega (arith, within))

@@ -1,69 +1,90 @@
 -- What is done at a step for what was found there.
-use Rattle.std.specs.Prelude.{◌≡◌, ℕ, Bool, List, ◌∷◌, ◌++◌, Some, map, slice_get}
+use Rattle.std.specs.Prelude.{◌≡◌, ℕ, Bool, List, [], ◌∷◌, ◌++◌, Contains, Some, map, slice_get}
 use Rattle.std.specs.List.{AllByRecursion}
 use Rattle.enf_value.specs.declared.events.Event.{Event}
 use Rattle.enf_value.specs.declared.events.NameId.{NameId}
 use Rattle.past_state.specs.Past.{Past}
+use Rattle.plan_terms.specs.Changes.{NothingClashes}
 use Rattle.plan_terms.specs.Nodes.{nodes}
 use Rattle.plan_terms.specs.Plans.{Plan}
 use Rattle.obligations.specs.Asked.{placed_guard}
-use Rattle.obligations.specs.Unread.{IsPlain, IsUnreadIn}
+use Rattle.obligations.specs.Unread.{IsPlain}
 use Rattle.obligations.specs.Waiting.{CanAskOf, CanAskRoots}
 use Rattle.obligations.specs.declared.actions.Action.{Action}
 use Rattle.obligations.specs.declared.instances.Instance.{Instance}
 use Rattle.obligations.specs.declared.literals.Literal.{Literal}
-use Rattle.obligations.specs.declared.literals.LiteralKind.{LiteralKind}
-use Rattle.choice_step.specs.Looking.{AreLiteralsBehind, GoesOn, IsWantedBehind, WillBeLeft, WillBeMet, WillFind}
+use Rattle.choice_step.specs.Looking.{AreLiteralsBehind, GoesOn, IsWantedFrom, WillBeLeft, WillBeMetBefore, WillFind}
 use Rattle.choice_step.specs.Looking.{WillHaveFound}
+use Rattle.choice_step.specs.declared.looking.Place.{Place}
 
--- the plan of a rule has no choices, and no plan looks for the name
-pub record CanGoOn (plans : List Plan) (rule : ℕ) (k : LiteralKind) (name : NameId) : Type 0 where
+-- the plan of a rule has no choices
+pub record HasNoChoices (plans : List Plan) (rule : ℕ) : Type 0 where
   pub plan : Plan
   pub there : slice_get plans rule ≡ Some plan
   pub plain : AllByRecursion IsPlain (nodes plan)
-  pub unread : AllByRecursion (IsUnreadIn k name) plans
+
+-- no action is on one of the names
+abbrev pub AreSpared : List NameId → List Action → Type 0
+AreSpared names = AllByRecursion (λ action. Contains names action.event.name → ⊥)
+
+-- so it is with those that came behind others
+abbrev pub AreSparedBehind : List NameId → (before after : List Action) → Type 0
+AreSparedBehind names before after = (more : List Action) × (after ≡ before ++ more) × AreSpared names more
 
 -- actions come behind others, and lead from the events of a step to others
 abbrev pub GoesFrom : List Plan → List Instance → Past → (inserted : Bool) → (time position : ℕ)
     → (given before : List Event) → List Action → (after : List Event) → List Action → Type 0
-GoesFrom plans pending past inserted time position given before actions after all =
-    (more : List Action) × (all ≡ actions ++ more)
-    × GoesOn plans pending past inserted time position given before more after
+GoesFrom plans pending past inserted time position given before actions after all = (more : List Action)
+    × (all ≡ actions ++ more) × GoesOn plans pending past inserted time position given before more after
 
 -- what there was to ask can be asked
 pub record AllCanBeAsked (plans : List Plan) (pending : List Instance) (past : Past) : Type 0 where
   pub roots : CanAskRoots (map placed_guard past.guards) plans
   pub instances : AllByRecursion (CanAskOf (map placed_guard past.guards) plans) pending
 
--- so the actions lead on for what is left of the literals of a root, whatever past state and instances it was found for
-abbrev pub ActsOn : List Plan → (time position rule : ℕ) → List Literal → (before : List Event) → List Action
+-- so the actions lead on for what is left of the literals of a root, whatever plans and instances it was found for
+abbrev pub ActsOn : Past → (time position rule : ℕ) → List Literal → (before : List Event) → List Action
     → (after : List Event) → List Action → Type 0
-ActsOn plans time position rule literals before actions after all =
-    (pending : List Instance) (past : Past) (inserted : Bool) (given : List Event) → AllCanBeAsked plans pending past
-    → AreLiteralsBehind plans pending past given literals
+ActsOn past time position rule literals before actions after all =
+    (plans : List Plan) (pending : List Instance) (inserted : Bool) (given : List Event) → NothingClashes plans
+    → AllCanBeAsked plans pending past → AreLiteralsBehind plans pending past given literals
     → WillBeLeft plans pending past inserted time position before rule literals
     → GoesFrom plans pending past inserted time position given before actions after all
 
--- an action was found for the first that misses something, and literals of a root
-pub record IsFoundBehind (plans : List Plan) (pending : List Instance) (past : Past) (inserted : Bool)
-    (time position : ℕ) (events : List Event) (action : Action) (rule : ℕ) (literals : List Literal) : Type 0 where
+-- an action was found for the first that misses something, and literals of a root, whose values are known where the
+-- step has the given events
+pub record IsFoundFrom (plans : List Plan) (pending : List Instance) (past : Past) (inserted : Bool)
+    (time position : ℕ) (given events : List Event) (action : Action) (rule : ℕ) (literals : List Literal)
+    : Type 0 where
   pub finds : WillFind plans pending past inserted time position events (Some action)
   pub rest : WillHaveFound plans pending past inserted time position events rule literals
-  pub wanted : IsWantedBehind plans pending past events action
-  pub literals_are : AreLiteralsBehind plans pending past events literals
+  pub wanted : IsWantedFrom plans pending past given events action
+  pub literals_are : AreLiteralsBehind plans pending past given literals
 
 -- and for what was found, beginning with its action
-abbrev pub ActsFor : List Plan → (time position : ℕ) → Action → (rule : ℕ) → List Literal → (before : List Event)
+abbrev pub ActsFor : List Plan → Past → (time position : ℕ) → Action → (rule : ℕ) → List Literal → (before : List Event)
     → List Action → (after : List Event) → List Action → Type 0
-ActsFor plans time position action rule literals before actions after all =
-    (pending : List Instance) (past : Past) (inserted : Bool) → AllCanBeAsked plans pending past
-    → IsFoundBehind plans pending past inserted time position before action rule literals
+ActsFor plans past time position action rule literals before actions after all =
+    (pending : List Instance) (inserted : Bool) (given : List Event) → NothingClashes plans
+    → AllCanBeAsked plans pending past
+    → IsFoundFrom plans pending past inserted time position given before action rule literals
     → (more : List Action) × (all ≡ actions ++ action ∷ more)
-    × GoesOn plans pending past inserted time position before before (action ∷ more) after
+    × GoesOn plans pending past inserted time position given before (action ∷ more) after
 
--- where so many of the pending instances missed nothing before, so many miss nothing after
-abbrev pub KeepsMet : List Plan → (time position from : ℕ) → (before after : List Event) → (place : ℕ) → Type 0
-KeepsMet plans time position from before after place =
-    (pending : List Instance) (past : Past) (inserted : Bool) → AllCanBeAsked plans pending past
-    → WillBeMet plans pending past inserted time position before from
-    → WillBeMet plans pending past inserted time position after place
+-- where just those of the literals are missing at a root that are still wanted, nothing is left that is
+abbrev pub LeavesNothing : Past → (time position rule : ℕ) → List Literal → (before after : List Event) → Type 0
+LeavesNothing past time position rule literals before after =
+    (plans : List Plan) (pending : List Instance) (inserted : Bool) (given : List Event) → NothingClashes plans
+    → AllCanBeAsked plans pending past → AreLiteralsBehind plans pending past given literals
+    → WillBeLeft plans pending past inserted time position before rule literals
+    → WillBeLeft plans pending past inserted time position after rule []
+
+-- where nothing is missing before the one place, nothing is before the other behind what was done for what was found
+abbrev pub StaysMet : List Plan → Past → (time position : ℕ) → Action → (rule : ℕ) → List Literal → (from : Place)
+    → (before after : List Event) → Place → Type 0
+StaysMet plans past time position action rule literals from before after place =
+    (pending : List Instance) (inserted : Bool) (given : List Event) → NothingClashes plans
+    → AllCanBeAsked plans pending past
+    → IsFoundFrom plans pending past inserted time position given before action rule literals
+    → WillBeMetBefore plans pending past inserted time position before from
+    → WillBeMetBefore plans pending past inserted time position after place

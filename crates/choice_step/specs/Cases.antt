@@ -3,17 +3,19 @@ use Rattle.std.specs.Prelude.{ℕ, Bool, false, true, List, [], ◌∷◌}
 use Rattle.enf_value.specs.Valuations.{no_values}
 use Rattle.enf_value.specs.declared.events.Event.{Event}
 use Rattle.enf_value.specs.declared.terms.Term.TheVariants.{Const}
-use Rattle.enf_formula.specs.Cases.{event_p, event_q, formula_p, formula_q, name_p, name_q}
+use Rattle.enf_formula.specs.Cases.{at_time, event_p, event_q, formula_p, formula_q, name_p, name_q}
 use Rattle.enf_formula.specs.Formulas.{Not}
 use Rattle.trace_meaning.specs.Records.{Record}
+use Rattle.trace_meaning.specs.declared.kinds.StepKind.{StepKind}
 use Rattle.trace_meaning.specs.declared.kinds.StepKind.TheVariants.{System, Inserted}
 use Rattle.plan_terms.specs.Plans.{Plan, Cause, Suppress, Both, Either, TestOr, Eventually, Always, Next}
-use Rattle.obligations.specs.Cases.{each_q, one}
+use Rattle.obligations.specs.Cases.{at_5, bar_q, cause_p, each_q, one, soon_p}
 use Rattle.obligations.specs.declared.instances.Instance.{Instance}
 use Rattle.obligations.specs.declared.literals.LiteralKind.{LiteralKind}
 use Rattle.obligations.specs.declared.literals.LiteralKind.TheVariants as kind
 use Rattle.choice_step.specs.Choice.{Decides}
 use Rattle.choice_step.specs.Follows.{ActedStep, Follows, FollowsDrain}
+use Rattle.choice_step.specs.Justifying.{AllAreJustified}
 use Rattle.obligations.specs.declared.actions.Action.{Action}
 
 -- p() is to be there, and q() is not to be
@@ -251,3 +253,15 @@ p_and_r = Both 4 (Cause 5 0 name_p []) (Cause 6 0 event_r.name [])
 -- both sides miss something where q() is there; p() is caused for the right one, and with it the left one is met
 abbrev pub ChoosesSide : (actions : List Action) → (after : List Event) → Type 0
 ChoosesSide actions after = Chooses (Either 0 p_up_to_5 p_and_r ∷ []) (event_q ∷ []) actions after
+
+-- under p() and no q(), what goes out first for a step at time 5 with these events
+abbrev pub AreRightAtOnce : (before : List Event) → List ActedStep → Type 0
+AreRightAtOnce before out = AllAreJustified (cause_p 0 ∷ bar_q 0 ∷ []) [] (at_time 5 before ∷ []) out
+
+-- under p() within ten units, what goes out for no record behind a step at time 5 without events
+abbrev pub AreRightThen : List ActedStep → Type 0
+AreRightThen out = AllAreJustified (soon_p 0 0 ∷ []) (at_5 []) [] out
+
+-- a step of a kind with these events at the end, by these actions
+abbrev pub acted_at : StepKind → (time : ℕ) → List Event → List Action → ActedStep
+acted_at k time events actions = record { kind = k; step = at_time time events; actions = actions }

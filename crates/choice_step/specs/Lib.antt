@@ -1,8 +1,11 @@
 pub mod Choice
 pub mod Follows
+pub mod Idle
+pub mod Justifying
 pub mod Waking
 pub mod Looking
 pub mod Choosing
 pub mod Acting
+pub mod Asked
 pub mod Laws
 pub mod Cases

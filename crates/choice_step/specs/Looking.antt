@@ -1,33 +1,28 @@
 -- What is found at a step: the action for the first that misses something.
-use Rattle.std.specs.Prelude.{◌≡◌, ◌↔◌, ◌⊎◌, ℕ, ◌<◌, ◌≤◌, Bool, List, [], ◌∷◌, Option, None, Some, Contains, length, map}
+use Rattle.std.specs.Prelude.{◌≡◌, ◌⊎◌, ℕ, ◌<◌, ◌≤◌, Bool, List, [], ◌∷◌, Option, None, Some, Contains, length, map}
 use Rattle.std.specs.Prelude.{slice_get, take}
 use Rattle.std.specs.List.{AllByRecursion, flat_map}
-use Rattle.enf_value.specs.Data.{step_at}
-use Rattle.enf_value.specs.Valuations.{Valuation, no_values}
+use Rattle.enf_value.specs.Valuations.{no_values}
 use Rattle.enf_value.specs.declared.events.Event.{Event}
 use Rattle.enf_value.specs.declared.steps.Step.{Step}
 use Rattle.enf_value.specs.declared.terms.Term.TheVariants.{Const}
 use Rattle.enf_value.specs.declared.values.Value.{Value}
 use Rattle.trace_meaning.specs.Continuation.{last_time}
 use Rattle.monitorable_guard.specs.Evaluation.{IsTabled}
-use Rattle.monitorable_guard.specs.Present.{HoldsNow}
 use Rattle.monitorable_guard.specs.Sources.{IsArgument}
 use Rattle.past_state.specs.Known.{IsConstantOf, IsKeptValue}
-use Rattle.past_state.specs.Past.{IsGuard, Past, PastStands, PastTables, formula_of, formulas, tables_of}
-use Rattle.past_state.specs.declared.guards.PlacedGuard.{PlacedGuard}
+use Rattle.past_state.specs.Past.{Past, PastStands, PastTables, formulas}
 use Rattle.plan_terms.specs.Nodes.{nodes}
 use Rattle.plan_terms.specs.Plans.{Plan}
-use Rattle.obligations.specs.Asked.{BindsFree, Changes, IsBound, IsLeaf, IsNowOf, terms_of}
-use Rattle.obligations.specs.Begun.{time_now}
+use Rattle.obligations.specs.Asked.{Changes, IsBound, IsLeaf, terms_of}
 use Rattle.obligations.specs.Missing.{Missing}
-use Rattle.obligations.specs.Rows.{HoldsLast, last_position}
 use Rattle.obligations.specs.Unread.{AreThose, IsPlain, IsStillWanted}
 use Rattle.obligations.specs.declared.actions.Action.{Action}
 use Rattle.obligations.specs.declared.instances.Instance.{Instance}
 use Rattle.obligations.specs.declared.literals.Literal.{Literal}
-use Rattle.obligations.specs.declared.now.Now.{Now}
-use Rattle.choice_step.specs.Choice.{Applies, Candidate, IsFirst, MissesNothing, Waiting, action_for, all_asked, roots_from}
-use Rattle.choice_step.specs.Choice.{with_step}
+use Rattle.choice_step.specs.Choice.{Applies, Candidate, IsFirst, MissesNothing, Waiting, action_for, all_asked}
+use Rattle.choice_step.specs.Choice.{roots_from, with_step}
+use Rattle.choice_step.specs.declared.looking.Place.{Place}
 
 -- the action for the first of those that are asked at the last position of a trace, and none where none misses anything
 abbrev pub IsActionFor : List Plan → (inserted : Bool) → List Step → List Candidate → Option Action → Type 0
@@ -35,21 +30,16 @@ IsActionFor plans inserted trace all None = AllByRecursion (MissesNothing plans 
 IsActionFor plans inserted trace all (Some action) = (asked : Candidate) × (literal : Literal)
     × IsFirst plans inserted trace all asked literal × (action ≡ action_for trace asked literal)
 
--- so it is for each trace whose last step is this one
-abbrev pub IsActionAt : List Plan → (inserted : Bool) → Now → List Candidate → Option Action → Type 0
-IsActionAt plans inserted now all found =
-    (trace : List Step) → IsNowOf now trace → IsActionFor plans inserted trace all found
+-- so many of the first roots miss nothing
+abbrev pub RootsAreMet : List Plan → (inserted : Bool) → List Step → (rules : ℕ) → Type 0
+RootsAreMet plans inserted trace rules =
+    AllByRecursion (MissesNothing plans inserted trace) (roots_from 0 (take rules plans))
 
--- the last step of the trace has this time, position and these events, and each guard holds by the tables where it is
--- satisfied there
-pub record IsStepOf (time position : ℕ) (events : List Event) (tables : PastTables) (trace : List Step) : Type 0 where
-  pub some : 0 < length trace
-  pub position_is : last_position trace ≡ position
-  pub time_is : time_now trace ≡ time
-  pub events_are : (step_at trace (last_position trace)).events ≡ events
-  pub guards : (number : ℕ) (g : PlacedGuard) → IsGuard tables.guards number g → (v : Valuation)
-      → BindsFree v (formula_of g)
-      → HoldsNow events (tables_of g tables) v (formula_of g) ↔ HoldsLast trace v (formula_of g)
+-- nor do so many of the first pending instances
+abbrev pub NothingBefore : List Plan → List Instance → (inserted : Bool) → List Step → Place → Type 0
+NothingBefore plans pending inserted trace place =
+    AllByRecursion (MissesNothing plans inserted trace) (map Waiting (take place.instances pending))
+    × RootsAreMet plans inserted trace place.rules
 
 -- a value that a pending instance binds, or one of the step's events, of its tables, or of the constants of guards and
 -- plans
@@ -84,36 +74,12 @@ IsKnownBehind plans pending past events value = ((i : Instance) × Contains pend
     ⊎ (IsConstantOf (formulas past.guards) value
     ⊎ ((leaf : Plan) × Contains (flat_map nodes plans) leaf × Contains (terms_of leaf) (Const value)))))
 
--- an action that is wanted at a step with these events behind a past state
-pub record IsWantedBehind (plans : List Plan) (pending : List Instance) (past : Past) (events : List Event)
-    (action : Action) : Type 0 where
-  pub leaf : Plan
-  pub there : Contains (flat_map nodes plans) leaf
-  pub is : IsLeaf leaf action.kind action.leaf action.event
-  pub changes : Changes action.kind action.event events
-  pub known : (value : Value) → Contains action.event.args value → IsKnownBehind plans pending past events value
-
--- ---- pending instances that are not asked again
-
--- the first so many of the pending instances miss nothing at the last position of a trace
-abbrev pub MetBefore : List Plan → (inserted : Bool) → List Step → List Instance → (from : ℕ) → Type 0
-MetBefore plans inserted trace pending from =
-    AllByRecursion (MissesNothing plans inserted trace) (map Waiting (take from pending))
-
--- nor at a step with these events behind each trace for which the past state stands
-abbrev pub WillBeMet : List Plan → List Instance → Past → (inserted : Bool) → (time position : ℕ) → List Event
-    → (from : ℕ) → Type 0
-WillBeMet plans pending past inserted time position events from = (trace : List Step) → PastStands trace past
-    → length trace ≡ position → last_time trace ≤ time
-    → MetBefore plans inserted (with_step trace time events) pending from
-
 -- ---- what a root misses behind the first
 
--- what the root of a rule misses at the last position of a trace, where its plan has no choices, and nothing is
--- missed by the roots before it
+-- what the root of a rule misses at the last position of a trace, where its plan has no choices, and nothing is missed
+-- by the roots before it
 abbrev pub RootMisses : List Plan → (inserted : Bool) → List Step → (rule : ℕ) → List Literal → Type 0
-RootMisses plans inserted trace rule literals =
-    AllByRecursion (MissesNothing plans inserted trace) (roots_from 0 (take rule plans))
+RootMisses plans inserted trace rule literals = RootsAreMet plans inserted trace rule
     × ((plan : Plan) → slice_get plans rule ≡ Some plan → AllByRecursion IsPlain (nodes plan)
     → Missing trace plan no_values literals)
 
@@ -144,6 +110,12 @@ AreLiteralsBehind plans pending past events literals =
     (literal : Literal) → Contains literals literal → IsLiteralBehind plans pending past events literal
 
 -- behind each trace for which the past state stands
+abbrev pub WillBeMetBefore : List Plan → List Instance → Past → (inserted : Bool) → (time position : ℕ) → List Event
+    → Place → Type 0
+WillBeMetBefore plans pending past inserted time position events place = (trace : List Step)
+    → PastStands trace past → length trace ≡ position → last_time trace ≤ time
+    → NothingBefore plans pending inserted (with_step trace time events) place
+
 abbrev pub WillHaveFound : List Plan → List Instance → Past → (inserted : Bool) → (time position : ℕ) → List Event
     → (rule : ℕ) → List Literal → Type 0
 WillHaveFound plans pending past inserted time position events rule literals = (trace : List Step)

@@ -1,7 +1,10 @@
 -- Which rules a step can wake.
-use Rattle.std.specs.Prelude.{◌≡◌, List, Option, None, Some, All, Contains}
+use Rattle.std.specs.Prelude.{◌≡◌, ℕ, List, Option, None, Some, All, Contains, slice_get}
+use Rattle.std.specs.List.Sorted.{IsSortedByKey}
+use Rattle.std.specs.Ordering.{nat_cmp}
 use Rattle.enf_value.specs.declared.events.Event.{Event}
 use Rattle.enf_value.specs.declared.events.NameId.{NameId}
+use Rattle.choice_step.specs.declared.woken.Woken.{Woken}
 
 -- no event of the step has the name
 abbrev pub IsAway : List Event → NameId → Type 0
@@ -12,3 +15,17 @@ abbrev pub HasNoneOf : Option (Option (List NameId)) → List Event → Type 0
 HasNoneOf None events = ⊥
 HasNoneOf (Some None) events = ⊥
 HasNoneOf (Some (Some names)) events = All (IsAway events) names
+
+-- the number of the name of an entry, and the entry of a rule at one of its triggers
+abbrev pub number_of : Woken → ℕ
+number_of entry = entry.name.0
+
+abbrev pub woken_by : (rule : ℕ) → NameId → Woken
+woken_by rule name = record { name = name; rule = rule }
+
+-- each rule without triggers is among those that are always awake, and each other stands with each of its triggers
+pub record AreAllIn (triggers : List (Option (List NameId))) (always : List ℕ) (by_name : List Woken) : Type 0 where
+  pub always_there : (rule : ℕ) → slice_get triggers rule ≡ Some None → Contains always rule
+  pub order : IsSortedByKey number_of nat_cmp by_name
+  pub named_there : (rule : ℕ) (names : List NameId) (name : NameId) → slice_get triggers rule ≡ Some (Some names)
+      → Contains names name → Contains by_name (woken_by rule name)

@@ -1,56 +1,61 @@
 //! What is done at a step for what was found there.
-ghost use Rattle.std.specs.Prelude.{◌≡◌, ◌↔◌, ◌⊎◌, ◌++◌, ◌∷◌, [], IfOk, IsTrue, OnOk, map};
-ghost use Rattle.std.specs.List.{AllByRecursion};
-ghost use Rattle.choice_step.specs.Acting.{ActsFor, ActsOn, CanGoOn, KeepsMet};
+ghost use Rattle.std.specs.Prelude.{◌≡◌, ◌↔◌, ◌++◌, ◌∷◌, [], IfOk, IfSome, IsTrue, OnOk, map};
+ghost use Rattle.choice_step.specs.Acting.{ActsFor, ActsOn, AreSparedBehind, HasNoChoices, LeavesNothing, StaysMet};
 ghost use Rattle.enf_value.specs.Membership.{HasNoRepeats};
 ghost use Rattle.obligations.specs.Asked.{Changes};
-ghost use Rattle.obligations.specs.Unread.{IsUnreadIn};
+ghost use Rattle.past_state.specs.Past.{guard_names};
 ghost use Rattle.plan_terms.specs.Plans.{plan_of};
 
 use crate::actions::{Action, Actions};
-use crate::looking::{Found, act, action_of_root};
+use crate::looking::{Found, Place, act, action_of_root};
 use enf_value::event_sets::EventSet;
-use enf_value::events::NameId;
 use enf_value::memory::NoMemory;
 use obligations::laws::unread_stays_met;
-use obligations::unread::{are_unread, is_plain};
+use obligations::unread::is_plain;
 use obligations::{Literal, LiteralKind};
+use past_state::PastState;
 use plan_terms::Plan;
 use std::alloc::Global;
 
-// Does the action for what was found, and then those for what the same root misses behind it. It answers how many of
-// the pending instances miss nothing then, where those before it missed nothing.
+// Does the action for what was found, and then those for what the same root misses behind it. It answers the place to
+// go on from, or none where a guard looks for a name that was acted on.
 pub fn act_for(
     alloc: Global,
     plans: &[Plan],
+    past: &PastState,
     time: u64,
     position: u64,
     found: Found,
     events: &mut EventSet,
     actions: &mut Actions,
-) -> Result<usize, NoMemory>
+) -> Result<Option<Place>, NoMemory>
     requires changes { Changes found.action.kind found.action.event events.old }
-    ensures acted { OnOk result (ActsFor (map plan_of plans.now) time position found.action found.rule
+    ensures acts { OnOk result (ActsFor (map plan_of plans.now) past.now time position found.action found.rule
         found.literals.items events.old actions.old events.new actions.new) }
-    ensures place { IfOk result (KeepsMet (map plan_of plans.now) time position found.from events.old events.new) }
+    ensures spared { IfOk result (λ next. IfSome next
+        (λ _. AreSparedBehind (guard_names past.now.guards) actions.old actions.new)) }
+    ensures met { IfOk result (λ next. IfSome next (λ place. StaysMet (map plan_of plans.now) past.now time position
+        found.action found.rule found.literals.items found.place events.old events.new place)) }
 {
     unread_stays_met();
     let Found {
         action,
         rule,
         literals,
-        from,
+        place,
     } = found;
-    let kind = action.kind;
     let name = action.event.name;
     act(alloc, events, &action)?;
     push(actions, action)?;
-    if literals.len() < 2 || !can_go_on(plans, rule, kind, name) {
-        return Ok(place_behind(plans, from, kind, name));
+    if past.looks_for(name) {
+        return Ok(None);
     }
-    act_on(
+    if literals.is_empty() || !has_no_choices(plans, rule) {
+        return Ok(Some(place));
+    }
+    let spared = act_on(
         alloc,
-        plans,
+        past,
         rule,
         literals.as_slice(),
         time,
@@ -58,33 +63,33 @@ pub fn act_for(
         events,
         actions,
     )?;
-    Ok(0)
-}
-
-// The place that was kept, where no plan looks for the name, and else the start.
-fn place_behind(plans: &[Plan], from: usize, kind: LiteralKind, name: NameId) -> usize
-    ensures { (result ≡ 0) ⊎ ((result ≡ from) × AllByRecursion (IsUnreadIn kind name) (map plan_of plans.now)) }
-{
-    if from > 0 && are_unread(plans, kind, name) {
-        return from;
+    if !spared {
+        return Ok(None);
     }
-    0
+    Ok(Some(Place {
+        instances: place.instances,
+        rules: rule as usize + 1,
+    }))
 }
 
-// Does the actions for what the root of a rule misses that is still wanted, until a plan looks for a name that was
-// acted on.
+// Does the actions for what the root of a rule misses that is still wanted, until a guard looks for a name that was
+// acted on; it answers whether none did, so that the root misses nothing.
 fn act_on(
     alloc: Global,
-    plans: &[Plan],
+    past: &PastState,
     rule: u32,
     literals: &[Literal],
     time: u64,
     position: u64,
     events: &mut EventSet,
     actions: &mut Actions,
-) -> Result<(), NoMemory>
-    ensures { OnOk result (ActsOn (map plan_of plans.now) time position rule literals.now
-        events.old actions.old events.new actions.new) }
+) -> Result<bool, NoMemory>
+    ensures acts { OnOk result (ActsOn past.now time position rule literals.now events.old actions.old events.new
+        actions.new) }
+    ensures spared { IfOk result (λ on. IsTrue on
+        → AreSparedBehind (guard_names past.now.guards) actions.old actions.new) }
+    ensures left { IfOk result (λ on. IsTrue on
+        → LeavesNothing past.now time position rule literals.now events.old events.new) }
 {
     unread_stays_met();
     for literal in literals {
@@ -94,19 +99,19 @@ fn act_on(
         let action = action_of_root(alloc, rule, literal, time, position)?;
         act(alloc, events, &action)?;
         push(actions, action)?;
-        if !are_unread(plans, literal.kind, literal.event.name) {
-            return Ok(());
+        if past.looks_for(literal.event.name) {
+            return Ok(false);
         }
     }
-    Ok(())
+    Ok(true)
 }
 
-// Whether the plan of a rule has no choices, and no plan looks for the name.
-fn can_go_on(plans: &[Plan], rule: u32, kind: LiteralKind, name: NameId) -> bool
-    ensures { IsTrue result → CanGoOn (map plan_of plans.now) rule kind name }
+// Whether the plan of a rule has no choices.
+pub fn has_no_choices(plans: &[Plan], rule: u32) -> bool
+    ensures { IsTrue result → HasNoChoices (map plan_of plans.now) rule }
 {
     match plans.get(rule as usize) {
-        Some(plan) => is_plain(plan) && are_unread(plans, kind, name),
+        Some(plan) => is_plain(plan),
         None => false,
     }
 }

@@ -1,32 +1,35 @@
 //! The choice loop: what is added at a step and taken out, so that nothing is missing there.
-ghost use Rattle.std.specs.Prelude.{◌≡◌, ◌≤◌, ◌^◌, List, Contains, IfNone, IfOk, IfSome, None, length, map};
-ghost use Rattle.std.specs.Option.{option_map};
+ghost use Rattle.std.specs.Prelude.{◌≡◌, ◌<◌, ◌≤◌, ◌^◌, false, IfNone, IfOk, IfSome, IsTrue, None, OnOk, length, map};
 ghost use Rattle.std.specs.List.{AllByRecursion};
-ghost use Rattle.choice_step.specs.Choice.{all_asked};
+ghost use Rattle.choice_step.specs.Asked.{CanDecide, Finds, IsFound, IsMetBefore, Leads, NoneIsWoken};
 ghost use Rattle.choice_step.specs.Choosing.{ActsFrom, WillDecide};
-ghost use Rattle.choice_step.specs.Acting.{IsFoundBehind};
-ghost use Rattle.choice_step.specs.Looking.{IsActionFor, IsLiteralAt, IsStepOf, IsWantedAt, MetBefore, WasFound};
-ghost use Rattle.choice_step.specs.Looking.{WillBeMet, WillFind};
-ghost use Rattle.enf_value.specs.declared.steps.Step.{Step};
-ghost use Rattle.obligations.specs.Asked.{Changes, guards_at, placed_guard};
+ghost use Rattle.choice_step.specs.Justifying.{WillBeJustified};
+ghost use Rattle.enf_formula.specs.Names.{HaveSameOf};
+ghost use Rattle.obligations.specs.Asked.{placed_guard};
 ghost use Rattle.obligations.specs.Waiting.{CanAskOf, CanAskRoots};
-ghost use Rattle.obligations.specs.declared.literals.Literal.{Literal as AnyLiteral};
-ghost use Rattle.past_state.specs.Past.{AreOf, GuardsWillHold};
+ghost use Rattle.past_state.specs.Known.{AreKnown};
+ghost use Rattle.past_state.specs.Past.{AreOf, GuardsWillHold, guard_names};
 ghost use Rattle.past_state.specs.Runs.{AreUpToTimeOf};
 ghost use Rattle.plan_terms.specs.Changes.{NothingClashes};
 ghost use Rattle.plan_terms.specs.Plans.{plan_of};
 ghost use Rattle.plan_terms.specs.Triggers.{guard_triggers};
 
-use crate::acting::act_for;
+use crate::acting::{act_for, has_no_choices};
 use crate::actions::Actions;
-use crate::looking::{Found, first_action};
+use crate::asked::Asked;
+use crate::laws::actions_are_justified;
+use crate::looking::{Found, Place, first_action};
 use crate::waking::Wakes;
+use enf_formula::laws::dependence;
 use enf_value::event_sets::EventSet;
+use enf_value::items::Duplicate;
 use enf_value::memory::NoMemory;
 use monitorable_guard::StepEvents;
 use obligations::{Now, Pending};
+use past_state::laws::unread_tables_stay;
 use past_state::{PastState, Tables};
 use plan_terms::Plan;
+use plan_terms::laws::triggers_are_met;
 use std::alloc::Global;
 
 /// What is done at a step: its events at the end, the actions that led to them in their order, and the tables of the
@@ -38,11 +41,22 @@ pub struct Choice {
     pub tables: Tables,
 }
 
-// What is found at a step: the first that misses something, and the tables of the past.
+// What is left of a round of the loop: the events, the tables of the past at those with which it began, and whether
+// nothing is missing, where they are the tables at its end too.
+#[derive(Drop)]
+struct Round {
+    events: EventSet,
+    tables: Tables,
+    ended: bool,
+}
+
+// What the first look of a round shows: who is the first that misses something, the tables of the past, and whether
+// that is the root of a rule without choices behind which no rule is woken.
 #[derive(Drop)]
 struct Seen {
     found: Option<Found>,
     tables: Tables,
+    last: bool,
 }
 
 /// Runs the choice loop at a step at this time and position, which begins with these events: as long as one of the
@@ -67,6 +81,8 @@ pub fn choose(
     // For each trace for which the past state stands.
     ensures decided { IfOk result (λ choice. WillDecide (map plan_of plans.now) pending.now.instances past.now
         inserted time position events choice.actions choice.events) }
+    ensures justified { IfOk result (λ choice. WillBeJustified (map plan_of plans.now) pending.now.instances past.now
+        inserted time position events choice.actions) }
     // Whatever it stands for.
     ensures acted { IfOk result
         (λ choice. ActsFrom (map plan_of plans.now) events choice.actions choice.events) }
@@ -101,125 +117,284 @@ pub fn choose_with(
     // For each trace for which the past state stands.
     ensures decided { IfOk result (λ choice. WillDecide (map plan_of plans.now) pending.now.instances past.now
         inserted time position events choice.actions choice.events) }
+    ensures justified { IfOk result (λ choice. WillBeJustified (map plan_of plans.now) pending.now.instances past.now
+        inserted time position events choice.actions) }
     // Whatever it stands for.
     ensures acted { IfOk result
         (λ choice. ActsFrom (map plan_of plans.now) events choice.actions choice.events) }
     ensures tables { IfOk result (λ choice. AreOf past.now time choice.events choice.tables) }
     ensures hold { IfOk result (λ choice. GuardsWillHold past.now time choice.events choice.tables) }
 {
+    actions_are_justified();
     // Its clause says that no event stands twice.
     let _given = events.as_slice();
+    let asked = Asked {
+        plans,
+        wakes,
+        pending,
+        past,
+        time,
+        position,
+        inserted,
+    };
     let mut events = events;
     let mut actions = Actions::new(alloc);
-    // so many of the pending instances miss nothing
-    let mut from = 0;
     loop {
-        let Seen { found, tables } = look(
-            alloc, wakes, plans, pending, from, past, time, position, &events, inserted,
-        )?;
-        let Some(found) = found else {
+        let Round {
+            events: after,
+            tables,
+            ended,
+        } = go_round(alloc, &asked, events, &mut actions)?;
+        if ended {
             return Ok(Choice {
-                events,
+                events: after,
                 actions,
                 tables,
             });
-        };
-        from = act_for(
-            alloc,
-            plans,
-            time,
-            position,
-            found,
-            &mut events,
-            &mut actions,
-        )?;
+        }
+        events = after;
     }
 }
 
-// Looks at the step with these events.
-fn look(
+// A round of the loop, up to an action on a name that a guard looks for: the tables are made once.
+fn go_round(
     alloc: Global,
-    wakes: &Wakes,
-    plans: &[Plan],
-    pending: &Pending,
-    from: usize,
-    past: &PastState,
-    time: u64,
-    position: u64,
-    events: &EventSet,
-    inserted: bool,
-) -> Result<Seen, NoMemory>
-    requires wakes { wakes.now ≡ map guard_triggers (map plan_of plans.now) }
-    requires few { length plans.now ≤ 2 ^ 32 }
-    requires roots { CanAskRoots (map placed_guard past.now.guards) (map plan_of plans.now) }
-    requires instances { AllByRecursion (CanAskOf (map placed_guard past.now.guards) (map plan_of plans.now))
-        pending.now.instances }
-    requires later { AreUpToTimeOf time past.now.operators }
-    ensures nothing { IfOk result (λ look. IfNone look.found (WillBeMet (map plan_of plans.now) pending.now.instances
-        past.now inserted time position events.now from → WillFind (map plan_of plans.now) pending.now.instances
-        past.now inserted time position events.now None)) }
-    ensures found { IfOk result (λ look. IfSome look.found (λ f. WillBeMet (map plan_of plans.now)
-        pending.now.instances past.now inserted time position events.now from → IsFoundBehind (map plan_of plans.now)
-        pending.now.instances past.now inserted time position events.now f.action f.rule f.literals.items)) }
-    ensures changes { IfOk result (λ look. IfSome look.found
-        (λ f. Changes f.action.kind f.action.event events.now)) }
-    ensures place { IfOk result (λ look. IfSome look.found (λ f. WillBeMet (map plan_of plans.now)
-        pending.now.instances past.now inserted time position events.now from → WillBeMet (map plan_of plans.now)
-        pending.now.instances past.now inserted time position events.now f.from)) }
-    ensures tables { IfOk result (λ look. AreOf past.now time events.now look.tables) }
-    ensures hold { IfOk result (λ look. GuardsWillHold past.now time events.now look.tables) }
+    asked: &Asked<'_>,
+    events: EventSet,
+    actions: &mut Actions,
+) -> Result<Round, NoMemory>
+    requires can { CanDecide asked.now }
+    ensures acts { IfOk result (λ round. Leads asked.now events events actions.old round.events actions.new) }
+    ensures more { IfOk result (λ round. round.ended ≡ false → length actions.old < length actions.new) }
+    ensures nothing { IfOk result (λ round. IsTrue round.ended → Finds asked.now round.events None) }
+    ensures tables { IfOk result (λ round. IsTrue round.ended
+        → AreOf asked.now.past.now asked.now.time round.events round.tables) }
+    ensures hold { IfOk result (λ round. IsTrue round.ended
+        → GuardsWillHold asked.now.past.now asked.now.time round.events round.tables) }
 {
-    let ordered = StepEvents::of(alloc, events)?;
-    let tables = past.tables_at(alloc, time, &ordered)?;
-    let found = first_at(
-        alloc, wakes, plans, pending, from, time, position, &ordered, &tables, inserted,
-    )?;
-    Ok(Seen { found, tables })
+    unread_tables_stay();
+    let Seen {
+        found,
+        tables,
+        last,
+    } = look(alloc, asked, &events)?;
+    let Some(found) = found else {
+        return Ok(Round {
+            events,
+            tables,
+            ended: true,
+        });
+    };
+    let mut after = events;
+    let ended = act_from(alloc, asked, &tables, found, last, &mut after, actions)?;
+    Ok(Round {
+        events: after,
+        tables,
+        ended,
+    })
 }
 
-// The first that misses something at a step with these tables.
-fn first_at(
+// The first look of a round.
+fn look(alloc: Global, asked: &Asked<'_>, events: &EventSet) -> Result<Seen, NoMemory>
+    requires can { CanDecide asked.now }
+    ensures nothing { IfOk result (λ seen. IfNone seen.found (Finds asked.now events.now None)) }
+    ensures found { IfOk result (λ seen. IfSome seen.found (IsFound asked.now events.now events.now)) }
+    ensures place { IfOk result (λ seen. IfSome seen.found (λ f. IsMetBefore asked.now events.now f.place)) }
+    ensures last { IfOk result (λ seen. IfSome seen.found
+        (λ f. IsTrue seen.last → NoneIsWoken asked.now events.now f.rule)) }
+    ensures are { IfOk result (λ seen. AreOf asked.now.past.now asked.now.time events.now seen.tables) }
+    ensures hold { IfOk result (λ seen. GuardsWillHold asked.now.past.now asked.now.time events.now seen.tables) }
+    ensures known { IfOk result (λ seen. AreKnown asked.now.past.now events.now seen.tables) }
+{
+    let ordered = StepEvents::of(alloc, events)?;
+    let tables = asked.past.tables_at(alloc, asked.time, &ordered)?;
+    let start = Place {
+        instances: 0,
+        rules: 0,
+    };
+    let found = next_from(alloc, asked, events, &ordered, &tables, start)?;
+    let last = match &found {
+        Some(first) => is_last(asked, first, &ordered),
+        None => false,
+    };
+    Ok(Seen {
+        found,
+        tables,
+        last,
+    })
+}
+
+// Whether what was found is the root of a rule without choices, and the step wakes no rule behind it.
+fn is_last(asked: &Asked<'_>, found: &Found, ordered: &StepEvents<'_>) -> bool
+    ensures { IsTrue result → NoneIsWoken asked.now ordered.now found.now.rule }
+{
+    let all = ordered.set().as_slice();
+    !found.literals.is_empty()
+        && has_no_choices(asked.plans, found.rule)
+        && asked
+            .wakes
+            .next_awake(found.rule as usize + 1, all, ordered)
+            >= asked.plans.len()
+}
+
+// Acts for the root behind which no rule is woken; it answers whether no guard looks for a name that was acted on, so
+// that nothing is missing.
+fn act_last(
     alloc: Global,
-    wakes: &Wakes,
-    plans: &[Plan],
-    pending: &Pending,
-    from: usize,
-    time: u64,
-    position: u64,
+    asked: &Asked<'_>,
+    found: Found,
+    events: &mut EventSet,
+    actions: &mut Actions,
+) -> Result<bool, NoMemory>
+    requires can { CanDecide asked.now }
+    requires found { IsFound asked.now events.old events.old found }
+    requires place { IsMetBefore asked.now events.old found.place }
+    requires last { NoneIsWoken asked.now events.old found.rule }
+    ensures acts { OnOk result (Leads asked.now events.old events.old actions.old events.new actions.new) }
+    ensures more { OnOk result (length actions.old < length actions.new) }
+    ensures nothing { IfOk result (λ ended. IsTrue ended → Finds asked.now events.new None) }
+    ensures same { IfOk result (λ ended. IsTrue ended
+        → HaveSameOf (guard_names asked.now.past.now.guards) events.old events.new) }
+{
+    triggers_are_met();
+    let rule = found.rule as usize;
+    let reached = act_for(
+        alloc,
+        asked.plans,
+        asked.past,
+        asked.time,
+        asked.position,
+        found,
+        events,
+        actions,
+    )?;
+    let Some(place) = reached else {
+        return Ok(false);
+    };
+    if place.instances < asked.pending.len() || place.rules <= rule {
+        return Ok(false);
+    }
+    Ok(true)
+}
+
+// Acts for what was found first. Where others may miss something behind it, it goes on with the tables, and with the
+// order of the events that there were. It answers whether no guard looks for a name that was acted on, so that nothing
+// is missing.
+fn act_from(
+    alloc: Global,
+    asked: &Asked<'_>,
+    tables: &Tables,
+    found: Found,
+    last: bool,
+    events: &mut EventSet,
+    actions: &mut Actions,
+) -> Result<bool, NoMemory>
+    requires can { CanDecide asked.now }
+    requires are { AreOf asked.now.past.now asked.now.time events.old tables.now }
+    requires hold { GuardsWillHold asked.now.past.now asked.now.time events.old tables.now }
+    requires known { AreKnown asked.now.past.now events.old tables.now }
+    requires found { IsFound asked.now events.old events.old found }
+    requires place { IsMetBefore asked.now events.old found.place }
+    requires last { IsTrue last → NoneIsWoken asked.now events.old found.rule }
+    ensures acts { OnOk result (Leads asked.now events.old events.old actions.old events.new actions.new) }
+    ensures more { OnOk result (length actions.old < length actions.new) }
+    ensures nothing { IfOk result (λ ended. IsTrue ended → Finds asked.now events.new None) }
+    ensures same { IfOk result (λ ended. IsTrue ended
+        → HaveSameOf (guard_names asked.now.past.now.guards) events.old events.new) }
+{
+    if last {
+        return act_last(alloc, asked, found, events, actions);
+    }
+    let given = events.duplicate(alloc)?;
+    let ordered = StepEvents::of(alloc, &given)?;
+    go_on(alloc, asked, &ordered, tables, found, events, actions)
+}
+
+// Acts for what was found, and goes on from its place, until something looks for a name that was acted on; it answers
+// whether nothing did, so that nothing is missing.
+fn go_on(
+    alloc: Global,
+    asked: &Asked<'_>,
     ordered: &StepEvents<'_>,
     tables: &Tables,
-    inserted: bool,
-) -> Result<Option<Found>, NoMemory>
-    requires wakes { wakes.now ≡ map guard_triggers (map plan_of plans.now) }
-    requires few { length plans.now ≤ 2 ^ 32 }
-    requires roots { CanAskRoots (guards_at tables.now) (map plan_of plans.now) }
-    requires instances { AllByRecursion (CanAskOf (guards_at tables.now) (map plan_of plans.now))
-        pending.now.instances }
-    ensures found { IfOk result (λ found. (trace : List Step)
-        → IsStepOf time position ordered.now tables.now trace
-        → MetBefore (map plan_of plans.now) inserted trace pending.now.instances from
-        → IsActionFor (map plan_of plans.now) inserted trace
-        (all_asked (map plan_of plans.now) pending.now.instances) (option_map (λ f. f.action) found)) }
-    ensures rest { IfOk result (λ found. IfSome found (λ f. (trace : List Step)
-        → IsStepOf time position ordered.now tables.now trace
-        → MetBefore (map plan_of plans.now) inserted trace pending.now.instances from
-        → WasFound (map plan_of plans.now) pending.now.instances inserted trace f.rule f.literals.items)) }
-    ensures place { IfOk result (λ found. IfSome found (λ f. (trace : List Step)
-        → IsStepOf time position ordered.now tables.now trace
-        → MetBefore (map plan_of plans.now) inserted trace pending.now.instances from
-        → MetBefore (map plan_of plans.now) inserted trace pending.now.instances f.from)) }
-    ensures wanted { IfOk result (λ found. IfSome found
-        (λ f. IsWantedAt (map plan_of plans.now) pending.now.instances ordered.now ordered.now tables.now f.action)) }
-    ensures literals { IfOk result (λ found. IfSome found (λ f. (literal : AnyLiteral)
-        → Contains f.literals.items literal
-        → IsLiteralAt (map plan_of plans.now) pending.now.instances ordered.now tables.now literal)) }
+    found: Found,
+    events: &mut EventSet,
+    actions: &mut Actions,
+) -> Result<bool, NoMemory>
+    requires can { CanDecide asked.now }
+    requires are { AreOf asked.now.past.now asked.now.time ordered.now tables.now }
+    requires hold { GuardsWillHold asked.now.past.now asked.now.time ordered.now tables.now }
+    requires known { AreKnown asked.now.past.now ordered.now tables.now }
+    requires same { events.old ≡ ordered.now }
+    requires found { IsFound asked.now ordered.now ordered.now found }
+    requires place { IsMetBefore asked.now ordered.now found.place }
+    ensures acts { OnOk result (Leads asked.now ordered.now ordered.now actions.old events.new actions.new) }
+    ensures more { OnOk result (length actions.old < length actions.new) }
+    ensures nothing { IfOk result (λ ended. IsTrue ended → Finds asked.now events.new None) }
+    ensures same { IfOk result (λ ended. IsTrue ended
+        → HaveSameOf (guard_names asked.now.past.now.guards) ordered.now events.new) }
 {
+    // Its clause says that no event stands twice.
+    let _given = ordered.set().as_slice();
+    let mut first = found;
+    loop {
+        let reached = act_for(
+            alloc,
+            asked.plans,
+            asked.past,
+            asked.time,
+            asked.position,
+            first,
+            events,
+            actions,
+        )?;
+        let Some(place) = reached else {
+            return Ok(false);
+        };
+        let next = next_from(alloc, asked, events, ordered, tables, place)?;
+        match next {
+            Some(next) => first = next,
+            None => return Ok(true),
+        }
+    }
+}
+
+// The first that misses something at a step, from a place on, with the order and the tables that there were before its
+// events changed in names that no guard looks for.
+fn next_from(
+    alloc: Global,
+    asked: &Asked<'_>,
+    events: &EventSet,
+    ordered: &StepEvents<'_>,
+    tables: &Tables,
+    from: Place,
+) -> Result<Option<Found>, NoMemory>
+    requires can { CanDecide asked.now }
+    requires are { AreOf asked.now.past.now asked.now.time ordered.now tables.now }
+    requires hold { GuardsWillHold asked.now.past.now asked.now.time ordered.now tables.now }
+    requires known { AreKnown asked.now.past.now ordered.now tables.now }
+    requires same { HaveSameOf (guard_names asked.now.past.now.guards) ordered.now events.now }
+    requires before { IsMetBefore asked.now events.now from }
+    ensures nothing { IfOk result (λ found. IfNone found (Finds asked.now events.now None)) }
+    ensures found { IfOk result (λ found. IfSome found (IsFound asked.now ordered.now events.now)) }
+    ensures place { IfOk result (λ found. IfSome found (λ f. IsMetBefore asked.now events.now f.place)) }
+{
+    dependence();
     let now = Now {
-        time,
-        position,
-        events: ordered.set(),
+        time: asked.time,
+        position: asked.position,
+        events,
         ordered,
         tables,
     };
-    first_action(alloc, plans, wakes, pending, from, &now, inserted)
+    let found = first_action(
+        alloc,
+        asked.plans,
+        asked.wakes,
+        asked.pending,
+        &now,
+        asked.inserted,
+        from,
+    )?;
+    Ok(found)
 }

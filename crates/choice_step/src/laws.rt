@@ -1,12 +1,16 @@
 //! Laws of what is done at a step and of what goes out, each the contract of a function that does nothing.
+ghost use Rattle.choice_step.specs.Justifying.{DecidedAreJustified, LeastDeadlineIsNeeded};
 ghost use Rattle.choice_step.specs.Laws.{ActionsAreLawful, CausesAlone, EventsAreActedOnOnce};
 ghost use Rattle.choice_step.specs.Laws.{DecidedIsDistinct, DecidedMissesNothing, DecidesIsOne, DrainIsOne};
 ghost use Rattle.choice_step.specs.Laws.{FollowsIsOne, SomeDecision, SomeFollows, SomeInserts};
 
 use obligations::laws::{
-    missed_are_own, missing_exists, missing_is_one, pending_can_be_asked, pending_exists,
-    pending_is_one,
+    missed_are_own, missed_is_served, missing_exists, missing_is_one, pending_can_be_asked,
+    pending_exists, pending_is_one, pending_is_owed, something_missed_is_lost,
+    well_formed_can_be_asked,
 };
+use plan_terms::laws::{lost_stays_lost, owed_stays_owed};
+use trace_meaning::laws::trace_grows;
 
 /// The rules leave no choice: not at a step, not for the records of a log, and not at its end.
 pub fn follows_is_one()
@@ -50,3 +54,20 @@ pub fn actions_are_lawful()
     ensures once { EventsAreActedOnOnce }
     ensures causes_alone { CausesAlone }
 {}
+
+/// Each action that is decided at a step is for a node that is owed and otherwise lost, and leads to what the action
+/// does; and an inserted step is needed.
+pub fn actions_are_justified()
+    ensures actions { DecidedAreJustified }
+    ensures steps { LeastDeadlineIsNeeded }
+{
+    trace_grows();
+    lost_stays_lost();
+    owed_stays_owed();
+    something_missed_is_lost();
+    pending_is_one();
+    pending_is_owed();
+    missed_is_served();
+    pending_can_be_asked();
+    well_formed_can_be_asked();
+}

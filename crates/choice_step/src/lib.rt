@@ -4,10 +4,13 @@
 
 mod acting;
 pub mod actions;
+mod asked;
 pub mod choosing;
+pub mod idle;
 pub mod laws;
 mod looking;
 pub mod waking;
+mod woken;
 pub mod worked_cases;
 
 pub use actions::{Action, Actions};

@@ -1,19 +1,21 @@
 //! Who is the first at a step that misses something, and the action for that one.
-ghost use Rattle.std.specs.Prelude.{◌≡◌, ◌≤◌, ◌^◌, List, [], IfOk, IfSome, OnOk, Some, Contains, length, map, slice_get};
+ghost use Rattle.std.specs.Prelude.{◌≡◌, ◌≤◌, ◌^◌, List, [], IfOk, IfSome, OnOk, Some, Contains, length, map};
+ghost use Rattle.std.specs.Prelude.{slice_get};
 ghost use Rattle.std.specs.Option.{option_map};
 ghost use Rattle.std.specs.List.{AllByRecursion};
 ghost use Rattle.choice_step.specs.Choice.{Root, Waiting, action_at, all_asked, is_forced, roots_from};
-ghost use Rattle.choice_step.specs.Choice.{Applies};
-ghost use Rattle.choice_step.specs.Looking.{IsActionAt, IsActionFor, IsLiteralAt, IsWantedAt, MetBefore};
+ghost use Rattle.choice_step.specs.Choice.{Applies, MissesNothing};
+ghost use Rattle.choice_step.specs.Looking.{IsActionFor, IsLiteralAt, IsWantedAt, RootsAreMet, NothingBefore};
 ghost use Rattle.choice_step.specs.Looking.{RootMisses, WasFound};
+ghost use Rattle.enf_formula.specs.Names.{HaveSameOf};
 ghost use Rattle.enf_value.specs.Valuations.{no_values};
 ghost use Rattle.enf_value.specs.declared.steps.Step.{Step};
 ghost use Rattle.obligations.specs.Asked.{Changes, IsNowOf, IsWanted, guards_at};
 ghost use Rattle.obligations.specs.Missing.{Missing};
 ghost use Rattle.obligations.specs.Unread.{IsPlain};
 ghost use Rattle.obligations.specs.Waiting.{CanAskOf, CanAskRoot, CanAskRoots, FirstMissing};
-ghost use Rattle.obligations.specs.declared.instances.Instance.{Instance as AnyInstance};
 ghost use Rattle.obligations.specs.declared.literals.Literal.{Literal as AnyLiteral};
+ghost use Rattle.past_state.specs.Past.{guard_names};
 ghost use Rattle.plan_terms.specs.Nodes.{nodes};
 ghost use Rattle.plan_terms.specs.Plans.{Plan as AnyPlan, plan_of};
 ghost use Rattle.plan_terms.specs.Triggers.{guard_triggers};
@@ -30,43 +32,49 @@ use plan_terms::laws::triggers_are_met;
 use std::alloc::Global;
 use valuations::{Frame, Valuation};
 
-// The action for the first that misses something at a step; where that is the root of a rule, what it misses: all where
-// the plan has no choices, and else the first. So many pending instances stand before it.
+// Who is asked next at a step: so many of the pending instances, and of the roots of rules, miss nothing.
+#[derive(Clone, Copy)]
+pub struct Place {
+    pub instances: usize,
+    pub rules: usize,
+}
+
+// The action for the first that misses something at a step, and its place; where that is the root of a rule, what it
+// misses: all where the plan has no choices, and else the first.
 #[derive(Drop)]
 pub struct Found {
     pub action: Action,
     pub rule: u32,
     pub literals: Vec<Literal>,
-    pub from: usize,
+    pub place: Place,
 }
 
-// The first that misses something at the step, pending instances before the roots of rules, where the first so many of
-// these miss nothing.
+// The first that misses something at the step, from a place on, pending instances before the roots of rules.
 pub fn first_action(
     alloc: Global,
     plans: &[Plan],
     wakes: &Wakes,
     pending: &Pending,
-    from: usize,
     now: &Now<'_>,
     inserted: bool,
+    from: Place,
 ) -> Result<Option<Found>, NoMemory>
     requires few { length plans.now ≤ 2 ^ 32 }
     requires wakes { wakes.now ≡ map guard_triggers (map plan_of plans.now) }
-    requires ordered { now.now.ordered.now ≡ now.now.events.now }
+    requires ordered { HaveSameOf (guard_names now.now.tables.now.guards) now.now.ordered.now now.now.events.now }
     requires roots { CanAskRoots (guards_at now.now.tables.now) (map plan_of plans.now) }
     requires instances { AllByRecursion (CanAskOf (guards_at now.now.tables.now) (map plan_of plans.now))
         pending.now.instances }
     ensures found { IfOk result (λ found. (trace : List Step) → IsNowOf now.now trace
-        → MetBefore (map plan_of plans.now) inserted trace pending.now.instances from
+        → NothingBefore (map plan_of plans.now) pending.now.instances inserted trace from
         → IsActionFor (map plan_of plans.now) inserted trace
         (all_asked (map plan_of plans.now) pending.now.instances) (option_map (λ f. f.action) found)) }
-    ensures rest { IfOk result (λ found. IfSome found (λ f. (trace : List Step) → IsNowOf now.now trace
-        → MetBefore (map plan_of plans.now) inserted trace pending.now.instances from
-        → WasFound (map plan_of plans.now) pending.now.instances inserted trace f.rule f.literals.items)) }
     ensures place { IfOk result (λ found. IfSome found (λ f. (trace : List Step) → IsNowOf now.now trace
-        → MetBefore (map plan_of plans.now) inserted trace pending.now.instances from
-        → MetBefore (map plan_of plans.now) inserted trace pending.now.instances f.from)) }
+        → NothingBefore (map plan_of plans.now) pending.now.instances inserted trace from
+        → NothingBefore (map plan_of plans.now) pending.now.instances inserted trace f.place)) }
+    ensures rest { IfOk result (λ found. IfSome found (λ f. (trace : List Step) → IsNowOf now.now trace
+        → NothingBefore (map plan_of plans.now) pending.now.instances inserted trace from
+        → WasFound (map plan_of plans.now) pending.now.instances inserted trace f.rule f.literals.items)) }
     ensures wanted { IfOk result (λ found. IfSome found
         (λ f. IsWantedAt (map plan_of plans.now) pending.now.instances now.now.events.now
         now.now.ordered.now now.now.tables.now f.action)) }
@@ -74,10 +82,9 @@ pub fn first_action(
         → Contains f.literals.items literal → IsLiteralAt (map plan_of plans.now) pending.now.instances
         now.now.ordered.now now.now.tables.now literal)) }
 {
-    let instances = pending.as_slice();
-    match first_waiting(alloc, plans, instances, from, now, inserted)? {
+    match first_waiting(alloc, plans, pending.as_slice(), now, inserted, from)? {
         Some(found) => Ok(Some(found)),
-        None => first_root(alloc, plans, wakes, instances.len(), now, inserted),
+        None => first_root(alloc, plans, wakes, pending, now, inserted, from.rules),
     }
 }
 
@@ -86,80 +93,92 @@ fn first_waiting(
     alloc: Global,
     plans: &[Plan],
     pending: &[Instance],
-    from: usize,
     now: &Now<'_>,
     inserted: bool,
+    from: Place,
 ) -> Result<Option<Found>, NoMemory>
     requires { AllByRecursion (CanAskOf (guards_at now.now.tables.now) (map plan_of plans.now)) pending.now }
     ensures found { IfOk result (λ found. (trace : List Step) → IsNowOf now.now trace
-        → MetBefore (map plan_of plans.now) inserted trace pending.now from
+        → NothingBefore (map plan_of plans.now) pending.now inserted trace from
         → IsActionFor (map plan_of plans.now) inserted trace (map Waiting pending.now)
         (option_map (λ f. f.action) found)) }
     ensures place { IfOk result (λ found. IfSome found (λ f. (trace : List Step) → IsNowOf now.now trace
-        → MetBefore (map plan_of plans.now) inserted trace pending.now from
-        → MetBefore (map plan_of plans.now) inserted trace pending.now f.from)) }
-    ensures none { IfOk result (λ found. IfSome found (λ f. f.literals.items ≡ [])) }
+        → NothingBefore (map plan_of plans.now) pending.now inserted trace from
+        → NothingBefore (map plan_of plans.now) pending.now inserted trace f.place)) }
     ensures wanted { IfOk result (λ found. IfSome found
         (λ f. IsWantedAt (map plan_of plans.now) pending.now now.now.events.now now.now.ordered.now
         now.now.tables.now f.action)) }
+    ensures alone { IfOk result (λ found. IfSome found (λ f. f.literals.items ≡ [])) }
 {
-    for place in from..pending.len() {
+    for place in from.instances..pending.len() {
         let instance = &pending[place];
         let forced = is_forced(instance, now.time, inserted);
         if let Some(literal) = first_missing_of(alloc, instance, plans, now, forced)? {
             return Ok(Some(Found {
                 action: action_of(alloc, instance, literal, now)?,
-                rule: 0,
+                rule: instance.rule,
                 literals: Vec::new(alloc),
-                from: place,
+                place: Place {
+                    instances: place,
+                    rules: from.rules,
+                },
             }));
         }
     }
     Ok(None)
 }
 
-// That for the first of the rules' roots.
+// That for the first of the rules' roots, where no pending instance misses anything.
 fn first_root(
     alloc: Global,
     plans: &[Plan],
     wakes: &Wakes,
-    from: usize,
+    pending: &Pending,
     now: &Now<'_>,
     inserted: bool,
+    from: usize,
 ) -> Result<Option<Found>, NoMemory>
     requires few { length plans.now ≤ 2 ^ 32 }
     requires wakes { wakes.now ≡ map guard_triggers (map plan_of plans.now) }
-    requires ordered { now.now.ordered.now ≡ now.now.events.now }
+    requires ordered { HaveSameOf (guard_names now.now.tables.now.guards) now.now.ordered.now now.now.events.now }
     requires roots { CanAskRoots (guards_at now.now.tables.now) (map plan_of plans.now) }
-    ensures found { IfOk result (λ found. IsActionAt (map plan_of plans.now) inserted now.now
+    ensures found { IfOk result (λ found. (trace : List Step) → IsNowOf now.now trace
+        → RootsAreMet (map plan_of plans.now) inserted trace from
+        → IsActionFor (map plan_of plans.now) inserted trace
         (roots_from 0 (map plan_of plans.now)) (option_map (λ f. f.action) found)) }
+    ensures place { IfOk result (λ found. IfSome found (λ f. (trace : List Step) → IsNowOf now.now trace
+        → RootsAreMet (map plan_of plans.now) inserted trace from
+        → AllByRecursion (MissesNothing (map plan_of plans.now) inserted trace) (map Waiting pending.now.instances)
+        → NothingBefore (map plan_of plans.now) pending.now.instances inserted trace f.place)) }
     ensures rest { IfOk result (λ found. IfSome found (λ f. (trace : List Step) → IsNowOf now.now trace
+        → RootsAreMet (map plan_of plans.now) inserted trace from
         → RootMisses (map plan_of plans.now) inserted trace f.rule f.literals.items)) }
-    ensures wanted { IfOk result (λ found. (pending : List AnyInstance) → IfSome found
-        (λ f. IsWantedAt (map plan_of plans.now) pending now.now.events.now now.now.ordered.now
+    ensures wanted { IfOk result (λ found. IfSome found
+        (λ f. IsWantedAt (map plan_of plans.now) pending.now.instances now.now.events.now now.now.ordered.now
         now.now.tables.now f.action)) }
-    ensures literals { IfOk result (λ found. (pending : List AnyInstance) → IfSome found
+    ensures literals { IfOk result (λ found. IfSome found
         (λ f. (literal : AnyLiteral) → Contains f.literals.items literal
-        → IsLiteralAt (map plan_of plans.now) pending now.now.ordered.now now.now.tables.now literal)) }
+        → IsLiteralAt (map plan_of plans.now) pending.now.instances now.now.ordered.now now.now.tables.now literal)) }
 {
     triggers_are_met();
     let all = now.ordered.set().as_slice();
-    for (rule, plan) in plans.iter().enumerate() {
-        // where no event wakes the rule, its root misses nothing
-        if wakes.sleeps(rule, all, now.ordered) {
-            continue;
-        }
-        let literals = missing_of_root(alloc, plan, now)?;
+    // where no event wakes a rule, its root misses nothing
+    let mut rule = wakes.next_awake(from, all, now.ordered);
+    while rule < plans.len() {
+        let literals = missing_of_root(alloc, &plans[rule], now)?;
         if let Some(first) = literals.first() {
-            let rule = rule as u32;
-            let action = action_of_root(alloc, rule, first, now.time, now.position)?;
+            let action = action_of_root(alloc, rule as u32, first, now.time, now.position)?;
             return Ok(Some(Found {
                 action,
-                rule,
+                rule: rule as u32,
                 literals,
-                from,
+                place: Place {
+                    instances: pending.len(),
+                    rules: rule,
+                },
             }));
         }
+        rule = wakes.next_awake(rule + 1, all, now.ordered);
     }
     Ok(None)
 }

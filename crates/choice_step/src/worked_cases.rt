@@ -2,18 +2,21 @@
 ghost use Rattle.std.specs.Prelude.{[], ◌∷◌, true, false};
 ghost use Rattle.enf_formula.specs.Cases.{event_p, event_q};
 ghost use Rattle.obligations.specs.declared.literals.LiteralKind.TheVariants as kind;
-ghost use Rattle.obligations.specs.Cases.{p_of_1, q_of_1};
+ghost use Rattle.obligations.specs.Cases.{at_once_for, p_of_1, q_of_1, then_for};
+ghost use Rattle.choice_step.specs.Cases.{AreRightAtOnce, AreRightThen, acted_at};
 ghost use Rattle.choice_step.specs.Cases.{Chooses, ChoosesDue, ChoosesDueAndAlways, ChoosesDueAndRoot, ChoosesDueTwice};
-ghost use Rattle.choice_step.specs.Cases.{ChoosesFed, ChoosesSide, ChoosesWoken, GoesForBoth, GoesForNext, p_and_q, p_at_5};
+ghost use Rattle.choice_step.specs.Cases.{ChoosesFed, ChoosesSide, ChoosesWoken, GoesForBoth, GoesForNext, p_and_q};
+ghost use Rattle.choice_step.specs.Cases.{p_at_5};
 ghost use Rattle.choice_step.specs.Cases.{Drains, GoesFor, due_at_5, empty_at_0, event_r, for_due, for_leaf, for_root};
 ghost use Rattle.choice_step.specs.Cases.{for_second_at, for_second_root, p_in_time, p_is_there, p_without_q};
 ghost use Rattle.choice_step.specs.Cases.{q_at_3, q_at_7, q_at_15, q_is_not, second_due_at_3, served_at_5, served_at_6};
 ghost use Rattle.choice_step.specs.Follows.{IsLeastDeadline};
 ghost use Rattle.trace_meaning.specs.Records.{StepRecord, Tick};
+ghost use Rattle.trace_meaning.specs.declared.kinds.StepKind.TheVariants.{Inserted, System};
 
 use crate::laws::follows_is_one;
 use obligations::laws::pending_is_one;
-use obligations::worked_cases::missing_of_rows;
+use obligations::worked_cases::{justified_at_once, justified_later, missing_of_rows, needed};
 
 /// What is done at a step of the system.
 pub fn choices()
@@ -138,4 +141,21 @@ pub fn choices_of_sides()
         (event_q ∷ event_p ∷ event_r ∷ []) → ⊥ }
 {
     follows_is_one();
+}
+
+/// What goes out, each action for the rule that it serves, and each inserted step needed.
+pub fn justified_steps()
+    ensures for_its_rule { AreRightAtOnce [] (acted_at System 5 (event_p ∷ [])
+        (at_once_for kind.Cause event_p 0 0 ∷ []) ∷ []) }
+    ensures for_another_rule { AreRightAtOnce (event_q ∷ []) (acted_at System 5 (event_q ∷ event_p ∷ [])
+        (at_once_for kind.Cause event_p 1 0 ∷ []) ∷ []) → ⊥ }
+    ensures unchanged { AreRightAtOnce (event_p ∷ []) (acted_at System 5 (event_p ∷ []) [] ∷ []) }
+    ensures no_record { AreRightThen (acted_at System 15 [] [] ∷ []) → ⊥ }
+    ensures no_step { AreRightAtOnce [] [] → ⊥ }
+    ensures at_the_deadline { AreRightThen (acted_at Inserted 15 (event_p ∷ []) (then_for 15 0 1 0 ∷ []) ∷ []) }
+    ensures needless { AreRightThen (acted_at Inserted 14 [] [] ∷ []) → ⊥ }
+{
+    justified_at_once();
+    justified_later();
+    needed();
 }

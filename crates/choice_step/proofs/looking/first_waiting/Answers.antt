@@ -7,21 +7,24 @@ use Rattle.choice_step.proofs.LookingLemmas.{first_waiting, for_trace, misses_wa
 use Rattle.choice_step.proofs.looking.first_waiting.Goals as goal
 
 pub loop-place-preserved : goal.loop-place-preserved
-loop-place-preserved c trace of met =
+loop-place-preserved c trace of before =
     let plans = map plan_of c.args.plans.now in
-    one_more_waiting plans c.args.inserted trace c.args.pending.now c.loop-place.place c.index-pending-place.result c.loop-place-test.true c.index-pending-place.is (c.loop-place.invariant trace of met)
+    one_more_waiting plans c.args.inserted trace c.args.pending.now c.loop-place.place c.index-pending-place.result c.loop-place-test.true c.index-pending-place.is (c.loop-place.invariant trace of before)
     (waits plans c.args.inserted trace c.args.now.now c.index-pending-place.result c.is_forced-forced.result c.in_ok-literal.field-0 of c.is_forced-forced.ensures c.in_default.is (c.in_ok-literal.ensures.first trace of))
 
 pub returns-in-Some-clause-found : goal.returns-in-Some-clause-found
-returns-in-Some-clause-found c trace of met =
+returns-in-Some-clause-found c trace of before =
     let plans = map plan_of c.args.plans.now in
     let i = c.index-pending-place.result in
     let misses = misses_waiting plans c.args.inserted trace c.args.now.now i c.is_forced-forced.result c.in_ok-literal.field-0 c.in-Some.literal of c.is_forced-forced.ensures c.in-Some.is (c.in_ok-literal.ensures.first trace of) in (
       Waiting i,
       c.in-Some.literal,
-      first_waiting plans c.args.inserted trace c.args.pending.now c.loop-place.place i c.in-Some.literal c.loop-place-test.true c.index-pending-place.is (c.loop-place.invariant trace of met) misses,
+      first_waiting plans c.args.inserted trace c.args.pending.now c.loop-place.place i c.in-Some.literal c.loop-place-test.true c.index-pending-place.is (c.loop-place.invariant trace of before) misses,
       for_trace c.args.now.now trace (Waiting i) c.in-Some.literal c.in_ok-action_of.field-0 of c.in_ok-action_of.ensures,
     )
+
+pub returns-in-Some-clause-place : goal.returns-in-Some-clause-place
+returns-in-Some-clause-place c trace of before = (c.loop-place.invariant trace of before, before.1)
 
 pub returns-in-Some-clause-wanted : goal.returns-in-Some-clause-wanted
 returns-in-Some-clause-wanted c =
@@ -33,5 +36,5 @@ returns-in-Some-clause-wanted c =
     c.in_ok-action_of.ensures
 
 pub returns-clause-found : goal.returns-clause-found
-returns-clause-found c trace of met =
-    none_waiting (map plan_of c.args.plans.now) c.args.inserted trace c.args.pending.now c.loop-place.place (omega (arith, c.loop-place-test.false)) (c.loop-place.invariant trace of met)
+returns-clause-found c trace of before =
+    none_waiting (map plan_of c.args.plans.now) c.args.inserted trace c.args.pending.now c.loop-place.place (omega (arith, c.loop-place-test.false)) (c.loop-place.invariant trace of before)

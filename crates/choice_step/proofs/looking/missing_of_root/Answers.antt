@@ -1,4 +1,4 @@
-use Rattle.std.proofs.Common.{List, sym, subst, ◌∙◌}
+use Rattle.std.proofs.Common.{List, sym, subst}
 use Rattle.std.specs.Prelude.{slice_get}
 use Rattle.std.proofs.lemmas.Result.{IfOk-weaker}
 use Rattle.enf_value.specs.Valuations.{no_values}
@@ -8,7 +8,6 @@ use Rattle.obligations.specs.Asked.{CanAsk, IsNowOf, guards_at}
 use Rattle.obligations.specs.Missing.{Missing}
 use Rattle.obligations.specs.Waiting.{FirstMissing}
 use Rattle.choice_step.proofs.LookingLemmas.{first_of_all}
-use Rattle.choice_step.proofs.WakingLemmas.{rule_sleeps}
 use Rattle.choice_step.proofs.looking.missing_of_root.Goals as goal
 
 pub first_missing-requires : goal.first_missing-requires

@@ -1,6 +1,5 @@
 use Rattle.std.proofs.Common.{◌≡◌, All, subst}
 use Rattle.std.proofs.lemmas.List.{take_all}
-use Rattle.std.proofs.lemmas.List.Elements.{All-more}
 use Rattle.enf_value.specs.declared.events.Event.{Event}
 use Rattle.choice_step.proofs.waking.none_named.Goals as goal
 
