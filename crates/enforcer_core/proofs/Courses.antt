@@ -14,21 +14,25 @@ use Rattle.trace_meaning.specs.Good.{Good}
 use Rattle.trace_meaning.specs.Lawful.{Lawful}
 use Rattle.trace_meaning.specs.Laws.{ClockRises, LawfulJoins, RecordsJoin, WithinJoins}
 use Rattle.trace_meaning.specs.OutSteps.{IsWithin, trace_of}
-use Rattle.trace_meaning.specs.Records.{Record, NeverFall, time_of}
+use Rattle.trace_meaning.specs.Records.{Record, NeverFall, recorded, time_of}
 use Rattle.trace_meaning.specs.Satisfies.{Satisfies}
 use Rattle.plan_terms.specs.Plans.{Plan}
 use Rattle.enforce_types.specs.PolicyLaws.{MeansSame, PolicyKeepsMeaning}
 use Rattle.enforce_types.specs.Typed.{StoredTyped, WorkTogether, typed_of}
+use Rattle.obligations.specs.Pending.{IsReady}
 use Rattle.choice_step.specs.Follows.{ActedStep, Follows, FollowsDrain, steps_of}
+use Rattle.choice_step.specs.Justifying.{AllAreJustified}
 use Rattle.enforcer_core.specs.Answered.{ChangesLawfully, Permits}
 use Rattle.enforcer_core.specs.Course.{Course}
 use Rattle.enforcer_core.specs.Enforcers.{Enforcing, acted_steps, formulas_for, out_steps, plans_in, plans_of, start_of}
 use Rattle.enforcer_core.specs.Follows.{FollowsFrom}
+use Rattle.enforcer_core.specs.Justifying.{CourseIsJustified, CourseIsJustifiedToEnd, DrainIsJustified, FollowsIsJustified}
 use Rattle.enforcer_core.specs.Laws.{CourseBegins, CourseFollows, CourseFollowsToEnd, PlannedAreSatisfied, StandsForGood}
 use Rattle.enforcer_core.specs.StepLaws.{DrainLaws}
 use Rattle.enforcer_core.specs.Stands.{KeepsStanding, SatisfiesBehind, Stands}
 use Rattle.enforcer_core.proofs.ChangeLemmas.{changes_join, none_changes, out_join}
 use Rattle.enforcer_core.proofs.DrainLemmas.{ready_is_good}
+use Rattle.enforcer_core.proofs.JustifyingLemmas.{justified_join}
 use Rattle.enforcer_core.proofs.PassLemmas.{behind}
 
 -- the trace of the steps that went out
@@ -56,7 +60,7 @@ follows_join plans trace (next ∷ records) more out others (inserted, answer, r
 
 module _ (start : Enforcing) (trace : List Step) (records : List Record) (out : List ActedStep) (now : Enforcing)
     (c : Course start trace records out now) where
-  same_plans : plans_of now ≡ plans_of start
+  pub same_plans : plans_of now ≡ plans_of start
   same_plans = ap plans_in c.policy
 
   module _ (next : Record) (more : List ActedStep) (after : Enforcing) (policy : after.policy ≡ now.policy)
@@ -135,8 +139,33 @@ course_follows_to_end entries policy guards start trace records out now made pla
       (drained (trace ++ steps_of out) c.stands);
 }
 
+-- what goes out for records, as it is decided, is justified
+pub course_is_justified : FollowsIsJustified → CourseIsJustified
+course_is_justified justified entries policy guards start trace records out now planned together distinct c = record {
+  plans = plans_of start;
+  guards = guards;
+  planned = planned;
+  justified = justified (typed_of start.policy) trace start.clock records out together c.began.is_trace c.began.ready c.in_time distinct c.decided;
+}
+
+pub course_is_justified_to_end : FollowsIsJustified → DrainIsJustified → CourseIsJustifiedToEnd
+course_is_justified_to_end justified drain entries policy guards start trace records out now made planned together distinct c drained =
+    let then = c.stands in
+    let plans_are : plans_of now ≡ plans_of start = same_plans start trace records out now c in record {
+      plans = plans_of start;
+      guards = guards;
+      planned = planned;
+      justified = subst (λ (steps : List Step). AllAreJustified (plans_of start) trace steps (out ++ acted_steps made.steps)) (append-nil (recorded records))
+          (justified_join (plans_of start) trace (recorded records) [] out (acted_steps made.steps)
+          (justified (typed_of start.policy) trace start.clock records out together c.began.is_trace c.began.ready c.in_time distinct c.decided)
+          (drain (typed_of start.policy) (trace ++ steps_of out) now.clock (acted_steps made.steps) together then.is_trace
+          (subst (λ (plans : List Plan). IsReady plans (trace ++ steps_of out) now.clock) plans_are then.ready)
+          (subst (λ (plans : List Plan). FollowsDrain plans (trace ++ steps_of out) (acted_steps made.steps)) plans_are (drained (trace ++ steps_of out) then))));
+    }
+
 pub course_begins : CourseBegins
 course_begins start trace stands = record {
+  began = stands;
   policy = refl;
   clock = refl;
   in_time = tt;

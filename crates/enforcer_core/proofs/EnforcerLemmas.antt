@@ -5,9 +5,12 @@ use Rattle.obligations.specs.Asked.{placed_guard}
 use Rattle.obligations.specs.DeadlineLaws.{deadline_is_listed}
 use Rattle.obligations.specs.Traces.{PendingIsEnough}
 use Rattle.enforce_types.specs.Typed.{StoredTyped, WorkTogether, typed_of}
+use Rattle.trace_meaning.specs.Records.{Record, time_of}
 use Rattle.choice_step.specs.Follows.{ActedStep, steps_of}
+use Rattle.choice_step.specs.Laws.{AreDistinct}
 use Rattle.enforcer_core.specs.Enforcers.{Enforcing, plans_in}
-use Rattle.enforcer_core.specs.Follows.{FollowsDrainFrom}
+use Rattle.enforcer_core.specs.Follows.{FollowsDrainFrom, FollowsFrom}
+use Rattle.enforcer_core.specs.Justifying.{DrainIsJustified, FollowsIsJustified, IsJustifiedFrom}
 use Rattle.enforcer_core.specs.Keeping.{Serves, enforcing_at}
 use Rattle.enforcer_core.specs.Passing.{NoneIsLeft, Passes}
 use Rattle.enforcer_core.specs.Stands.{SatisfiesBehind, Stands}
@@ -28,6 +31,23 @@ serving policy r clock stopped on serves = subst (λ (b : Bool). Serves (seen po
 pub going : (policy : StoredTyped) (r : Remembered) (clock : ℕ) (stopped : Bool) (e : Enforcing) → stopped ≡ false
     → seen policy r clock stopped ≡ e → enforcing_at policy r clock ≡ e
 going policy r clock stopped e on is = ap (λ (b : Bool). seen policy r clock b) (sym on) ∙ is
+
+-- ---- what it lets out is justified
+
+pub records_justified : FollowsIsJustified → (e : Enforcing) → WorkTogether (typed_of e.policy) → (next : Record) → e.clock ≤ time_of next
+    → AreDistinct (next ∷ []) → (out : List ActedStep) → FollowsFrom e (next ∷ []) out → IsJustifiedFrom e (next ∷ []) out
+records_justified justified e together next later distinct out follows trace stands =
+    justified (typed_of e.policy) trace e.clock (next ∷ []) out together stands.is_trace stands.ready (later, tt) distinct (follows trace stands)
+
+pub drain_justified : DrainIsJustified → (e : Enforcing) → WorkTogether (typed_of e.policy) → (out : List ActedStep)
+    → FollowsDrainFrom e out → IsJustifiedFrom e [] out
+drain_justified justified e together out drains trace stands =
+    justified (typed_of e.policy) trace e.clock out together stands.is_trace stands.ready (drains trace stands)
+
+-- its policy's plans can work together, as they are seen
+pub works_seen : (policy : StoredTyped) (r : Remembered) (clock : ℕ) (stopped : Bool) (e : Enforcing) → seen policy r clock stopped ≡ e
+    → WorkTogether (typed_of policy) → WorkTogether (typed_of e.policy)
+works_seen policy r clock stopped e is together = subst (λ (e : Enforcing). WorkTogether (typed_of e.policy)) is together
 
 -- ---- a drain
 

@@ -6,7 +6,9 @@ pub mod DrainLemmas
 pub mod EndingLemmas
 pub mod EnforcerLemmas
 pub mod ExistingLemmas
+pub mod JustifyingLemmas
 pub mod LetLemmas
 pub mod PassLemmas
 pub mod StepLemmas
+pub mod TransparentLemmas
 pub mod TriggerLemmas

@@ -10,6 +10,7 @@ use Rattle.enforcer_core.specs.Stands.{Stands}
 -- from where it stood for the trace it took these records, let these steps go out, and is now as it is
 pub record Course (start : Enforcing) (trace : List Step) (records : List Record) (out : List ActedStep)
     (now : Enforcing) : Type 0 where
+  pub began : Stands start trace
   pub policy : now.policy ≡ start.policy
   pub clock : now.clock ≡ clock_after start.clock records
   pub in_time : NeverFall start.clock records

@@ -11,9 +11,12 @@ pub mod Ending
 pub mod Enforcers
 pub mod Existing
 pub mod Follows
+pub mod Justifying
 pub mod Keeping
 pub mod Laws
 pub mod Passing
 pub mod Remembering
 pub mod Stands
 pub mod StepLaws
+pub mod Steps
+pub mod Transparency

@@ -1,8 +1,9 @@
 -- What is remembered of the steps that went out, and how a step goes out and is remembered.
-use Rattle.std.specs.Prelude.{◌≡◌, ℕ, ◌+◌, ◌≤◌, ◌^◌, List, ◌∷◌, [], ◌++◌, length, map}
+use Rattle.std.specs.Prelude.{◌≡◌, ℕ, ◌+◌, ◌≤◌, ◌^◌, List, ◌∷◌, [], ◌++◌, Option, length, map}
 use Rattle.std.specs.List.{AllByRecursion}
 use Rattle.enf_value.specs.Membership.{HasNoRepeats}
 use Rattle.enf_value.specs.declared.events.Event.{Event}
+use Rattle.enf_value.specs.declared.events.NameId.{NameId}
 use Rattle.enf_value.specs.declared.steps.Step.{Step}
 use Rattle.trace_meaning.specs.Continuation.{last_time}
 use Rattle.trace_meaning.specs.declared.kinds.StepKind.{StepKind}
@@ -17,6 +18,7 @@ use Rattle.obligations.specs.Waiting.{CanAskOf, CanAskRoots, KeepsDeadlines}
 use Rattle.obligations.specs.declared.instances.Instance.{Instance}
 use Rattle.choice_step.specs.Choosing.{ActsFrom}
 use Rattle.choice_step.specs.Follows.{GoesOut}
+use Rattle.choice_step.specs.Idle.{AllSleep}
 use Rattle.enforcer_core.specs.Enforcers.{acted_step}
 use Rattle.enforcer_core.specs.declared.remembered.Remembered.{Remembered}
 use Rattle.enforcer_core.specs.declared.steps.OutStep as made
@@ -66,3 +68,10 @@ pub record IsDecided (plans : List Plan) (before : Remembered) (kind : StepKind)
       → Goes plans (trace ++ (acted_step o).step ∷ []) before.pending.instances after.pending.instances
   pub remembers : (trace : List Step) → Remembers plans before trace → last_time trace ≤ time
       → Remembers plans after (trace ++ (acted_step o).step ∷ [])
+
+-- nothing is pending, nothing is remembered of the past, and no rule is woken by these events
+pub record IsIdle (wakes : List (Option (List NameId))) (r : Remembered) (events : List Event) : Type 0 where
+  pub pending : r.pending.instances ≡ []
+  pub operators : r.past.operators ≡ []
+  pub stands : (trace : List Step) → PastStands trace r.past
+  pub asleep : AllSleep wakes events

@@ -7,10 +7,12 @@ ghost use Rattle.trace_meaning.specs.declared.kinds.StepKind.TheVariants.{Insert
 ghost use Rattle.enforcer_core.specs.Answered.{Admits, Answered, AnsweredDrain, ChangesLawfully, IsNewOf, RiseWithin};
 ghost use Rattle.enforcer_core.specs.Enforcers.{acted_steps, plans_of};
 ghost use Rattle.enforcer_core.specs.Follows.{FollowsDrainFrom, FollowsFrom};
+ghost use Rattle.enforcer_core.specs.Justifying.{IsJustifiedFrom};
 ghost use Rattle.enforcer_core.specs.Remembering.{most_positions};
 ghost use Rattle.enforcer_core.specs.Stands.{KeepsStanding, SatisfiesBehind, Stands};
+ghost use Rattle.enforcer_core.specs.Transparency.{DrainsNothing, LeavesAlone};
 
-use crate::laws::step_laws;
+use crate::laws::{all_are_justified, lawful_are_left_alone, step_laws};
 use crate::remembered::{Passed, Remembered};
 use crate::steps::{OutSteps, StepOut, StepRefusal, Untaken};
 use choice_step::Wakes;
@@ -149,7 +151,17 @@ impl Enforcer {
         ensures decided { IfOk result
             (λ out. FollowsFrom self.old
             (StepRecord (record { time = time; events = events }) ∷ []) (acted_steps out.steps)) }
+        ensures justified { IfOk result
+            (λ out. IsJustifiedFrom self.old
+            (StepRecord (record { time = time; events = events }) ∷ []) (acted_steps out.steps)) }
+        ensures transparent { IfOk result
+            (λ out. LeavesAlone self.old
+            (StepRecord (record { time = time; events = events }) ∷ []) time (acted_steps out.steps)) }
     {
+        all_are_justified();
+        lawful_are_left_alone();
+        // Its clause says that no event stands twice.
+        let _given = events.as_slice();
         self.admit(time)?;
         self.stopped = true;
         let steps = self
@@ -177,7 +189,13 @@ impl Enforcer {
             (acted_steps out.steps)) }
         ensures decided { IfOk result
             (λ out. FollowsFrom self.old (Tick time ∷ []) (acted_steps out.steps)) }
+        ensures justified { IfOk result
+            (λ out. IsJustifiedFrom self.old (Tick time ∷ []) (acted_steps out.steps)) }
+        ensures transparent { IfOk result
+            (λ out. LeavesAlone self.old (Tick time ∷ []) time (acted_steps out.steps)) }
     {
+        all_are_justified();
+        lawful_are_left_alone();
         self.admit(time)?;
         self.stopped = true;
         let steps = self
@@ -206,12 +224,16 @@ impl Enforcer {
             (acted_steps out.steps)) }
         ensures decided { IfOk result
             (λ out. FollowsDrainFrom self.old (acted_steps out.steps)) }
+        ensures justified { IfOk result (λ out. IsJustifiedFrom self.old [] (acted_steps out.steps)) }
+        ensures transparent { IfOk result (λ out. DrainsNothing self.old (acted_steps out.steps)) }
         ensures served { IfOk result (λ _. self.new.pending.deadlines ≡ []) }
         ensures satisfied { IfOk result
             (λ out. SatisfiesBehind self.old (acted_steps out.steps)) }
     {
         step_laws();
         pending_is_enough();
+        all_are_justified();
+        lawful_are_left_alone();
         if self.stopped {
             return Err(StepRefusal::Stopped);
         }

@@ -1,16 +1,23 @@
 //! Laws of enforcers, each the contract of a function that does nothing.
+ghost use Rattle.enforcer_core.specs.Justifying.{CourseIsJustified, CourseIsJustifiedToEnd, DrainIsJustified};
+ghost use Rattle.enforcer_core.specs.Justifying.{FollowsIsJustified};
 ghost use Rattle.enforcer_core.specs.Laws.{CourseBegins, CourseGoesOn, CourseKeepsUp, CourseEnforces};
 ghost use Rattle.enforcer_core.specs.Laws.{CourseFollows, CourseFollowsToEnd, PlannedAreSatisfied, StandsForGood};
 ghost use Rattle.enforcer_core.specs.StepLaws.{DrainLaws, StepLaws};
+ghost use Rattle.enforcer_core.specs.Transparency.{CourseIsTransparent, CourseIsTransparentToEnd};
+ghost use Rattle.enforcer_core.specs.Transparency.{FollowsAlone, NothingDrains};
 
 use crate::ending::serving_ends;
 use crate::existing::something_is_decided;
-use choice_step::laws::{actions_are_lawful, decided_misses_nothing, some_decision};
+use choice_step::laws::{
+    actions_are_justified, actions_are_lawful, decided_misses_nothing, some_decision,
+};
 use enforce_types::laws::policy_plans_keep_meaning;
 use obligations::laws::{
-    missing_is_one, pending_can_be_asked, pending_is_enough, pending_is_one, traces_grow,
-    well_formed_can_be_asked,
+    missing_is_one, pending_can_be_asked, pending_is_enough, pending_is_one, pending_was_begun,
+    traces_grow, well_formed_can_be_asked,
 };
+use rank_check::laws::owed_nodes_are_not_lost;
 use trace_meaning::laws;
 
 /// What an enforcer does for records, one after another.
@@ -21,10 +28,42 @@ pub fn course()
     ensures enforces { CourseEnforces }
     ensures follows { CourseFollows }
     ensures follows_to_end { CourseFollowsToEnd }
+    ensures justified { CourseIsJustified }
+    ensures justified_to_end { CourseIsJustifiedToEnd }
+    ensures transparent { CourseIsTransparent }
+    ensures transparent_to_end { CourseIsTransparentToEnd }
 {
     laws::records_join();
     laws::lawful_joins();
+    laws::trace_grows();
+    laws::good();
+    policy_plans_keep_meaning();
     drain_laws();
+    all_are_justified();
+    lawful_are_left_alone();
+}
+
+/// Under transparent plans the steps of a log go out as they came, while they can be continued well, and nothing is
+/// drained behind a trace that satisfies what the plans stand for.
+pub fn lawful_are_left_alone()
+    ensures records { FollowsAlone }
+    ensures drain { NothingDrains }
+{
+    laws::good();
+    all_are_justified();
+    owed_nodes_are_not_lost();
+}
+
+/// What goes out for the records of a log, and at its end, is justified: each action is for a node that is owed and
+/// otherwise lost, and each inserted step is needed.
+pub fn all_are_justified()
+    ensures records { FollowsIsJustified }
+    ensures drain { DrainIsJustified }
+{
+    step_laws();
+    pending_was_begun();
+    some_decision();
+    actions_are_justified();
 }
 
 /// What an enforcer stands for can be continued well.

@@ -1,5 +1,5 @@
 //! What is remembered of the steps that went out.
-ghost use Rattle.std.specs.Prelude.{◌≡◌, ◌+◌, ◌^◌, ◌<◌, ◌≤◌, ℕ, IfOk, OnErr, OnOk, map};
+ghost use Rattle.std.specs.Prelude.{◌≡◌, ◌+◌, ◌^◌, ◌<◌, ◌≤◌, ℕ, IfOk, IsTrue, OnErr, OnOk, map};
 ghost use Rattle.choice_step.specs.Follows.{is_inserted as is_of_deadline};
 ghost use Rattle.plan_terms.specs.Plans.{plan_of};
 ghost use Rattle.plan_terms.specs.Triggers.{guard_triggers};
@@ -13,11 +13,13 @@ ghost use Rattle.trace_meaning.specs.declared.kinds.StepKind.TheVariants.{System
 ghost use Rattle.enforcer_core.specs.Enforcers.{acted_steps, plans_in};
 ghost use Rattle.enforcer_core.specs.Keeping.{Serves, enforcing_at};
 ghost use Rattle.enforcer_core.specs.Passing.{IsLeastPassed, LetsOut, NoneIsLeft, Passes};
-ghost use Rattle.enforcer_core.specs.Remembering.{CanAskAll, CanGoOn, IsDecided, PendingGoes, most_positions};
+ghost use Rattle.enforcer_core.specs.Remembering.{CanAskAll, CanGoOn, IsDecided, IsIdle, PendingGoes, most_positions};
 
 use crate::laws::step_laws;
 use crate::steps::{OutStep, OutSteps};
-use choice_step::{Choice, Wakes, choose_with};
+use choice_step::idle::asleep_is_idle;
+use choice_step::{Actions, Choice, Wakes, choose_with};
+use enf_value::Event;
 use enf_value::event_sets::EventSet;
 use enf_value::memory::NoMemory;
 use enforce_types::TypedPolicy;
@@ -48,6 +50,44 @@ impl Remembered {
     // Decides a step of a kind at a time, which has these events to begin with, and remembers it. After want of memory
     // it is fit to be dropped.
     pub(crate) fn decide(
+        &mut self,
+        alloc: Global,
+        wakes: &Wakes,
+        plans: &[Plan],
+        kind: StepKind,
+        time: u64,
+        events: EventSet,
+    ) -> Result<OutStep, NoMemory>
+        requires wakes { wakes.now ≡ map guard_triggers (map plan_of plans.now) }
+        requires can { CanGoOn (map plan_of plans.now) self.old time }
+        requires room { self.old.position + 1 < 2 ^ 64 }
+        requires in_time { time ≤ MOST_TIME }
+        ensures decided { IfOk result (λ o. IsDecided (map plan_of plans.now) self.old kind time events o self.new) }
+        ensures can { OnOk result ((later : ℕ) → time ≤ later → CanGoOn (map plan_of plans.now) self.new later) }
+    {
+        traces_grow();
+        asleep_is_idle();
+        if self.is_idle(wakes, events.as_slice()) {
+            self.position += 1;
+            return Ok(OutStep {
+                kind,
+                time,
+                events,
+                actions: Actions::new(alloc),
+            });
+        }
+        self.decide_awake(alloc, wakes, plans, kind, time, events)
+    }
+
+    // Whether nothing is pending, nothing past is remembered, and no rule is woken by the events.
+    fn is_idle(&self, wakes: &Wakes, events: &[Event]) -> bool
+        ensures { IsTrue result → IsIdle wakes.now self.now events.now }
+    {
+        self.pending.len() == 0 && self.past.is_empty() && wakes.all_sleep(events)
+    }
+
+    // The same where the rules are asked.
+    fn decide_awake(
         &mut self,
         alloc: Global,
         wakes: &Wakes,
@@ -185,14 +225,11 @@ impl Remembered {
         // Their clauses say that the horizon is bounded, and that no event stands twice.
         let _horizon = policy.horizon();
         let _given = events.as_slice();
-        let Passed {
-            mut steps,
-            clock: _,
-        } = self.pass(alloc, wakes, policy, clock, Some(time))?;
+        let Passed { steps, .. } = self.pass(alloc, wakes, policy, clock, Some(time))?;
         let plans = policy.plans();
         let step = self.decide(alloc, wakes, plans, StepKind::System, time, events)?;
-        steps.push(step)?;
-        Ok(OutSteps::from_vec(steps))
+        let out = OutSteps::and_last(steps, step)?;
+        Ok(out)
     }
 
     // What is pending becomes what it becomes behind the step.

@@ -1,12 +1,13 @@
 //! The steps that an enforcer gives, and its refusals.
 ghost use Rattle.enforcer_core.specs.declared.steps.StepRefusal.TheVariants.{NoMemory as OutOfMemory};
 ghost use Rattle.enforcer_core.specs.Answered.{refused_as};
-ghost use Rattle.std.specs.Prelude.{◌≡◌};
+ghost use Rattle.std.specs.Prelude.{◌≡◌, ◌↔◌, ◌++◌, ◌∷◌, [], IfOk, IsTrue, length};
 
 use choice_step::Actions;
 use enf_value::event_sets::EventSet;
-use enf_value::items::Items;
 use enf_value::memory::NoMemory;
+use std::marker::Model;
+use std::slice;
 use trace_meaning::kinds::StepKind;
 
 /// A step that goes out, with the actions that made it, in their order.
@@ -18,8 +19,80 @@ pub struct OutStep {
     pub actions: Actions,
 }
 
-/// A list of steps that go out.
-pub type OutSteps = Items<OutStep>;
+/// A list of steps that go out. One alone takes no memory.
+#[derive(Drop)]
+pub struct OutSteps {
+    steps: Kept,
+}
+
+// One step by itself, or as many as there are.
+#[derive(Drop)]
+pub(crate) enum Kept {
+    One(OutStep),
+    Many(Vec<OutStep>),
+}
+
+impl Model for OutSteps {
+    ghost use Rattle.std.specs.Prelude.{List};
+    ghost use Rattle.enforcer_core.specs.declared.steps.OutStep.{OutStep};
+    ghost use Rattle.enforcer_core.specs.Steps.{kept};
+    ghost use Rattle.enforcer_core.specs.contracts.steps.OutStep as step;
+    ghost use Rattle.std.specs.Coded.{codes};
+
+    ghost Value = { List OutStep };
+
+    ghost coded = { Prim.hlevel (codes, step.the_row.coded) };
+
+    ghost view = { λ s. kept s.steps };
+}
+
+impl OutSteps {
+    /// The steps of a vector; it takes no memory.
+    pub fn from_vec(steps: Vec<OutStep>) -> OutSteps
+        ensures { result ≡ steps.items }
+    {
+        OutSteps {
+            steps: Kept::Many(steps),
+        }
+    }
+
+    // Steps, and one more behind them.
+    pub(crate) fn and_last(mut steps: Vec<OutStep>, last: OutStep) -> Result<OutSteps, NoMemory>
+        ensures { IfOk result (λ all. all ≡ steps.items ++ last ∷ []) }
+    {
+        if steps.is_empty() {
+            return Ok(OutSteps {
+                steps: Kept::One(last),
+            });
+        }
+        steps.push(last)?;
+        Ok(OutSteps::from_vec(steps))
+    }
+
+    /// How many steps there are.
+    pub fn len(&self) -> usize
+        ensures { result ≡ length self.now }
+    {
+        self.as_slice().len()
+    }
+
+    /// Whether there is no step.
+    pub fn is_empty(&self) -> bool
+        ensures { IsTrue result ↔ (self.now ≡ []) }
+    {
+        self.as_slice().is_empty()
+    }
+
+    /// The steps in order.
+    pub fn as_slice(&self) -> &[OutStep]
+        ensures { result.now ≡ self.now }
+    {
+        match &self.steps {
+            Kept::One(step) => slice::from_ref(step),
+            Kept::Many(steps) => steps.as_slice(),
+        }
+    }
+}
 
 /// What one call lets out.
 #[derive(Drop)]

@@ -1,6 +1,7 @@
 use Rattle.std.proofs.Common.{◌∷◌, [], sym, ◌∙◌}
 use Rattle.enforcer_core.specs.Enforcers.{acted_steps}
-use Rattle.enforcer_core.proofs.Courses.{course_begins, course_ends, course_follows, course_follows_to_end, course_keeps_up, more_changes, more_decided, more_in_time, more_stands, stands_good}
+use Rattle.enforcer_core.proofs.Courses.{course_begins, course_ends, course_follows, course_follows_to_end, course_is_justified, course_is_justified_to_end, course_keeps_up, more_changes, more_decided, more_in_time, more_stands, stands_good}
+use Rattle.enforcer_core.proofs.TransparentLemmas.{course_is_transparent, course_is_transparent_to_end}
 use Rattle.enforcer_core.proofs.laws.course.Goals as goal
 
 pub returns-clause-begins : goal.returns-clause-begins
@@ -13,6 +14,7 @@ returns-clause-goes_on c start trace records out now next made after course answ
     let clock = answered.1.clock_is in
     let later = answered.0.not_over in
     record {
+      began = course.began;
       policy = policy ∙ course.policy;
       clock = clock ∙ sym (c.records_join.ensures.clock start.clock records (next ∷ []));
       in_time = more_in_time start trace records out now course next more after policy clock later c.records_join.ensures.never_fall;
@@ -34,3 +36,19 @@ returns-clause-follows c = course_follows
 
 pub returns-clause-follows_to_end : goal.returns-clause-follows_to_end
 returns-clause-follows_to_end c = course_follows_to_end
+
+pub returns-clause-justified : goal.returns-clause-justified
+returns-clause-justified c = course_is_justified c.all_are_justified.ensures.records
+
+pub returns-clause-justified_to_end : goal.returns-clause-justified_to_end
+returns-clause-justified_to_end c =
+    course_is_justified_to_end c.all_are_justified.ensures.records c.all_are_justified.ensures.drain
+
+pub returns-clause-transparent : goal.returns-clause-transparent
+returns-clause-transparent c =
+    course_is_transparent c.policy_plans_keep_meaning.ensures.meaning c.lawful_are_left_alone.ensures.records
+
+pub returns-clause-transparent_to_end : goal.returns-clause-transparent_to_end
+returns-clause-transparent_to_end c =
+    course_is_transparent_to_end c.trace_grows.ensures.trace c.trace_grows.ensures.last c.good.ensures.satisfying c.policy_plans_keep_meaning.ensures.meaning
+    c.lawful_are_left_alone.ensures.records c.lawful_are_left_alone.ensures.drain

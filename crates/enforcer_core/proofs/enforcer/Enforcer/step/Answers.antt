@@ -2,8 +2,9 @@ use Rattle.std.proofs.Common.{◌≡◌, false, sym, subst}
 use Rattle.trace_meaning.specs.Records.{StepRecord}
 use Rattle.enforcer_core.specs.Enforcers.{Enforcing, acted_steps}
 use Rattle.enforcer_core.specs.Passing.{LetsOut}
-use Rattle.enforcer_core.proofs.EnforcerLemmas.{going, seen, serving}
+use Rattle.enforcer_core.proofs.EnforcerLemmas.{going, records_justified, seen, serving, works_seen}
 use Rattle.enforcer_core.proofs.LetLemmas.{made_few, made_goes_on}
+use Rattle.enforcer_core.proofs.TransparentLemmas.{records_alone}
 use Rattle.enforcer_core.proofs.enforcer.Enforcer.step.Goals as goal
 
 pub let_out-requires-clause-serves : goal.let_out-requires-clause-serves
@@ -31,4 +32,10 @@ returns c =
       stands = out.stands;
       changed = out.changed;
       decided = out.decided;
+      justified = records_justified c.all_are_justified.ensures.records c.args.self.now
+          (works_seen c.self.inside.policy c.self.inside.remembered c.self.inside.clock c.self.inside.stopped c.args.self.now c.self.view_is c.self.invariant.0.together)
+          next c.in_ok-admit.ensures.not_over (c.as_slice-given.ensures.distinct, tt) (acted_steps c.in_ok-steps.steps) out.decided;
+      transparent = records_alone c.lawful_are_left_alone.ensures.records c.args.self.now
+          (works_seen c.self.inside.policy c.self.inside.remembered c.self.inside.clock c.self.inside.stopped c.args.self.now c.self.view_is c.self.invariant.0.together)
+          next c.in_ok-admit.ensures.not_over (c.as_slice-given.ensures.distinct, tt) (acted_steps c.in_ok-steps.steps) out.decided;
     }

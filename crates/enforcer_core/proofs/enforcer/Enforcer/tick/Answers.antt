@@ -1,6 +1,9 @@
-use Rattle.std.proofs.Common.{◌≡◌, ◌<◌, ◌≤◌, false, Contains, sym, subst, arith}
-use Rattle.enforcer_core.specs.Enforcers.{Enforcing}
-use Rattle.enforcer_core.proofs.EnforcerLemmas.{serving}
+use Rattle.std.proofs.Common.{◌≡◌, ◌<◌, ◌≤◌, false, [], ◌∷◌, Contains, sym, subst, arith}
+use Rattle.trace_meaning.specs.Records.{Tick}
+use Rattle.enforcer_core.specs.Enforcers.{Enforcing, acted_steps}
+use Rattle.enforcer_core.specs.Follows.{FollowsFrom}
+use Rattle.enforcer_core.proofs.EnforcerLemmas.{going, records_justified, serving, works_seen}
+use Rattle.enforcer_core.proofs.TransparentLemmas.{records_alone}
 use Rattle.enforcer_core.proofs.enforcer.Enforcer.tick.Goals as goal
 
 pub let_pass-requires-clause-serves : goal.let_pass-requires-clause-serves
@@ -19,3 +22,21 @@ returns-in_err-steps-clause-no_memory c later same =
     let le : c.args.time ≤ deadline = later deadline (subst (λ (e : Enforcing). Contains e.pending.deadlines deadline) c.self.view_is there) in
     let less : deadline < c.args.time = passed in
     omega (arith, le, less))
+
+pub returns-clause-justified : goal.returns-clause-justified
+returns-clause-justified c =
+    let on : c.self.inside.stopped ≡ false = subst (λ (e : Enforcing). e.stopped ≡ false) (sym c.self.view_is) c.in_ok-admit.ensures.goes_on in
+    records_justified c.all_are_justified.ensures.records c.args.self.now
+    (works_seen c.self.inside.policy c.self.inside.remembered c.self.inside.clock c.self.inside.stopped c.args.self.now c.self.view_is c.self.invariant.0.together)
+    (Tick c.args.time) c.in_ok-admit.ensures.not_over tt (acted_steps c.in_ok-steps.steps)
+    (subst (λ (e : Enforcing). FollowsFrom e (Tick c.args.time ∷ []) (acted_steps c.in_ok-steps.steps))
+    (going c.self.inside.policy c.self.inside.remembered c.self.inside.clock c.self.inside.stopped c.args.self.now on c.self.view_is) c.in_ok-steps.ensures.out.decided)
+
+pub returns-clause-transparent : goal.returns-clause-transparent
+returns-clause-transparent c =
+    let on : c.self.inside.stopped ≡ false = subst (λ (e : Enforcing). e.stopped ≡ false) (sym c.self.view_is) c.in_ok-admit.ensures.goes_on in
+    records_alone c.lawful_are_left_alone.ensures.records c.args.self.now
+    (works_seen c.self.inside.policy c.self.inside.remembered c.self.inside.clock c.self.inside.stopped c.args.self.now c.self.view_is c.self.invariant.0.together)
+    (Tick c.args.time) c.in_ok-admit.ensures.not_over tt (acted_steps c.in_ok-steps.steps)
+    (subst (λ (e : Enforcing). FollowsFrom e (Tick c.args.time ∷ []) (acted_steps c.in_ok-steps.steps))
+    (going c.self.inside.policy c.self.inside.remembered c.self.inside.clock c.self.inside.stopped c.args.self.now on c.self.view_is) c.in_ok-steps.ensures.out.decided)

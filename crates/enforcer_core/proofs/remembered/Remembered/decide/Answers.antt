@@ -1,47 +1,72 @@
-use Rattle.std.proofs.Common.{◌≡◌, List, [], ◌∷◌, ◌++◌, length-append, map, refl, sym, subst, arith}
+use Rattle.std.proofs.Common.{◌≡◌, ℕ, ◌≤◌, List, [], ◌∷◌, ◌++◌, Option, length-append, map, refl, sym, subst, arith}
+use Rattle.std.proofs.lemmas.List.Elements.{All-nil}
 use Rattle.enf_value.specs.declared.events.Event.{Event}
-use Rattle.obligations.specs.Pending.{Goes}
-use Rattle.past_state.specs.Past.{AreOf, CommittedWillStand, Past}
+use Rattle.enf_value.specs.declared.events.NameId.{NameId}
+use Rattle.enf_value.specs.declared.steps.Step.{Step}
+use Rattle.past_state.specs.Memories.{IsUpToTimeOf}
+use Rattle.past_state.specs.Runs.{AreUpToTimeOf}
+use Rattle.past_state.specs.declared.operators.OperatorState.{OperatorState}
 use Rattle.plan_terms.specs.Plans.{plan_of}
+use Rattle.plan_terms.specs.Triggers.{guard_triggers}
+use Rattle.obligations.specs.Pending.{Goes}
+use Rattle.obligations.specs.declared.instances.Instance.{Instance}
 use Rattle.choice_step.specs.Choice.{Decides}
+use Rattle.choice_step.specs.Choosing.{ActsFrom}
+use Rattle.choice_step.specs.Follows.{is_inserted}
+use Rattle.choice_step.specs.Idle.{AllSleep}
+use Rattle.obligations.specs.declared.actions.Action.{Action}
+use Rattle.enforcer_core.specs.Remembering.{CanAskAll, IsIdle}
 use Rattle.enforcer_core.proofs.remembered.Remembered.decide.Goals as goal
 
-pub commit-requires-clause-are : goal.commit-requires-clause-are
-commit-requires-clause-are c =
-    subst (λ (p : Past). AreOf p c.args.time c.in_ok-events.field-0.events c.in_ok-events.field-0.tables) (sym c.in_ok-progress.ensures.past) c.in_ok-events.ensures.tables
-
-pub returns-clause-decided : goal.returns-clause-decided
-returns-clause-decided c =
+pub returns-then-is_idle-clause-decided : goal.returns-then-is_idle-clause-decided
+returns-then-is_idle-clause-decided c =
     let plans = map plan_of c.args.plans.now in
     let before = c.args.self.now in
-    let events = c.in_ok-events.field-0.events in
-    let are : AreOf c.args.self.now.past c.args.time c.in_ok-events.field-0.events c.in_ok-events.field-0.tables = c.in_ok-events.ensures.tables in
-    let stand : CommittedWillStand c.args.self.now.past c.args.time c.in_ok-events.field-0.events c.in_ok-events.field-0.tables c.commit.new.self =
-    subst (λ (p : Past). CommittedWillStand p c.args.time c.in_ok-events.field-0.events c.in_ok-events.field-0.tables c.commit.new.self) c.in_ok-progress.ensures.past c.in_ok-commit.ensures.stands in
-    let long : c.progress.new.self.position ≡ c.args.self.now.position = c.in_ok-progress.ensures.position in
+    let idle : IsIdle c.args.wakes.now c.args.self.now c.as_slice.result.now = c.is_idle.ensures c.if-is_idle.true in
+    let asleep : AllSleep (map guard_triggers (map plan_of c.args.plans.now)) c.args.events =
+    subst (λ (l : List Event). AllSleep (map guard_triggers (map plan_of c.args.plans.now)) l) c.as_slice.ensures.events
+    (subst (λ (w : List (Option (List NameId))). AllSleep w c.as_slice.result.now) c.requires.wakes idle.asleep) in
+    let goes : (trace : List Step) → Goes plans (trace ++ record { time = c.args.time; events = c.args.events } ∷ []) before.pending.instances before.pending.instances = λ trace.
+    subst (λ (l : List Instance). Goes (map plan_of c.args.plans.now) (trace ++ record { time = c.args.time; events = c.args.events } ∷ []) l l) (sym idle.pending)
+    (c.asleep_is_idle.ensures.goes (map plan_of c.args.plans.now) trace c.args.time c.args.events asleep) in
     record {
       kind_is = refl;
       time_is = refl;
-      distinct = c.as_slice-given.ensures.distinct;
-      acts = c.in_ok-events.ensures.acted;
-      position = omega (arith, long);
-      deadlines = c.in_ok-progress.ensures.deadlines;
+      distinct = c.as_slice.ensures.distinct;
+      acts = subst (λ (l : List Action). ActsFrom (map plan_of c.args.plans.now) c.args.events l c.args.events) (sym c.new.ensures) refl;
+      position = refl;
+      deadlines = c.requires.can.asked.deadlines;
       goes_out = λ trace remembers later. record {
         pending = before.pending.instances;
         pend = remembers.pending;
         kind_is = refl;
         time_is = refl;
-        decided = subst (λ inserted. Decides (map plan_of c.args.plans.now) trace c.args.self.now.pending.instances inserted c.args.time c.args.events c.in_ok-events.field-0.actions c.in_ok-events.field-0.events) c.is_inserted-inserted.ensures
-            (c.in_ok-events.ensures.decided trace remembers.past (sym remembers.position) later);
+        decided = subst (λ (l : List Action). Decides (map plan_of c.args.plans.now) trace c.args.self.now.pending.instances (is_inserted c.args.kind) c.args.time c.args.events l c.args.events) (sym c.new.ensures)
+            (subst (λ (l : List Instance). Decides (map plan_of c.args.plans.now) trace l (is_inserted c.args.kind) c.args.time c.args.events [] c.args.events) (sym idle.pending)
+            (c.asleep_is_idle.ensures.decides (map plan_of c.args.plans.now) trace (is_inserted c.args.kind) c.args.time c.args.events asleep));
       };
-      goes = λ trace remembers later.
-          subst (λ (l : List Event). Goes plans (trace ++ record { time = c.args.time; events = l } ∷ []) before.pending.instances c.progress.new.self.pending.instances) c.in_ok-ordered.ensures (c.in_ok-progress.ensures.goes trace remembers later);
+      goes = λ trace remembers later. goes trace;
       remembers = λ trace remembers later.
           let at = remembers.position in
           record {
-            position = omega (arith, long, at, length-append trace (record { time = c.args.time; events = events } ∷ []));
-            past = stand trace (record { time = c.args.time; events = events }) refl refl later remembers.past are;
-            pending = c.traces_grow.ensures.pending plans trace (record { time = c.args.time; events = events }) before.pending.instances c.progress.new.self.pending.instances remembers.pending
-                (subst (λ (l : List Event). Goes plans (trace ++ record { time = c.args.time; events = l } ∷ []) before.pending.instances c.progress.new.self.pending.instances) c.in_ok-ordered.ensures (c.in_ok-progress.ensures.goes trace remembers later));
+            position = omega (arith, at, length-append trace (record { time = c.args.time; events = c.args.events } ∷ []));
+            past = idle.stands (trace ++ record { time = c.args.time; events = c.args.events } ∷ []);
+            pending = c.traces_grow.ensures.pending plans trace (record { time = c.args.time; events = c.args.events }) before.pending.instances before.pending.instances remembers.pending (goes trace);
           };
+    }
+
+pub returns-then-is_idle-clause-can : goal.returns-then-is_idle-clause-can
+returns-then-is_idle-clause-can c = λ later least.
+    let asked = c.requires.can.asked in
+    let idle : IsIdle c.args.wakes.now c.args.self.now c.as_slice.result.now = c.is_idle.ensures c.if-is_idle.true in
+    record {
+      asked = record {
+        few = asked.few;
+        roles = asked.roles;
+        named = asked.named;
+        roots = asked.roots;
+        instances = asked.instances;
+        deadlines = asked.deadlines;
+      };
+      up_to = subst (λ (l : List OperatorState). AreUpToTimeOf later l) (sym idle.operators) (All-nil (λ (o : OperatorState). IsUpToTimeOf later o.memory));
     }

@@ -39,6 +39,6 @@ returns c =
     (acted_steps c.in_ok-steps.field-0.steps.items) c.in_ok-steps.ensures.passes c.in_ok-steps.ensures.none_left together bounded c.requires.in_time
     c.decide.new.self c.args.events c.as_slice-given.ensures.distinct c.in_ok-step.step decided
     (λ time later. subst (λ (l : List StoredPlan). CanGoOn (map plan_of l) c.decide.new.self time) c.plans-plans.ensures.plans (c.in_ok-step.ensures.can time later)) in
-    rw (c.from_vec.ensures, c.in_ok-push.ensures.items)
+    rw c.in_ok-out.ensures
     (subst (λ (l : List ActedStep). LetsOut before (StepRecord (record { time = c.args.time; events = c.args.events })) l after)
     (sym (acted_more c.in_ok-steps.field-0.steps.items c.in_ok-step.step)) out)

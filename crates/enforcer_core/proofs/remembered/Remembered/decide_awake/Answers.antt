@@ -1,0 +1,47 @@
+use Rattle.std.proofs.Common.{◌≡◌, List, [], ◌∷◌, ◌++◌, length-append, map, refl, sym, subst, arith}
+use Rattle.enf_value.specs.declared.events.Event.{Event}
+use Rattle.obligations.specs.Pending.{Goes}
+use Rattle.past_state.specs.Past.{AreOf, CommittedWillStand, Past}
+use Rattle.plan_terms.specs.Plans.{plan_of}
+use Rattle.choice_step.specs.Choice.{Decides}
+use Rattle.enforcer_core.proofs.remembered.Remembered.decide_awake.Goals as goal
+
+pub commit-requires-clause-are : goal.commit-requires-clause-are
+commit-requires-clause-are c =
+    subst (λ (p : Past). AreOf p c.args.time c.in_ok-events.field-0.events c.in_ok-events.field-0.tables) (sym c.in_ok-progress.ensures.past) c.in_ok-events.ensures.tables
+
+pub returns-clause-decided : goal.returns-clause-decided
+returns-clause-decided c =
+    let plans = map plan_of c.args.plans.now in
+    let before = c.args.self.now in
+    let events = c.in_ok-events.field-0.events in
+    let are : AreOf c.args.self.now.past c.args.time c.in_ok-events.field-0.events c.in_ok-events.field-0.tables = c.in_ok-events.ensures.tables in
+    let stand : CommittedWillStand c.args.self.now.past c.args.time c.in_ok-events.field-0.events c.in_ok-events.field-0.tables c.commit.new.self =
+    subst (λ (p : Past). CommittedWillStand p c.args.time c.in_ok-events.field-0.events c.in_ok-events.field-0.tables c.commit.new.self) c.in_ok-progress.ensures.past c.in_ok-commit.ensures.stands in
+    let long : c.progress.new.self.position ≡ c.args.self.now.position = c.in_ok-progress.ensures.position in
+    record {
+      kind_is = refl;
+      time_is = refl;
+      distinct = c.as_slice-given.ensures.distinct;
+      acts = c.in_ok-events.ensures.acted;
+      position = omega (arith, long);
+      deadlines = c.in_ok-progress.ensures.deadlines;
+      goes_out = λ trace remembers later. record {
+        pending = before.pending.instances;
+        pend = remembers.pending;
+        kind_is = refl;
+        time_is = refl;
+        decided = subst (λ inserted. Decides (map plan_of c.args.plans.now) trace c.args.self.now.pending.instances inserted c.args.time c.args.events c.in_ok-events.field-0.actions c.in_ok-events.field-0.events) c.is_inserted-inserted.ensures
+            (c.in_ok-events.ensures.decided trace remembers.past (sym remembers.position) later);
+      };
+      goes = λ trace remembers later.
+          subst (λ (l : List Event). Goes plans (trace ++ record { time = c.args.time; events = l } ∷ []) before.pending.instances c.progress.new.self.pending.instances) c.in_ok-ordered.ensures (c.in_ok-progress.ensures.goes trace remembers later);
+      remembers = λ trace remembers later.
+          let at = remembers.position in
+          record {
+            position = omega (arith, long, at, length-append trace (record { time = c.args.time; events = events } ∷ []));
+            past = stand trace (record { time = c.args.time; events = events }) refl refl later remembers.past are;
+            pending = c.traces_grow.ensures.pending plans trace (record { time = c.args.time; events = events }) before.pending.instances c.progress.new.self.pending.instances remembers.pending
+                (subst (λ (l : List Event). Goes plans (trace ++ record { time = c.args.time; events = l } ∷ []) before.pending.instances c.progress.new.self.pending.instances) c.in_ok-ordered.ensures (c.in_ok-progress.ensures.goes trace remembers later));
+          };
+    }
