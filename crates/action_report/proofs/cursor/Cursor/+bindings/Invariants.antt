@@ -1,0 +1,5 @@
+use Rattle.std.proofs.Common.{length}
+use Rattle.action_report.proofs.cursor.Cursor.+bindings.Given as goal
+
+abbrev pub decreases-bindings : goal.decreases-bindings
+decreases-bindings l = length l.scope.now
