@@ -6,7 +6,10 @@ use Rattle.signature.specs.declared.entries.NameEntry.{NameEntry}
 use Rattle.enf_io.specs.Contents.{Missing}
 use Rattle.enf_cli.specs.Calls.{Call}
 use Rattle.enf_cli.specs.Files.{FailsToRead, HoldsSignature}
-use Rattle.enf_cli.specs.Outcomes.{BreaksOffLog, IsCut, MissesFile, Outcome}
+use Rattle.enf_cli.specs.Logs.{CutsRun}
+use Rattle.enf_cli.specs.Seen.{seen_of}
+use Rattle.enf_io.specs.Streams.{Stream}
+use Rattle.enf_cli.specs.Outcomes.{BreaksOffLog, MissesFile, Outcome}
 use Rattle.enf_cli.specs.Words.{NamesFiles}
 use Rattle.enf_cli.specs.declared.endings.Cut.TheVariants as cuts
 use Rattle.enf_cli.specs.declared.refusals.Status.TheVariants as statuses
@@ -24,8 +27,8 @@ module _ {Gate : Type 0} (call : Call Gate) (x : CalmContents) (files : call.bef
       held (h.missing refl refl)
 
   module _ (signature policy : List ℕ) (form : NamesFiles call.words signature policy) (held : contents_under x signature ≢ Missing) (also : contents_under x policy ≢ Missing) where
-    misses_none : MissesFile call → ⊥
-    misses_none m = by (one_form call.words signature policy m.signature_file m.policy_file form m.form) m.failed
+    misses_none : (report : Stream) → MissesFile call report → ⊥
+    misses_none report m = by (one_form call.words signature policy m.signature_file m.policy_file form m.form) m.failed
       where
         by : (signature ≡ m.signature_file) × (policy ≡ m.policy_file)
             → FailsToRead m.signature_file call.before.files call.after.files ⊎ (((entries : List NameEntry) × HoldsSignature call.before.files.contents m.signature_file entries) × FailsToRead m.policy_file call.before.files call.after.files) → ⊥
@@ -36,16 +39,16 @@ module _ {Gate : Type 0} (call : Call Gate) (x : CalmContents) (files : call.bef
     pub no_read_fault : call.before.gate.read_faults ≡ 0 → call.after.gate.read_faults ≡ 0 → Outcome call statuses.ReadFault → ⊥
     no_read_fault before after o = by o.meets
       where
-        by : MissesFile call ⊎ BreaksOffLog call → ⊥
-        by (inl m) = misses_none m
+        by : MissesFile call o.between ⊎ BreaksOffLog call o.between → ⊥
+        by (inl m) = misses_none o.between m
         by (inr b) = none_more call.before.gate.read_faults call.after.gate.read_faults before after b.failed
 
   -- no write fault comes
   pub no_write_fault : call.before.gate.write_faults ≡ 0 → call.after.gate.write_faults ≡ 0 → call.before.report.write_faults ≡ 0 → call.after.report.write_faults ≡ 0 → Outcome call statuses.WriteFault → ⊥
-  no_write_fault before after said-before said-after (inr o) = none_more call.before.report.write_faults call.after.report.write_faults said-before said-after o.report.writes
-  no_write_fault before after said-before said-after (inl o) = by o.cut
+  no_write_fault before after said-before said-after (inl (inl failed)) = by failed.cut
     where
-      by : IsCut call cuts.WriteFault → ⊥
-      by (inl (inl failed)) = none_more call.before.gate.write_faults call.after.gate.write_faults before after failed.cut.2
-      by (inl (inr generated)) = none_more call.before.gate.write_faults call.after.gate.write_faults before after generated.writes
-      by (inr checked) = none_more call.before.gate.write_faults call.after.gate.write_faults before after checked.writes
+      by : CutsRun failed.setting (seen_of call.before.gate call.before.report) (seen_of call.after.gate call.after.report) cuts.WriteFault → ⊥
+      by (inl gate) = none_more call.before.gate.write_faults call.after.gate.write_faults before after gate.writes
+      by (inr report) = none_more call.before.report.write_faults call.after.report.write_faults said-before said-after report.actions.writes
+  no_write_fault before after said-before said-after (inl (inr generated)) = none_more call.before.gate.write_faults call.after.gate.write_faults before after generated.writes
+  no_write_fault before after said-before said-after (inr checked) = none_more call.before.gate.write_faults call.after.gate.write_faults before after checked.writes

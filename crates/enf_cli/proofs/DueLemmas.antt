@@ -34,7 +34,8 @@ use Rattle.enf_cli.specs.Files.{AreHeld, AreUnder, HoldsSignature, IsRefusedPoli
 use Rattle.enf_cli.specs.Limits.{most_log_bytes}
 use Rattle.enf_cli.specs.Logs.{IsFalling, IsRefusedAs, RunsLog, Taken, clock_behind, taken_of}
 use Rattle.enf_cli.specs.Owed.{Setting, anew}
-use Rattle.enf_cli.specs.Outcomes.{Asks, AsksToEnforce, ChecksPolicy, GeneratesLog, IsDone, IsFinished, Outcome, Refuses, RefusesPolicyFile, RefusesRecord, RefusesSignatureFile, RefusesWords}
+use Rattle.enf_cli.specs.Seen.{seen_of}
+use Rattle.enf_cli.specs.Outcomes.{Asks, AsksToEnforce, ChecksPolicy, GeneratesLog, IsDone, Outcome, Refuses, RefusesPolicyFile, RefusesRecord, RefusesSignatureFile, RefusesWords}
 use Rattle.enf_cli.specs.Policies.{ReadsPolicy, SpellsPolicy, SpellsRefused, formulas}
 use Rattle.enf_cli.specs.Signatures.{SpellsSignature}
 use Rattle.enf_cli.specs.Words.{IsCheck, IsEnforce, IsGenerate, MatchNoForm, NamesFiles}
@@ -77,7 +78,7 @@ one_form words signature policy signature' policy' (inr e) (inl f) = same_files 
 one_form words signature policy signature' policy' (inr e) (inr f) = same_files words (codes "check") (codes "check") signature policy signature' policy' e f
 
 -- and they do not ask to generate
-files_or_generate : (words : List (List ℕ)) (signature policy : List ℕ) (start steps : ℕ) → NamesFiles words signature policy → IsGenerate words start steps → ⊥
+pub files_or_generate : (words : List (List ℕ)) (signature policy : List ℕ) (start steps : ℕ) → NamesFiles words signature policy → IsGenerate words start steps → ⊥
 files_or_generate words signature policy start steps (inl e) g =
     let command : codes "enforce" ≡ codes "gen" = same_command words (codes "enforce") (codes "gen") (signature ∷ policy ∷ []) (g.start_word ∷ g.steps_word ∷ []) e g.form in
     omega (arith, ap length command)
@@ -85,7 +86,7 @@ files_or_generate words signature policy start steps (inr e) g =
     let command : codes "check" ≡ codes "gen" = same_command words (codes "check") (codes "gen") (signature ∷ policy ∷ []) (g.start_word ∷ g.steps_word ∷ []) e g.form in
     omega (arith, ap length command)
 
-enforce_or_check : (words : List (List ℕ)) (signature policy signature' policy' : List ℕ) → IsEnforce words signature policy → IsCheck words signature' policy' → ⊥
+pub enforce_or_check : (words : List (List ℕ)) (signature policy signature' policy' : List ℕ) → IsEnforce words signature policy → IsCheck words signature' policy' → ⊥
 enforce_or_check words signature policy signature' policy' e f =
     let command : codes "enforce" ≡ codes "check" = same_command words (codes "enforce") (codes "check") (signature ∷ policy ∷ []) (signature' ∷ policy' ∷ []) e f in
     omega (arith, ap length command)
@@ -186,8 +187,8 @@ module _ (one : OneAnswer) (one_text : OneTextAnswer) (accepted : AcceptedIsNotR
         same_signature t.bytes entries others t.is_signature (subst (λ (b : List ℕ). SpellsSignature b others) all holds.is_signature)
 
     -- the signature is not refused
-    no_signature_refusal : (why : SignatureRefusal) → RefusesSignatureFile call why → ⊥
-    no_signature_refusal why r =
+    no_signature_refusal : (report : Stream) (why : SignatureRefusal) → RefusesSignatureFile call report why → ⊥
+    no_signature_refusal report why r =
         let names = one_form call.words t.signature_file t.policy_file r.signature_file r.policy_file t.form r.form in
         let all = told_bytes call.before.files.contents t.signature_file r.signature_file t.bytes r.refused.bytes names.0 t.told r.refused.under in
         signature_not_refused why t.bytes entries t.is_signature (subst (IsRefusedSignature why) all r.refused.refused)
@@ -214,8 +215,8 @@ module _ (one : OneAnswer) (one_text : OneTextAnswer) (accepted : AcceptedIsNotR
     refused_policy_not_asked t others policy a = policy_not_refused t.entries t.why t.bytes policy (one_policy call t.entries t.asks t.bytes t.told others policy a).1 t.refused
 
     not_asked : AsksRefused call → (s : Setting) → AsksToEnforce call s → ⊥
-    not_asked (inl t) s a = refused_signature_not_asked t s.entries a.policy (asks_named call s.entries a.policy (inl a.asks))
-    not_asked (inr t) s a = refused_policy_not_asked t s.entries a.policy (asks_named call s.entries a.policy (inl a.asks))
+    not_asked (inl t) s a = refused_signature_not_asked t s.entries s.rules (asks_named call s.entries s.rules (inl a.asks))
+    not_asked (inr t) s a = refused_policy_not_asked t s.entries s.rules (asks_named call s.entries s.rules (inl a.asks))
 
     not_checked : AsksRefused call → (entries : List NameEntry) (policy : List Rule) → Asks IsCheck call entries policy → ⊥
     not_checked (inl t) entries policy a = refused_signature_not_asked t entries policy (asks_named call entries policy (inr a))
@@ -236,10 +237,10 @@ module _ (one : OneAnswer) (one_text : OneTextAnswer) (accepted : AcceptedIsNotR
 
     -- neither file is refused where the policy is told and accepted
     no_refusal_of_files : (entries : List NameEntry) (policy : List Rule) → AsksPolicy NamesFiles call entries policy → FilesRefused → ⊥
-    no_refusal_of_files entries policy t (inl (why, r)) = no_signature_refusal call entries t.asks why r.meets
+    no_refusal_of_files entries policy t (inl (why, r)) = no_signature_refusal call entries t.asks r.between why r.meets
     no_refusal_of_files entries policy t (inr (why, r)) = no_policy_refusal r.meets
       where
-        no_policy_refusal : RefusesPolicyFile call why → ⊥
+        no_policy_refusal : RefusesPolicyFile call r.between why → ⊥
         no_policy_refusal m =
             let w = m.refused in
             let same = one_signature call entries t.asks m.signature_file m.policy_file m.entries m.form m.holds_signature in
@@ -249,23 +250,23 @@ module _ (one : OneAnswer) (one_text : OneTextAnswer) (accepted : AcceptedIsNotR
             policy_not_refused entries why t.bytes policy t.is_policy (subst (IsRefusedPolicy entries why) all here)
 
     enforced_not_refused : (s : Setting) → AsksTold call s → FilesRefused → ⊥
-    enforced_not_refused s t o = no_refusal_of_files s.entries t.policy (policy_named call s.entries t.policy (inl t.asks)) o
+    enforced_not_refused s t o = no_refusal_of_files s.entries s.rules (policy_named call s.entries s.rules (inl t.asks)) o
 
     checked_not_refused : AsksToCheck call → FilesRefused → ⊥
     checked_not_refused (entries, policy, t) o = no_refusal_of_files entries policy (policy_named call entries policy (inr t)) o
 
   module _ {Gate : Type 0} (call : Call Gate) (s : Setting) (t : AsksTold call s) where
     -- what is asked for is this setting
-    one_setting : (other : Setting) → AsksToEnforce call other → s ≡ other
+    pub one_setting : (other : Setting) → AsksToEnforce call other → s ≡ other
     one_setting other a =
-        let named = policy_named call s.entries t.policy (inl t.asks) in
-        let same = one_policy call s.entries named.asks named.bytes named.told other.entries a.policy (asks_named call other.entries a.policy (inl a.asks)) in
-        let policies = same_policy s.entries named.bytes t.policy a.policy named.is_policy.reads same.1.reads in
-        t.is_setting ∙ (λ i. anew (same.0 i) (formulas (policies i))) ∙ sym a.is_setting
+        let named = policy_named call s.entries s.rules (inl t.asks) in
+        let same = one_policy call s.entries named.asks named.bytes named.told other.entries other.rules (asks_named call other.entries other.rules (inl a.asks)) in
+        let policies = same_policy s.entries named.bytes s.rules other.rules named.is_policy.reads same.1.reads in
+        t.is_setting ∙ (λ i. anew (same.0 i) (policies i)) ∙ sym a.is_setting
 
     -- the log is run in the setting that is told
-    ran_told : (other : Setting) (verdict : Verdict) → AsksToEnforce call other → RunsLog other verdict call.before.gate call.after.gate → RunsLog s verdict call.before.gate call.after.gate
-    ran_told other verdict asks ran = subst (λ (o : Setting). RunsLog o verdict call.before.gate call.after.gate) (sym (one_setting other asks)) ran
+    pub ran_told : (report : Stream) (other : Setting) (verdict : Verdict) → AsksToEnforce call other → RunsLog other verdict (seen_of call.before.gate call.before.report) (seen_of call.after.gate report) → RunsLog s verdict (seen_of call.before.gate call.before.report) (seen_of call.after.gate report)
+    ran_told report other verdict asks ran = subst (λ (o : Setting). RunsLog o verdict (seen_of call.before.gate call.before.report) (seen_of call.after.gate report)) (sym (one_setting other asks)) ran
 
   -- ---- a log is read in one way
 
@@ -394,16 +395,16 @@ module _ (one : OneAnswer) (one_text : OneTextAnswer) (accepted : AcceptedIsNotR
     -- ---- what a run meets
 
     -- a run that is done meets no refusal
-    done_meets_none : {Gate : Type 0} (call : Call Gate) → IsDone call → MeetsRefusal call → ⊥
-    done_meets_none call d m = by m.why m.refused (read_same s.mode s.entries s.start.clock bytes m.read m.rest ran.answers.read ran.rest
+    done_meets_none : {Gate : Type 0} (call : Call Gate) (report : Stream) → IsDone call report → MeetsRefusal call → ⊥
+    done_meets_none call report d m = by m.why m.refused (read_same s.mode s.entries s.start.clock bytes m.read m.rest ran.answers.read ran.rest
         (refusal_stops (taken_of s m.read bytes m.rest) call.after.gate m.why m.refused)
         (blank_stops s.mode s.entries (clock_after s.start.clock (records_of ran.answers.read)) ran.rest ran.ends.0) m.accepts.spelled m.accepts.rising mine ran.answers.accepts.rising)
       where
         s : Setting
         s = m.setting
 
-        ran : RunsLog s verdicts.Accepted call.before.gate call.after.gate
-        ran = ran_told call s m.asks d.setting verdicts.Accepted d.asks d.ran
+        ran : RunsLog s verdicts.Accepted (seen_of call.before.gate call.before.report) (seen_of call.after.gate report)
+        ran = ran_told call s m.asks report d.setting verdicts.Accepted d.asks d.ran
 
         bytes : List ℕ
         bytes = taken_between m.x m.y
@@ -424,7 +425,7 @@ module _ (one : OneAnswer) (one_text : OneTextAnswer) (accepted : AcceptedIsNotR
         by (records.Falling given at) h same = none_some h.1.begins.0 (sym (ap record_length (blank same)) ∙ h.1.begins.1)
         by records.InputLimit h same = omega (arith, h.1, ran.ends.1.0, ap length taken)
 
-    module _ {Gate : Type 0} (call : Call Gate) (s : Setting) (why : RecordRefusal) (ran : RunsLog s (verdicts.Refused why) call.before.gate call.after.gate)
+    module _ {Gate : Type 0} (call : Call Gate) (report : Stream) (s : Setting) (why : RecordRefusal) (ran : RunsLog s (verdicts.Refused why) (seen_of call.before.gate call.before.report) (seen_of call.after.gate report))
         (x : Exchange) (told : call.before.gate.told ≡ Some x) where
       -- a refusal behind the bytes taken is one behind a whole log, whose records end there
       module _ (read : List LogItem) (is_log : IsLog s.entries s.mode (left x) read None) (rising : NeverFall s.start.clock (records_of read)) (y : Exchange) (told' : call.after.gate.told ≡ Some y) (grew : Grew x y) where
@@ -479,20 +480,20 @@ module _ (one : OneAnswer) (one_text : OneTextAnswer) (accepted : AcceptedIsNotR
       no_read_fault files gate (inl (name, moved)) = moved (ap (λ (v : FileView). v.read_faults name) files)
       no_read_fault files gate (inr moved) = moved gate
 
-      dues_done : IsDone call → call.after.report.write_faults ≡ call.before.report.write_faults → Dues call statuses.Done
-      dues_done o same =
+      dues_done : IsDone call call.after.report → Dues call statuses.Done
+      dues_done o =
           record {
             done = λ due. inl refl;
             words = λ due. absurd (due.enforce o.asks.asks.signature_file o.asks.asks.policy_file o.asks.asks.form);
             files = λ due. absurd (not_asked call due o.setting o.asks);
-            refused_record = λ due. absurd (done_meets_none call o due);
+            refused_record = λ due. absurd (done_meets_none call call.after.report o due);
             read_fault = λ due. absurd (no_read_fault o.files o.ran.ends.2 due);
             write_fault = λ due. absurd (due o.ran.writes);
-            report_fault = λ moved. absurd (moved same);
+            report_fault = λ moved. absurd (moved o.ran.actions.writes);
           }
 
-      dues_generated : GeneratesLog call → call.after.report.write_faults ≡ call.before.report.write_faults → Dues call statuses.Done
-      dues_generated o same =
+      dues_generated : GeneratesLog call call.after.report → Dues call statuses.Done
+      dues_generated o =
           record {
             done = λ due. inl refl;
             words = λ due. absurd (due.generate o.log.start o.log.steps o.log.form);
@@ -500,11 +501,11 @@ module _ (one : OneAnswer) (one_text : OneTextAnswer) (accepted : AcceptedIsNotR
             refused_record = λ due. absurd (files_or_generate call.words due.asks.asks.asks.signature_file due.asks.asks.asks.policy_file o.log.start o.log.steps (inl due.asks.asks.asks.form) o.log.form);
             read_fault = λ due. absurd (no_read_fault o.log.files o.log.reads due);
             write_fault = λ due. absurd (due o.writes);
-            report_fault = λ moved. absurd (moved same);
+            report_fault = λ moved. absurd (moved (ap (λ (s : Stream). s.write_faults) o.log.silent));
           }
 
-      dues_checked : ChecksPolicy call → call.after.report.write_faults ≡ call.before.report.write_faults → Dues call statuses.Done
-      dues_checked o same =
+      dues_checked : ChecksPolicy call call.after.report → Dues call statuses.Done
+      dues_checked o =
           let a = o.policy.asks in
           record {
             done = λ due. inl refl;
@@ -513,18 +514,18 @@ module _ (one : OneAnswer) (one_text : OneTextAnswer) (accepted : AcceptedIsNotR
             refused_record = λ due. absurd (enforce_or_check call.words due.asks.asks.asks.signature_file due.asks.asks.asks.policy_file a.signature_file a.policy_file due.asks.asks.asks.form a.form);
             read_fault = λ due. absurd (no_read_fault o.policy.files o.policy.reads due);
             write_fault = λ due. absurd (due o.writes);
-            report_fault = λ moved. absurd (moved same);
+            report_fault = λ moved. absurd (moved (ap (λ (s : Stream). s.write_faults) o.policy.silent));
           }
 
-      words_not_done : RefusesWords call → IsAcceptable call ⊎ (AsksToGenerate call ⊎ AsksToCheck call) → ⊥
-      words_not_done o (inl due) = o.words.enforce due.asks.asks.asks.signature_file due.asks.asks.asks.policy_file due.asks.asks.asks.form
-      words_not_done o (inr (inl due)) = o.words.generate due.0 due.1 due.2
-      words_not_done o (inr (inr due)) = o.words.check due.2.asks.signature_file due.2.asks.policy_file due.2.asks.form
+      words_not_done : (report : Stream) → RefusesWords call report → IsAcceptable call ⊎ (AsksToGenerate call ⊎ AsksToCheck call) → ⊥
+      words_not_done report o (inl due) = o.words.enforce due.asks.asks.asks.signature_file due.asks.asks.asks.policy_file due.asks.asks.asks.form
+      words_not_done report o (inr (inl due)) = o.words.generate due.0 due.1 due.2
+      words_not_done report o (inr (inr due)) = o.words.check due.2.asks.signature_file due.2.asks.policy_file due.2.asks.form
 
-      dues_words : RefusesWords call → Dues call statuses.Words
-      dues_words o =
+      dues_words : (report : Stream) → RefusesWords call report → Dues call statuses.Words
+      dues_words report o =
           record {
-            done = λ due. absurd (words_not_done o due);
+            done = λ due. absurd (words_not_done report o due);
             words = λ due. inl refl;
             files = λ due. absurd (files_some_form call due o.words);
             refused_record = λ due. absurd (o.words.enforce due.asks.asks.asks.signature_file due.asks.asks.asks.policy_file due.asks.asks.asks.form);
@@ -563,14 +564,14 @@ module _ (one : OneAnswer) (one_text : OneTextAnswer) (accepted : AcceptedIsNotR
             report_fault = λ moved is. cc;
           }
 
-      module _ (number : ℕ) (why : RecordRefusal) (o : RefusesRecord call number why) where
+      module _ (report : Stream) (number : ℕ) (why : RecordRefusal) (o : RefusesRecord call report number why) where
         record_not_done : IsAcceptable call ⊎ (AsksToGenerate call ⊎ AsksToCheck call) → ⊥
         record_not_done (inr (inl due)) = files_or_generate call.words o.asks.asks.signature_file o.asks.asks.policy_file due.0 due.1 (inl o.asks.asks.form) due.2
         record_not_done (inr (inr due)) = enforce_or_check call.words o.asks.asks.signature_file o.asks.asks.policy_file due.2.asks.signature_file due.2.asks.policy_file o.asks.asks.form due.2.asks.form
         record_not_done (inl due) =
-            let ran = ran_told call due.setting due.asks o.setting (verdicts.Refused why) o.asks o.ran in
+            let ran = ran_told call due.setting due.asks report o.setting (verdicts.Refused why) o.asks o.ran in
             let y = tells_still call.before.gate.told call.after.gate.told due.gate due.told ran.exchanged.grew in
-            not_acceptable call due.setting why ran due.gate due.told due.read due.log due.rising y.0 y.1 y.2 due.below
+            not_acceptable call report due.setting why ran due.gate due.told due.read due.log due.rising y.0 y.1 y.2 due.below
 
         dues_record : Dues call statuses.Record
         dues_record =
@@ -590,15 +591,12 @@ module _ (one : OneAnswer) (one_text : OneTextAnswer) (accepted : AcceptedIsNotR
 
       -- what holds at a status leaves no room for another that is due
       pub dues_of : (result : Status) → Outcome call result → Dues call result
-      dues_of statuses.Done o = by o.finished
-        where
-          by : IsFinished call → Dues call statuses.Done
-          by (inl (inl done)) = dues_done done o.report.writes
-          by (inl (inr generated)) = dues_generated generated o.report.writes
-          by (inr checked) = dues_checked checked o.report.writes
-      dues_of statuses.Words o = dues_words o.meets
+      dues_of statuses.Done (inl (inl done)) = dues_done done
+      dues_of statuses.Done (inl (inr generated)) = dues_generated generated
+      dues_of statuses.Done (inr checked) = dues_checked checked
+      dues_of statuses.Words o = dues_words o.between o.meets
       dues_of statuses.Files o = dues_files o
-      dues_of statuses.Record o = dues_record o.0 o.1 o.2.meets
+      dues_of statuses.Record o = dues_record o.2.between o.0 o.1 o.2.meets
       dues_of statuses.ReadFault o = dues_broken statuses.ReadFault (inl refl) (λ is. cc)
       dues_of statuses.WriteFault o = dues_broken statuses.WriteFault (inr (inl refl)) (λ is. cc)
       dues_of statuses.NoMemory o = dues_broken statuses.NoMemory (inr (inr refl)) (λ is. cc)

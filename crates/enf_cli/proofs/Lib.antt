@@ -3,6 +3,7 @@ pub mod ExchangeLemmas
 pub mod FileLemmas
 pub mod GeneratingLemmas
 pub mod LogLemmas
+pub mod LineLemmas
 pub mod LogProgress
 pub mod ReportLemmas
 pub mod TextLemmas
@@ -11,3 +12,4 @@ pub mod LogTurns
 pub mod RunLemmas
 pub mod DueLemmas
 pub mod CalmLemmas
+pub mod HeadlineLemmas

@@ -1,15 +1,15 @@
 -- How far the run of a log has come, and one turn more.
-use Rattle.std.proofs.Common.{◌≡◌, ◌≢◌, ℕ, ◌+◌, ◌-◌, ◌<◌, ◌≤◌, List, [], ◌∷◌, ◌++◌, length, refl, sym, ap, subst, ◌∙◌, inl, inr, Option, None, Some, Err, arith, length-append, append_assoc}
+use Rattle.std.proofs.Common.{◌≡◌, ℕ, ◌+◌, ◌-◌, ◌<◌, ◌≤◌, List, [], ◌∷◌, ◌++◌, length, refl, sym, ap, subst, ◌∙◌, inl, inr, Option, None, Some, arith, length-append, append_assoc}
 use Rattle.std.specs.Prelude.{◌⊎◌}
 use Rattle.std.specs.Option.{option_map}
 use Rattle.std.proofs.lemmas.List.{append-nil, map-append, length_push}
-use Rattle.std.proofs.lemmas.List.Concat.{flat_map-append}
 use Rattle.enf_io.specs.Counts.{one_more}
 use Rattle.enf_io.specs.Exchange.{Exchange, Gave, IsAtEnd, with_given}
 use Rattle.enf_io.specs.Streams.{Stream}
 use Rattle.enf_formula.specs.Formulas.{Formula}
+use Rattle.formula_reader.specs.Resolution.{Rule}
 use Rattle.enf_value.specs.declared.steps.Step.{Step}
-use Rattle.choice_step.specs.Follows.{ActedStep, out_step, steps_of}
+use Rattle.choice_step.specs.Follows.{ActedStep, steps_of}
 use Rattle.enforcer_core.specs.Answered.{Permits}
 use Rattle.enforcer_core.specs.Course.{Course}
 use Rattle.enforcer_core.specs.Existing.{IsJustOne}
@@ -20,7 +20,7 @@ use Rattle.enforcer_core.specs.Enforcers.{Enforcing, acted_steps, out_steps, pla
 use Rattle.enforcer_core.specs.Stands.{Stands}
 use Rattle.enforcer_core.specs.declared.steps.StepOut.{StepOut}
 use Rattle.log_stream.specs.LogLaws.{Spells-append, Spells-blanks, Spells-none, Spells-push}
-use Rattle.log_stream.specs.Lines.{line_of, text_of}
+use Rattle.log_stream.specs.Lines.{text_of}
 use Rattle.log_stream.specs.Logs.{BeginsWith, IsPending, Spells, behind_blanks}
 use Rattle.log_stream.specs.declared.items.LogItem.{LogItem}
 use Rattle.log_stream.specs.declared.items.LogMode.TheVariants.{Input}
@@ -28,16 +28,24 @@ use Rattle.signature.specs.Grammar.{names as names_of}
 use Rattle.signature.specs.declared.entries.NameEntry.{NameEntry}
 use Rattle.trace_meaning.specs.Good.{Good, GoodPrefix}
 use Rattle.trace_meaning.specs.OutSteps.{trace_of}
-use Rattle.trace_meaning.specs.Records.{Record, clock_after}
+use Rattle.trace_meaning.specs.Records.{Record, clock_after, recorded}
 use Rattle.enf_cli.specs.Accepted.{Accepts, UpToDate, record_of, records_of}
 use Rattle.enforce_types.specs.Marks.{is_causable, is_suppressible}
 use Rattle.enforce_types.specs.Typed.{WorkTogether, typed_of}
-use Rattle.enf_cli.specs.Endings.{GaveLines, write_faults_behind}
+use Rattle.enf_cli.specs.Actions.{SaysActions}
+use Rattle.enf_cli.specs.Lines.{CutsActions, CutsLine, CutsSteps}
+use Rattle.enf_cli.specs.Policies.{formulas}
+use Rattle.enf_cli.specs.Seen.{Seen}
+use Rattle.enf_cli.proofs.CutLemmas.{cut_none}
+use Rattle.enf_cli.proofs.LineLemmas.{all_said, fails_within, gains_none, lines_behind, said_in_part, says_more}
 use Rattle.enf_cli.specs.Exchanges.{Exchanged, IsBegun}
 use Rattle.enf_cli.specs.Limits.{most_log_bytes}
-use Rattle.enf_cli.specs.Logs.{CutsRun, EndsAs, IsOwedWhere, IsRefusedAs, RanAsJudged, RunsShort, Taken, taken_of}
-use Rattle.enf_cli.specs.Owed.{HasPlans, IsOwedInAll, IsOwedSoFar, Setting, setting_of}
-use Rattle.enf_cli.specs.Progress.{CutsDrain, CutsDrainLines, CutsTaken, CutsTurn, Drains, GivesDrain, Laws, LosesBytes, TakesBytes, TakesItem, TakesRecord, lines_of, moment}
+use Rattle.enf_cli.specs.Logs.{CutsRun, EndsAs, FailsAtGate, FailsAtReport, IsCutLine, IsOwedWhere, IsRefusedAs, LacksMemory, RanAsJudged, RunsShort, Taken, taken_of}
+use Rattle.enf_cli.specs.Owed.{HasPlans, IsMarked, IsOwedInAll, IsOwedSoFar, Setting, setting_of}
+use Rattle.plan_terms.specs.Plans.{Plan}
+use Rattle.rank_check.specs.Transparent.{is_transparent}
+use Rattle.std.specs.Prelude.{IsTrue}
+use Rattle.enf_cli.specs.Progress.{CutsDrain, CutsDrainLines, CutsTaken, Drains, GivesDrain, Laws, LosesBytes, LosesTurn, TakesBytes, TakesItem, TakesRecord, WritesNothing, moment}
 use Rattle.enf_cli.specs.declared.endings.Cut.{Cut}
 use Rattle.enf_cli.specs.declared.endings.Cut.TheVariants as cuts
 use Rattle.enf_cli.specs.declared.log.Enforcement.{Enforcement}
@@ -45,7 +53,7 @@ use Rattle.enf_cli.specs.declared.log.Verdict.{Verdict}
 use Rattle.enf_cli.specs.declared.log.Verdict.TheVariants as verdicts
 use Rattle.enf_cli.specs.declared.refusals.RecordRefusal.{RecordRefusal}
 use Rattle.enf_cli.specs.declared.refusals.RecordRefusal.TheVariants as records
-use Rattle.enf_cli.proofs.ExchangeLemmas.{IsSteady, begun_gave, begun_took, exchanged_gave, exchanged_none, exchanged_took, gave_none, steady_gave, steady_none, steady_took}
+use Rattle.enf_cli.proofs.ExchangeLemmas.{IsSteady, begun_gave, begun_took, exchanged_gave, exchanged_none, exchanged_took, steady_gave, steady_none, steady_took}
 use Rattle.enf_cli.proofs.LogLemmas.{begins_shorter, read_distinct}
 
 -- what is given behind the end of the input leaves it ended
@@ -77,9 +85,12 @@ none_else P one out is others also = one.2 others also ∙ sym (one.2 out is)
 abbrev pub MayRun : List NameEntry → Enforcing → Type 0
 MayRun entries enforcer = Permits (is_causable entries) (is_suppressible entries) (plans_of enforcer) × WorkTogether (typed_of enforcer.policy)
 
-module _ (entries : List NameEntry) (policy : List Formula) (first : Enforcing) (trace : List Step) where
+module _ (entries : List NameEntry) (rules : List Rule) (first : Enforcing) (trace : List Step) where
   abbrev pub setting : Setting
-  setting = setting_of entries policy first trace
+  setting = setting_of entries rules first trace
+
+  abbrev policy : List Formula
+  policy = formulas rules
 
   -- the records at the front of the bytes, up to a rest, were taken, and steps went out for them
   pub record HasRead (taken rest : List ℕ) (now : Enforcing) : Type 0 where
@@ -89,44 +100,51 @@ module _ (entries : List NameEntry) (policy : List Formula) (first : Enforcing) 
     pub course : Course first trace (records_of read) out now
 
   -- so many were taken, what went out for them was given, and it was so at each read
-  pub record Progress (before : Stream) (taken rest : List ℕ) (accepted : ℕ) (now : Enforcing) (after : Stream) : Type 0 where
+  pub record Progress (before : Seen) (taken rest : List ℕ) (accepted : ℕ) (now : Enforcing) (after : Seen) : Type 0 where
     pub so_far : HasRead taken rest now
     pub count : accepted ≡ length so_far.read
-    pub exchanged : Exchanged (UpToDate setting) taken (text_of (names_of entries) (out_steps so_far.out)) before.told after.told
-    pub steady : IsSteady before.told after.told
-    pub begun : 0 < length taken → IsBegun before.told after.told
-    pub reads : after.read_faults ≡ before.read_faults
-    pub writes : after.write_faults ≡ before.write_faults
+    pub exchanged : Exchanged (UpToDate setting) taken (text_of (names_of entries) (out_steps so_far.out)) before.gate.told after.gate.told
+    pub steady : IsSteady before.gate.told after.gate.told
+    pub begun : 0 < length taken → IsBegun before.gate.told after.gate.told
+    pub reads : after.gate.read_faults ≡ before.gate.read_faults
+    pub writes : after.gate.write_faults ≡ before.gate.write_faults
+    pub actions : SaysActions entries rules so_far.out before.report after.report
 
   -- the log ended so, behind so many accepted records
-  pub record Ended (before : Stream) (taken rest : List ℕ) (accepted : ℕ) (now : Enforcing) (verdict : Verdict) (after : Stream) : Type 0 where
+  pub record Ended (before : Seen) (taken rest : List ℕ) (accepted : ℕ) (now : Enforcing) (verdict : Verdict) (after : Seen) : Type 0 where
     pub so_far : HasRead taken rest now
     pub count : accepted ≡ length so_far.read
-    pub exchanged : Exchanged (UpToDate setting) taken (text_of (names_of entries) (out_steps so_far.out)) before.told after.told
-    pub ends : EndsAs (taken_of setting so_far.read taken rest) before after verdict
-    pub begun : IsBegun before.told after.told
-    pub writes : after.write_faults ≡ before.write_faults
+    pub exchanged : Exchanged (UpToDate setting) taken (text_of (names_of entries) (out_steps so_far.out)) before.gate.told after.gate.told
+    pub ends : EndsAs (taken_of setting so_far.read taken rest) before.gate after.gate verdict
+    pub begun : IsBegun before.gate.told after.gate.told
+    pub writes : after.gate.write_faults ≡ before.gate.write_faults
+    pub actions : SaysActions entries rules so_far.out before.report after.report
 
-  module _ (laws : Laws) (may : MayRun entries first) (built : HasPlans entries policy first) where
+  module _ (laws : Laws) (may : MayRun entries first) (built : HasPlans entries rules first) where
     abbrev guards : List (Formula × List VarId)
     guards = (typed_of first.policy).guards
 
     -- before any call
-    pub progress_none : Stands first trace → (before : Stream) → Progress before [] [] 0 first before
+    pub progress_none : Stands first trace → (before : Seen) → Progress before [] [] 0 first before
     progress_none stands before =
         record {
           so_far = record { read = []; spelled = Spells-none entries Input []; out = []; course = laws.begins first trace stands };
           count = refl;
-          exchanged = exchanged_none (UpToDate setting) before.told;
-          steady = steady_none before.told;
+          exchanged = exchanged_none (UpToDate setting) before.gate.told;
+          steady = steady_none before.gate.told;
           begun = λ some. absurd (omega (arith, some));
           reads = refl;
           writes = refl;
+          actions = gains_none before.report;
         }
 
     module _ (taken rest : List ℕ) (now : Enforcing) (h : HasRead taken rest now) where
       distinct : AreDistinct (records_of h.read)
       distinct = read_distinct entries taken h.read rest h.spelled
+
+      -- where the policy has the mark the plans have it
+      are_marked : IsMarked entries policy → IsTrue (is_transparent (plans_of first))
+      are_marked mark = subst (λ (plans : List Plan). IsTrue (is_transparent plans)) (laws.one_plans entries policy mark.plans (plans_of first) mark.guards guards mark.planned built).0 mark.marked
 
       -- what went out is what is owed to the records so far
       pub owed_so_far : IsOwedSoFar setting (records_of h.read) h.out
@@ -136,8 +154,11 @@ module _ (entries : List NameEntry) (policy : List Formula) (first : Enforcing) 
           let decided = laws.follows entries policy guards first trace (records_of h.read) h.out now built h.course in
           record {
             keeps_up = record { lawful = k.lawful; within = k.within; good = (good.0, good.1, laws.planned entries policy (plans_of first) guards good.0 built good.2) };
+            justified = laws.justified entries policy guards first trace (records_of h.read) h.out now built may.1 distinct h.course;
             decided = decided;
             only = none_else (FollowsPolicy entries policy trace (records_of h.read)) (laws.just_one entries policy (typed_of first.policy) trace (records_of h.read) built may.1 distinct) h.out decided;
+            alone = λ mark well. laws.transparent entries policy guards first trace (records_of h.read) h.out now built may.1 (are_marked mark) distinct h.course
+                (subst (Good policy (trace ++ recorded (records_of h.read))) (sym h.course.clock) well);
           }
 
       -- and with a drain what is owed in all
@@ -147,8 +168,10 @@ module _ (entries : List NameEntry) (policy : List Formula) (first : Enforcing) 
           let decided = laws.follows_to_end entries policy guards first trace (records_of h.read) h.out now made built h.course d.decided in
           record {
             enforced = record { lawful = e.lawful; is_trace = e.is_trace; satisfied = laws.planned entries policy (plans_of first) guards (trace ++ trace_of (out_steps (h.out ++ acted_steps made.steps))) built e.satisfied };
+            justified = laws.justified_to_end entries policy guards first trace (records_of h.read) h.out now made built may.1 distinct h.course d.decided;
             decided = decided;
             only = none_else (FollowsToEnd entries policy trace (records_of h.read)) (laws.just_one_to_end entries policy (typed_of first.policy) trace (records_of h.read) built may.1 distinct) (h.out ++ acted_steps made.steps) decided;
+            alone = λ mark satisfied. laws.transparent_to_end entries policy guards first trace (records_of h.read) h.out now made built may.1 (are_marked mark) distinct h.course d.decided satisfied;
           }
 
       pub accepts : Accepts entries Input first.clock taken h.read rest
@@ -178,13 +201,6 @@ module _ (entries : List NameEntry) (policy : List Formula) (first : Enforcing) 
                 (laws.goes_on first trace (records_of h.read) h.out now (record_of item) made after h.course takes.answered takes.stands takes.changed takes.decided);
           }
 
-    -- the lines of some steps and of those behind them
-    lines_behind : (out more : List ActedStep) → text_of (names_of entries) (out_steps (out ++ more)) ≡ text_of (names_of entries) (out_steps out) ++ text_of (names_of entries) (out_steps more)
-    lines_behind out more = ap (text_of (names_of entries)) (map-append out_step out more) ∙ flat_map-append (line_of (names_of entries)) (out_steps out) (out_steps more)
-
-    lines_more : (out : List ActedStep) (made : StepOut) → text_of (names_of entries) (out_steps (out ++ acted_steps made.steps)) ≡ text_of (names_of entries) (out_steps out) ++ lines_of entries made
-    lines_more out made = lines_behind out (acted_steps made.steps)
-
     -- the steps in front of others that can be continued well can be so themselves
     good_front : (out whole behind : List ActedStep) (clock : ℕ) → out ≡ whole ++ behind → Good policy (trace ++ steps_of out) clock → GoodPrefix policy (trace ++ steps_of whole)
     good_front out whole behind clock split good =
@@ -207,172 +223,225 @@ module _ (entries : List NameEntry) (policy : List Formula) (first : Enforcing) 
     good_owed read taken rest before after out (inr (inr in_all, ended)) =
         (first.clock, same_steps out (λ steps. Good policy (trace ++ steps) first.clock) (laws.satisfying policy (trace ++ trace_of (out_steps out)) first.clock in_all.enforced.is_trace in_all.enforced.satisfied))
 
-    -- what is owed was given all, as far as it is known
-    short_whole : (before : Stream) (taken rest : List ℕ) (now : Enforcing) (h : HasRead taken rest now) (c : Stream) → Exchanged (UpToDate setting) taken (text_of (names_of entries) (out_steps h.out)) before.told c.told
-        → IsOwedWhere (taken_of setting h.read taken rest) before c h.out → RunsShort setting before c
-    short_whole before taken rest now h c exchanged owed =
-        let given = text_of (names_of entries) (out_steps h.out) in
-        let good = good_owed h.read taken rest before c h.out owed in
+    -- of more steps the first were given, and of the next one's line a part
+    abbrev short_steps : (before : Stream) (taken rest : List ℕ) (read : List LogItem) (b c : Stream) (out steps whole behind : List ActedStep) (cut : List ℕ) → steps ≡ whole ++ behind → Accepts entries Input first.clock taken read rest
+        → Exchanged (UpToDate setting) taken (text_of (names_of entries) (out_steps out)) before.told b.told → Gave (text_of (names_of entries) (out_steps whole) ++ cut) b.told c.told → IsCutLine (names_of entries) behind cut
+        → IsOwedWhere (taken_of setting read taken rest) before c (out ++ steps) → RunsShort setting before c
+    short_steps before taken rest read b c out steps whole behind cut is accepted exchanged gave line owed =
+        let given = text_of (names_of entries) (out_steps out) in
+        let good = good_owed read taken rest before c (out ++ steps) owed in
+        let split : out ++ steps ≡ (out ++ whole) ++ behind = ap (λ (l : List ActedStep). out ++ l) is ∙ sym (append_assoc out whole behind) in
         record {
           taken = taken;
-          given = given;
-          exchanged = exchanged;
-          read = h.read;
+          given = given ++ (text_of (names_of entries) (out_steps whole) ++ cut);
+          exchanged = exchanged_gave (UpToDate setting) taken given before.told b.told c.told exchanged (text_of (names_of entries) (out_steps whole) ++ cut) gave;
+          read = read;
           rest = rest;
-          accepts = accepts taken rest now h;
-          out = h.out;
+          accepts = accepted;
+          out = out ++ steps;
           owed = owed;
-          whole = h.out;
-          behind = [];
-          split = sym (append-nil h.out);
-          cut = [];
-          line = refl;
-          lines = sym (append-nil given);
-          good = good_front h.out h.out [] good.0 (sym (append-nil h.out)) good.1;
+          whole = out ++ whole;
+          behind = behind;
+          split = split;
+          cut = cut;
+          line = line;
+          lines = sym (append_assoc given (text_of (names_of entries) (out_steps whole)) cut) ∙ ap (λ (l : List ℕ). l ++ cut) (sym (lines_behind (names_of entries) out whole));
+          good = good_front (out ++ steps) (out ++ whole) behind good.0 split good.1;
         }
 
-    -- of the lines of more steps not all were given
-    short_lines : (before : Stream) (taken rest : List ℕ) (read : List LogItem) (b c : Stream) (out : List ActedStep) (made : StepOut) → Accepts entries Input first.clock taken read rest
-        → Exchanged (UpToDate setting) taken (text_of (names_of entries) (out_steps out)) before.told b.told → GaveLines (names_of entries) (acted_steps made.steps) b.told c.told
-        → IsOwedWhere (taken_of setting read taken rest) before c (out ++ acted_steps made.steps) → (short : RunsShort setting before c) × (short.behind ≢ [])
-    short_lines before taken rest read b c out made accepted exchanged lines owed =
-        let given = text_of (names_of entries) (out_steps out) in
-        let good = good_owed read taken rest before c (out ++ acted_steps made.steps) owed in
-        let split : out ++ acted_steps made.steps ≡ (out ++ lines.whole) ++ lines.next ∷ lines.behind =
-        ap (λ (l : List ActedStep). out ++ l) lines.split ∙ sym (append_assoc out lines.whole (lines.next ∷ lines.behind)) in (
-          record {
-            taken = taken;
-            given = given ++ (text_of (names_of entries) (out_steps lines.whole) ++ lines.front);
-            exchanged = exchanged_gave (UpToDate setting) taken given before.told b.told c.told exchanged (text_of (names_of entries) (out_steps lines.whole) ++ lines.front) lines.gave;
-            read = read;
-            rest = rest;
-            accepts = accepted;
-            out = out ++ acted_steps made.steps;
-            owed = owed;
-            whole = out ++ lines.whole;
-            behind = lines.next ∷ lines.behind;
-            split = split;
-            cut = lines.front;
-            line = lines.line;
-            lines = sym (append_assoc given (text_of (names_of entries) (out_steps lines.whole)) lines.front)
-                ∙ ap (λ (l : List ℕ). l ++ lines.front) (sym (lines_behind out lines.whole));
-            good = good_front (out ++ acted_steps made.steps) (out ++ lines.whole) (lines.next ∷ lines.behind) good.0 split good.1;
-          },
-          λ none. absurd (omega (arith, ap length none)),
-        )
+    -- the giving of more steps was cut
+    module _ (before : Seen) (taken rest : List ℕ) (read : List LogItem) (b c : Seen) (out steps : List ActedStep) (accepted : Accepts entries Input first.clock taken read rest)
+        (exchanged : Exchanged (UpToDate setting) taken (text_of (names_of entries) (out_steps out)) before.gate.told b.gate.told) (begun : IsBegun before.gate.told b.gate.told) (writes : b.gate.write_faults ≡ before.gate.write_faults) (actions : SaysActions entries rules out before.report b.report)
+        (owed : (bytes : List ℕ) → Gave bytes b.gate.told c.gate.told → c.gate.read_faults ≡ b.gate.read_faults → IsOwedWhere (taken_of setting read taken rest) before.gate c.gate (out ++ steps)) where
+      abbrev given : List ℕ
+      given = text_of (names_of entries) (out_steps out)
 
-    module _ (before : Stream) (taken rest : List ℕ) (accepted : ℕ) (now : Enforcing) (b c : Stream) (h : Progress before taken rest accepted now b) where
+      abbrev gate_short : (cut : Cut) (l : CutsLine entries rules steps cut b c) → RunsShort setting before.gate c.gate
+      gate_short cut l =
+          let bytes = text_of (names_of entries) (out_steps l.whole) ++ l.front in
+          short_steps before.gate taken rest read b.gate c.gate out steps l.whole (l.next ∷ l.behind) l.front l.split accepted exchanged l.gave l.part (owed bytes l.gave l.reads)
+
+      abbrev report_short : (cut : Cut) (r : CutsActions entries rules steps cut b c) → RunsShort setting before.gate c.gate
+      report_short cut r =
+          let lines = text_of (names_of entries) (out_steps (r.first ++ r.last ∷ [])) in
+          let gave = subst (λ (l : List ℕ). Gave l b.gate.told c.gate.told) (sym (append-nil lines)) r.lines.gave in
+          short_steps before.gate taken rest read b.gate c.gate out steps (r.first ++ r.last ∷ []) r.behind [] r.split accepted exchanged gave (cut_none (names_of entries) r.behind) (owed lines r.lines.gave r.lines.reads)
+
+      gate_fails : CutsLine entries rules steps cuts.WriteFault b c → FailsAtGate setting before c
+      gate_fails l =
+          record {
+            short = gate_short cuts.WriteFault l;
+            more = λ none. absurd (omega (arith, ap length none));
+            begun = begun_gave (UpToDate setting) taken given before.gate.told b.gate.told c.gate.told exchanged (text_of (names_of entries) (out_steps l.whole) ++ l.front) l.gave begun;
+            writes = l.writes ∙ ap one_more writes;
+            actions = says_more entries rules out l.whole before.report b.report c.report actions l.actions;
+          }
+
+      report_fails : CutsActions entries rules steps cuts.WriteFault b c → FailsAtReport setting before c
+      report_fails r =
+          record {
+            short = report_short cuts.WriteFault r;
+            none = refl;
+            begun = begun_gave (UpToDate setting) taken given before.gate.told b.gate.told c.gate.told exchanged (text_of (names_of entries) (out_steps (r.first ++ r.last ∷ []))) r.lines.gave begun;
+            writes = r.lines.writes ∙ writes;
+            actions = fails_within entries rules out steps before.report b c actions r;
+          }
+
+      gate_lacks : CutsLine entries rules steps cuts.NoMemory b c → LacksMemory setting before c
+      gate_lacks l =
+          record {
+            short = gate_short cuts.NoMemory l;
+            writes = l.writes ∙ writes;
+            actions = all_said entries rules (out ++ l.whole) before.report c.report (says_more entries rules out l.whole before.report b.report c.report actions l.actions);
+          }
+
+      report_lacks : CutsActions entries rules steps cuts.NoMemory b c → LacksMemory setting before c
+      report_lacks r =
+          record { short = report_short cuts.NoMemory r; writes = r.lines.writes ∙ writes; actions = said_in_part entries rules out steps before.report b c actions r }
+
+      cut_steps : (cut : Cut) → CutsSteps entries rules steps cut b c → CutsRun setting before c cut
+      cut_steps cuts.WriteFault (inl l) = inl (gate_fails l)
+      cut_steps cuts.WriteFault (inr r) = inr (report_fails r)
+      cut_steps cuts.NoMemory (inl l) = gate_lacks l
+      cut_steps cuts.NoMemory (inr r) = report_lacks r
+
+    -- nothing more was given for want of memory
+    lacks_all : (before c : Seen) (taken rest : List ℕ) (now : Enforcing) (h : HasRead taken rest now) → Exchanged (UpToDate setting) taken (text_of (names_of entries) (out_steps h.out)) before.gate.told c.gate.told
+        → IsOwedWhere (taken_of setting h.read taken rest) before.gate c.gate h.out → c.gate.write_faults ≡ before.gate.write_faults → SaysActions entries rules h.out before.report c.report → LacksMemory setting before c
+    lacks_all before c taken rest now h exchanged owed writes actions =
+        let given = text_of (names_of entries) (out_steps h.out) in
+        let good = good_owed h.read taken rest before.gate c.gate h.out owed in
+        record {
+          short = record {
+            taken = taken;
+            given = given;
+            exchanged = exchanged;
+            read = h.read;
+            rest = rest;
+            accepts = accepts taken rest now h;
+            out = h.out;
+            owed = owed;
+            whole = h.out;
+            behind = [];
+            split = sym (append-nil h.out);
+            cut = [];
+            line = refl;
+            lines = sym (append-nil given);
+            good = good_front h.out h.out [] good.0 (sym (append-nil h.out)) good.1;
+          };
+          writes = writes;
+          actions = all_said entries rules h.out before.report c.report actions;
+        }
+
+    module _ (before : Seen) (taken rest : List ℕ) (accepted : ℕ) (now : Enforcing) (b c : Seen) (h : Progress before taken rest accepted now b) where
       -- one record more was taken, and its lines given
-      pub progress_one : (more : List ℕ) (item : LogItem) (after : Enforcing) → BeginsWith entries Input rest item more → TakesItem entries (record_of item) (moment now b) (moment after c)
-          → c.read_faults ≡ b.read_faults → c.write_faults ≡ b.write_faults → Progress before taken more (accepted + 1) after c
-      progress_one more item after begins t reads writes =
-          let given = text_of (names_of entries) (out_steps h.so_far.out) in
+      pub progress_one : (more : List ℕ) (item : LogItem) (after : Enforcing) → BeginsWith entries Input rest item more → TakesItem entries rules (record_of item) (moment now b) (moment after c)
+          → Progress before taken more (accepted + 1) after c
+      progress_one more item after begins t =
+          let out = h.so_far.out in
+          let steps = acted_steps t.made.steps in
+          let given = text_of (names_of entries) (out_steps out) in
+          let lines = text_of (names_of entries) (out_steps steps) in
+          let gave = t.given.lines in
           record {
             so_far = one_more_read taken rest now h.so_far more item t.made after begins t.takes;
             count = omega (arith, h.count, length_push h.so_far.read item);
-            exchanged = subst (λ (g : List ℕ). Exchanged (UpToDate setting) taken g before.told c.told) (sym (lines_more h.so_far.out t.made))
-                (exchanged_gave (UpToDate setting) taken given before.told b.told c.told h.exchanged (lines_of entries t.made) t.given);
-            steady = steady_gave (lines_of entries t.made) before.told b.told c.told h.exchanged.grew t.given h.steady;
-            begun = λ some. begun_gave (UpToDate setting) taken given before.told b.told c.told h.exchanged (lines_of entries t.made) t.given (h.begun some);
-            reads = reads ∙ h.reads;
-            writes = writes ∙ h.writes;
+            exchanged = subst (λ (g : List ℕ). Exchanged (UpToDate setting) taken g before.gate.told c.gate.told) (sym (lines_behind (names_of entries) out steps))
+                (exchanged_gave (UpToDate setting) taken given before.gate.told b.gate.told c.gate.told h.exchanged lines gave.gave);
+            steady = steady_gave lines before.gate.told b.gate.told c.gate.told h.exchanged.grew gave.gave h.steady;
+            begun = λ some. begun_gave (UpToDate setting) taken given before.gate.told b.gate.told c.gate.told h.exchanged lines gave.gave (h.begun some);
+            reads = gave.reads ∙ h.reads;
+            writes = gave.writes ∙ h.writes;
+            actions = says_more entries rules out steps before.report b.report c.report h.actions t.given.actions;
           }
 
       -- a piece more was taken
-      pub progress_more : IsPending rest → (bytes : List ℕ) → TakesBytes (most_log_bytes - length taken) bytes b.told c.told → 0 < length bytes → c.read_faults ≡ b.read_faults → c.write_faults ≡ b.write_faults
+      pub progress_more : IsPending rest → (bytes : List ℕ) → TakesBytes (most_log_bytes - length taken) bytes b.gate.told c.gate.told → 0 < length bytes → c.gate.read_faults ≡ b.gate.read_faults → WritesNothing b c
           → Progress before (taken ++ bytes) (behind_blanks rest ++ bytes) accepted now c
-      progress_more pending bytes takes some reads writes =
+      progress_more pending bytes takes some reads nothing =
           let so_far = h.so_far in
           let given = text_of (names_of entries) (out_steps so_far.out) in
           record {
             so_far = read_more taken rest now so_far bytes;
             count = h.count;
-            exchanged = exchanged_took (UpToDate setting) taken given before.told b.told c.told h.exchanged (up_to_date taken rest now so_far pending) h.steady bytes takes.took takes.piece (omega (arith, takes.within, h.exchanged.limit, length-append taken bytes));
-            steady = steady_took bytes before.told b.told c.told h.exchanged.grew takes.took some h.steady;
-            begun = λ some. begun_took (UpToDate setting) taken given before.told b.told c.told h.exchanged bytes takes.took;
+            exchanged = exchanged_took (UpToDate setting) taken given before.gate.told b.gate.told c.gate.told h.exchanged (up_to_date taken rest now so_far pending) h.steady bytes takes.took takes.piece (omega (arith, takes.within, h.exchanged.limit, length-append taken bytes));
+            steady = steady_took bytes before.gate.told b.gate.told c.gate.told h.exchanged.grew takes.took some h.steady;
+            begun = λ some. begun_took (UpToDate setting) taken given before.gate.told b.gate.told c.gate.told h.exchanged bytes takes.took;
             reads = reads ∙ h.reads;
-            writes = writes ∙ h.writes;
+            writes = nothing.gate ∙ h.writes;
+            actions = subst (SaysActions entries rules so_far.out before.report) (sym nothing.report) h.actions;
           }
 
-      -- of one record more the lines are not all given
-      taken_short : CutsTaken entries rest (moment now b) c.told → c.read_faults ≡ b.read_faults → (short : RunsShort setting before c) × (short.behind ≢ [])
-      taken_short t reads =
-          let cut = t.cut in
-          let more = one_more_read taken rest now h.so_far t.more t.item cut.made cut.after t.begins cut.takes in
-          short_lines before taken t.more more.read b c h.so_far.out cut.made (accepts taken t.more cut.after more) h.exchanged cut.given (inl (owed_so_far taken t.more cut.after more, reads ∙ h.reads))
+      -- of one record more the lines are not all given; it came by a read
+      pub cut_taken : (cut : Cut) → accepted + length rest ≤ length taken → CutsTaken entries rules rest cut (moment now b) c → CutsRun setting before c cut
+      cut_taken cut room t =
+          let answer = t.answer in
+          let more = one_more_read taken rest now h.so_far t.more t.item answer.made answer.after t.begins answer.takes in
+          let some : 0 < length taken = omega (arith, room, begins_shorter entries Input rest t.item t.more t.begins) in
+          cut_steps before taken t.more more.read b c h.so_far.out (acted_steps answer.made.steps) (accepts taken t.more answer.after more) h.exchanged (h.begun some) h.writes h.actions
+          (λ bytes gave reads. inl (owed_so_far taken t.more answer.after more, reads ∙ h.reads)) cut answer.given
 
-      -- a turn was cut by a write that failed: the record at the front came by a read
-      pub cut_write : accepted + length rest ≤ length taken → CutsTaken entries rest (moment now b) c.told × (c.read_faults ≡ b.read_faults) → c.write_faults ≡ one_more b.write_faults → CutsRun setting before c cuts.WriteFault
-      cut_write room t writes =
-          let cut = t.0 in
-          let lines = cut.cut.given in
-          let some : 0 < length taken = omega (arith, room, begins_shorter entries Input rest cut.item cut.more cut.begins) in (
-            taken_short cut t.1,
-            begun_gave (UpToDate setting) taken (text_of (names_of entries) (out_steps h.so_far.out)) before.told b.told c.told h.exchanged (text_of (names_of entries) (out_steps lines.whole) ++ lines.front) lines.gave (h.begun some),
-            writes ∙ ap one_more h.writes,
-          )
-
-    -- or by want of memory
-    pub cut_memory : (before : Stream) (taken : List ℕ) (log : Enforcement) (b c : Stream) → Progress before taken log.reader.rest log.accepted log.enforcer b → log.taken ≡ length taken
-        → CutsTurn entries log b c cuts.NoMemory → c.write_faults ≡ b.write_faults → CutsRun setting before c cuts.NoMemory
-    cut_memory before taken log b c h count t writes = (by t.0, writes ∙ h.writes)
+    -- a turn was cut for want of memory
+    pub cut_memory : (before : Seen) (taken : List ℕ) (log : Enforcement) (b c : Seen) → Progress before taken log.reader.rest log.accepted log.enforcer b → log.taken ≡ length taken
+        → LosesTurn log b c → LacksMemory setting before c
+    cut_memory before taken log b c h count t = by t.told
       where
-        reads : c.read_faults ≡ before.read_faults
-        reads = t.1 ∙ h.reads
+        reads : c.gate.read_faults ≡ before.gate.read_faults
+        reads = t.reads ∙ h.reads
 
-        by : (c.told ≡ b.told) ⊎ (LosesBytes log b.told c.told ⊎ CutsTaken entries log.reader.rest (moment log.enforcer b) c.told) → RunsShort setting before c
+        writes : c.gate.write_faults ≡ before.gate.write_faults
+        writes = t.nothing.gate ∙ h.writes
+
+        actions : SaysActions entries rules h.so_far.out before.report c.report
+        actions = subst (SaysActions entries rules h.so_far.out before.report) (sym t.nothing.report) h.actions
+
+        by : (c.gate.told ≡ b.gate.told) ⊎ LosesBytes log b.gate.told c.gate.told → LacksMemory setting before c
         by (inl same) =
-            short_whole before taken log.reader.rest log.enforcer h.so_far c
-            (subst (λ (o : Option Exchange). Exchanged (UpToDate setting) taken (text_of (names_of entries) (out_steps h.so_far.out)) before.told o) (sym same) h.exchanged)
-            (inl (owed_so_far taken log.reader.rest log.enforcer h.so_far, reads))
-        by (inr (inl lost)) =
-            let takes = subst (λ (n : ℕ). TakesBytes (most_log_bytes - n) lost.bytes b.told c.told) count lost.takes in
+            lacks_all before c taken log.reader.rest log.enforcer h.so_far
+            (subst (λ (o : Option Exchange). Exchanged (UpToDate setting) taken (text_of (names_of entries) (out_steps h.so_far.out)) before.gate.told o) (sym same) h.exchanged)
+            (inl (owed_so_far taken log.reader.rest log.enforcer h.so_far, reads)) writes actions
+        by (inr lost) =
+            let takes = subst (λ (n : ℕ). TakesBytes (most_log_bytes - n) lost.bytes b.gate.told c.gate.told) count lost.takes in
             let rest = behind_blanks log.reader.rest ++ lost.bytes in
             let read = read_more taken log.reader.rest log.enforcer h.so_far lost.bytes in
             let given = text_of (names_of entries) (out_steps h.so_far.out) in
-            let exchanged = exchanged_took (UpToDate setting) taken given before.told b.told c.told h.exchanged (up_to_date taken log.reader.rest log.enforcer h.so_far lost.pending) h.steady lost.bytes takes.took takes.piece (omega (arith, takes.within, h.exchanged.limit, length-append taken lost.bytes)) in
-            short_whole before (taken ++ lost.bytes) rest log.enforcer read c exchanged (inl (owed_so_far (taken ++ lost.bytes) rest log.enforcer read, reads))
-        by (inr (inr cut)) = (taken_short before taken log.reader.rest log.accepted log.enforcer b c h cut t.1).0
+            let exchanged = exchanged_took (UpToDate setting) taken given before.gate.told b.gate.told c.gate.told h.exchanged (up_to_date taken log.reader.rest log.enforcer h.so_far lost.pending) h.steady lost.bytes takes.took takes.piece (omega (arith, takes.within, h.exchanged.limit, length-append taken lost.bytes)) in
+            lacks_all before c (taken ++ lost.bytes) rest log.enforcer read exchanged (inl (owed_so_far (taken ++ lost.bytes) rest log.enforcer read, reads)) writes actions
 
-    module _ (before : Stream) (taken rest : List ℕ) (accepted : ℕ) (now : Enforcing) (verdict : Verdict) (b c : Stream) (e : Ended before taken rest accepted now verdict b) (reads : c.read_faults ≡ b.read_faults) where
+    module _ (before : Seen) (taken rest : List ℕ) (accepted : ℕ) (now : Enforcing) (verdict : Verdict) (b c : Seen) (e : Ended before taken rest accepted now verdict b) where
       -- the log ended, and what a drain lets out was given
-      pub ran_judged : (after : Enforcing) → GivesDrain entries (moment now b) (moment after c) → c.write_faults ≡ b.write_faults → RanAsJudged setting (record { accepted = accepted; verdict = verdict }) before c
-      ran_judged after g writes =
+      pub ran_judged : (after : Enforcing) → GivesDrain entries rules (moment now b) (moment after c) → RanAsJudged setting (record { accepted = accepted; verdict = verdict }) before c
+      ran_judged after g =
           let h = e.so_far in
+          let steps = acted_steps g.made.steps in
+          let lines = text_of (names_of entries) (out_steps steps) in
+          let gave = g.given.lines in
           record {
             ran = record {
               taken = taken;
-              given = text_of (names_of entries) (out_steps (h.out ++ acted_steps g.made.steps));
-              exchanged = subst (λ (l : List ℕ). Exchanged (UpToDate setting) taken l before.told c.told) (sym (lines_more h.out g.made))
-                  (exchanged_gave (UpToDate setting) taken (text_of (names_of entries) (out_steps h.out)) before.told b.told c.told e.exchanged (lines_of entries g.made) g.given);
+              given = text_of (names_of entries) (out_steps (h.out ++ steps));
+              exchanged = subst (λ (l : List ℕ). Exchanged (UpToDate setting) taken l before.gate.told c.gate.told) (sym (lines_behind (names_of entries) h.out steps))
+                  (exchanged_gave (UpToDate setting) taken (text_of (names_of entries) (out_steps h.out)) before.gate.told b.gate.told c.gate.told e.exchanged lines gave.gave);
               rest = rest;
-              answers = record { read = h.read; accepts = accepts taken rest now h; out = h.out ++ acted_steps g.made.steps; text = refl; owed = owed_in_all taken rest now h g.made after g.drains };
-              ends = ends_gave (taken_of setting h.read taken rest) before b c (lines_of entries g.made) g.given reads verdict e.ends;
-              writes = writes ∙ e.writes;
+              answers = record { read = h.read; accepts = accepts taken rest now h; out = h.out ++ steps; text = refl; owed = owed_in_all taken rest now h g.made after g.drains };
+              ends = ends_gave (taken_of setting h.read taken rest) before.gate b.gate c.gate lines gave.gave gave.reads verdict e.ends;
+              writes = gave.writes ∙ e.writes;
+              actions = says_more entries rules h.out steps before.report b.report c.report e.actions g.given.actions;
             };
             count = e.count;
           }
 
       -- or its lines were not all given
-      drain_short : CutsDrainLines entries (moment now b) c.told → (short : RunsShort setting before c) × (short.behind ≢ [])
-      drain_short t =
+      cut_lines : (cut : Cut) → CutsDrainLines entries rules cut (moment now b) c → CutsRun setting before c cut
+      cut_lines cut t =
           let h = e.so_far in
-          let given = text_of (names_of entries) (out_steps t.given.whole) ++ t.given.front in
-          let ends = ends_gave (taken_of setting h.read taken rest) before b c given t.given.gave reads verdict e.ends in
-          short_lines before taken rest h.read b c h.out t.made (accepts taken rest now h) e.exchanged t.given (inr (inr (owed_in_all taken rest now h t.made t.after t.drains), (verdict, ends)))
+          cut_steps before taken rest h.read b c h.out (acted_steps t.made.steps) (accepts taken rest now h) e.exchanged e.begun e.writes e.actions
+          (λ bytes gave reads. inr (inr (owed_in_all taken rest now h t.made t.after t.drains), (verdict, ends_gave (taken_of setting h.read taken rest) before.gate b.gate c.gate bytes gave reads verdict e.ends))) cut t.given
 
-      pub cut_drain : (T : Type 0) (cut : Cut) → CutsDrain entries (moment now b) c.told cut → c.write_faults ≡ write_faults_behind {T = T} (Err cut) b.write_faults → CutsRun setting before c cut
-      cut_drain T cuts.WriteFault t writes = (
-        drain_short t,
-        begun_gave (UpToDate setting) taken (text_of (names_of entries) (out_steps e.so_far.out)) before.told b.told c.told e.exchanged (text_of (names_of entries) (out_steps t.given.whole) ++ t.given.front) t.given.gave e.begun,
-        writes ∙ ap one_more e.writes,
-      )
-      cut_drain T cuts.NoMemory (inl same) writes =
+      pub cut_drain : (cut : Cut) → CutsDrain entries rules (moment now b) c cut → CutsRun setting before c cut
+      cut_drain cuts.WriteFault t = cut_lines cuts.WriteFault t
+      cut_drain cuts.NoMemory (inr t) = cut_lines cuts.NoMemory t
+      cut_drain cuts.NoMemory (inl same) =
           let h = e.so_far in
-          let none : Gave [] b.told c.told = subst (Gave [] b.told) (sym same) (gave_none b.told) in
-          let ends = ends_gave (taken_of setting h.read taken rest) before b c [] none reads verdict e.ends in (
-            short_whole before taken rest now h c (subst (λ (o : Option Exchange). Exchanged (UpToDate setting) taken (text_of (names_of entries) (out_steps h.out)) before.told o) (sym same) e.exchanged)
-                (inr (inl (owed_so_far taken rest now h), (verdict, ends))),
-            writes ∙ e.writes,
-          )
-      cut_drain T cuts.NoMemory (inr t) writes = ((drain_short t).0, writes ∙ e.writes)
+          subst (LacksMemory setting before) (sym same)
+          (lacks_all before b taken rest now h e.exchanged (inr (inl (owed_so_far taken rest now h), (verdict, e.ends))) e.writes e.actions)

@@ -1,12 +1,11 @@
 -- One turn more of the run of a log, and how it ends.
-use Rattle.std.proofs.Common.{◌≡◌, ℕ, ◌+◌, ◌*◌, ◌-◌, ◌^◌, ◌<◌, ◌≤◌, List, [], ◌++◌, length, length-append, None, inl, inr, refl, sym, ap, subst, ◌∙◌, Option, Err, arith}
+use Rattle.std.proofs.Common.{◌≡◌, ℕ, ◌+◌, ◌*◌, ◌-◌, ◌^◌, ◌<◌, ◌≤◌, List, [], ◌++◌, length, length-append, None, inl, inr, refl, sym, ap, subst, ◌∙◌, Option, arith}
 use Rattle.enf_io.specs.Counts.{one_more}
 use Rattle.enf_io.specs.Exchange.{Exchange}
-use Rattle.enf_io.specs.Streams.{Stream}
 use Rattle.enforcer_core.specs.Enforcers.{Enforcing, out_steps}
 use Rattle.enforcer_core.specs.Stands.{Stands}
 use Rattle.enf_value.specs.declared.steps.Step.{Step}
-use Rattle.enf_formula.specs.Formulas.{Formula}
+use Rattle.formula_reader.specs.Resolution.{Rule}
 use Rattle.log_stream.specs.Lines.{text_of}
 use Rattle.log_stream.specs.LogLaws.{end_stays}
 use Rattle.log_stream.specs.Logs.{HasRecord, IsPending, Refuses, behind_blanks}
@@ -18,12 +17,13 @@ use Rattle.log_stream.specs.declared.items.LogRefusal.TheVariants as log
 use Rattle.signature.specs.Grammar.{names as names_of}
 use Rattle.signature.specs.declared.entries.NameEntry.{NameEntry}
 use Rattle.enf_cli.specs.Accepted.{UpToDate}
-use Rattle.enf_cli.specs.Endings.{write_faults_behind}
+use Rattle.enf_cli.specs.Actions.{SaysActions}
+use Rattle.enf_cli.specs.Seen.{Seen}
 use Rattle.enf_cli.specs.Exchanges.{Exchanged, IsBegun}
 use Rattle.enf_cli.specs.Limits.{most_log_bytes}
 use Rattle.enf_cli.specs.Logs.{CutsRun, EndsAs, IsRefusedAs, MetEnd, Taken, taken_of}
 use Rattle.enf_cli.specs.Owed.{HasPlans, Setting, setting_of}
-use Rattle.enf_cli.specs.Progress.{AnswersTurn, CutsTurn, EndsByRefusal, EndsTurn, EnforcesOne, IsLeft, IsNew, Laws, MeetsEnd, RefusesNext, TakesBytes, TakesMore, reads_on}
+use Rattle.enf_cli.specs.Progress.{AnswersTurn, CutsTurn, EndsByRefusal, EndsTurn, EnforcesOne, IsLeft, IsNew, Laws, MeetsEnd, RefusesNext, TakesBytes, TakesMore, WritesNothing, reads_on}
 use Rattle.enf_cli.specs.declared.endings.Cut.{Cut}
 use Rattle.enf_cli.specs.declared.endings.Cut.TheVariants as cuts
 use Rattle.enf_cli.specs.declared.log.Enforcement.{Enforcement}
@@ -33,7 +33,7 @@ use Rattle.enf_cli.specs.declared.refusals.RecordRefusal.{RecordRefusal}
 use Rattle.enf_cli.specs.declared.refusals.RecordRefusal.TheVariants as records
 use Rattle.enf_cli.proofs.ExchangeLemmas.{begun_marked, begun_took, exchanged_ended, exchanged_marked}
 use Rattle.enf_cli.proofs.LogLemmas.{begins_shorter, behind_le, item_time}
-use Rattle.enf_cli.proofs.LogProgress.{Ended, MayRun, Progress, cut_memory, cut_write, progress_more, progress_none, progress_one, setting, up_to_date}
+use Rattle.enf_cli.proofs.LogProgress.{Ended, MayRun, Progress, cut_memory, cut_taken, progress_more, progress_none, progress_one, setting, up_to_date}
 
 -- where a record is whole there is something
 record_some : (rest : List ℕ) (n : ℕ) → HasRecord rest n → 0 < length rest
@@ -57,11 +57,11 @@ refused_some entries rest clock (records.Log why) r = read_some entries rest why
 refused_some entries rest clock (records.Falling given at) r = record_some rest r.1.begins.0 r.1.begins.1
 refused_some entries rest clock records.InputLimit r = absurd r
 
-module _ (entries : List NameEntry) (policy : List Formula) (first : Enforcing) (trace : List Step) (laws : Laws) (may : MayRun entries first) (built : HasPlans entries policy first) where
-  module _ (before : Stream) (old : Enforcement) (taken : List ℕ) (b c : Stream) (h : Progress entries policy first trace before taken old.reader.rest old.accepted old.enforcer b) (count : old.taken ≡ length taken)
-      (room : old.accepted + length old.reader.rest ≤ old.taken) (writes : c.write_faults ≡ b.write_faults) where
+module _ (entries : List NameEntry) (rules : List Rule) (first : Enforcing) (trace : List Step) (laws : Laws) (may : MayRun entries first) (built : HasPlans entries rules first) where
+  module _ (before : Seen) (old : Enforcement) (taken : List ℕ) (b c : Seen) (h : Progress entries rules first trace before taken old.reader.rest old.accepted old.enforcer b) (count : old.taken ≡ length taken)
+      (room : old.accepted + length old.reader.rest ≤ old.taken) (nothing : WritesNothing b c) where
     abbrev here : Setting
-    here = setting entries policy first trace
+    here = setting entries rules first trace
 
     abbrev given : List ℕ
     given = text_of (names_of entries) (out_steps h.so_far.out)
@@ -70,37 +70,45 @@ module _ (entries : List NameEntry) (policy : List Formula) (first : Enforcing) 
     so_taken = taken_of here h.so_far.read taken old.reader.rest
 
     -- what the exchange was before the last turn it still is, where that left the gate
-    left_as_it_was : c.told ≡ b.told → Exchanged (UpToDate here) taken given before.told c.told
-    left_as_it_was same = subst (λ (o : Option Exchange). Exchanged (UpToDate here) taken given before.told o) (sym same) h.exchanged
+    left_as_it_was : c.gate.told ≡ b.gate.told → Exchanged (UpToDate here) taken given before.gate.told c.gate.told
+    left_as_it_was same = subst (λ (o : Option Exchange). Exchanged (UpToDate here) taken given before.gate.told o) (sym same) h.exchanged
 
     now_up_to_date : IsPending old.reader.rest → UpToDate here taken given
-    now_up_to_date pending = up_to_date entries policy first trace laws may built taken old.reader.rest old.enforcer h.so_far pending
+    now_up_to_date pending = up_to_date entries rules first trace laws may built taken old.reader.rest old.enforcer h.so_far pending
 
     abbrev EndedSo : Verdict → Type 0
-    EndedSo verdict = Ended entries policy first trace before taken old.reader.rest old.accepted old.enforcer verdict c
+    EndedSo verdict = Ended entries rules first trace before taken old.reader.rest old.accepted old.enforcer verdict c
 
-    ends_with : (verdict : Verdict) → Exchanged (UpToDate here) taken given before.told c.told → EndsAs so_taken before c verdict
-        → IsBegun before.told c.told → EndedSo verdict
-    ends_with verdict exchanged ends begun = record { so_far = h.so_far; count = h.count; exchanged = exchanged; ends = ends; begun = begun; writes = writes ∙ h.writes }
+    ends_with : (verdict : Verdict) → Exchanged (UpToDate here) taken given before.gate.told c.gate.told → EndsAs so_taken before.gate c.gate verdict
+        → IsBegun before.gate.told c.gate.told → EndedSo verdict
+    ends_with verdict exchanged ends begun =
+        record {
+          so_far = h.so_far;
+          count = h.count;
+          exchanged = exchanged;
+          ends = ends;
+          begun = begun;
+          writes = nothing.gate ∙ h.writes;
+          actions = subst (SaysActions entries rules h.so_far.out before.report) (sym nothing.report) h.actions;
+        }
 
-    met_end : MeetsEnd old b c → MetEnd (length taken) c
+    met_end : MeetsEnd old b.gate c.gate → MetEnd (length taken) c.gate
     met_end m = (omega (arith, m.below, count), m.at_end)
 
-    -- a read that took nothing ended the log
-    ended_read : (verdict : Verdict) → MeetsEnd old b c → EndsAs so_taken before c verdict → EndedSo verdict
+    ended_read : (verdict : Verdict) → MeetsEnd old b.gate c.gate → EndsAs so_taken before.gate c.gate verdict → EndedSo verdict
     ended_read verdict m ends =
-        ends_with verdict (exchanged_ended (UpToDate here) taken given before.told b.told c.told h.exchanged (now_up_to_date m.pending) h.steady m.took) ends
-        (begun_took (UpToDate here) taken given before.told b.told c.told h.exchanged [] m.took)
+        ends_with verdict (exchanged_ended (UpToDate here) taken given before.gate.told b.gate.told c.gate.told h.exchanged (now_up_to_date m.pending) h.steady m.took) ends
+        (begun_took (UpToDate here) taken given before.gate.told b.gate.told c.gate.told h.exchanged [] m.took)
 
-    refused : (why : RecordRefusal) → IsRefusedAs so_taken c why → IsLeft b c → 0 < length taken → EndedSo (verdicts.Refused why)
+    refused : (why : RecordRefusal) → IsRefusedAs so_taken c.gate why → IsLeft b.gate c.gate → 0 < length taken → EndedSo (verdicts.Refused why)
     refused why is left some =
-        ends_with (verdicts.Refused why) (left_as_it_was left.0) (is, left.1 ∙ h.reads) (subst (λ (o : Option Exchange). IsBegun before.told o) (sym left.0) (h.begun some))
+        ends_with (verdicts.Refused why) (left_as_it_was left.0) (is, left.1 ∙ h.reads) (subst (λ (o : Option Exchange). IsBegun before.gate.told o) (sym left.0) (h.begun some))
 
     some_taken : (why : RecordRefusal) → RefusesNext entries old.reader.rest old.enforcer.clock why → 0 < length taken
     some_taken why r = omega (arith, room, count, refused_some entries old.reader.rest old.enforcer.clock why r)
 
     -- the refusal of the record at the front is that of the rest
-    as_refused : (why : RecordRefusal) → RefusesNext entries old.reader.rest old.enforcer.clock why → IsRefusedAs so_taken c why
+    as_refused : (why : RecordRefusal) → RefusesNext entries old.reader.rest old.enforcer.clock why → IsRefusedAs so_taken c.gate why
     as_refused (records.Log why) r = inl r
     as_refused (records.Falling given' at) r =
         let f = r.1 in
@@ -108,7 +116,7 @@ module _ (entries : List NameEntry) (policy : List Formula) (first : Enforcing) 
         (r.0 ∙ clock, record { item = f.item; more = f.more; begins = f.begins; time = f.time; below = omega (arith, f.below, clock) })
     as_refused records.InputLimit r = absurd r
 
-    ends_refused : (why : RecordRefusal) → EndsByRefusal entries old b c why → EndedSo (verdicts.Refused why)
+    ends_refused : (why : RecordRefusal) → EndsByRefusal entries old b.gate c.gate why → EndedSo (verdicts.Refused why)
     ends_refused why (inl (r, left)) = refused why (as_refused why r) left (some_taken why r)
     ends_refused why (inr (inl (is, truncated, m))) =
         subst (λ (w : RecordRefusal). EndedSo (verdicts.Refused w)) (sym is)
@@ -117,17 +125,17 @@ module _ (entries : List NameEntry) (policy : List Formula) (first : Enforcing) 
         subst (λ (w : RecordRefusal). EndedSo (verdicts.Refused w)) (sym is) (refused records.InputLimit (pending, sym count ∙ all) left (omega (arith, count, all)))
 
     -- a turn ended the log
-    pub ends_log : (verdict : Verdict) → EndsTurn entries old b c verdict → EndedSo verdict
+    pub ends_log : (verdict : Verdict) → EndsTurn entries old b.gate c.gate verdict → EndedSo verdict
     ends_log verdicts.Accepted e = ended_read verdicts.Accepted e.1 (e.0, met_end e.1, e.1.reads ∙ h.reads)
     ends_log verdicts.Fault e =
-        ends_with verdicts.Fault (exchanged_marked (UpToDate here) taken given before.told b.told c.told h.exchanged (now_up_to_date e.0) h.steady e.1) (e.0, e.2 ∙ ap one_more h.reads)
-        (begun_marked (UpToDate here) taken given before.told b.told c.told h.exchanged e.1)
+        ends_with verdicts.Fault (exchanged_marked (UpToDate here) taken given before.gate.told b.gate.told c.gate.told h.exchanged (now_up_to_date e.0) h.steady e.1) (e.0, e.2 ∙ ap one_more h.reads)
+        (begun_marked (UpToDate here) taken given before.gate.told b.gate.told c.gate.told h.exchanged e.1)
     ends_log (verdicts.Refused why) e = ends_refused why e
 
--- for each trace that the enforcer stood for, and each policy whose plans it has, so much was done
-abbrev pub Done : List NameEntry → Enforcing → Stream → List ℕ → Enforcement → Stream → Type 0
-Done entries first before taken log after = (policy : List Formula) (trace : List Step) → HasPlans entries policy first → Stands first trace
-    → Progress entries policy first trace before taken log.reader.rest log.accepted log.enforcer after
+-- for each trace that the enforcer stood for, where it has the plans of the rules, so much was done
+abbrev pub Done : List NameEntry → List Rule → Enforcing → Seen → List ℕ → Enforcement → Seen → Type 0
+Done entries rules first before taken log after = (trace : List Step) → HasPlans entries rules first → Stands first trace
+    → Progress entries rules first trace before taken log.reader.rest log.accepted log.enforcer after
 
 -- the times of what was taken are those of records, and no more steps went out than records were taken and units of time
 -- went by
@@ -139,16 +147,16 @@ pub limits_none : (entries : List NameEntry) (log : Enforcement) → IsNew entri
 limits_none entries log new = record { clock = new.clock; position = omega (arith, new.position) }
 
 -- of a new log nothing was taken
-pub done_none : (entries : List NameEntry) (log : Enforcement) (laws : Laws) (may : MayRun entries log.enforcer) (before : Stream) → IsNew entries log
-    → Done entries log.enforcer before [] log before
-done_none entries log laws may before new policy trace built stands =
-    let none = progress_none entries policy log.enforcer trace laws may built stands before in
-    let at_rest = subst (λ (r : List ℕ). Progress entries policy log.enforcer trace before [] r 0 log.enforcer before) (sym (ap (λ (r : Reader). r.rest) new.reader)) none in
-    subst (λ (n : ℕ). Progress entries policy log.enforcer trace before [] log.reader.rest n log.enforcer before) (sym new.accepted) at_rest
+pub done_none : (entries : List NameEntry) (rules : List Rule) (log : Enforcement) (laws : Laws) (may : MayRun entries log.enforcer) (before : Seen) → IsNew entries log
+    → Done entries rules log.enforcer before [] log before
+done_none entries rules log laws may before new trace built stands =
+    let none = progress_none entries rules log.enforcer trace laws may built stands before in
+    let at_rest = subst (λ (r : List ℕ). Progress entries rules log.enforcer trace before [] r 0 log.enforcer before) (sym (ap (λ (r : Reader). r.rest) new.reader)) none in
+    subst (λ (n : ℕ). Progress entries rules log.enforcer trace before [] log.reader.rest n log.enforcer before) (sym new.accepted) at_rest
 
 -- a turn that does not end the log
-module _ (entries : List NameEntry) (first : Enforcing) (laws : Laws) (may : MayRun entries first) (before : Stream) (old new : Enforcement) (taken : List ℕ) (b c : Stream)
-    (h : Done entries first before taken old b) (limits : IsWithinLimits old) (count : old.taken ≡ length taken) (most : old.taken ≤ most_log_bytes) (room : old.accepted + length old.reader.rest ≤ old.taken) (writes : c.write_faults ≡ b.write_faults) where
+module _ (entries : List NameEntry) (rules : List Rule) (first : Enforcing) (laws : Laws) (may : MayRun entries first) (before : Seen) (old new : Enforcement) (taken : List ℕ) (b c : Seen)
+    (h : Done entries rules first before taken old b) (limits : IsWithinLimits old) (count : old.taken ≡ length taken) (most : old.taken ≤ most_log_bytes) (room : old.accepted + length old.reader.rest ≤ old.taken) where
   -- what is known behind it, and that less is left to do
   pub record GoesOn : Type 0 where
     pub bytes : List ℕ
@@ -156,17 +164,17 @@ module _ (entries : List NameEntry) (first : Enforcing) (laws : Laws) (may : May
     pub within : new.taken ≤ most_log_bytes
     pub room_is : new.accepted + length new.reader.rest ≤ new.taken
     pub reader_is : new.reader ≡ reads_on entries new.reader.rest
-    pub progress : Done entries first before bytes new c
+    pub progress : Done entries rules first before bytes new c
     pub still : IsWithinLimits new
     pub less : 2 * (most_log_bytes - new.taken) + length new.reader.rest < 2 * (most_log_bytes - old.taken) + length old.reader.rest
 
-  record_more : EnforcesOne entries old new b c → Done entries first before taken new c
-  record_more one policy trace built stands =
+  record_more : EnforcesOne entries rules old new b c → Done entries rules first before taken new c
+  record_more one trace built stands =
       let t = one.takes in
-      let more = progress_one entries policy first trace laws may built before taken old.reader.rest old.accepted old.enforcer b c (h policy trace built stands) new.reader.rest t.item new.enforcer t.begins t.taken one.reads writes in
-      subst (λ (n : ℕ). Progress entries policy first trace before taken new.reader.rest n new.enforcer c) (sym one.accepted) more
+      let more = progress_one entries rules first trace laws may built before taken old.reader.rest old.accepted old.enforcer b c (h trace built stands) new.reader.rest t.item new.enforcer t.begins t.taken in
+      subst (λ (n : ℕ). Progress entries rules first trace before taken new.reader.rest n new.enforcer c) (sym one.accepted) more
 
-  limits_more : EnforcesOne entries old new b c → IsWithinLimits new
+  limits_more : EnforcesOne entries rules old new b c → IsWithinLimits new
   limits_more one =
       let t = one.takes in
       let takes = t.taken.takes in
@@ -176,16 +184,16 @@ module _ (entries : List NameEntry) (first : Enforcing) (laws : Laws) (may : May
         position = omega (arith, moved.0.not_over, moved.1.clock_is, moved.1.position, takes.few, one.accepted, limits.position);
       }
 
-  piece_more : (piece : TakesMore entries old new b c) → Done entries first before (taken ++ piece.bytes) new c
-  piece_more piece policy trace built stands =
+  piece_more : (piece : TakesMore entries old new b.gate c.gate) → WritesNothing b c → Done entries rules first before (taken ++ piece.bytes) new c
+  piece_more piece nothing trace built stands =
       let rest_is : new.reader.rest ≡ behind_blanks old.reader.rest ++ piece.bytes = ap (λ (r : Reader). r.rest) piece.reader in
-      let takes = subst (λ (n : ℕ). TakesBytes (most_log_bytes - n) piece.bytes b.told c.told) count piece.takes in
-      let more = progress_more entries policy first trace laws may built before taken old.reader.rest old.accepted old.enforcer b c (h policy trace built stands) piece.pending piece.bytes takes piece.some piece.reads writes in
-      let at_rest = subst (λ (r : List ℕ). Progress entries policy first trace before (taken ++ piece.bytes) r old.accepted old.enforcer c) (sym rest_is) more in
-      let at_count = subst (λ (n : ℕ). Progress entries policy first trace before (taken ++ piece.bytes) new.reader.rest n old.enforcer c) (sym piece.accepted) at_rest in
-      subst (λ (e : Enforcing). Progress entries policy first trace before (taken ++ piece.bytes) new.reader.rest new.accepted e c) (sym piece.enforcer) at_count
+      let takes = subst (λ (n : ℕ). TakesBytes (most_log_bytes - n) piece.bytes b.gate.told c.gate.told) count piece.takes in
+      let more = progress_more entries rules first trace laws may built before taken old.reader.rest old.accepted old.enforcer b c (h trace built stands) piece.pending piece.bytes takes piece.some piece.reads nothing in
+      let at_rest = subst (λ (r : List ℕ). Progress entries rules first trace before (taken ++ piece.bytes) r old.accepted old.enforcer c) (sym rest_is) more in
+      let at_count = subst (λ (n : ℕ). Progress entries rules first trace before (taken ++ piece.bytes) new.reader.rest n old.enforcer c) (sym piece.accepted) at_rest in
+      subst (λ (e : Enforcing). Progress entries rules first trace before (taken ++ piece.bytes) new.reader.rest new.accepted e c) (sym piece.enforcer) at_count
 
-  pub goes_on : AnswersTurn entries None old new b c → GoesOn
+  pub goes_on : AnswersTurn entries rules None old new b c → GoesOn
   goes_on (inl one) =
       let t = one.takes in
       let shorter = begins_shorter entries Input old.reader.rest t.item new.reader.rest t.begins in
@@ -199,7 +207,7 @@ module _ (entries : List NameEntry) (first : Enforcing) (laws : Laws) (may : May
         still = limits_more one;
         less = omega (arith, one.taken, shorter);
       }
-  goes_on (inr piece) =
+  goes_on (inr (piece, nothing)) =
       let rest_is : new.reader.rest ≡ behind_blanks old.reader.rest ++ piece.bytes = ap (λ (r : Reader). r.rest) piece.reader in
       record {
         bytes = taken ++ piece.bytes;
@@ -207,7 +215,7 @@ module _ (entries : List NameEntry) (first : Enforcing) (laws : Laws) (may : May
         within = omega (arith, piece.taken, piece.takes.within, most);
         room_is = omega (arith, piece.taken, piece.accepted, room, ap length rest_is, length-append (behind_blanks old.reader.rest) piece.bytes, behind_le old.reader.rest);
         reader_is = piece.reader ∙ (λ i. reads_on entries (sym rest_is i));
-        progress = piece_more piece;
+        progress = piece_more piece nothing;
         still = record {
           clock = omega (arith, limits.clock, ap (λ (e : Enforcing). e.clock) piece.enforcer);
           position = omega (arith, limits.position, piece.accepted, ap (λ (e : Enforcing). e.position) piece.enforcer, ap (λ (e : Enforcing). e.clock) piece.enforcer);
@@ -216,9 +224,11 @@ module _ (entries : List NameEntry) (first : Enforcing) (laws : Laws) (may : May
       }
 
 -- a turn was cut
-pub cut_run : (T : Type 0) (entries : List NameEntry) (policy : List Formula) (first : Enforcing) (trace : List Step) (laws : Laws) (may : MayRun entries first) (built : HasPlans entries policy first)
-    (before : Stream) (taken : List ℕ) (log : Enforcement) (b c : Stream) → Progress entries policy first trace before taken log.reader.rest log.accepted log.enforcer b → log.taken ≡ length taken → log.accepted + length log.reader.rest ≤ log.taken
-    → (cut : Cut) → CutsTurn entries log b c cut → c.write_faults ≡ write_faults_behind {T = T} (Err cut) b.write_faults → CutsRun (setting_of entries policy first trace) before c cut
-cut_run T entries policy first trace laws may built before taken log b c h count room cuts.WriteFault t writes =
-    cut_write entries policy first trace laws may built before taken log.reader.rest log.accepted log.enforcer b c h (omega (arith, room, count)) t writes
-cut_run T entries policy first trace laws may built before taken log b c h count room cuts.NoMemory t writes = cut_memory entries policy first trace laws may built before taken log b c h count t writes
+pub cut_run : (entries : List NameEntry) (rules : List Rule) (first : Enforcing) (trace : List Step) (laws : Laws) (may : MayRun entries first) (built : HasPlans entries rules first)
+    (before : Seen) (taken : List ℕ) (log : Enforcement) (b c : Seen) → Progress entries rules first trace before taken log.reader.rest log.accepted log.enforcer b → log.taken ≡ length taken → log.accepted + length log.reader.rest ≤ log.taken
+    → (cut : Cut) → CutsTurn entries rules log b c cut → CutsRun (setting_of entries rules first trace) before c cut
+cut_run entries rules first trace laws may built before taken log b c h count room cuts.WriteFault t =
+    cut_taken entries rules first trace laws may built before taken log.reader.rest log.accepted log.enforcer b c h cuts.WriteFault (omega (arith, room, count)) t
+cut_run entries rules first trace laws may built before taken log b c h count room cuts.NoMemory (inl t) = cut_memory entries rules first trace laws may built before taken log b c h count t
+cut_run entries rules first trace laws may built before taken log b c h count room cuts.NoMemory (inr t) =
+    cut_taken entries rules first trace laws may built before taken log.reader.rest log.accepted log.enforcer b c h cuts.NoMemory (omega (arith, room, count)) t

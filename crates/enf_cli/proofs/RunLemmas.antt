@@ -1,24 +1,20 @@
 -- How a run ends, from how its parts end.
-use Rattle.std.proofs.Common.{◌≡◌, ℕ, ◌+◌, List, [], length, inl, inr, refl, sym, ap, subst, Ok, Err, ◌∷◌, ◌∙◌, ◌-◌, map, take, suc, zero}
+use Rattle.std.proofs.Common.{◌≡◌, ℕ, ◌+◌, List, [], length, inl, inr, refl, sym, ap, subst, Ok, Err}
 use Rattle.enforcer_core.specs.Enforcers.{Enforcing}
-use Rattle.enf_formula.specs.Formulas.{Formula}
 use Rattle.formula_reader.specs.Resolution.{Rule}
 use Rattle.log_stream.specs.declared.items.LogMode.TheVariants.{Input}
 use Rattle.signature.specs.declared.entries.NameEntry.{NameEntry}
-use Rattle.choice_step.specs.Follows.{ActedStep}
 use Rattle.enf_io.specs.Streams.{Stream}
 use Rattle.enf_io.specs.declared.devices.IoRefusal.TheVariants as io
-use Rattle.enf_cli.specs.Actions.{SaysActions, SaysActionsInPart, action_lines, joined, lines_of_actions}
-use Rattle.enf_io.specs.Exchange.{Gave}
-use Rattle.std.proofs.lemmas.List.{append-nil}
 use Rattle.enf_cli.specs.Calls.{Call, LeavesFiles}
+use Rattle.enf_cli.specs.Seen.{seen_of}
 use Rattle.enf_cli.specs.Checking.{check_text}
 use Rattle.enf_cli.specs.Endings.{ending_after_file}
 use Rattle.enf_cli.specs.Policies.{formulas}
 use Rattle.enf_cli.specs.Files.{EndsFile, HoldsPolicy, HoldsRefusedPolicy, HoldsRefusedSignature, HoldsSignature}
 use Rattle.enf_cli.specs.Logs.{CutsRun, RunsLog, conclusion_of}
 use Rattle.enf_cli.specs.Owed.{Setting, anew, setting_of}
-use Rattle.enf_cli.specs.Outcomes.{Asks, AsksToEnforce, ChecksPolicy, IsDone, IsFinished, Meets, Outcome, Performs, Refuses, steps_done, steps_met, whole_cut}
+use Rattle.enf_cli.specs.Outcomes.{Asks, AsksToEnforce, ChecksPolicy, IsCut, IsDone, Meets, Outcome, Performs, Refuses}
 use Rattle.enf_cli.specs.Refusals.{status_of}
 use Rattle.enf_cli.specs.Reports.{EndsWith, WritesText}
 use Rattle.enforce_types.specs.Accepted.{IsTyped}
@@ -37,100 +33,97 @@ use Rattle.enf_cli.specs.declared.refusals.Refusal.{Refusal}
 use Rattle.enf_cli.specs.declared.refusals.Refusal.TheVariants as refusals
 use Rattle.enf_cli.specs.declared.refusals.SignatureRefusal.{SignatureRefusal}
 use Rattle.enf_cli.specs.declared.refusals.Status.{Status}
-use Rattle.enf_cli.specs.declared.refusals.Status.TheVariants as statuses
-use Rattle.enf_cli.proofs.ExchangeLemmas.{gave_none}
 
 -- what holds from where a new enforcer stands holds from where nothing had gone out
-pub from_the_start : (entries : List NameEntry) (policy : List Formula) (enforcer : Enforcing) → enforcer.clock ≡ 0 → (P : Setting → Type 0) → P (setting_of entries policy enforcer []) → P (anew entries policy)
-from_the_start entries policy enforcer is P =
-    subst (λ (clock : ℕ). P (record { entries = entries; policy = policy; mode = Input; start = record { trace = []; clock = clock } })) is
+pub from_the_start : (entries : List NameEntry) (rules : List Rule) (enforcer : Enforcing) → enforcer.clock ≡ 0 → (P : Setting → Type 0) → P (setting_of entries rules enforcer []) → P (anew entries rules)
+from_the_start entries rules enforcer is P =
+    subst (λ (clock : ℕ). P (record { entries = entries; rules = rules; mode = Input; start = record { trace = []; clock = clock } })) is
 
 -- ---- the work of a run
 
-module _ {Gate : Type 0} (call : Call Gate) (signature_file policy_file : List ℕ) (form : NamesFiles call.words signature_file policy_file) where
+module _ {Gate : Type 0} (call : Call Gate) (report : Stream) (signature_file policy_file : List ℕ) (form : NamesFiles call.words signature_file policy_file) (silent : report ≡ call.before.report) where
   -- memory runs out before the gate is touched
-  pub memory_ends : call.after.gate_itself ≡ call.before.gate_itself → call.after.gate ≡ call.before.gate → LeavesFiles call → Performs call (Err (endings.Cut cuts.NoMemory))
-  memory_ends itself seen h = inl (inl (record { signature_file = signature_file; policy_file = policy_file; form = form; gate = (itself, seen); files = h }))
+  pub memory_ends : call.after.gate_itself ≡ call.before.gate_itself → call.after.gate ≡ call.before.gate → LeavesFiles call → Performs call report (Err (endings.Cut cuts.NoMemory))
+  memory_ends itself seen h = inl (inl (record { signature_file = signature_file; policy_file = policy_file; form = form; gate = (itself, seen); files = h; silent = silent }))
 
   -- the signature gives nothing
   pub signature_ends : (end : FileEnding SignatureRefusal) → call.after.gate_itself ≡ call.before.gate_itself → call.after.gate ≡ call.before.gate
-      → EndsFile (HoldsRefusedSignature call.before.files.contents signature_file) signature_file call.before.files call.after.files end → Performs call (Err (ending_after_file refusals.Signature end))
+      → EndsFile (HoldsRefusedSignature call.before.files.contents signature_file) signature_file call.before.files call.after.files end → Performs call report (Err (ending_after_file refusals.Signature end))
   signature_ends (files.Refused why) itself seen h =
-      record { signature_file = signature_file; policy_file = policy_file; form = form; refused = h.0; gate = (itself, seen); files = h.1 }
+      record { signature_file = signature_file; policy_file = policy_file; form = form; refused = h.0; gate = (itself, seen); files = h.1; silent = silent }
   signature_ends (files.NotRead io.Failed) itself seen h =
-      inl (record { signature_file = signature_file; policy_file = policy_file; form = form; failed = inl h; gate = (itself, seen) })
+      inl (record { signature_file = signature_file; policy_file = policy_file; form = form; failed = inl h; gate = (itself, seen); silent = silent })
   signature_ends (files.NotRead io.NoMemory) itself seen h = memory_ends itself seen h
 
   -- the policy gives nothing, behind a signature
   pub policy_ends : (entries : List NameEntry) (end : FileEnding PolicyRefusal) → call.after.gate_itself ≡ call.before.gate_itself → call.after.gate ≡ call.before.gate
       → HoldsSignature call.before.files.contents signature_file entries
-      → EndsFile (HoldsRefusedPolicy call.before.files.contents policy_file entries) policy_file call.before.files call.after.files end → Performs call (Err (ending_after_file refusals.Policy end))
+      → EndsFile (HoldsRefusedPolicy call.before.files.contents policy_file entries) policy_file call.before.files call.after.files end → Performs call report (Err (ending_after_file refusals.Policy end))
   policy_ends entries (files.Refused why) itself seen holds h =
-      record { signature_file = signature_file; policy_file = policy_file; form = form; entries = entries; holds_signature = holds; refused = h.0; gate = (itself, seen); files = h.1 }
+      record { signature_file = signature_file; policy_file = policy_file; form = form; entries = entries; holds_signature = holds; refused = h.0; gate = (itself, seen); files = h.1; silent = silent }
   policy_ends entries (files.NotRead io.Failed) itself seen holds h =
-      inl (record { signature_file = signature_file; policy_file = policy_file; form = form; failed = inr ((entries, holds), h); gate = (itself, seen) })
+      inl (record { signature_file = signature_file; policy_file = policy_file; form = form; failed = inr ((entries, holds), h); gate = (itself, seen); silent = silent })
   policy_ends entries (files.NotRead io.NoMemory) itself seen holds h = memory_ends itself seen h
 
-module _ {Gate : Type 0} (call : Call Gate) (signature_file policy_file : List ℕ) (form : IsEnforce call.words signature_file policy_file) (entries : List NameEntry) (policy : List Rule)
+module _ {Gate : Type 0} (call : Call Gate) (report : Stream) (signature_file policy_file : List ℕ) (form : IsEnforce call.words signature_file policy_file) (entries : List NameEntry) (policy : List Rule)
     (holds_signature : HoldsSignature call.before.files.contents signature_file entries) (holds_policy : HoldsPolicy call.before.files.contents policy_file entries policy)
     (same : LeavesFiles call) where
   abbrev here : Setting
-  here = anew entries (formulas policy)
+  here = anew entries policy
 
   abbrev asks : AsksToEnforce call here
   asks =
       record {
-        policy = policy;
         asks = record { signature_file = signature_file; policy_file = policy_file; form = form; holds_signature = holds_signature; holds_policy = holds_policy };
         is_setting = refl;
       }
 
   -- the run of the log was cut
-  pub log_ends : (cut : Cut) → CutsRun here call.before.gate call.after.gate cut → Performs call (Err (endings.Cut cut))
+  pub log_ends : (cut : Cut) → CutsRun here (seen_of call.before.gate call.before.report) (seen_of call.after.gate report) cut → Performs call report (Err (endings.Cut cut))
   log_ends cuts.WriteFault h = inl (inl (record { setting = here; asks = asks; cut = h; files = same }))
   log_ends cuts.NoMemory h = inl (inr (record { setting = here; asks = asks; cut = h; files = same }))
 
   -- the judgement of the log is a refusal
-  pub log_refused : (accepted : ℕ) (verdict : Verdict) (ran : RunsLog here verdict call.before.gate call.after.gate) (why : Refusal)
-      → accepted ≡ length ran.answers.read → Err why ≡ conclusion_of accepted verdict → Meets call why
+  pub log_refused : (accepted : ℕ) (verdict : Verdict) (ran : RunsLog here verdict (seen_of call.before.gate call.before.report) (seen_of call.after.gate report)) (why : Refusal)
+      → accepted ≡ length ran.answers.read → Err why ≡ conclusion_of accepted verdict → Meets call report why
   log_refused accepted verdicts.Accepted ran why count h = cc
   log_refused accepted verdicts.Fault ran why count h =
       let is : why ≡ refusals.ReadFault = cc in
-      subst (Meets call) (sym is) (inr (record { setting = here; asks = asks; ran = ran; failed = ran.ends.1; files = same }))
+      subst (Meets call report) (sym is) (inr (record { setting = here; asks = asks; ran = ran; failed = ran.ends.1; files = same }))
   log_refused accepted (verdicts.Refused refusal) ran why count h =
       let is : why ≡ refusals.Record (accepted + 1) refusal = cc in
-      subst (Meets call) (sym is) (record { setting = here; asks = asks; ran = ran; number_is = ap (λ n. n + 1) count; files = same })
+      subst (Meets call report) (sym is) (record { setting = here; asks = asks; ran = ran; number_is = ap (λ n. n + 1) count; files = same })
 
   -- the judgement of the log is that all is accepted
-  pub log_done : (accepted : ℕ) (verdict : Verdict) (ran : RunsLog here verdict call.before.gate call.after.gate) → Ok tt ≡ conclusion_of accepted verdict → IsDone call
+  pub log_done : (accepted : ℕ) (verdict : Verdict) (ran : RunsLog here verdict (seen_of call.before.gate call.before.report) (seen_of call.after.gate report)) → Ok tt ≡ conclusion_of accepted verdict → IsDone call report
   log_done accepted verdicts.Fault ran h = cc
   log_done accepted (verdicts.Refused refusal) ran h = cc
   log_done accepted verdicts.Accepted ran h = record { setting = here; asks = asks; ran = ran; files = same }
 
-module _ {Gate : Type 0} (call : Call Gate) (signature_file policy_file : List ℕ) (form : IsCheck call.words signature_file policy_file) (entries : List NameEntry) (policy : List Rule)
+module _ {Gate : Type 0} (call : Call Gate) (report : Stream) (signature_file policy_file : List ℕ) (form : IsCheck call.words signature_file policy_file) (entries : List NameEntry) (policy : List Rule)
     (holds_signature : HoldsSignature call.before.files.contents signature_file entries) (holds_policy : HoldsPolicy call.before.files.contents policy_file entries policy)
-    (typed : Typed) (is_typed : IsTyped entries (formulas policy) typed) (same : LeavesFiles call) where
+    (typed : Typed) (is_typed : IsTyped entries (formulas policy) typed) (same : LeavesFiles call) (silent : report ≡ call.before.report) where
   abbrev asks_check : Asks IsCheck call entries policy
   asks_check = record { signature_file = signature_file; policy_file = policy_file; form = form; holds_signature = holds_signature; holds_policy = holds_policy }
 
   -- what is to be said of the policy was given whole
-  pub check_done : WritesText {T = Unit {0}} (check_text entries policy typed.ranked) (Ok tt) call.before.gate call.after.gate → ChecksPolicy call
+  pub check_done : WritesText {T = Unit {0}} (check_text entries policy typed.ranked) (Ok tt) call.before.gate call.after.gate → ChecksPolicy call report
   check_done w =
       record {
-        policy = record { entries = entries; policy = policy; asks = asks_check; typed = typed; is_typed = is_typed; given = w.adds; reads = w.reads; files = same };
+        policy = record { entries = entries; policy = policy; asks = asks_check; typed = typed; is_typed = is_typed; given = w.adds; reads = w.reads; files = same; silent = silent };
         writes = w.writes;
       }
 
   -- or a part of it
-  pub check_ends : (cut : Cut) → WritesText {T = Unit {0}} (check_text entries policy typed.ranked) (Err cut) call.before.gate call.after.gate → Performs call (Err (endings.Cut cut))
+  pub check_ends : (cut : Cut) → WritesText {T = Unit {0}} (check_text entries policy typed.ranked) (Err cut) call.before.gate call.after.gate → Performs call report (Err (endings.Cut cut))
   check_ends cuts.WriteFault w =
       inr (record {
-        policy = record { entries = entries; policy = policy; asks = asks_check; typed = typed; is_typed = is_typed; given = w.adds; reads = w.reads; files = same };
+        policy = record { entries = entries; policy = policy; asks = asks_check; typed = typed; is_typed = is_typed; given = w.adds; reads = w.reads; files = same; silent = silent };
         writes = w.writes;
       })
   check_ends cuts.NoMemory w =
       inr (inr (record {
-        policy = record { entries = entries; policy = policy; asks = asks_check; typed = typed; is_typed = is_typed; given = w.adds; reads = w.reads; files = same };
+        policy = record { entries = entries; policy = policy; asks = asks_check; typed = typed; is_typed = is_typed; given = w.adds; reads = w.reads; files = same; silent = silent };
         writes = w.writes;
       }))
 
@@ -143,45 +136,9 @@ of_refusal call (refusals.Policy why) r = inr (why, r)
 of_refusal call (refusals.Record number why) r = (number, why, r)
 of_refusal call refusals.ReadFault r = r
 
--- actions have no line, nor have those of the first steps
-no_lines : (steps : List ActedStep) → action_lines steps ≡ []
-no_lines [] = refl
-no_lines (step ∷ steps) = no_lines steps
-
-no_pieces : (count : ℕ) (steps : List ActedStep) → joined (take count (map lines_of_actions steps)) ≡ []
-no_pieces zero steps = refl
-no_pieces (suc count) [] = refl
-no_pieces (suc count) (step ∷ steps) = no_pieces count steps
-
-all_pieces : (steps : List ActedStep) → joined (map lines_of_actions steps) ≡ []
-all_pieces [] = refl
-all_pieces (step ∷ steps) = all_pieces steps
-
--- so nothing was said of them
-no_actions : (steps : List ActedStep) (report : Stream) → SaysActions steps report report
-no_actions steps report = record { gave = subst (λ (text : List ℕ). Gave text report.told report.told) (sym (no_lines steps)) (gave_none report.told); writes = refl; reads = refl }
-
-part_of_none : (steps : List ActedStep) (report : Stream) → SaysActionsInPart steps report report
-part_of_none steps report =
-    record {
-      front = [];
-      missing = [];
-      is_front = record { split = all_pieces steps; of_last = []; begins = sym (append-nil (joined (take (length (map lines_of_actions steps) - 1) (map lines_of_actions steps))) ∙ no_pieces (length (map lines_of_actions steps) - 1) steps) };
-      gains = record { gave = gave_none report.told; writes = refl; reads = refl };
-    }
-
--- a run that is done has left the report as it was
-pub done_whole : {Gate : Type 0} (call : Call Gate) → call.after.report ≡ call.before.report → IsFinished call → Outcome call statuses.Done
-done_whole call same finished =
-    record { finished = finished; report = subst (SaysActions (steps_done call finished) call.before.report) (sym same) (no_actions (steps_done call finished) call.before.report) }
-
--- what holds at the status of a run that ended early
-pub outcome_of : {Gate : Type 0} (call : Call Gate) (ending : Ending) (status : Status) → Performs call (Err ending) → EndsWith ending call.before.report call.after.report status → Outcome call status
-outcome_of call (endings.Refused why) status p (inl (is, line)) =
-    subst (Outcome call) (sym is) (of_refusal call why (record { meets = p; report = record { between = call.before.report; first = no_actions (steps_met call why p) call.before.report; last = line } }))
-outcome_of call (endings.Refused why) status p (inr (is, line)) =
-    subst (Outcome call) (sym is) (inr (record { why = why; meets = p; report = record { between = call.before.report; first = no_actions (steps_met call why p) call.before.report; last = line } }))
-outcome_of call (endings.Cut cuts.WriteFault) status p (is, same) =
-    subst (Outcome call) (sym is) (inl (record { cut = p; report = subst (SaysActions (whole_cut call cuts.WriteFault p) call.before.report) (sym same) (no_actions (whole_cut call cuts.WriteFault p) call.before.report) }))
-outcome_of call (endings.Cut cuts.NoMemory) status p (is, line) =
-    subst (Outcome call) (sym is) (inl (record { cut = p; report = record { between = call.before.report; first = part_of_none (whole_cut call cuts.NoMemory p) call.before.report; last = line } }))
+-- what holds at the status of a run whose work ended early, and left the report so
+pub outcome_of : {Gate : Type 0} (call : Call Gate) (between : Stream) (ending : Ending) (status : Status) → Performs call between (Err ending) → EndsWith ending between call.after.report status → Outcome call status
+outcome_of call between (endings.Refused why) status p (inl (is, line)) = subst (Outcome call) (sym is) (of_refusal call why (record { between = between; meets = p; line = line }))
+outcome_of call between (endings.Refused why) status p (inr (is, line)) = subst (Outcome call) (sym is) (inr (record { why = why; between = between; meets = p; line = line }))
+outcome_of call between (endings.Cut cuts.WriteFault) status p (is, same) = subst (Outcome call) (sym is) (subst (λ (report : Stream). IsCut call report cuts.WriteFault) (sym same) p)
+outcome_of call between (endings.Cut cuts.NoMemory) status p (is, line) = subst (Outcome call) (sym is) (inl (record { between = between; cut = p; line = line }))

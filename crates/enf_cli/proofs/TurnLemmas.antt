@@ -19,7 +19,9 @@ use Rattle.signature.specs.declared.entries.NameEntry.{NameEntry}
 use Rattle.enf_cli.specs.Accepted.{record_of}
 use Rattle.enf_cli.specs.Limits.{most_log_bytes}
 use Rattle.trace_meaning.specs.Records.{Record}
-use Rattle.enf_cli.specs.Progress.{CutsItem, CutsLines, CutsNext, EndsTurn, JudgesEnd, LeavesItem, MeetsEnd, Moment, RefusesNext, TakesBytes, TakesMore, TakesPiece, ReadsPiece, WaitsForMore, front, reads_on}
+use Rattle.enf_cli.specs.Progress.{CutsAnswer, CutsItem, CutsNext, CutsTurn, EndsTurn, JudgesEnd, LeavesItem, MeetsEnd, Moment, RefusesNext, TakesBytes, TakesMore, TakesPiece, ReadsPiece, WaitsForMore, WritesNothing, front, moment, reads_on}
+use Rattle.enf_cli.specs.Seen.{Seen, seen_of}
+use Rattle.formula_reader.specs.Resolution.{Rule}
 use Rattle.enf_cli.specs.declared.endings.Cut.{Cut}
 use Rattle.enf_cli.specs.declared.endings.Cut.TheVariants as cuts
 use Rattle.enf_cli.specs.declared.log.Enforcement.{Enforcement}
@@ -64,34 +66,64 @@ module _ (entries : List NameEntry) (before after : Reader) (going : before ≡ 
 
 -- a record whose time is below the clock is refused
 pub falls : (entries : List NameEntry) (rest more : List ℕ) (item : LogItem) (why : RecordRefusal) (from to : Moment) → BeginsWith entries Input rest item more
-    → LeavesItem (record_of item) why from to → RefusesNext entries rest from.enforcer.clock why × (to.enforcer ≡ from.enforcer) × (to.told ≡ from.told)
+    → LeavesItem (record_of item) why from to → RefusesNext entries rest from.enforcer.clock why × (to ≡ from)
 falls entries rest more item why from to begins l =
-    (subst (RefusesNext entries rest from.enforcer.clock) (sym l.falls) (refl, record { item = item; more = more; begins = begins; time = refl; below = l.below }), l.enforcer, l.given)
+    (subst (RefusesNext entries rest from.enforcer.clock) (sym l.falls) (refl, record { item = item; more = more; begins = begins; time = refl; below = l.below }), (λ i. record { enforcer = l.enforcer i; seen = l.seen i }))
 
 -- what cut the answer of a record cut that of the front
-pub cuts_next : (entries : List NameEntry) (rest more : List ℕ) (item : LogItem) (from : Moment) (told : Option Exchange) (cut : Cut) → BeginsWith entries Input rest item more
-    → CutsItem entries (record_of item) from told cut → CutsNext entries rest from told cut
-cuts_next entries rest more item from told cuts.WriteFault begins c = record { item = item; more = more; begins = begins; cut = c }
-cuts_next entries rest more item from told cuts.NoMemory begins (inl same) = inl same
-cuts_next entries rest more item from told cuts.NoMemory begins (inr c) = inr (record { item = item; more = more; begins = begins; cut = c })
+pub cuts_next : (entries : List NameEntry) (rules : List Rule) (rest more : List ℕ) (item : LogItem) (from : Moment) (seen : Seen) (cut : Cut) → BeginsWith entries Input rest item more
+    → CutsItem entries rules (record_of item) from seen cut → CutsNext entries rules rest from seen cut
+cuts_next entries rules rest more item from seen cuts.WriteFault begins c = record { item = item; more = more; begins = begins; answer = c }
+cuts_next entries rules rest more item from seen cuts.NoMemory begins (inl same) = inl same
+cuts_next entries rules rest more item from seen cuts.NoMemory begins (inr c) = inr (record { item = item; more = more; begins = begins; answer = c })
 
-module _ (entries : List NameEntry) (old : Enforcement) (middle reader : Reader) (now : Enforcing) (a b c : Stream)
-    (waits : WaitsForMore entries (front old.reader old.enforcer a) (front middle now b)) (same_reads : b.read_faults ≡ a.read_faults) where
+-- what cut the answer of the front cut a turn
+pub cuts_turn : (entries : List NameEntry) (rules : List Rule) (log : Enforcement) (before after : Seen) (cut : Cut) → CutsNext entries rules log.reader.rest (moment log.enforcer before) after cut
+    → CutsTurn entries rules log before after cut
+cuts_turn entries rules log before after cuts.WriteFault t = t
+cuts_turn entries rules log before after cuts.NoMemory (inl same) =
+    inl (record { told = inl (ap (λ (s : Seen). s.gate.told) same); reads = ap (λ (s : Seen). s.gate.read_faults) same; nothing = record { gate = ap (λ (s : Seen). s.gate.write_faults) same; report = ap (λ (s : Seen). s.report) same } })
+cuts_turn entries rules log before after cuts.NoMemory (inr t) = inr t
+
+module _ (entries : List NameEntry) (old : Enforcement) (middle reader : Reader) (now : Enforcing) (before between : Seen) (c : Stream)
+    (waits : WaitsForMore entries (front old.reader old.enforcer before) (front middle now between)) where
+  abbrev a : Stream
+  a = before.gate
+
+  abbrev b : Stream
+  b = between.gate
+
+  same_seen : between ≡ before
+  same_seen = ap (λ (m : Moment). m.seen) waits.now
+
+  same_told : b.told ≡ a.told
+  same_told = ap (λ (s : Seen). s.gate.told) same_seen
+
+  same_reads : b.read_faults ≡ a.read_faults
+  same_reads = ap (λ (s : Seen). s.gate.read_faults) same_seen
+
+  pub same_enforcer : now ≡ old.enforcer
+  same_enforcer = ap (λ (m : Moment). m.enforcer) waits.now
+
+  -- nothing is written by a read
+  pub writes_nothing : c.write_faults ≡ b.write_faults → WritesNothing before (seen_of c between.report)
+  writes_nothing same = record { gate = same ∙ ap (λ (s : Seen). s.gate.write_faults) same_seen; report = ap (λ (s : Seen). s.report) same_seen }
+
   -- what a read took
   takes_bytes : (bytes : List ℕ) → TakesBytes (most_log_bytes - old.taken) bytes b.told c.told → TakesBytes (most_log_bytes - old.taken) bytes a.told c.told
-  takes_bytes bytes t = record { took = subst (λ (o : Option Exchange). Took bytes o c.told) waits.given t.took; piece = t.piece; within = t.within }
+  takes_bytes bytes t = record { took = subst (λ (o : Option Exchange). Took bytes o c.told) same_told t.took; piece = t.piece; within = t.within }
 
   -- a piece was taken
-  pub takes_more : (count : ℕ) (piece : Vec ℕ Global) → TakesPiece count (most_log_bytes - old.taken) middle reader b c
-      → TakesMore entries old (record { reader = reader; enforcer = now; piece = piece; accepted = old.accepted; taken = old.taken + count }) a c
-  takes_more count piece t =
+  pub takes_more : (count : ℕ) (piece line : Vec ℕ Global) → TakesPiece count (most_log_bytes - old.taken) middle reader b c
+      → TakesMore entries old (record { reader = reader; enforcer = now; piece = piece; line = line; accepted = old.accepted; taken = old.taken + count }) a c
+  takes_more count piece line t =
       record {
         pending = waits.pending;
         bytes = t.bytes;
         takes = takes_bytes t.bytes t.takes;
         some = omega (arith, t.some, t.count_is);
         reader = t.fed_is ∙ ap (λ (r : Reader). fed r t.bytes) waits.reader_is;
-        enforcer = waits.enforcer;
+        enforcer = same_enforcer;
         accepted = refl;
         taken = ap (λ (n : ℕ). old.taken + n) (sym t.count_is);
         reads = t.reads ∙ same_reads;
@@ -111,7 +143,7 @@ module _ (entries : List NameEntry) (old : Enforcement) (middle reader : Reader)
       meets =
           record {
             pending = waits.pending;
-            took = subst (λ (o : Option Exchange). Took [] o c.told) waits.given t.2;
+            took = subst (λ (o : Option Exchange). Took [] o c.told) same_told t.2;
             at_end = t.3;
             below = omega (arith, t.0);
             reads = t.4 ∙ same_reads;
@@ -131,7 +163,7 @@ module _ (entries : List NameEntry) (old : Enforcement) (middle reader : Reader)
       by (inr (same, truncated)) = subst (EndsTurn entries old a c) (sym same) (inr (inl (refl, (waits.pending, subst (λ (l : List ℕ). 0 < length l) (ap behind_blanks rest_is ∙ again) truncated.1), meets)))
 
 -- a record was taken, and its lines were cut, for whatever cause
-pub cuts_lines : (entries : List NameEntry) (next : Record) (from : Moment) (told : Option Exchange)
-    → CutsLines entries next from told → (cut : Cut) → CutsItem entries next from told cut
-cuts_lines entries next from told lines cuts.WriteFault = lines
-cuts_lines entries next from told lines cuts.NoMemory = inr lines
+pub cuts_answer : (entries : List NameEntry) (rules : List Rule) (next : Record) (from : Moment) (seen : Seen) (cut : Cut)
+    → CutsAnswer entries rules next cut from seen → CutsItem entries rules next from seen cut
+cuts_answer entries rules next from seen cuts.WriteFault lines = lines
+cuts_answer entries rules next from seen cuts.NoMemory lines = inr lines

@@ -13,7 +13,7 @@ use Rattle.enf_cli.specs.Limits.{most_log_bytes}
 use Rattle.enf_cli.specs.Files.{IsRefusedPolicy, IsRefusedSignature}
 use Rattle.enf_cli.specs.Logs.{IsRefusedAs, taken_of}
 use Rattle.enf_cli.specs.Owed.{Setting, anew}
-use Rattle.enf_cli.specs.Policies.{SpellsPolicy, formulas}
+use Rattle.enf_cli.specs.Policies.{SpellsPolicy}
 use Rattle.enf_cli.specs.Signatures.{SpellsSignature}
 use Rattle.enf_cli.specs.Words.{IsCheck, IsEnforce, IsGenerate, MatchNoForm, NamesFiles}
 use Rattle.enf_cli.specs.declared.refusals.PolicyRefusal.{PolicyRefusal}
@@ -48,9 +48,8 @@ pub record AsksPolicy {Gate : Type 0} (IsForm : List (List ℕ) → List ℕ →
 -- the words ask to enforce, under a signature that files tell and a policy that they tell and that is accepted, so that
 -- the log is enforced in this setting
 pub record AsksTold {Gate : Type 0} (call : Call Gate) (s : Setting) : Type 0 where
-  pub policy : List Rule
-  pub asks : AsksPolicy IsEnforce call s.entries policy
-  pub is_setting : s ≡ anew s.entries (formulas policy)
+  pub asks : AsksPolicy IsEnforce call s.entries s.rules
+  pub is_setting : s ≡ anew s.entries s.rules
 
 -- the words name a signature that files tell and that is refused
 pub record AsksRefusedSignature {Gate : Type 0} (call : Call Gate) : Type 0 where

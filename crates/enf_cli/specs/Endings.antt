@@ -1,14 +1,10 @@
 -- Why the parts of a run end before they are done, and how one becomes another.
-use Rattle.std.specs.Prelude.{◌≡◌, ◌≢◌, ℕ, List, [], ◌∷◌, ◌++◌, Option, Result, Ok, Err}
+use Rattle.std.specs.Prelude.{◌≡◌, ◌≢◌, ℕ, List, [], ◌++◌, Result, Ok, Err}
 use Rattle.enf_io.specs.Counts.{one_more}
-use Rattle.enf_io.specs.Exchange.{Exchange, Gave}
 use Rattle.enf_io.specs.declared.devices.IoRefusal.{IoRefusal}
 use Rattle.enf_io.specs.declared.devices.IoRefusal.TheVariants as io
 use Rattle.enf_io.specs.declared.writing.WriteRefusal.{WriteRefusal}
 use Rattle.enf_io.specs.declared.writing.WriteRefusal.TheVariants as writes
-use Rattle.log_stream.specs.Lines.{line_of, text_of}
-use Rattle.choice_step.specs.Follows.{ActedStep, out_step}
-use Rattle.enforcer_core.specs.Enforcers.{out_steps}
 use Rattle.enf_cli.specs.declared.endings.Cut.{Cut}
 use Rattle.enf_cli.specs.declared.endings.Cut.TheVariants as cuts
 use Rattle.enf_cli.specs.declared.endings.Ending.{Ending}
@@ -33,24 +29,18 @@ abbrev pub ending_after_file : {W : Type 0} → (W → Refusal) → FileEnding W
 ending_after_file refusal_of (files.Refused why) = endings.Refused (refusal_of why)
 ending_after_file refusal_of (files.NotRead why) = ending_after_read why
 
--- the count of write faults behind output: one more where a fault cut it
+-- the count of write faults behind a cut: one more where a fault was its cause
+abbrev pub faults_behind : Cut → ℕ → ℕ
+faults_behind cuts.WriteFault count = one_more count
+faults_behind cuts.NoMemory count = count
+
+-- and behind output
 abbrev pub write_faults_behind : {T : Type 0} → Result T Cut → ℕ → ℕ
 write_faults_behind (Ok value) count = count
-write_faults_behind (Err cuts.WriteFault) count = one_more count
-write_faults_behind (Err cuts.NoMemory) count = count
+write_faults_behind (Err cut) count = faults_behind cut count
 
 -- a front of a text, and not the whole of it
 pub record IsPart (front text : List ℕ) : Type 0 where
   pub rest : List ℕ
   pub some : rest ≢ []
   pub split : text ≡ front ++ rest
-
--- a device that tells was given the whole lines of the first steps, and of the next one's a part
-pub record GaveLines (names : List (List ℕ)) (steps : List ActedStep) (before after : Option Exchange) : Type 0 where
-  pub whole : List ActedStep
-  pub next : ActedStep
-  pub behind : List ActedStep
-  pub split : steps ≡ whole ++ next ∷ behind
-  pub front : List ℕ
-  pub line : IsPart front (line_of names (out_step next))
-  pub gave : Gave (text_of names (out_steps whole) ++ front) before after

@@ -8,7 +8,9 @@ pub mod Endings
 pub mod Exchanges
 pub mod Files
 pub mod Generating
+pub mod Headline
 pub mod Limits
+pub mod Lines
 pub mod Logs
 pub mod Outcomes
 pub mod Owed
@@ -16,5 +18,6 @@ pub mod Policies
 pub mod Progress
 pub mod Refusals
 pub mod Reports
+pub mod Seen
 pub mod Signatures
 pub mod Words

@@ -1,4 +1,4 @@
--- What a run of the log takes from the gate and gives to it, by how it ends.
+-- What a run of the log takes from the gate, gives to it and says on the report, by how it ends.
 use Rattle.std.specs.Prelude.{◌≡◌, ◌≢◌, ℕ, ◌+◌, ◌<◌, List, [], ◌∷◌, ◌++◌, length, ◌⊎◌, Result, Ok, Err}
 use Rattle.enf_io.specs.Counts.{one_more}
 use Rattle.enf_io.specs.Exchange.{IsAtEnd}
@@ -15,12 +15,14 @@ use Rattle.choice_step.specs.Follows.{ActedStep, out_step, steps_of}
 use Rattle.enforcer_core.specs.Enforcers.{out_steps}
 use Rattle.trace_meaning.specs.Records.{clock_after, time_of}
 use Rattle.enf_cli.specs.Accepted.{Accepts, GivesInAll, UpToDate, record_of, records_of}
-use Rattle.enf_cli.specs.Owed.{IsOwedInAll, IsOwedSoFar, Setting}
+use Rattle.enf_cli.specs.Actions.{FailsWithinActions, SaysActions, SaysActionsInPart}
+use Rattle.enf_cli.specs.Owed.{IsOwedInAll, IsOwedSoFar, Setting, policy_of}
 use Rattle.enf_cli.specs.Endings.{IsPart}
 use Rattle.enf_cli.specs.Exchanges.{Exchanged, IsBegun}
 use Rattle.enf_cli.specs.declared.endings.Cut.{Cut}
 use Rattle.enf_cli.specs.declared.endings.Cut.TheVariants as cuts
 use Rattle.enf_cli.specs.Limits.{most_log_bytes}
+use Rattle.enf_cli.specs.Seen.{Seen}
 use Rattle.enf_cli.specs.declared.log.Judged.{Judged}
 use Rattle.enf_cli.specs.declared.log.Verdict.{Verdict}
 use Rattle.enf_cli.specs.declared.log.Verdict.TheVariants as verdicts
@@ -75,18 +77,20 @@ EndsAs t before after verdicts.Fault = IsPending t.rest × (after.read_faults �
 EndsAs t before after (verdicts.Refused why) =
     IsRefusedAs t after why × (after.read_faults ≡ before.read_faults)
 
--- the log was begun and ended so, and what was given is what is owed in all to its accepted records
-pub record RunsLog (s : Setting) (verdict : Verdict) (before after : Stream) : Type 0 where
+-- the log was begun and ended so, what was given is what is owed in all to its accepted records, and the report gained
+-- the lines of the actions of that
+pub record RunsLog (s : Setting) (verdict : Verdict) (before after : Seen) : Type 0 where
   pub taken : List ℕ
   pub given : List ℕ
-  pub exchanged : Exchanged (UpToDate s) taken given before.told after.told
+  pub exchanged : Exchanged (UpToDate s) taken given before.gate.told after.gate.told
   pub rest : List ℕ
   pub answers : GivesInAll s taken given rest
-  pub ends : EndsAs (taken_of s answers.read taken rest) before after verdict
-  pub writes : after.write_faults ≡ before.write_faults
+  pub ends : EndsAs (taken_of s answers.read taken rest) before.gate after.gate verdict
+  pub writes : after.gate.write_faults ≡ before.gate.write_faults
+  pub actions : SaysActions s.entries s.rules answers.out before.report after.report
 
 -- the run of the log ended as it was judged, behind so many accepted records
-pub record RanAsJudged (s : Setting) (judged : Judged) (before after : Stream) : Type 0 where
+pub record RanAsJudged (s : Setting) (judged : Judged) (before after : Seen) : Type 0 where
   pub ran : RunsLog s judged.verdict before after
   pub count : judged.accepted ≡ length ran.answers.read
 
@@ -123,15 +127,37 @@ pub record RunsShort (s : Setting) (before after : Stream) : Type 0 where
   pub cut : List ℕ
   pub line : IsCutLine (names_of s.entries) behind cut
   pub lines : given ≡ text_of (names_of s.entries) (out_steps whole) ++ cut
-  pub good : GoodPrefix s.policy (s.start.trace ++ steps_of whole)
+  pub good : GoodPrefix (policy_of s) (s.start.trace ++ steps_of whole)
 
--- the run of the log was cut: by a write that failed, behind a read at least and with a line still to give, or by want
--- of memory
-abbrev pub CutsRun : Setting → Stream → Stream → Cut → Type 0
-CutsRun s before after cuts.WriteFault =
-    ((short : RunsShort s before after) × (short.behind ≢ [])) × IsBegun before.told after.told
-    × (after.write_faults ≡ one_more before.write_faults)
-CutsRun s before after cuts.NoMemory = RunsShort s before after × (after.write_faults ≡ before.write_faults)
+-- a write to the gate failed, behind a read at least and with a line still to give; the report gained the lines of the
+-- actions of all steps whose lines are whole on the gate
+pub record FailsAtGate (s : Setting) (before after : Seen) : Type 0 where
+  pub short : RunsShort s before.gate after.gate
+  pub more : short.behind ≢ []
+  pub begun : IsBegun before.gate.told after.gate.told
+  pub writes : after.gate.write_faults ≡ one_more before.gate.write_faults
+  pub actions : SaysActions s.entries s.rules short.whole before.report after.report
+
+-- a write to the report failed, within the lines of the actions of the last step whose line is whole on the gate,
+-- behind which nothing was given
+pub record FailsAtReport (s : Setting) (before after : Seen) : Type 0 where
+  pub short : RunsShort s before.gate after.gate
+  pub none : short.cut ≡ []
+  pub begun : IsBegun before.gate.told after.gate.told
+  pub writes : after.gate.write_faults ≡ before.gate.write_faults
+  pub actions : FailsWithinActions s.entries s.rules short.whole before.report after.report
+
+-- memory ran out: of the lines of the actions of the last step whose line is whole on the gate, some may be missing on
+-- the report, or one may be cut
+pub record LacksMemory (s : Setting) (before after : Seen) : Type 0 where
+  pub short : RunsShort s before.gate after.gate
+  pub writes : after.gate.write_faults ≡ before.gate.write_faults
+  pub actions : SaysActionsInPart s.entries s.rules short.whole before.report after.report
+
+-- the run of the log was cut: by a write that failed, or by want of memory
+abbrev pub CutsRun : Setting → Seen → Seen → Cut → Type 0
+CutsRun s before after cuts.WriteFault = FailsAtGate s before after ⊎ FailsAtReport s before after
+CutsRun s before after cuts.NoMemory = LacksMemory s before after
 
 -- what the judgement of the log makes of a run; the number is that of the record behind the accepted ones
 abbrev pub conclusion_of : ℕ → Verdict → Result (Unit {0}) Refusal

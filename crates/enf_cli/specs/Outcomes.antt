@@ -1,24 +1,23 @@
--- What holds of a run at each status.
-use Rattle.std.specs.Prelude.{◌≡◌, ℕ, ◌+◌, List, [], length, ◌⊎◌, Option, Result, Ok, Err}
-use Rattle.std.proofs.Common.{inl, inr}
+-- What holds of a run at each status: of its work, which leaves the report in some state, and then of the line that
+-- says on the report why it ended early.
+use Rattle.std.specs.Prelude.{◌≡◌, ℕ, ◌+◌, List, length, ◌⊎◌, Option, Result, Ok, Err}
 use Rattle.enf_io.specs.Counts.{one_more}
 use Rattle.enf_io.specs.Exchange.{Exchange, Gave}
+use Rattle.enf_io.specs.Streams.{Stream}
 use Rattle.enforce_types.specs.Accepted.{IsTyped}
 use Rattle.enforce_types.specs.Typed.{Typed}
 use Rattle.formula_reader.specs.Resolution.{Rule}
 use Rattle.signature.specs.declared.entries.NameEntry.{NameEntry}
-use Rattle.choice_step.specs.Follows.{ActedStep}
 use Rattle.log_gen.specs.Generated.{generated_text}
-use Rattle.enf_cli.specs.Actions.{FailsWithinActions, SaysActions, SaysActionsInPart, SaysThen}
 use Rattle.enf_cli.specs.Calls.{Call, LeavesFiles, LeavesGate}
 use Rattle.enf_cli.specs.Checking.{check_text}
-use Rattle.enf_cli.specs.Exchanges.{IsBegun}
 use Rattle.enf_cli.specs.Files.{FailsToRead, HoldsPolicy, HoldsRefusedPolicy, HoldsRefusedSignature, HoldsSignature}
 use Rattle.enf_cli.specs.Generating.{AddsPartOrNothing}
 use Rattle.enf_cli.specs.Policies.{formulas}
-use Rattle.enf_cli.specs.Logs.{CutsRun, RunsLog, RunsShort}
+use Rattle.enf_cli.specs.Logs.{CutsRun, RunsLog}
 use Rattle.enf_cli.specs.Owed.{Setting, anew}
 use Rattle.enf_cli.specs.Refusals.{text_of_refusal}
+use Rattle.enf_cli.specs.Seen.{seen_of}
 use Rattle.enf_cli.specs.Reports.{AddsPart, IsReported, IsReportedInPart, SaysNoMemory}
 use Rattle.enf_cli.specs.Words.{IsCheck, IsEnforce, IsGenerate, MatchNoForm, NamesFiles}
 use Rattle.enf_cli.specs.declared.endings.Cut.{Cut}
@@ -45,27 +44,29 @@ pub record Asks {Gate : Type 0} (IsForm : List (List ℕ) → List ℕ → List 
 
 -- the words ask to enforce a policy, so that the log is enforced in this setting
 pub record AsksToEnforce {Gate : Type 0} (call : Call Gate) (s : Setting) : Type 0 where
-  pub policy : List Rule
-  pub asks : Asks IsEnforce call s.entries policy
-  pub is_setting : s ≡ anew s.entries (formulas policy)
+  pub asks : Asks IsEnforce call s.entries s.rules
+  pub is_setting : s ≡ anew s.entries s.rules
 
 -- the words match no form, and nothing was touched
-pub record RefusesWords {Gate : Type 0} (call : Call Gate) : Type 0 where
+pub record RefusesWords {Gate : Type 0} (call : Call Gate) (report : Stream) : Type 0 where
   pub words : MatchNoForm call.words
   pub gate : LeavesGate call
   pub files : LeavesFiles call
+  pub silent : report ≡ call.before.report
 
--- the signature is refused, and the gate was not touched
-pub record RefusesSignatureFile {Gate : Type 0} (call : Call Gate) (why : SignatureRefusal) : Type 0 where
+-- the signature is refused, and the gate and the report were not touched
+pub record RefusesSignatureFile {Gate : Type 0} (call : Call Gate) (report : Stream) (why : SignatureRefusal)
+    : Type 0 where
   pub signature_file : List ℕ
   pub policy_file : List ℕ
   pub form : NamesFiles call.words signature_file policy_file
   pub refused : HoldsRefusedSignature call.before.files.contents signature_file why
   pub gate : LeavesGate call
   pub files : LeavesFiles call
+  pub silent : report ≡ call.before.report
 
--- there is a signature, the policy is refused under it, and the gate was not touched
-pub record RefusesPolicyFile {Gate : Type 0} (call : Call Gate) (why : PolicyRefusal) : Type 0 where
+-- there is a signature, the policy is refused under it, and the gate and the report were not touched
+pub record RefusesPolicyFile {Gate : Type 0} (call : Call Gate) (report : Stream) (why : PolicyRefusal) : Type 0 where
   pub signature_file : List ℕ
   pub policy_file : List ℕ
   pub form : NamesFiles call.words signature_file policy_file
@@ -74,17 +75,20 @@ pub record RefusesPolicyFile {Gate : Type 0} (call : Call Gate) (why : PolicyRef
   pub refused : HoldsRefusedPolicy call.before.files.contents policy_file entries why
   pub gate : LeavesGate call
   pub files : LeavesFiles call
+  pub silent : report ≡ call.before.report
 
 -- the record of this number is refused, behind those that were enforced
-pub record RefusesRecord {Gate : Type 0} (call : Call Gate) (number : ℕ) (why : RecordRefusal) : Type 0 where
+pub record RefusesRecord {Gate : Type 0} (call : Call Gate) (report : Stream) (number : ℕ) (why : RecordRefusal)
+    : Type 0 where
   pub setting : Setting
   pub asks : AsksToEnforce call setting
-  pub ran : RunsLog setting (verdicts.Refused why) call.before.gate call.after.gate
+  pub ran : RunsLog setting (verdicts.Refused why) (seen_of call.before.gate call.before.report)
+      (seen_of call.after.gate report)
   pub number_is : number ≡ length ran.answers.read + 1
   pub files : LeavesFiles call
 
--- the signature was not read, or the policy behind a signature, and the gate was not touched
-pub record MissesFile {Gate : Type 0} (call : Call Gate) : Type 0 where
+-- the signature was not read, or the policy behind a signature, and the gate and the report were not touched
+pub record MissesFile {Gate : Type 0} (call : Call Gate) (report : Stream) : Type 0 where
   pub signature_file : List ℕ
   pub policy_file : List ℕ
   pub form : NamesFiles call.words signature_file policy_file
@@ -92,56 +96,62 @@ pub record MissesFile {Gate : Type 0} (call : Call Gate) : Type 0 where
       ⊎ (((entries : List NameEntry) × HoldsSignature call.before.files.contents signature_file entries)
       × FailsToRead policy_file call.before.files call.after.files)
   pub gate : LeavesGate call
+  pub silent : report ≡ call.before.report
 
 -- a read of the log failed, behind the records that were enforced
-pub record BreaksOffLog {Gate : Type 0} (call : Call Gate) : Type 0 where
+pub record BreaksOffLog {Gate : Type 0} (call : Call Gate) (report : Stream) : Type 0 where
   pub setting : Setting
   pub asks : AsksToEnforce call setting
-  pub ran : RunsLog setting verdicts.Fault call.before.gate call.after.gate
+  pub ran : RunsLog setting verdicts.Fault (seen_of call.before.gate call.before.report)
+      (seen_of call.after.gate report)
   pub failed : call.after.gate.read_faults ≡ one_more call.before.gate.read_faults
   pub files : LeavesFiles call
 
--- what holds where a run ends with a refusal, but for its line on the report
-abbrev pub Meets : {Gate : Type 0} → Call Gate → Refusal → Type 0
-Meets call refusals.Words = RefusesWords call
-Meets call (refusals.Signature why) = RefusesSignatureFile call why
-Meets call (refusals.Policy why) = RefusesPolicyFile call why
-Meets call (refusals.Record number why) = RefusesRecord call number why
-Meets call refusals.ReadFault = MissesFile call ⊎ BreaksOffLog call
+-- what holds where the work of a run ends with a refusal, and leaves the report so
+abbrev pub Meets : {Gate : Type 0} → Call Gate → Stream → Refusal → Type 0
+Meets call report refusals.Words = RefusesWords call report
+Meets call report (refusals.Signature why) = RefusesSignatureFile call report why
+Meets call report (refusals.Policy why) = RefusesPolicyFile call report why
+Meets call report (refusals.Record number why) = RefusesRecord call report number why
+Meets call report refusals.ReadFault = MissesFile call report ⊎ BreaksOffLog call report
 
 -- the run is done: the whole log was taken, nothing is left behind its accepted records, and what was given is what is
 -- owed to them in all
-pub record IsDone {Gate : Type 0} (call : Call Gate) : Type 0 where
+pub record IsDone {Gate : Type 0} (call : Call Gate) (report : Stream) : Type 0 where
   pub setting : Setting
   pub asks : AsksToEnforce call setting
-  pub ran : RunsLog setting verdicts.Accepted call.before.gate call.after.gate
+  pub ran : RunsLog setting verdicts.Accepted (seen_of call.before.gate call.before.report)
+      (seen_of call.after.gate report)
   pub files : LeavesFiles call
 
--- a write to the gate failed, behind a front of what the log lets out
-pub record FailsToWrite {Gate : Type 0} (call : Call Gate) : Type 0 where
+-- a write to the gate or to the report failed, behind a front of what the log lets out
+pub record FailsToWrite {Gate : Type 0} (call : Call Gate) (report : Stream) : Type 0 where
   pub setting : Setting
   pub asks : AsksToEnforce call setting
-  pub cut : CutsRun setting call.before.gate call.after.gate cuts.WriteFault
+  pub cut : CutsRun setting (seen_of call.before.gate call.before.report)
+      (seen_of call.after.gate report) cuts.WriteFault
   pub files : LeavesFiles call
 
 -- memory ran out before the log was begun, or before anything was said of a policy
-pub record RunsOutBefore {Gate : Type 0} (call : Call Gate) : Type 0 where
+pub record RunsOutBefore {Gate : Type 0} (call : Call Gate) (report : Stream) : Type 0 where
   pub signature_file : List ℕ
   pub policy_file : List ℕ
   pub form : NamesFiles call.words signature_file policy_file
   pub gate : LeavesGate call
   pub files : LeavesFiles call
+  pub silent : report ≡ call.before.report
 
 -- memory ran out within the log, behind a front of what it lets out
-pub record RunsOutWithin {Gate : Type 0} (call : Call Gate) : Type 0 where
+pub record RunsOutWithin {Gate : Type 0} (call : Call Gate) (report : Stream) : Type 0 where
   pub setting : Setting
   pub asks : AsksToEnforce call setting
-  pub cut : CutsRun setting call.before.gate call.after.gate cuts.NoMemory
+  pub cut : CutsRun setting (seen_of call.before.gate call.before.report)
+      (seen_of call.after.gate report) cuts.NoMemory
   pub files : LeavesFiles call
 
 -- the words ask to generate a log, and what was given to the gate is so of its text; nothing was taken from the gate,
--- no read of it was made, and the files were not touched
-pub record Generates {Gate : Type 0} (call : Call Gate)
+-- no read of it was made, and the files and the report were not touched
+pub record Generates {Gate : Type 0} (call : Call Gate) (report : Stream)
     (IsGiven : List ℕ → Option Exchange → Option Exchange → Type 0) : Type 0 where
   pub start : ℕ
   pub steps : ℕ
@@ -149,25 +159,26 @@ pub record Generates {Gate : Type 0} (call : Call Gate)
   pub given : IsGiven (generated_text start steps) call.before.gate.told call.after.gate.told
   pub reads : call.after.gate.read_faults ≡ call.before.gate.read_faults
   pub files : LeavesFiles call
+  pub silent : report ≡ call.before.report
 
 -- the log was given whole
-pub record GeneratesLog {Gate : Type 0} (call : Call Gate) : Type 0 where
-  pub log : Generates call Gave
+pub record GeneratesLog {Gate : Type 0} (call : Call Gate) (report : Stream) : Type 0 where
+  pub log : Generates call report Gave
   pub writes : call.after.gate.write_faults ≡ call.before.gate.write_faults
 
 -- a write to the gate failed behind a front of the log, which is not the whole
-pub record GeneratesInPart {Gate : Type 0} (call : Call Gate) : Type 0 where
-  pub log : Generates call AddsPart
+pub record GeneratesInPart {Gate : Type 0} (call : Call Gate) (report : Stream) : Type 0 where
+  pub log : Generates call report AddsPart
   pub writes : call.after.gate.write_faults ≡ one_more call.before.gate.write_faults
 
 -- memory ran out behind a front of the log, which is not the whole, or at once
-pub record RunsOutGenerating {Gate : Type 0} (call : Call Gate) : Type 0 where
-  pub log : Generates call AddsPartOrNothing
+pub record RunsOutGenerating {Gate : Type 0} (call : Call Gate) (report : Stream) : Type 0 where
+  pub log : Generates call report AddsPartOrNothing
   pub writes : call.after.gate.write_faults ≡ call.before.gate.write_faults
 
 -- the words ask to check an accepted policy, and what was given to the gate is so of what is to be said of it; nothing
--- was taken from the gate, no read of it was made, and the files were not touched
-pub record Checks {Gate : Type 0} (call : Call Gate)
+-- was taken from the gate, no read of it was made, and the files and the report were not touched
+pub record Checks {Gate : Type 0} (call : Call Gate) (report : Stream)
     (IsGiven : List ℕ → Option Exchange → Option Exchange → Type 0) : Type 0 where
   pub entries : List NameEntry
   pub policy : List Rule
@@ -177,115 +188,68 @@ pub record Checks {Gate : Type 0} (call : Call Gate)
   pub given : IsGiven (check_text entries policy typed.ranked) call.before.gate.told call.after.gate.told
   pub reads : call.after.gate.read_faults ≡ call.before.gate.read_faults
   pub files : LeavesFiles call
+  pub silent : report ≡ call.before.report
 
 -- all of it was given
-pub record ChecksPolicy {Gate : Type 0} (call : Call Gate) : Type 0 where
-  pub policy : Checks call Gave
+pub record ChecksPolicy {Gate : Type 0} (call : Call Gate) (report : Stream) : Type 0 where
+  pub policy : Checks call report Gave
   pub writes : call.after.gate.write_faults ≡ call.before.gate.write_faults
 
 -- a write to the gate failed behind a front of it, which is not the whole
-pub record ChecksInPart {Gate : Type 0} (call : Call Gate) : Type 0 where
-  pub policy : Checks call AddsPart
+pub record ChecksInPart {Gate : Type 0} (call : Call Gate) (report : Stream) : Type 0 where
+  pub policy : Checks call report AddsPart
   pub writes : call.after.gate.write_faults ≡ one_more call.before.gate.write_faults
 
 -- memory ran out behind a front of it, which is not the whole
-pub record RunsOutChecking {Gate : Type 0} (call : Call Gate) : Type 0 where
-  pub policy : Checks call AddsPart
+pub record RunsOutChecking {Gate : Type 0} (call : Call Gate) (report : Stream) : Type 0 where
+  pub policy : Checks call report AddsPart
   pub writes : call.after.gate.write_faults ≡ call.before.gate.write_faults
 
--- what holds where a run is done, but for the report
-abbrev pub IsFinished : {Gate : Type 0} → Call Gate → Type 0
-IsFinished call = (IsDone call ⊎ GeneratesLog call) ⊎ ChecksPolicy call
+-- what holds where the work of a run is done
+abbrev pub IsFinished : {Gate : Type 0} → Call Gate → Stream → Type 0
+IsFinished call report = (IsDone call report ⊎ GeneratesLog call report) ⊎ ChecksPolicy call report
 
--- what holds where a run is cut, but for the report
-abbrev pub IsCut : {Gate : Type 0} → Call Gate → Cut → Type 0
-IsCut call cuts.WriteFault = (FailsToWrite call ⊎ GeneratesInPart call) ⊎ ChecksInPart call
-IsCut call cuts.NoMemory =
-    (RunsOutBefore call ⊎ RunsOutWithin call) ⊎ (RunsOutGenerating call ⊎ RunsOutChecking call)
+-- what holds where the work of a run is cut
+abbrev pub IsCut : {Gate : Type 0} → Call Gate → Stream → Cut → Type 0
+IsCut call report cuts.WriteFault =
+    (FailsToWrite call report ⊎ GeneratesInPart call report) ⊎ ChecksInPart call report
+IsCut call report cuts.NoMemory =
+    (RunsOutBefore call report ⊎ RunsOutWithin call report)
+    ⊎ (RunsOutGenerating call report ⊎ RunsOutChecking call report)
 
--- how the work of a run ends, but for the report
-abbrev pub Performs : {Gate : Type 0} → Call Gate → Result (Unit {0}) Ending → Type 0
-Performs call (Ok done) = IsFinished call
-Performs call (Err (endings.Refused why)) = Meets call why
-Performs call (Err (endings.Cut cut)) = IsCut call cut
+-- how the work of a run ends, and that it leaves the report so
+abbrev pub Performs : {Gate : Type 0} → Call Gate → Stream → Result (Unit {0}) Ending → Type 0
+Performs call report (Ok done) = IsFinished call report
+Performs call report (Err (endings.Refused why)) = Meets call report why
+Performs call report (Err (endings.Cut cut)) = IsCut call report cut
 
--- the steps that went out where a run is done, and where it is refused
-abbrev pub steps_done : {Gate : Type 0} (call : Call Gate) → IsFinished call → List ActedStep
-steps_done call (inl (inl done)) = done.ran.answers.out
-steps_done call (inl (inr generated)) = []
-steps_done call (inr checked) = []
-
-abbrev pub steps_met : {Gate : Type 0} (call : Call Gate) (why : Refusal) → Meets call why → List ActedStep
-steps_met call (refusals.Record number why) met = met.ran.answers.out
-steps_met call refusals.ReadFault (inl missed) = []
-steps_met call refusals.ReadFault (inr broken) = broken.ran.answers.out
-steps_met call refusals.Words met = []
-steps_met call (refusals.Signature why) met = []
-steps_met call (refusals.Policy why) met = []
-
--- and those whose lines are whole on the gate where it is cut
-abbrev pub whole_cut : {Gate : Type 0} (call : Call Gate) (cut : Cut) → IsCut call cut → List ActedStep
-whole_cut call cuts.WriteFault (inl (inl failed)) = failed.cut.0.0.whole
-whole_cut call cuts.WriteFault (inl (inr generated)) = []
-whole_cut call cuts.WriteFault (inr checked) = []
-whole_cut call cuts.NoMemory (inl (inl before)) = []
-whole_cut call cuts.NoMemory (inl (inr within)) = within.cut.0.whole
-whole_cut call cuts.NoMemory (inr other) = []
-
--- a run ends with a refusal: the report gained the lines of the actions, and the line that says the refusal
+-- a run ends with a refusal: behind its work, which left the report so, comes the line that says the refusal
 pub record Refuses {Gate : Type 0} (call : Call Gate) (why : Refusal) : Type 0 where
-  pub meets : Meets call why
-  pub report : SaysThen (SaysActions (steps_met call why meets)) (IsReported (text_of_refusal why))
-      call.before.report call.after.report
+  pub between : Stream
+  pub meets : Meets call between why
+  pub line : IsReported (text_of_refusal why) between call.after.report
 
 -- a run ends with a refusal, and memory ran out within its line on the report
 pub record RunsOutInLine {Gate : Type 0} (call : Call Gate) : Type 0 where
   pub why : Refusal
-  pub meets : Meets call why
-  pub report : SaysThen (SaysActions (steps_met call why meets)) (IsReportedInPart (text_of_refusal why))
-      call.before.report call.after.report
+  pub between : Stream
+  pub meets : Meets call between why
+  pub line : IsReportedInPart (text_of_refusal why) between call.after.report
 
--- a run ends for want of memory: of the actions of the last step whose line is whole on the gate, lines may be missing
--- on the report, or one may be cut; then comes as much of the line that says the want as it took
+-- a run ends for want of memory: behind its work comes as much of the line that says the want as it took
 pub record RunsOut {Gate : Type 0} (call : Call Gate) : Type 0 where
-  pub cut : IsCut call cuts.NoMemory
-  pub report : SaysThen (SaysActionsInPart (whole_cut call cuts.NoMemory cut)) SaysNoMemory
-      call.before.report call.after.report
+  pub between : Stream
+  pub cut : IsCut call between cuts.NoMemory
+  pub line : SaysNoMemory between call.after.report
 
--- a run is done: the report gained the lines of the actions
-pub record IsDoneWhole {Gate : Type 0} (call : Call Gate) : Type 0 where
-  pub finished : IsFinished call
-  pub report : SaysActions (steps_done call finished) call.before.report call.after.report
-
--- a write to the gate failed: the report gained the lines of the actions of all steps whose lines are whole there
-pub record FailsAtGate {Gate : Type 0} (call : Call Gate) : Type 0 where
-  pub cut : IsCut call cuts.WriteFault
-  pub report : SaysActions (whole_cut call cuts.WriteFault cut) call.before.report call.after.report
-
--- a write to the report failed: within the lines of the actions of the last step whose line is whole on the gate,
--- behind which nothing was given
-pub record FailsAtReport {Gate : Type 0} (call : Call Gate) : Type 0 where
-  pub setting : Setting
-  pub asks : AsksToEnforce call setting
-  pub short : RunsShort setting call.before.gate call.after.gate
-  pub whole : short.cut ≡ []
-  pub begun : IsBegun call.before.gate.told call.after.gate.told
-  pub writes : call.after.gate.write_faults ≡ call.before.gate.write_faults
-  pub report : FailsWithinActions short.whole call.before.report call.after.report
-  pub files : LeavesFiles call
-
--- a run ends with a write that failed
-abbrev pub FailsInWriting : {Gate : Type 0} → Call Gate → Type 0
-FailsInWriting call = FailsAtGate call ⊎ FailsAtReport call
-
--- what holds at each status
+-- what holds at each status; behind the work of a run that is done, or that a write fault ended, nothing comes
 abbrev pub Outcome : {Gate : Type 0} → Call Gate → Status → Type 0
-Outcome call statuses.Done = IsDoneWhole call
+Outcome call statuses.Done = IsFinished call call.after.report
 Outcome call statuses.Words = Refuses call refusals.Words
 Outcome call statuses.Files =
     ((why : SignatureRefusal) × Refuses call (refusals.Signature why))
     ⊎ ((why : PolicyRefusal) × Refuses call (refusals.Policy why))
 Outcome call statuses.Record = (number : ℕ) × (why : RecordRefusal) × Refuses call (refusals.Record number why)
 Outcome call statuses.ReadFault = Refuses call refusals.ReadFault
-Outcome call statuses.WriteFault = FailsInWriting call
+Outcome call statuses.WriteFault = IsCut call call.after.report cuts.WriteFault
 Outcome call statuses.NoMemory = RunsOut call ⊎ RunsOutInLine call

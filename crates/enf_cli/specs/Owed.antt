@@ -1,49 +1,83 @@
 -- What is owed to the records of a log.
-use Rattle.std.specs.Prelude.{◌≡◌, List}
+use Rattle.std.specs.Prelude.{◌≡◌, IsTrue, List, ◌++◌}
 use Rattle.enf_formula.specs.Formulas.{Formula}
 use Rattle.enf_value.specs.declared.steps.Step.{Step}
+use Rattle.enf_value.specs.declared.terms.VarId.{VarId}
+use Rattle.plan_terms.specs.Plans.{Plan}
+use Rattle.rank_check.specs.Transparent.{is_transparent}
 use Rattle.enforce_types.specs.Marks.{is_causable, is_suppressible}
 use Rattle.enforce_types.specs.PolicyPlans.{ArePlanned}
 use Rattle.enforce_types.specs.Typed.{typed_of}
 use Rattle.choice_step.specs.Follows.{ActedStep}
 use Rattle.enforcer_core.specs.Enforcers.{Enforcing, out_steps, start_of}
 use Rattle.enforcer_core.specs.Follows.{FollowsPolicy, FollowsToEnd}
+use Rattle.enforcer_core.specs.Justifying.{IsJustifiedByPolicy}
+use Rattle.enforcer_core.specs.Transparency.{untouched}
+use Rattle.formula_reader.specs.Resolution.{Rule}
 use Rattle.log_stream.specs.declared.items.LogMode.{LogMode}
 use Rattle.log_stream.specs.declared.items.LogMode.TheVariants.{Input}
 use Rattle.signature.specs.declared.entries.NameEntry.{NameEntry}
 use Rattle.trace_meaning.specs.Enforced.{Enforced, KeepsUp}
-use Rattle.trace_meaning.specs.Records.{Record}
+use Rattle.trace_meaning.specs.Good.{Good}
+use Rattle.trace_meaning.specs.Records.{Record, clock_after, recorded}
+use Rattle.trace_meaning.specs.Satisfies.{Satisfies}
 use Rattle.trace_meaning.specs.Start.{Start, from_nothing}
+use Rattle.enf_cli.specs.Policies.{formulas}
 
--- under which names and which policy a log is enforced, as what it is read, and from where
+-- under which names and which rules a log is enforced, as what it is read, and from where
 pub record Setting : Type 0 where
   pub entries : List NameEntry
-  pub policy : List Formula
+  pub rules : List Rule
   pub mode : LogMode
   pub start : Start
 
--- from where nothing had gone out
-abbrev pub anew : List NameEntry → List Formula → Setting
-anew entries policy = record { entries = entries; policy = policy; mode = Input; start = from_nothing }
+-- its policy
+abbrev pub policy_of : Setting → List Formula
+policy_of s = formulas s.rules
 
--- the plans of an enforcer are those of the policy, with their guards
-abbrev pub HasPlans : List NameEntry → List Formula → Enforcing → Type 0
-HasPlans entries policy enforcer =
-    ArePlanned entries policy (typed_of enforcer.policy).plans (typed_of enforcer.policy).guards
+-- from where nothing had gone out
+abbrev pub anew : List NameEntry → List Rule → Setting
+anew entries rules = record { entries = entries; rules = rules; mode = Input; start = from_nothing }
+
+-- the plans of an enforcer are those of the rules, with their guards
+abbrev pub HasPlans : List NameEntry → List Rule → Enforcing → Type 0
+HasPlans entries rules enforcer =
+    ArePlanned entries (formulas rules) (typed_of enforcer.policy).plans (typed_of enforcer.policy).guards
 
 -- from where an enforcer stands for a trace
-abbrev pub setting_of : List NameEntry → List Formula → Enforcing → List Step → Setting
-setting_of entries policy enforcer trace =
-    record { entries = entries; policy = policy; mode = Input; start = start_of enforcer trace }
+abbrev pub setting_of : List NameEntry → List Rule → Enforcing → List Step → Setting
+setting_of entries rules enforcer trace =
+    record { entries = entries; rules = rules; mode = Input; start = start_of enforcer trace }
 
--- these steps are owed to the records so far: they keep up with them, and the policy decides these and no others
+-- a policy has the transparent mark where the plans of its rules have it
+pub record IsMarked (entries : List NameEntry) (policy : List Formula) : Type 0 where
+  pub plans : List Plan
+  pub guards : List (Formula × List VarId)
+  pub planned : ArePlanned entries policy plans guards
+  pub marked : IsTrue (is_transparent plans)
+
+-- these steps are owed to the records so far: they keep up with them, each change is justified, and the policy decides
+-- these and no others; under the mark the steps of the records go out alone, as they came, while they can be
+-- continued well
 pub record IsOwedSoFar (s : Setting) (records : List Record) (out : List ActedStep) : Type 0 where
-  pub keeps_up : KeepsUp (is_causable s.entries) (is_suppressible s.entries) s.policy s.start records (out_steps out)
-  pub decided : FollowsPolicy s.entries s.policy s.start.trace records out
-  pub only : (others : List ActedStep) → FollowsPolicy s.entries s.policy s.start.trace records others → others ≡ out
+  pub keeps_up : KeepsUp (is_causable s.entries) (is_suppressible s.entries) (policy_of s) s.start records
+      (out_steps out)
+  pub justified : IsJustifiedByPolicy s.entries (policy_of s) s.start.trace records out
+  pub decided : FollowsPolicy s.entries (policy_of s) s.start.trace records out
+  pub only : (others : List ActedStep) → FollowsPolicy s.entries (policy_of s) s.start.trace records others
+      → others ≡ out
+  pub alone : IsMarked s.entries (policy_of s)
+      → Good (policy_of s) (s.start.trace ++ recorded records) (clock_after s.start.clock records)
+      → out ≡ untouched (recorded records)
 
--- and these in all, once the log has ended: with the drain they satisfy the policy, and are decided alone
+-- and these in all, once the log has ended: with the drain they satisfy the policy, are justified, and are decided
+-- alone; under the mark the steps of the records go out alone, as they came, where they satisfy the policy
 pub record IsOwedInAll (s : Setting) (records : List Record) (out : List ActedStep) : Type 0 where
-  pub enforced : Enforced (is_causable s.entries) (is_suppressible s.entries) s.policy s.start records (out_steps out)
-  pub decided : FollowsToEnd s.entries s.policy s.start.trace records out
-  pub only : (others : List ActedStep) → FollowsToEnd s.entries s.policy s.start.trace records others → others ≡ out
+  pub enforced : Enforced (is_causable s.entries) (is_suppressible s.entries) (policy_of s) s.start records
+      (out_steps out)
+  pub justified : IsJustifiedByPolicy s.entries (policy_of s) s.start.trace records out
+  pub decided : FollowsToEnd s.entries (policy_of s) s.start.trace records out
+  pub only : (others : List ActedStep) → FollowsToEnd s.entries (policy_of s) s.start.trace records others
+      → others ≡ out
+  pub alone : IsMarked s.entries (policy_of s) → Satisfies (s.start.trace ++ recorded records) (policy_of s)
+      → out ≡ untouched (recorded records)

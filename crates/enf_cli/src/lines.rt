@@ -1,44 +1,99 @@
-//! The canonical lines of steps, and their way out.
-ghost use Rattle.std.specs.Prelude.{◌≡◌, OnOk, OnErr};
-ghost use Rattle.enf_io.specs.Exchange.{Gave};
-ghost use Rattle.enforcer_core.specs.Enforcers.{acted_steps, out_steps};
-ghost use Rattle.log_stream.specs.Lines.{text_of};
+//! The canonical lines of steps, and those of their actions, and their way out.
+ghost use Rattle.std.specs.Prelude.{IfErr, OnOk};
+ghost use Rattle.std.specs.List.{flat_map};
+ghost use Rattle.enforcer_core.specs.Enforcers.{acted_step, acted_steps};
+ghost use Rattle.choice_step.specs.Follows.{out_step};
+ghost use Rattle.action_report.specs.Lines.{action_line};
+ghost use Rattle.formula_reader.specs.Resolution.{rules_of};
+ghost use Rattle.log_stream.specs.Lines.{line_of};
 ghost use Rattle.signature.specs.Grammar.{names as names_of};
-ghost use Rattle.enf_cli.specs.Endings.{GaveLines, write_faults_behind};
+ghost use Rattle.enf_cli.specs.Lines.{CutsSteps, GivesSteps};
+ghost use Rattle.enf_cli.specs.Reports.{WritesText};
+ghost use Rattle.enf_cli.specs.Seen.{seen_of};
 
 use crate::endings::Cut;
+use action_report::write_action;
 use enf_io::devices::Sink;
 use enf_io::writing::write_all;
 use enforcer_core::steps::OutStep;
+use formula_reader::Policy;
 use log_stream::write_step;
+use obligations::Action;
 use signature::Signature;
-use std::alloc::Global;
 
-// How many bytes there is room for before a line is printed, so that a usual one takes memory once.
-const USUAL_LINE_BYTES: usize = 128;
+/// The names that lines are written with: those of the events, and those of the rules and their variables.
+#[derive(Clone, Copy)]
+pub struct Names<'a> {
+    pub signature: &'a Signature,
+    pub policy: &'a Policy,
+}
 
-/// Gives the lines of the steps, each as one piece.
-pub fn write_steps<S: Sink>(
-    alloc: Global,
-    signature: &Signature,
+/// Gives the line of each step to the gate, as one piece, and behind it those of its actions to the report, each as one
+/// piece. They are made in `line`.
+pub fn write_steps<G: Sink, R: Sink>(
+    names: &Names<'_>,
     steps: &[OutStep],
-    sink: &mut S,
+    line: &mut Vec<u8>,
+    gate: &mut G,
+    report: &mut R,
 ) -> Result<(), Cut>
     ensures whole { OnOk result
-        (Gave (text_of (names_of signature.now) (out_steps (acted_steps steps.now)))
-        (S.seen sink.old).told (S.seen sink.new).told) }
-    ensures cut { OnErr result
-        (GaveLines (names_of signature.now) (acted_steps steps.now) (S.seen sink.old).told (S.seen sink.new).told) }
-    ensures writes { (S.seen sink.new).write_faults ≡
-        write_faults_behind result (S.seen sink.old).write_faults }
-    ensures reads { (S.seen sink.new).read_faults ≡ (S.seen sink.old).read_faults }
+        (GivesSteps names.now.signature.now (rules_of names.now.policy.now) (acted_steps steps.now)
+        (seen_of (G.seen gate.old) (R.seen report.old)) (seen_of (G.seen gate.new) (R.seen report.new))) }
+    ensures cut { IfErr result (λ cut.
+        CutsSteps names.now.signature.now (rules_of names.now.policy.now) (acted_steps steps.now) cut
+        (seen_of (G.seen gate.old) (R.seen report.old)) (seen_of (G.seen gate.new) (R.seen report.new))) }
 {
-    let mut line = Vec::new(alloc);
     for step in steps {
-        line.clear();
-        line.reserve(USUAL_LINE_BYTES)?;
-        write_step(signature, step.kind, step.time, &step.events, &mut line)?;
-        write_all(sink, &line)?;
+        write_line(names.signature, step, line, gate)?;
+        write_actions(names, step.actions.as_slice(), line, report)?;
     }
+    Ok(())
+}
+
+fn write_line<G: Sink>(
+    signature: &Signature,
+    step: &OutStep,
+    line: &mut Vec<u8>,
+    gate: &mut G,
+) -> Result<(), Cut>
+    ensures { WritesText (line_of (names_of signature.now) (out_step (acted_step step.now))) result
+        (G.seen gate.old) (G.seen gate.new) }
+{
+    line.clear();
+    write_step(signature, step.kind, step.time, &step.events, line)?;
+    write_all(gate, line)?;
+    Ok(())
+}
+
+fn write_actions<R: Sink>(
+    names: &Names<'_>,
+    actions: &[Action],
+    line: &mut Vec<u8>,
+    report: &mut R,
+) -> Result<(), Cut>
+    ensures { WritesText
+        (flat_map (action_line names.now.signature.now (rules_of names.now.policy.now)) actions.now) result
+        (R.seen report.old) (R.seen report.new) }
+{
+    for action in actions {
+        write_report_line(names, action, line, report)?;
+    }
+    Ok(())
+}
+
+fn write_report_line<R: Sink>(
+    names: &Names<'_>,
+    action: &Action,
+    line: &mut Vec<u8>,
+    report: &mut R,
+) -> Result<(), Cut>
+    ensures { WritesText
+        (action_line names.now.signature.now (rules_of names.now.policy.now) action.now) result
+        (R.seen report.old) (R.seen report.new) }
+{
+    line.clear();
+    write_action(names.signature, names.policy, action, line)?;
+    write_all(report, line)?;
     Ok(())
 }

@@ -1,8 +1,8 @@
 //! The log: it is taken from the gate piece by piece, and all records that a piece completes are
-//! enforced, and their lines given, before the next read.
+//! enforced, and their lines and those of their actions given, before the next read.
 ghost use Rattle.std.specs.Prelude.{◌≡◌, ◌≢◌, ◌<◌, ◌≤◌, ◌^◌, IfOk, IfErr, List, [], OnOk, OnErr};
-ghost use Rattle.std.specs.Prelude.{None, false, length};
-ghost use Rattle.enf_formula.specs.Formulas.{Formula as Tree};
+ghost use Rattle.std.specs.Prelude.{None, length};
+ghost use Rattle.formula_reader.specs.Resolution.{rules_of};
 ghost use Rattle.enf_value.specs.declared.steps.Step.{Step};
 ghost use Rattle.enforcer_core.specs.Answered.{IsNewOf, Leaves, Permits, Refuses};
 ghost use Rattle.enforcer_core.specs.Enforcers.{plans_of};
@@ -11,10 +11,10 @@ ghost use Rattle.enforcer_core.specs.Stands.{Stands};
 ghost use Rattle.enf_cli.specs.Owed.{HasPlans, setting_of};
 ghost use Rattle.enf_cli.specs.Limits.{most_log_bytes, most_read_bytes};
 ghost use Rattle.enf_cli.specs.Accepted.{record_of};
-ghost use Rattle.enf_cli.specs.Endings.{write_faults_behind};
 ghost use Rattle.enforce_types.specs.Marks.{is_causable, is_suppressible};
 ghost use Rattle.enforce_types.specs.Typed.{WorkTogether, typed_of};
 ghost use Rattle.enf_cli.specs.Logs.{CutsRun, RanAsJudged};
+ghost use Rattle.enf_cli.specs.Seen.{seen_of};
 ghost use Rattle.enf_cli.specs.Progress.{AnswersItem, AnswersNext, AnswersTurn, CutsDrain, CutsItem, CutsNext};
 ghost use Rattle.enf_cli.specs.Progress.{CutsTurn, GivesDrain, IsNew, JudgesEnd, Laws, LosesPiece, ReadsPiece};
 ghost use Rattle.enf_cli.specs.Progress.{TakesRecord, front, moment, reads_on};
@@ -25,11 +25,12 @@ ghost use Rattle.trace_meaning.specs.Records.{most_time, time_of};
 ghost use Rattle.trace_meaning.specs.declared.kinds.StepKind.TheVariants.{System};
 
 use crate::endings::Cut;
-use crate::lines::write_steps;
+use crate::lines::{Names, write_steps};
 use crate::refusals::RecordRefusal;
 use enf_io::devices::{Gate, IoRefusal, Sink};
 use enf_value::{Duplicate, NoMemory};
 use enforce_types::TypedPolicy;
+use enforce_types::laws::policy_has_one_answer;
 use enforcer_core::enforcer::Enforcer;
 use enforcer_core::steps::{StepOut, StepRefusal};
 use enforcer_core::{existing, laws};
@@ -42,6 +43,9 @@ pub const MOST_LOG_BYTES: usize = 1_099_511_627_776;
 
 /// The greatest number of bytes that one read asks for.
 pub const MOST_READ_BYTES: usize = 65_536;
+
+// How many bytes there is room for before a line is made, so that a usual one takes no memory.
+const USUAL_LINE_BYTES: usize = 256;
 
 /// What becomes of a log.
 #[derive(Clone, Copy, Debug)]
@@ -82,6 +86,8 @@ pub struct Enforcement {
     enforcer: Enforcer,
     // Where a read puts what it takes.
     piece: Vec<u8>,
+    // Where a line is made.
+    line: Vec<u8>,
     accepted: u64,
     taken: usize,
 }
@@ -102,36 +108,42 @@ impl Enforcement {
             reader: LogReader::new(alloc, signature.duplicate(alloc)?, LogMode::Input),
             enforcer: Enforcer::new(alloc, policy)?,
             piece: vec![in alloc; 0; MOST_READ_BYTES]?,
+            line: Vec::with_capacity(alloc, USUAL_LINE_BYTES)?,
             accepted: 0,
             taken: 0,
         })
     }
 }
 
-/// Takes the log from the gate, enforces its whole records from where the enforcer stands, and gives their lines,
-/// and at its end those of what is still owed.
-pub fn enforce_log<G: Gate>(
+/// Takes the log from the gate, enforces its whole records from where the enforcer stands, and gives their lines and
+/// those of their actions, and at its end those of what is still owed.
+pub fn enforce_log<G: Gate, R: Sink>(
     alloc: Global,
-    signature: &Signature,
+    names: &Names<'_>,
     mut log: Enforcement,
     gate: &mut G,
+    report: &mut R,
 ) -> Result<Judged, Cut>
-    requires new { IsNew signature.now log }
-    requires permits { Permits (is_causable signature.now) (is_suppressible signature.now) (plans_of log.enforcer) }
+    requires new { IsNew names.now.signature.now log }
+    requires permits { Permits (is_causable names.now.signature.now) (is_suppressible names.now.signature.now)
+        (plans_of log.enforcer) }
     requires together { WorkTogether (typed_of log.enforcer.policy) }
-    ensures ran { (policy : List Tree) (trace : List Step) → HasPlans signature.now policy log.enforcer →
-        Stands log.enforcer trace → IfOk result
-        (λ judged. RanAsJudged (setting_of signature.now policy log.enforcer trace) judged
-        (G.seen gate.old) (G.seen gate.new)) }
+    ensures ran { (trace : List Step) →
+        HasPlans names.now.signature.now (rules_of names.now.policy.now) log.enforcer →
+        Stands log.enforcer trace → IfOk result (λ judged. RanAsJudged
+        (setting_of names.now.signature.now (rules_of names.now.policy.now) log.enforcer trace) judged
+        (seen_of (G.seen gate.old) (R.seen report.old)) (seen_of (G.seen gate.new) (R.seen report.new))) }
     ensures few { IfOk result (λ judged. judged.accepted < 2 ^ 63) }
-    ensures cut { (policy : List Tree) (trace : List Step) → HasPlans signature.now policy log.enforcer →
-        Stands log.enforcer trace → IfErr result
-        (CutsRun (setting_of signature.now policy log.enforcer trace) (G.seen gate.old) (G.seen gate.new)) }
+    ensures cut { (trace : List Step) →
+        HasPlans names.now.signature.now (rules_of names.now.policy.now) log.enforcer →
+        Stands log.enforcer trace → IfErr result (CutsRun
+        (setting_of names.now.signature.now (rules_of names.now.policy.now) log.enforcer trace)
+        (seen_of (G.seen gate.old) (R.seen report.old)) (seen_of (G.seen gate.new) (R.seen report.new))) }
 {
     enforcer_laws();
     loop {
-        if let Some(verdict) = go_on(alloc, signature, &mut log, gate)? {
-            drain(alloc, signature, &mut log.enforcer, gate)?;
+        if let Some(verdict) = go_on(alloc, names, &mut log, gate, report)? {
+            drain(alloc, names, &mut log.enforcer, &mut log.line, gate, report)?;
             return Ok(Judged {
                 accepted: log.accepted,
                 verdict,
@@ -146,28 +158,30 @@ fn enforcer_laws()
 {
     laws::course();
     laws::planned();
+    policy_has_one_answer();
     existing::just_one_follows();
     trace_meaning::laws::good();
 }
 
 // Gives the lines of what is still owed at the end of the log.
-fn drain<S: Sink>(
+fn drain<G: Sink, R: Sink>(
     alloc: Global,
-    signature: &Signature,
+    names: &Names<'_>,
     enforcer: &mut Enforcer,
-    sink: &mut S,
+    line: &mut Vec<u8>,
+    gate: &mut G,
+    report: &mut R,
 ) -> Result<(), Cut>
     requires room { enforcer.old.position < most_positions }
-    ensures drained { OnOk result (GivesDrain signature.now
-        (moment enforcer.old (S.seen sink.old)) (moment enforcer.new (S.seen sink.new))) }
-    ensures cut { IfErr result (CutsDrain signature.now
-        (moment enforcer.old (S.seen sink.old)) (S.seen sink.new).told) }
-    ensures writes { (S.seen sink.new).write_faults ≡
-        write_faults_behind result (S.seen sink.old).write_faults }
-    ensures reads { (S.seen sink.new).read_faults ≡ (S.seen sink.old).read_faults }
+    ensures drained { OnOk result (GivesDrain names.now.signature.now (rules_of names.now.policy.now)
+        (moment enforcer.old (seen_of (G.seen gate.old) (R.seen report.old)))
+        (moment enforcer.new (seen_of (G.seen gate.new) (R.seen report.new)))) }
+    ensures cut { IfErr result (CutsDrain names.now.signature.now (rules_of names.now.policy.now)
+        (moment enforcer.old (seen_of (G.seen gate.old) (R.seen report.old)))
+        (seen_of (G.seen gate.new) (R.seen report.new))) }
 {
     match enforcer.drain(alloc) {
-        Ok(out) => write_steps(alloc, signature, out.steps.as_slice(), sink),
+        Ok(out) => write_steps(names, out.steps.as_slice(), line, gate, report),
         // No time is given, so none falls.
         Err(StepRefusal::Falling { .. } | StepRefusal::Stopped | StepRefusal::NoMemory) => {
             Err(Cut::NoMemory)
@@ -177,26 +191,34 @@ fn drain<S: Sink>(
 
 // Enforces the record at the front, or takes the next piece where no record is whole; a verdict
 // ends the log.
-fn go_on<G: Gate>(
+fn go_on<G: Gate, R: Sink>(
     alloc: Global,
-    signature: &Signature,
+    names: &Names<'_>,
     log: &mut Enforcement,
     gate: &mut G,
+    report: &mut R,
 ) -> Result<Option<Verdict>, Cut>
-    requires going { log.old.reader ≡ reads_on signature.now log.old.reader.rest }
+    requires going { log.old.reader ≡ reads_on names.now.signature.now log.old.reader.rest }
     requires taken { log.old.taken ≤ most_log_bytes }
     requires count { log.old.accepted < 2 ^ 63 }
     requires position { log.old.enforcer.position < most_positions }
     requires room { length log.old.piece.items ≡ most_read_bytes }
     ensures room { length log.new.piece.items ≡ most_read_bytes }
-    ensures turn { IfOk result (λ verdict. AnswersTurn signature.now verdict log.old log.new
-        (G.seen gate.old) (G.seen gate.new)) }
-    ensures cut { IfErr result (λ cut. CutsTurn signature.now log.old (G.seen gate.old)
-        (G.seen gate.new) cut) }
-    ensures writes { (G.seen gate.new).write_faults ≡
-        write_faults_behind result (G.seen gate.old).write_faults }
+    ensures turn { IfOk result (λ verdict. AnswersTurn names.now.signature.now (rules_of names.now.policy.now)
+        verdict log.old log.new
+        (seen_of (G.seen gate.old) (R.seen report.old)) (seen_of (G.seen gate.new) (R.seen report.new))) }
+    ensures cut { IfErr result (λ cut. CutsTurn names.now.signature.now (rules_of names.now.policy.now) log.old
+        (seen_of (G.seen gate.old) (R.seen report.old)) (seen_of (G.seen gate.new) (R.seen report.new)) cut) }
 {
-    match enforce_next(alloc, signature, &mut log.reader, &mut log.enforcer, gate)? {
+    match enforce_next(
+        alloc,
+        names,
+        &mut log.reader,
+        &mut log.enforcer,
+        &mut log.line,
+        gate,
+        report,
+    )? {
         Next::Taken => {
             log.accepted += 1;
             Ok(None)
@@ -258,56 +280,59 @@ fn judge_end(reader: &mut LogReader) -> Verdict
 }
 
 // Enforces the record at the front and gives its lines, where one is whole.
-fn enforce_next<S: Sink>(
+fn enforce_next<G: Sink, R: Sink>(
     alloc: Global,
-    signature: &Signature,
+    names: &Names<'_>,
     reader: &mut LogReader,
     enforcer: &mut Enforcer,
-    sink: &mut S,
+    line: &mut Vec<u8>,
+    gate: &mut G,
+    report: &mut R,
 ) -> Result<Next, Cut>
-    requires going { reader.old ≡ reads_on signature.now reader.old.rest }
+    requires going { reader.old ≡ reads_on names.now.signature.now reader.old.rest }
     requires room { enforcer.old.position < most_positions }
-    ensures next { IfOk result
-        (λ next. AnswersNext signature.now next (front reader.old enforcer.old (S.seen sink.old))
-        (front reader.new enforcer.new (S.seen sink.new))) }
-    ensures cut { IfErr result (CutsNext signature.now reader.old.rest
-        (moment enforcer.old (S.seen sink.old)) (S.seen sink.new).told) }
-    ensures writes { (S.seen sink.new).write_faults ≡
-        write_faults_behind result (S.seen sink.old).write_faults }
-    ensures reads { (S.seen sink.new).read_faults ≡ (S.seen sink.old).read_faults }
+    ensures next { IfOk result (λ next. AnswersNext names.now.signature.now (rules_of names.now.policy.now) next
+        (front reader.old enforcer.old (seen_of (G.seen gate.old) (R.seen report.old)))
+        (front reader.new enforcer.new (seen_of (G.seen gate.new) (R.seen report.new)))) }
+    ensures cut { IfErr result (CutsNext names.now.signature.now (rules_of names.now.policy.now) reader.old.rest
+        (moment enforcer.old (seen_of (G.seen gate.old) (R.seen report.old)))
+        (seen_of (G.seen gate.new) (R.seen report.new))) }
 {
     match reader.next_record(alloc) {
         Ok(Found::Pending) => Ok(Next::Pending),
         Err(refusal) => Ok(Next::Refused(refusal_of(refusal)?)),
-        Ok(Found::Item(item)) => match enforce_item(alloc, signature, enforcer, item, sink)? {
-            None => Ok(Next::Taken),
-            Some(why) => Ok(Next::Refused(why)),
-        },
+        Ok(Found::Item(item)) => {
+            match enforce_item(alloc, names, enforcer, item, line, gate, report)? {
+                None => Ok(Next::Taken),
+                Some(why) => Ok(Next::Refused(why)),
+            }
+        }
     }
 }
 
 // Enforces a record and gives its lines; one whose time is below the clock is refused.
-fn enforce_item<S: Sink>(
+fn enforce_item<G: Sink, R: Sink>(
     alloc: Global,
-    signature: &Signature,
+    names: &Names<'_>,
     enforcer: &mut Enforcer,
     item: LogItem,
-    sink: &mut S,
+    line: &mut Vec<u8>,
+    gate: &mut G,
+    report: &mut R,
 ) -> Result<Option<RecordRefusal>, Cut>
     requires time { time_of (record_of item) ≤ most_time System }
     requires room { enforcer.old.position < most_positions }
-    ensures answer { IfOk result
-        (λ refused. AnswersItem signature.now (record_of item) refused
-        (moment enforcer.old (S.seen sink.old)) (moment enforcer.new (S.seen sink.new))) }
-    ensures cut { IfErr result (CutsItem signature.now (record_of item)
-        (moment enforcer.old (S.seen sink.old)) (S.seen sink.new).told) }
-    ensures writes { (S.seen sink.new).write_faults ≡
-        write_faults_behind result (S.seen sink.old).write_faults }
-    ensures reads { (S.seen sink.new).read_faults ≡ (S.seen sink.old).read_faults }
+    ensures answer { IfOk result (λ refused.
+        AnswersItem names.now.signature.now (rules_of names.now.policy.now) (record_of item) refused
+        (moment enforcer.old (seen_of (G.seen gate.old) (R.seen report.old)))
+        (moment enforcer.new (seen_of (G.seen gate.new) (R.seen report.new)))) }
+    ensures cut { IfErr result (CutsItem names.now.signature.now (rules_of names.now.policy.now) (record_of item)
+        (moment enforcer.old (seen_of (G.seen gate.old) (R.seen report.old)))
+        (seen_of (G.seen gate.new) (R.seen report.new))) }
 {
     match take_item(alloc, enforcer, item) {
         Ok(out) => {
-            write_steps(alloc, signature, out.steps.as_slice(), sink)?;
+            write_steps(names, out.steps.as_slice(), line, gate, report)?;
             Ok(None)
         }
         Err(StepRefusal::Falling { clock, given }) => Ok(Some(RecordRefusal::Falling {

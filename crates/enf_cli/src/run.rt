@@ -3,6 +3,7 @@ ghost use Rattle.std.specs.Prelude.{◌≡◌, ◌<◌, ◌^◌, ℕ, List};
 ghost use Rattle.enf_io.specs.Streams.{Stream};
 ghost use Rattle.enf_cli.specs.Calls.{call_of, devices};
 ghost use Rattle.enf_cli.specs.Dues.{Dues};
+ghost use Rattle.enf_cli.specs.Headline.{Headline};
 ghost use Rattle.enf_cli.specs.Logs.{conclusion_of};
 ghost use Rattle.enf_cli.specs.Outcomes.{Outcome, Performs};
 ghost use Rattle.enf_cli.specs.Words.{IsCheck, IsEnforce};
@@ -11,6 +12,7 @@ use crate::checking::give_check;
 use crate::endings::Ending;
 use crate::files::{read_policy, read_signature};
 use crate::generating::give_log;
+use crate::lines::Names;
 use crate::log::{Enforcement, Judged, Verdict, enforce_log};
 use crate::refusals::{Refusal, Status};
 use crate::reporting::report_ending;
@@ -20,7 +22,7 @@ use std::alloc::Global;
 
 /// Does what the words ask for: `enforce SIG POLICY` takes the log from the gate and gives the
 /// enforced log to it, `check SIG POLICY` gives what is to be said of the policy, `gen START N` gives
-/// a generated log. The report says why a run ends early.
+/// a generated log. The report says each action that `enforce` takes, and why a run ends early.
 pub fn run<G: Gate, F: Files, R: Sink>(
     alloc: Global,
     words: &[String],
@@ -37,31 +39,37 @@ pub fn run<G: Gate, F: Files, R: Sink>(
     ensures due { Dues (call_of words.now
         (devices gate.old (G.seen gate.old) (F.seen files.old) (R.seen report.old))
         (devices gate.new (G.seen gate.new) (F.seen files.new) (R.seen report.new))) result }
+
+    // What has become of a log that was enforced under an accepted policy, where the devices tell.
+    ensures headline { Headline (call_of words.now
+        (devices gate.old (G.seen gate.old) (F.seen files.old) (R.seen report.old))
+        (devices gate.new (G.seen gate.new) (F.seen files.new) (R.seen report.new))) result }
 {
     signature::laws::one_answer();
     formula_reader::laws::one_text_answer();
     log_stream::laws::one_answer();
     enforce_types::laws::accepted_is_not_refused();
-    match perform(alloc, words, gate, files) {
+    match perform(alloc, words, gate, files, report) {
         Ok(()) => Status::Done,
         Err(ending) => report_ending(&ending, report),
     }
 }
 
-// Does what the words ask for, but for the line on the report.
-fn perform<G: Gate, F: Files>(
+// Does what the words ask for, but for the line on the report that says why it ends early.
+fn perform<G: Gate, F: Files, R: Sink>(
     alloc: Global,
     words: &[String],
     gate: &mut G,
     files: &mut F,
+    report: &mut R,
 ) -> Result<(), Ending>
-    ensures { (report report' : Stream) → Performs (call_of words.now
-        (devices gate.old (G.seen gate.old) (F.seen files.old) report)
-        (devices gate.new (G.seen gate.new) (F.seen files.new) report')) result }
+    ensures { (after : Stream) → Performs (call_of words.now
+        (devices gate.old (G.seen gate.old) (F.seen files.old) (R.seen report.old))
+        (devices gate.new (G.seen gate.new) (F.seen files.new) after)) (R.seen report.new) result }
 {
     match form_of(words) {
         Some(Form::Enforce { signature, policy }) => {
-            enforce(alloc, signature, policy, gate, files)
+            enforce(alloc, signature, policy, gate, files, report)
         }
         Some(Form::Check { signature, policy }) => check(alloc, signature, policy, gate, files),
         Some(Form::Generate { start, steps }) => Ok(give_log(alloc, start, steps, gate)?),
@@ -70,25 +78,30 @@ fn perform<G: Gate, F: Files>(
 }
 
 // Enforces the policy on the log that the gate gives.
-fn enforce<G: Gate, F: Files>(
+fn enforce<G: Gate, F: Files, R: Sink>(
     alloc: Global,
     signature_file: &str,
     policy_file: &str,
     gate: &mut G,
     files: &mut F,
+    report: &mut R,
 ) -> Result<(), Ending>
-    ensures { (words : List (List ℕ)) (report report' : Stream) →
+    ensures { (words : List (List ℕ)) (after : Stream) →
         IsEnforce words signature_file.now policy_file.now →
         Performs (record {
           words = words;
-          before = devices gate.old (G.seen gate.old) (F.seen files.old) report;
-          after = devices gate.new (G.seen gate.new) (F.seen files.new) report';
-        }) result }
+          before = devices gate.old (G.seen gate.old) (F.seen files.old) (R.seen report.old);
+          after = devices gate.new (G.seen gate.new) (F.seen files.new) after;
+        }) (R.seen report.new) result }
 {
     let signature = read_signature(alloc, files, signature_file)?;
     let accepted = read_policy(alloc, files, policy_file, &signature)?;
     let log = Enforcement::new(alloc, &signature, accepted.typed)?;
-    let judged = enforce_log(alloc, &signature, log, gate)?;
+    let names = Names {
+        signature: &signature,
+        policy: &accepted.policy,
+    };
+    let judged = enforce_log(alloc, &names, log, gate, report)?;
     conclude(judged)?;
     Ok(())
 }
@@ -101,13 +114,13 @@ fn check<G: Gate, F: Files>(
     gate: &mut G,
     files: &mut F,
 ) -> Result<(), Ending>
-    ensures { (words : List (List ℕ)) (report report' : Stream) →
+    ensures { (words : List (List ℕ)) (report after : Stream) →
         IsCheck words signature_file.now policy_file.now →
         Performs (record {
           words = words;
           before = devices gate.old (G.seen gate.old) (F.seen files.old) report;
-          after = devices gate.new (G.seen gate.new) (F.seen files.new) report';
-        }) result }
+          after = devices gate.new (G.seen gate.new) (F.seen files.new) after;
+        }) report result }
 {
     let signature = read_signature(alloc, files, signature_file)?;
     let accepted = read_policy(alloc, files, policy_file, &signature)?;

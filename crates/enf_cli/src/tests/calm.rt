@@ -27,6 +27,13 @@ pub const CONSENT: &[u8] = b"rule consent: forall u. use(u) -> once[0,*] consent
 /// The policy `erase` of the worked rows.
 pub const ERASE: &[u8] = b"rule erase: forall u. request(u) -> eventually[0,30] delete(u);";
 
+/// What `raise` says on the report of an alarm at time 1, in the first step.
+pub const RAISED_AT_1: &[u8] = b"cause alarm() at 1 step 0 rule raise node 0 leaf 1 origin 0\n";
+
+/// What `erase` says of a deletion at time 35, in the second step, for a request in the first.
+pub const DELETED_AT_35: &[u8] =
+    b"cause delete(\"a\") at 35 step 1 rule erase node 1 leaf 2 origin 0 u=\"a\"\n";
+
 /// What a run answered, and what it left on the gate and the report.
 #[derive(Drop)]
 pub struct Outcome {

@@ -52,6 +52,17 @@ const DATA_ENFORCED: &[u8] = b"@1 consent(\"ann\") consent(\"bob\");
 @42 use(\"ann\");
 ";
 
+const DATA_REPORT: &[u8] = b"\
+suppress use(\"eve\") at 3 step 1 rule consent node 0 leaf 1 origin 1
+suppress use(\"ann\") at 6 step 3 rule erase node 1 leaf 2 origin 2 person=\"ann\"
+suppress use(\"bob\") at 10 step 5 rule consent node 0 leaf 1 origin 5
+cause notice(\"bob\") at 13 step 6 rule tell node 1 leaf 2 origin 5 person=\"bob\"
+cause notice(\"cat\") at 13 step 6 rule tell node 1 leaf 2 origin 5 person=\"cat\"
+cause reminder(\"cat\") at 20 step 8 rule remind node 1 leaf 3 origin 6 person=\"cat\"
+cause delete(\"ann\") at 35 step 9 rule erase node 1 leaf 3 origin 2 person=\"ann\"
+suppress use(\"ann\") at 40 step 10 rule consent node 0 leaf 1 origin 10
+";
+
 const DATA_CHECKED: &[u8] = b"\
 rule consent: forall person. (use(person) -> ((not (revoke(person) or delete(person))) since[0,*] consent(person)));
 rule erase: forall person. (request(person) -> ((not use(person)) until[0,30] delete(person)));
@@ -121,6 +132,17 @@ const ACCESS_ENFORCED: &[u8] = b"@1 login(\"ada\") login(\"bob\");
 +91 logout(\"ada\");
 ";
 
+const ACCESS_REPORT: &[u8] = b"\
+suppress enter(\"eve\",\"lab\") at 2 step 1 rule session node 0 leaf 1 origin 1
+suppress enter(\"ada\",\"vault\") at 5 step 2 rule two node 0 leaf 1 origin 2
+suppress enter(\"bob\",\"lab\") at 10 step 6 rule banned node 0 leaf 1 origin 6
+cause logout(\"ada\") at 38 step 9 rule idle node 1 leaf 3 origin 4 person=\"ada\"
+suppress enter(\"ada\",\"lab\") at 40 step 10 rule session node 0 leaf 1 origin 10
+cause logout(\"bob\") at 51 step 11 rule idle node 1 leaf 3 origin 8 person=\"bob\"
+suppress enter(\"bob\",\"lab\") at 61 step 13 rule session node 0 leaf 1 origin 13
+cause logout(\"ada\") at 91 step 14 rule idle node 1 leaf 3 origin 13 person=\"ada\"
+";
+
 const FALLING_LOG: &[u8] = b"@1 login(\"ada\");
 @7 enter(\"ada\",\"lab\");
 @5 login(\"bob\");
@@ -129,6 +151,11 @@ const FALLING_LOG: &[u8] = b"@1 login(\"ada\");
 const FALLING_ENFORCED: &[u8] = b"@1 login(\"ada\");
 @7 enter(\"ada\",\"lab\");
 +37 logout(\"ada\");
+";
+
+const FALLING_REPORT: &[u8] = b"\
+cause logout(\"ada\") at 37 step 2 rule idle node 1 leaf 3 origin 1 person=\"ada\"
+record 3: time 5 is below 7
 ";
 
 const SAFETY_SIGNATURE: &[u8] = b"open(text);
@@ -176,6 +203,13 @@ const SAFETY_ENFORCED: &[u8] = b"@1 start(\"press\");
 +38 alarm(\"press\");
 ";
 
+const SAFETY_REPORT: &[u8] = b"\
+suppress start(\"press\") at 4 step 2 rule interlock node 0 leaf 1 origin 2
+cause alarm(\"drill\") at 15 step 7 rule raise node 1 leaf 3 origin 5 machine=\"drill\"
+suppress start(\"press\") at 25 step 9 rule rest node 1 leaf 2 origin 8 machine=\"press\"
+cause alarm(\"press\") at 38 step 12 rule raise node 1 leaf 3 origin 11 machine=\"press\"
+";
+
 const GENERATED_POLICY: &[u8] = b"rule raise: forall user. lock(user) -> alarm();
 ";
 
@@ -199,17 +233,32 @@ const GENERATED_ENFORCED: &[u8] = b"@6 delete(\"u11\") consent(\"u11\");
 @29;
 ";
 
+const GENERATED_REPORT: &[u8] = b"\
+cause alarm() at 8 step 1 rule raise node 0 leaf 1 origin 1
+cause alarm() at 9 step 2 rule raise node 0 leaf 1 origin 2
+cause alarm() at 20 step 4 rule raise node 0 leaf 1 origin 4
+cause alarm() at 23 step 5 rule raise node 0 leaf 1 origin 5
+";
+
 #[test]
 fn the_examples_are_enforced(rt: HostRuntime) -> Result<(), Fail> {
     let alloc = rt.alloc();
-    for (name, signature, policy, log, output) in [
-        ("data", DATA_SIGNATURE, DATA_POLICY, DATA_LOG, DATA_ENFORCED),
+    for (name, signature, policy, log, output, report) in [
+        (
+            "data",
+            DATA_SIGNATURE,
+            DATA_POLICY,
+            DATA_LOG,
+            DATA_ENFORCED,
+            DATA_REPORT,
+        ),
         (
             "access",
             ACCESS_SIGNATURE,
             ACCESS_POLICY,
             ACCESS_LOG,
             ACCESS_ENFORCED,
+            ACCESS_REPORT,
         ),
         (
             "safety",
@@ -217,6 +266,7 @@ fn the_examples_are_enforced(rt: HostRuntime) -> Result<(), Fail> {
             SAFETY_POLICY,
             SAFETY_LOG,
             SAFETY_ENFORCED,
+            SAFETY_REPORT,
         ),
         (
             "generated",
@@ -224,10 +274,11 @@ fn the_examples_are_enforced(rt: HostRuntime) -> Result<(), Fail> {
             GENERATED_POLICY,
             GENERATED_LOG,
             GENERATED_ENFORCED,
+            GENERATED_REPORT,
         ),
     ] {
         let outcome = enforced(alloc, signature, policy, log, Vec::new(alloc))?;
-        outcome.assert_is(&rt, name, Status::Done, output, b"");
+        outcome.assert_is(&rt, name, Status::Done, output, report);
     }
     Ok(())
 }
@@ -242,8 +293,13 @@ fn the_example_of_a_falling_time_is_refused(rt: HostRuntime) -> Result<(), Fail>
         FALLING_LOG,
         pieces,
     )?;
-    let report = b"record 3: time 5 is below 7\n";
-    outcome.assert_is(&rt, "falling", Status::Record, FALLING_ENFORCED, report);
+    outcome.assert_is(
+        &rt,
+        "falling",
+        Status::Record,
+        FALLING_ENFORCED,
+        FALLING_REPORT,
+    );
     Ok(())
 }
 

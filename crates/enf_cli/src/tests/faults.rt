@@ -1,5 +1,5 @@
 //! Runs over a gate or a report that takes only pieces, or fails.
-use super::calm::{ERASE, Outcome, SIGNATURE, enforce_words, files_of};
+use super::calm::{DELETED_AT_35, ERASE, Outcome, SIGNATURE, enforce_words, files_of};
 use crate::endings::{Cut, Ending};
 use crate::refusals::Status;
 use crate::reporting::report_ending;
@@ -60,6 +60,15 @@ fn owed_to(taken: usize) -> &'static [u8] {
     }
 }
 
+// And what is said of that, and of the read that failed.
+fn said_of(taken: usize) -> &'static [u8] {
+    if taken < 16 {
+        b"read fault\n"
+    } else {
+        b"cause delete(\"a\") at 35 step 1 rule erase node 1 leaf 2 origin 0 u=\"a\"\nread fault\n"
+    }
+}
+
 // Whether `erase` makes this of the log, where the first read takes so many bytes, with these marks at the reads.
 fn answers_before_each_read(
     alloc: Global,
@@ -105,7 +114,8 @@ fn a_read_that_fails_after_each_byte(rt: HostRuntime) -> Result<(), Fail> {
         let reads = [Turn::Take(cut), Turn::Fail];
         let outcome = enforced_in_turns(rt.alloc(), LOG, &reads, &[], &[])?;
         let answer = owed_to(cut);
-        outcome.assert_is(&rt, "a cut", Status::ReadFault, answer, b"read fault\n");
+        let report = said_of(cut);
+        outcome.assert_is(&rt, "a cut", Status::ReadFault, answer, report);
     }
     Ok(())
 }
@@ -120,14 +130,14 @@ fn a_read_fault_keeps_the_whole_records(rt: HostRuntime) -> Result<(), Fail> {
             [Turn::Take(16), Turn::Fail].as_slice(),
             b"@5 request(\"a\");\n+35 delete(\"a\");\n".as_slice(),
             Status::ReadFault,
-            b"read fault\n".as_slice(),
+            b"cause delete(\"a\") at 35 step 1 rule erase node 1 leaf 2 origin 0 u=\"a\"\nread fault\n".as_slice(),
         ),
         (
             "within the second",
             &[Turn::Take(10), Turn::Take(12), Turn::Fail],
             b"@5 request(\"a\");\n+35 delete(\"a\");\n",
             Status::ReadFault,
-            b"read fault\n",
+            b"cause delete(\"a\") at 35 step 1 rule erase node 1 leaf 2 origin 0 u=\"a\"\nread fault\n",
         ),
         (
             "at once",
@@ -141,7 +151,9 @@ fn a_read_fault_keeps_the_whole_records(rt: HostRuntime) -> Result<(), Fail> {
             &[Turn::All, Turn::Fail],
             b"@5 request(\"a\");\n@6 request(\"b\");\n+35 delete(\"a\");\n+36 delete(\"b\");\n",
             Status::Record,
-            b"record 3: time 2 is below 6\n",
+            b"cause delete(\"a\") at 35 step 2 rule erase node 1 leaf 2 origin 0 u=\"a\"\n\
+              cause delete(\"b\") at 36 step 3 rule erase node 1 leaf 2 origin 1 u=\"b\"\n\
+              record 3: time 2 is below 6\n",
         ),
     ] {
         let outcome = enforced_in_turns(alloc, log, reads, &[], &[])?;
@@ -161,7 +173,8 @@ fn a_write_is_finished_by_further_writes(rt: HostRuntime) -> Result<(), Fail> {
         "three bytes a write",
         Status::Record,
         b"@5 request(\"a\");\n@7;\n+35 delete(\"a\");\n",
-        b"record 3: time 6 is below 7\n",
+        b"cause delete(\"a\") at 35 step 2 rule erase node 1 leaf 2 origin 0 u=\"a\"\n\
+          record 3: time 6 is below 7\n",
     );
     Ok(())
 }
@@ -193,15 +206,32 @@ fn a_write_fault_ends_the_run(rt: HostRuntime) -> Result<(), Fail> {
             &[],
             Status::WriteFault,
             b"@5 request(\"a\");\n+35 delete(\"a\");\n@40 request(\"b\");\n+70 ",
-            b"",
+            DELETED_AT_35,
         ),
         (
-            "on the report",
+            "in the line of an action",
             &[],
             &[Turn::Take(4), Turn::Fail],
+            Status::WriteFault,
+            b"@5 request(\"a\");\n+35 delete(\"a\");\n",
+            b"caus",
+        ),
+        (
+            "in that of an action of the drain",
+            &[],
+            &[Turn::All, Turn::Fail],
+            Status::WriteFault,
+            b"@5 request(\"a\");\n+35 delete(\"a\");\n@40 request(\"b\");\n+70 delete(\"b\");\n",
+            DELETED_AT_35,
+        ),
+        (
+            "in the last line of the report",
+            &[],
+            &[Turn::All, Turn::All, Turn::Take(4), Turn::Fail],
             Status::Record,
             b"@5 request(\"a\");\n+35 delete(\"a\");\n@40 request(\"b\");\n+70 delete(\"b\");\n",
-            b"reco",
+            b"cause delete(\"a\") at 35 step 1 rule erase node 1 leaf 2 origin 0 u=\"a\"\n\
+              cause delete(\"b\") at 70 step 3 rule erase node 1 leaf 2 origin 2 u=\"b\"\nreco",
         ),
     ] {
         let outcome = enforced_in_turns(alloc, log, &[], writes, report_writes)?;

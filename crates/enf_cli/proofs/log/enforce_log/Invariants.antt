@@ -1,4 +1,6 @@
 use Rattle.std.proofs.Common.{◌≡◌, ◌+◌, ◌*◌, ◌-◌, ◌≤◌, List, ℕ, length}
+use Rattle.formula_reader.specs.Resolution.{rules_of}
+use Rattle.enf_cli.specs.Seen.{seen_of}
 use Rattle.enf_cli.specs.Limits.{most_log_bytes, most_read_bytes}
 use Rattle.enf_cli.specs.Progress.{reads_on}
 use Rattle.enf_cli.proofs.LogTurns.{Done, IsWithinLimits}
@@ -6,16 +8,17 @@ use Rattle.enf_cli.proofs.log.enforce_log.Given as goal
 
 abbrev pub invariant-loop-log : goal.invariant-loop-log
 invariant-loop-log g l =
-    let seen = g.G.Sink.seen in
+    let gate = g.G.Sink.seen in
+    let report = g.R.Sink.seen in
     record {
       bytes : List ℕ;
       count : l.log.taken ≡ length bytes;
       most : l.log.taken ≤ most_log_bytes;
       left : l.log.accepted + length l.log.reader.rest ≤ l.log.taken;
-      reader : l.log.reader ≡ reads_on l.signature l.log.reader.rest;
+      reader : l.log.reader ≡ reads_on l.names.signature.now l.log.reader.rest;
       room : length l.log.piece.items ≡ most_read_bytes;
       limits : IsWithinLimits l.log;
-      done : Done l.signature l.fn.log.enforcer (seen l.fn.gate) bytes l.log (seen l.gate);
+      done : Done l.names.signature.now (rules_of l.names.policy.now) l.fn.log.enforcer (seen_of (gate l.fn.gate) (report l.fn.report)) bytes l.log (seen_of (gate l.gate) (report l.report));
     }
 
 abbrev pub decreases-loop-log : goal.decreases-loop-log

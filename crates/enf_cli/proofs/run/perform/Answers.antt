@@ -3,11 +3,11 @@ use Rattle.enf_cli.specs.Words.{Matches, texts}
 use Rattle.enf_cli.proofs.run.perform.Goals as goal
 
 pub returns-in-Some-Enforce : goal.returns-in-Some-Enforce
-returns-in-Some-Enforce g c report report' =
+returns-in-Some-Enforce g c after =
     let form = c.in-Some-Enforce in
-    c.enforce.ensures (texts c.args.words.now) report report' (subst (Matches (texts c.args.words.now)) form.field-0-is form.ensures.some)
+    c.enforce.ensures (texts c.args.words.now) after (subst (Matches (texts c.args.words.now)) form.field-0-is form.ensures.some)
 
 pub returns-in-Some-Check : goal.returns-in-Some-Check
-returns-in-Some-Check g c report report' =
+returns-in-Some-Check g c after =
     let form = c.in-Some-Check in
-    c.check.ensures (texts c.args.words.now) report report' (subst (Matches (texts c.args.words.now)) form.field-0-is form.ensures.some)
+    c.check.ensures (texts c.args.words.now) (g.R.Sink.seen c.args.report.now) after (subst (Matches (texts c.args.words.now)) form.field-0-is form.ensures.some)

@@ -1,0 +1,35 @@
+use Rattle.std.proofs.Common.{List, ℕ, ap, subst}
+use Rattle.std.specs.List.{flat_map}
+use Rattle.std.proofs.lemmas.List.{take_all}
+use Rattle.std.proofs.lemmas.Result.{err_from_is_err_and}
+use Rattle.action_report.specs.Lines.{action_line}
+use Rattle.formula_reader.specs.Resolution.{rules_of}
+use Rattle.obligations.specs.declared.actions.Action.{Action}
+use Rattle.enf_cli.proofs.TextLemmas.{Broken, Whole, piece_cut, piece_whole, whole_none}
+use Rattle.enf_cli.proofs.lines.write_actions.Goals as goal
+
+pub loop-action-init : goal.loop-action-init
+loop-action-init g c = whole_none (g.R.Sink.seen c.args.report.now)
+
+pub loop-action-preserved : goal.loop-action-preserved
+loop-action-preserved g c =
+    let seen = g.R.Sink.seen in
+    let line = action_line c.args.names.now.signature.now (rules_of c.args.names.now.policy.now) in
+    let one = subst (λ (action : Action). Whole (line action) (seen c.loop-action.report) (seen c.write_report_line.new.report)) c.action-item.is c.in_ok-write_report_line.ensures in
+    piece_whole line c.args.actions.now c.loop-action.action-index c.action-item.result c.loop-action-test.true (seen c.args.report.now) (seen c.loop-action.report) (seen c.write_report_line.new.report) c.loop-action.invariant one
+
+pub returns-in_err-write_report_line : goal.returns-in_err-write_report_line
+returns-in_err-write_report_line g c =
+    let p = err_from_is_err_and c.from_residual.result c.from_residual.ensures.1 in
+    let seen = g.R.Sink.seen in
+    let cut = c.in_err-write_report_line.field-0.0 in
+    let line = action_line c.args.names.now.signature.now (rules_of c.args.names.now.policy.now) in
+    let one = subst (λ (action : Action). Broken (line action) cut (seen c.loop-action.report) (seen c.write_report_line.new.report)) c.action-item.is c.in_err-write_report_line.ensures in
+    rw (p.1, p.2) (piece_cut line c.args.actions.now c.loop-action.action-index c.action-item.result c.loop-action-test.true (seen c.args.report.now) (seen c.loop-action.report) (seen c.write_report_line.new.report) c.loop-action.invariant cut one)
+
+pub returns : goal.returns
+returns g c =
+    let seen = g.R.Sink.seen in
+    let line = action_line c.args.names.now.signature.now (rules_of c.args.names.now.policy.now) in
+    let all = ap (flat_map line) (take_all c.loop-action.action-index c.args.actions.now c.loop-action-test.false) in
+    subst (λ (t : List ℕ). Whole t (seen c.args.report.now) (seen c.loop-action.report)) all c.loop-action.invariant
