@@ -33,11 +33,8 @@ const MOST_RECORDS: u32 = 1_000;
 
 const MOST_TIME: u64 = 1_000_000_000_000_000;
 
-// How many variables are in scope at most.
-const MOST_IN_SCOPE: usize = 16;
-
-/// What is told of an enforcer over a log, and the drain behind it. Reads a signature, a policy and a log, with a byte 1
-/// between them.
+/// What is told of an enforcer over a log, and the drain behind it. Reads a signature, a policy and a log, with a byte
+/// 1 between them.
 pub fn answer(alloc: Global, told: Told, input: &[u8], out: &mut Output) -> Result<(), CaseError> {
     let (signature, policy, log) = three(input)?;
     let names = read_signature(alloc, signature)?;
@@ -254,14 +251,12 @@ fn print_behind_blank(number: u64, out: &mut Output) {
     out.number(number);
 }
 
-// For each variable that is bound a blank, its number, `=` and its value.
-fn print_valuation(v: &Valuation, out: &mut Output) {
-    for place in 0..MOST_IN_SCOPE {
-        if let Some((variable, value)) = v.item(place) {
-            print_behind_blank(variable.0.into(), out);
-            out.bytes(b"=");
-            out.value(value);
-        }
+/// For each variable that is bound a blank, its number, `=` and its value.
+pub fn print_valuation(v: &Valuation, out: &mut Output) {
+    for binding in v.bindings() {
+        print_behind_blank(binding.0.0.into(), out);
+        out.bytes(b"=");
+        out.value(&binding.1);
     }
 }
 
@@ -289,7 +284,8 @@ fn print_action(names: &Signature, action: &Action, out: &mut Output) {
     out.bytes(b" ");
 }
 
-fn print_event(names: &Signature, event: &Event, out: &mut Output) {
+/// The event.
+pub fn print_event(names: &Signature, event: &Event, out: &mut Output) {
     if let Some(entry) = names.entry(event.name) {
         out.bytes(entry.text.bytes());
     }

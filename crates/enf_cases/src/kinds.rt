@@ -7,7 +7,7 @@ use crate::parts::find;
 use crate::running::Way;
 use crate::{
     arguments, beginnings, enforcing, evaluations, event_sets, guards, holds, intervals, logs,
-    long_runs, past, policies, signatures, tables, typing, values, window_runs,
+    long_runs, past, policies, reports, signatures, tables, typing, values, window_runs,
 };
 use log_stream::LogMode;
 use std::alloc::Global;
@@ -35,10 +35,11 @@ pub enum Kind {
     RestoredWindow,
     Past(Way),
     Holds,
+    Report,
     Long,
 }
 
-static KINDS: [(&[u8], Kind); 27] = [
+static KINDS: [(&[u8], Kind); 28] = [
     (b"text", Kind::Text),
     (b"value", Kind::Value),
     (b"compare", Kind::Compare),
@@ -65,6 +66,7 @@ static KINDS: [(&[u8], Kind); 27] = [
     (b"shared", Kind::Past(Way::Shared)),
     (b"again", Kind::Past(Way::Again)),
     (b"holds", Kind::Holds),
+    (b"report", Kind::Report),
     (b"long", Kind::Long),
 ];
 
@@ -101,6 +103,7 @@ pub fn answer_kind(
         Kind::RestoredWindow => window_runs::answer(alloc, true, input, out),
         Kind::Past(way) => past::answer(alloc, way, input, out),
         Kind::Holds => holds::answer(alloc, input, out),
+        Kind::Report => reports::answer(alloc, input, out),
         Kind::Long => long_runs::answer(alloc, input, out),
     }
 }

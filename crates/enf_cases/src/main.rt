@@ -21,6 +21,7 @@ mod output;
 mod parts;
 mod past;
 mod policies;
+mod reports;
 mod running;
 mod signatures;
 mod tables;
