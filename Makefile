@@ -1,11 +1,13 @@
 # enf: a first run, files of one's own, the proved program, the tests.
 
-.PHONY: help demo try build bench check test fmt clean
+.PHONY: help demo try build install recipes bench check test fmt clean
 
 help:
 	@echo 'make demo                            enforces the logs of examples/, shows what was changed, and checks two policies'
 	@echo 'make try SIG=FILE POLICY=FILE [LOG=FILE]  the same for files of your own; without a log it checks the policy'
 	@echo 'make build                           proves the program and leaves it as bin/enf'
+	@echo 'make install PREFIX=FOLDER           puts the proved program, its man page and the examples there'
+	@echo 'make recipes                         runs what the documents show, by the proved program'
 	@echo 'make bench                           measures the proved program on generated logs'
 	@echo 'make check                           proves every crate, over what earlier checks kept'
 	@echo 'make test                            the gate: rt ci'
@@ -20,6 +22,12 @@ try:
 
 build:
 	@./scripts/build.sh
+
+install:
+	@./scripts/install.sh "$(PREFIX)"
+
+recipes:
+	@./scripts/recipes.sh
 
 bench:
 	@./scripts/bench.sh

@@ -21,7 +21,7 @@ import os, resource, subprocess, sys, time
 source, target, *words = sys.argv[1:]
 begun = time.monotonic()
 with open(source, 'rb') as log, open(target, 'wb') as output:
-    subprocess.run(['bin/enf'] + words, stdin=log, stdout=output, check=True)
+    subprocess.run(['bin/enf'] + words, stdin=log, stdout=output, stderr=subprocess.DEVNULL, check=True)
 seconds = time.monotonic() - begun
 size = os.path.getsize(source if source != os.devnull else target)
 print('%d %.3f %d' % (size, seconds, resource.getrusage(resource.RUSAGE_CHILDREN).ru_maxrss))

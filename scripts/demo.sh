@@ -42,7 +42,7 @@ enforce_folder() {
     show_file "$1/$1.sig"
     show_file "$1/$1.policy"
     show_enforced "$1" "$1/$1.log"
-    want "$1" 0 "examples/$1/$1.enforced"
+    want "$1" 0 "examples/$1/$1.enforced" "examples/$1/$1.report"
 }
 
 say_program
@@ -65,7 +65,7 @@ show_checked reminder
 want reminder 2 examples/data/reminder.checked
 enforce_folder access
 show_enforced falling access/falling.log
-want falling 3 examples/access/falling.enforced <(echo 'record 3: time 5 is below 7')
+want falling 3 examples/access/falling.enforced examples/access/falling.report
 enforce_folder safety
 echo
 echo "== enf gen 1 8, which is examples/generated/generated.log"

@@ -95,7 +95,7 @@ show_changes() {
     elif cmp -s "$1" "$2"; then
         show_lines "$1"
     else
-        diff -U 100000 "$1" "$2" | tail -n +4 | sed 's/^\(.\)/\1 /'
+        diff -U 100000 "$1" "$2" | tail -n +4 | sed '/^\\/d; s/^\(.\)/\1 /'
     fi
 }
 
