@@ -1,5 +1,5 @@
 -- Satisfaction depends on the times of the steps and on the events of the formula's names alone.
-use Rattle.std.proofs.Common.{◌≡◌, ◌∙◌, ◌↔◌, ⊎_elim, true≢false, Bool, false, IsTrue, ℕ, ◌+◌, ◌-◌, ◌<◌, List, [], ◌++◌, Option, None, Some, Contains, sym, subst, refl}
+use Rattle.std.proofs.Common.{◌≡◌, ◌∙◌, ◌↔◌, ℕ, ◌+◌, ◌-◌, ◌<◌, List, [], ◌++◌, Option, None, Some, Contains, sym, subst, refl}
 use Rattle.std.proofs.lemmas.List.Elements.{Contains-append_cases, Contains-append_left, Contains-append_right}
 use Rattle.enf_value.specs.Data.{step_at}
 use Rattle.enf_value.specs.Membership.{IsIn}
@@ -72,13 +72,6 @@ module _ (names : List NameId) where
   by_names trace other same i v (Until place interval f g) within s =
       holds_until trace other i interval (λ k. Sat trace k v f) (λ j. Sat trace j v g) (λ k. Sat other k v f) (λ j. Sat other j v g) same.long same.times
       (λ k h. by_names trace other same k v f (first f g within) h) (λ j h. by_names trace other same j v g (second f g within) h) s
-
--- where the first names do not have it, it is among the rest
-pub read_behind : (names rest : List NameId) (name : NameId) (a b : Bool) → a ≡ false → (IsTrue a ↔ Contains names name) → (IsTrue b ↔ Contains rest name) → IsTrue b ↔ Contains (names ++ rest) name
-read_behind names rest name a b unread front back = (
-  λ yes. Contains-append_right names rest name (back.0 yes),
-  λ there. ⊎_elim (λ h. absurd (true≢false (sym (front.1 h) ∙ unread))) back.1 (Contains-append_cases names rest name there),
-)
 
 pub names_decide : NamesDecide
 names_decide trace other i v f same =

@@ -1,12 +1,10 @@
 //! What can be read off a formula: its place, its size, whether it looks ahead.
-ghost use Rattle.std.specs.Prelude.{◌≡◌, ◌↔◌, ◌<◌, ◌^◌, IsTrue, Contains};
+ghost use Rattle.std.specs.Prelude.{◌≡◌, ◌↔◌, ◌<◌, ◌^◌, IsTrue};
 ghost use Rattle.enf_formula.specs.Formulas.{tree_of};
-ghost use Rattle.enf_formula.specs.Names.{names_in};
 ghost use Rattle.enf_formula.specs.Past.{is_past as looks_back};
 ghost use Rattle.enf_formula.specs.Shape.{place_of, size_of};
 
 use crate::formulas::Formula;
-use enf_value::events::NameId;
 use enf_value::places::Place;
 
 impl Formula {
@@ -92,34 +90,6 @@ impl Formula {
             | Formula::Or(_, f, g)
             | Formula::Implies(_, f, g)
             | Formula::Since(_, _, f, g) => f.is_past() && g.is_past(),
-        }
-    }
-
-    /// Whether an event of the name is looked for in it.
-    pub fn reads(&self, name: NameId) -> bool
-        ensures { IsTrue result ↔ Contains (names_in (tree_of self.now)) name }
-    {
-        match self {
-            Formula::True(_)
-            | Formula::False(_)
-            | Formula::Equal(_, _, _)
-            | Formula::Less(_, _, _)
-            | Formula::AtMost(_, _, _) => false,
-            Formula::Atom(_, own, _) => *own == name,
-            Formula::Not(_, f)
-            | Formula::Exists(_, _, f)
-            | Formula::Forall(_, _, f)
-            | Formula::Prev(_, _, f)
-            | Formula::Next(_, _, f)
-            | Formula::Once(_, _, f)
-            | Formula::Historically(_, _, f)
-            | Formula::Eventually(_, _, f)
-            | Formula::Always(_, _, f) => f.reads(name),
-            Formula::And(_, f, g)
-            | Formula::Or(_, f, g)
-            | Formula::Implies(_, f, g)
-            | Formula::Since(_, _, f, g)
-            | Formula::Until(_, _, f, g) => f.reads(name) || g.reads(name),
         }
     }
 }

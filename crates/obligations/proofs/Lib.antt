@@ -8,7 +8,6 @@ pub mod ExistLemmas
 pub mod WantedLemmas
 pub mod FirstLemmas
 pub mod PartLemmas
-pub mod FrameLemmas
 pub mod LeafLemmas
 pub mod BegunLemmas
 pub mod LawLemmas

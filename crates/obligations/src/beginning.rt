@@ -14,7 +14,6 @@ ghost use Rattle.obligations.specs.Rows.{Gathers};
 ghost use Rattle.obligations.specs.declared.now.TheConstants.{MOST_TIME};
 
 use crate::finding::misses_nothing;
-use crate::frames::valuation_in;
 use crate::instances::Instance;
 use crate::now::Now;
 use crate::sides::side_taken;
@@ -23,6 +22,7 @@ use monitorable_guard::Rows;
 use plan_terms::Plan;
 use std::alloc::Global;
 use valuations::Frame;
+use valuations::filling::valuation_in;
 
 // Puts the instances last that the plan of a rule begins where it is begun at the step.
 #[cycle(beginning)]

@@ -9,7 +9,6 @@ pub mod begun;
 mod carrying;
 mod deadlines;
 mod finding;
-mod frames;
 pub mod instances;
 pub mod laws;
 mod leaves;

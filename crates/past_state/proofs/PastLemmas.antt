@@ -3,7 +3,7 @@ use Rattle.std.proofs.Common.{◌≡◌, ◌∙◌, ◌↔◌, ⊎_elim, ℕ, ze
 use Rattle.std.specs.Prelude.{Bool, IsSome, slice_get}
 use Rattle.std.proofs.lemmas.Option.{same_Some, none-some}
 use Rattle.std.proofs.lemmas.Bool.{and_parts}
-use Rattle.std.proofs.lemmas.List.{reverse-append, reverse-reverse}
+use Rattle.std.proofs.lemmas.List.{reverse-append}
 use Rattle.std.proofs.lemmas.List.Elements.{All-append, All-nil, All-cons, All-head, All-tail}
 use Rattle.enf_value.specs.declared.events.Event.{Event}
 use Rattle.enf_value.specs.declared.events.NameId.{NameId}
@@ -22,9 +22,9 @@ use Rattle.valuations.specs.Just.{Binds}
 use Rattle.valuations.specs.Tables.{Relation, Has, AgreeOn}
 use Rattle.trace_meaning.specs.Continuation.{last_time}
 use Rattle.past_state.specs.Memories.{given_by}
-use Rattle.past_state.specs.Names.{names_of, operator_names}
+use Rattle.past_state.specs.Names.{names_of}
 use Rattle.past_state.specs.Operators.{operators, all_operators, all_outermost}
-use Rattle.past_state.specs.Past.{Past, PastTables, IsPast, IsSound, TablesStand, TablesStay, TablesWillStand, GuardsWillHold, AreMadeOf, AreOf, AreOfBut, PastCommitted, PastStands, RunStands, CommitStands, AreEvaluated, AreSatisfied, ArePastTables, HasOpenColumns, BeginAt, BindsBound, IsEvaluated, IsGuard, IsSatisfied, IsTestOf, formulas, formula_of, past_names, tables_of}
+use Rattle.past_state.specs.Past.{Past, PastTables, IsPast, IsSound, TablesStand, TablesStay, TablesWillStand, GuardsWillHold, AreMadeOf, AreOf, PastCommitted, PastStands, RunStands, CommitStands, AreEvaluated, AreSatisfied, ArePastTables, HasOpenColumns, BeginAt, BindsBound, IsEvaluated, IsGuard, IsSatisfied, IsTestOf, formulas, formula_of, past_names, tables_of}
 use Rattle.past_state.specs.Runs.{AllStand, AreInsideOut, AreOrdered, AllFit, Runs, outer_onto, AreSameKinds}
 use Rattle.past_state.specs.declared.guards.PlacedGuard.{PlacedGuard}
 use Rattle.past_state.specs.declared.memories.StepTables.{StepTables}
@@ -34,7 +34,7 @@ use Rattle.past_state.proofs.OrderLemmas.{all_go}
 use Rattle.past_state.proofs.RunLemmas.{fit_run, stand_run, committed_run, still_all_for}
 use Rattle.past_state.proofs.HeldLemmas.{new_at}
 use Rattle.past_state.proofs.RowLemmas.{iff_then}
-use Rattle.past_state.proofs.SameNames.{Within, all_same, all_within, names_within, operators_named, outer_within, same_with, stand_same}
+use Rattle.past_state.proofs.SameNames.{Within, all_same, all_within, names_within, outer_within, same_with, stand_same}
 
 pub inside_out : (fs : List Formula) → AreInsideOut [] (reverse (all_operators fs))
 inside_out fs = subst (AreInsideOut []) (append-nil (reverse (all_operators fs))) ((all_go fs []).ordered [] tt)
@@ -110,15 +110,6 @@ outermost_within names fs within =
 own_within : (guards : List PlacedGuard) → All (Within (past_names guards)) (all_operators (formulas guards))
 own_within guards = all_within (past_names guards) (all_operators (formulas guards)) (λ name there. there)
 
-pub operators_names : (past : Past) → IsPast past → (name : NameId) → Contains (operator_names past.operators) name ↔ Contains (past_names past.guards) name
-operators_names past is name =
-    let l = all_operators (formulas past.guards) in
-    let same = operators_named (reverse l) past.operators is.kept in (
-      λ there. names_within (past_names past.guards) (reverse l) (turned_within (past_names past.guards) (formulas past.guards) (own_within past.guards)) name (subst (λ ns. Contains ns name) same there),
-      λ there. subst (λ ns. Contains ns name) (sym same)
-          (names_within (names_of (reverse l)) l (subst (All (Within (names_of (reverse l)))) (reverse-reverse l) (all_reverse (Within (names_of (reverse l))) (reverse l) (all_within (names_of (reverse l)) (reverse l) (λ n h. h)))) name there),
-    )
-
 -- a step with the events at which the tables were made
 abbrev made_step : ℕ → List Event → Step
 made_step time events = record { time = time; events = events }
@@ -154,10 +145,6 @@ tables_stay past time events others tables alike are = (are.0, then_same, are.2)
 
 pub just_made : (past : Past) (time : ℕ) (events : List Event) (tables : PastTables) → AreMadeOf past time events tables → AreOf past time events tables
 just_made past time events tables made = (events, λ event named. (λ h. h, λ h. h), made)
-
-pub but_unread : (past : Past) (time : ℕ) (name : NameId) (events : List Event) (tables : PastTables) → (Contains (past_names past.guards) name → ⊥) → AreOfBut past time name events tables → AreOf past time events tables
-but_unread past time name events tables unread but =
-    tables_stay past time but.0 events tables (λ event named. but.1 event (λ is. unread (subst (Contains (past_names past.guards)) is named))) but.2
 
 pub still_past : (past : Past) (after : List OperatorState) → IsPast past → AreSameKinds past.operators after → IsPast (record past { operators = after })
 still_past past after is same =

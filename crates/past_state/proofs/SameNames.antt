@@ -1,5 +1,5 @@
 -- What operators on the past remember and answer depends on the events of their names alone.
-use Rattle.std.proofs.Common.{◌≡◌, ◌∙◌, ◌↔◌, ⊎_elim, true≢false, Bool, false, IsTrue, ℕ, zero, suc, ◌-◌, ◌<◌, ◌≤◌, List, [], ◌∷◌, ◌++◌, length, drop, get_or, All, Contains, Option, None, Some, refl, sym, ap, subst, arith, length-append}
+use Rattle.std.proofs.Common.{◌≡◌, ◌∙◌, ◌↔◌, ⊎_elim, IsTrue, ℕ, zero, suc, ◌-◌, ◌<◌, ◌≤◌, List, [], ◌∷◌, ◌++◌, length, drop, All, Contains, Option, None, Some, refl, sym, ap, subst, arith, length-append}
 use Rattle.std.proofs.lemmas.List.Elements.{All-cons, All-head, All-nil, All-tail, Contains-append_cases, Contains-append_left, Contains-append_right}
 use Rattle.enf_value.specs.Data.{step_at}
 use Rattle.enf_value.specs.Membership.{IsIn}
@@ -8,7 +8,7 @@ use Rattle.enf_value.specs.declared.events.NameId.{NameId}
 use Rattle.enf_value.specs.declared.intervals.Interval.{Interval}
 use Rattle.enf_value.specs.declared.steps.Step.{Step}
 use Rattle.enf_value.specs.declared.terms.VarId.{VarId}
-use Rattle.enf_formula.specs.Formulas.{Formula, Not, Implies, Prev, Once, Historically, Since, tree_of}
+use Rattle.enf_formula.specs.Formulas.{Formula, Not, Implies, Prev, Once, Historically, Since}
 use Rattle.enf_formula.specs.Laws.{NamesDecide}
 use Rattle.enf_formula.specs.Names.{AreSameOf, HaveSameOf, names_in}
 use Rattle.enf_formula.specs.Satisfaction.{Sat}
@@ -24,12 +24,10 @@ use Rattle.past_state.specs.Kept.{HasPairAt, KeptAt}
 use Rattle.past_state.specs.Laws.{everywhere, satisfied}
 use Rattle.past_state.specs.Lefts.{AsksLeft}
 use Rattle.past_state.specs.Memories.{IsFor, MemoryStands}
-use Rattle.past_state.specs.Names.{left_names, memory_names, names_of, operator_names}
+use Rattle.past_state.specs.Names.{names_of}
 use Rattle.past_state.specs.Operators.{inner}
-use Rattle.past_state.specs.Runs.{AllStand, AreFor, outer_onto}
+use Rattle.past_state.specs.Runs.{AllStand, outer_onto}
 use Rattle.past_state.specs.Stands.{WindowStands}
-use Rattle.past_state.specs.declared.left.Left.{Left}
-use Rattle.past_state.specs.declared.left.Left.TheVariants as side
 use Rattle.past_state.specs.declared.memories.Memory.{Memory}
 use Rattle.past_state.specs.declared.memories.Memory.TheVariants as memories
 use Rattle.past_state.specs.declared.operators.OperatorState.{OperatorState}
@@ -40,52 +38,6 @@ denial_names : (g : Formula) → names_in (denial g) ≡ names_in g
 denial_names (Not place h) = refl
 denial_names (Implies place a b) = refl
 denial_names g = refl
-
-left_named : (g : Formula) (columns : List VarId) (left : Left) → AsksLeft g columns left → left_names left ≡ names_in g
-left_named g columns side.All asks = sym (ap names_in asks.1)
-left_named g columns (side.Denied guard) asks = ap names_in asks.3.formula_is ∙ sym (ap names_in asks.2)
-left_named g columns (side.ByRow guard) asks = ap names_in asks.formula_is
-
-memory_named : (f : Formula) (m : Memory) → IsFor f m → memory_names m ≡ names_in f
-memory_named (Prev place interval g) (memories.Prev slot operand) for = ap names_in for.0.formula_is
-memory_named (Once place interval g) (memories.Once window right) for = ap names_in for.0.formula_is
-memory_named (Historically place interval g) (memories.Once window right) for = ap names_in for.0.formula_is ∙ denial_names g
-memory_named (Since place interval g h) (memories.Since window left left_tables right) for =
-    ap (λ l. l ++ names_in (tree_of right.formula)) (left_named g window.columns left for.3) ∙ ap (λ l. names_in g ++ l) (ap names_in for.0.formula_is)
-memory_named f m for = absurd for
-
--- where the first names do not have it, it is among the rest
-pub read_behind : (names rest : List NameId) (name : NameId) (a b : Bool) → a ≡ false → (IsTrue a ↔ Contains names name) → (IsTrue b ↔ Contains rest name) → IsTrue b ↔ Contains (names ++ rest) name
-read_behind names rest name a b unread front back = (
-  λ yes. Contains-append_right names rest name (back.0 yes),
-  λ there. ⊎_elim (λ h. absurd (true≢false (sym (front.1 h) ∙ unread))) back.1 (Contains-append_cases names rest name there),
-)
-
-pub operators_named : (fs : List Formula) (operators : List OperatorState) → AreFor fs operators → operator_names operators ≡ names_of fs
-operators_named [] [] for = refl
-operators_named [] (o ∷ operators) for = absurd for
-operators_named (f ∷ fs) [] for = absurd for
-operators_named (f ∷ fs) (o ∷ operators) for =
-    ap (λ l. l ++ operator_names operators) (memory_named f o.memory for.0) ∙ ap (λ l. names_in f ++ l) (operators_named fs operators for.2)
-
-pub named_at : (operators : List OperatorState) (i : ℕ) (o : OperatorState) (name : NameId) → i < length operators → o ≡ get_or operators i o
-    → Contains (memory_names o.memory) name → Contains (operator_names operators) name
-named_at [] i o name below is there = absurd (omega (arith, below))
-named_at (p ∷ operators) zero o name below is there =
-    Contains-append_left (memory_names p.memory) (operator_names operators) name (subst (λ q. Contains (memory_names q.memory) name) is there)
-named_at (p ∷ operators) (suc i) o name below is there =
-    Contains-append_right (memory_names p.memory) (operator_names operators) name (named_at operators i o name (omega (arith, below)) is there)
-
--- the operator does not look for the name
-abbrev pub ReadsNot : NameId → OperatorState → Type 0
-ReadsNot name o = Contains (memory_names o.memory) name → ⊥
-
-pub none_named : (operators : List OperatorState) (name : NameId) → All (ReadsNot name) operators → Contains (operator_names operators) name → ⊥
-none_named [] name none there = omega (arith, there.1)
-none_named (o ∷ operators) name none there =
-    ⊎_elim (All-head (ReadsNot name) o operators none)
-    (none_named operators name (All-tail (ReadsNot name) o operators none))
-    (Contains-append_cases (memory_names o.memory) (operator_names operators) name there)
 
 -- ---- formulas whose names are among some
 

@@ -35,7 +35,3 @@ IsKnownOfGuard tables number events v t = (g : PlacedGuard) → IsGuard tables.g
 abbrev pub TablesAreKnown : Type 0
 TablesAreKnown = (past : Past) (time : ℕ) (events : List Event) (tables : PastTables) → IsPast past
     → AreMadeOf past time events tables → AreKnown past events tables
-
--- they are the ones that were there, or such
-abbrev pub AreThoseOrKnown : Past → List Event → PastTables → PastTables → Type 0
-AreThoseOrKnown past events before tables = (tables ≡ before) ⊎ AreKnown past events tables

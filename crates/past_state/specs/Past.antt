@@ -17,7 +17,7 @@ use Rattle.monitorable_guard.specs.Safety.{BindsFresh}
 use Rattle.trace_meaning.specs.Continuation.{last_time}
 use Rattle.valuations.specs.Just.{Binds}
 use Rattle.valuations.specs.Tables.{Relation, Has, AgreeOn}
-use Rattle.past_state.specs.Names.{DifferIn, names_of}
+use Rattle.past_state.specs.Names.{names_of}
 use Rattle.past_state.specs.Operators.{all_operators, all_outermost}
 use Rattle.past_state.specs.Runs.{AreFor, AllStand, Runs, AllCommitted}
 use Rattle.past_state.specs.declared.guards.PlacedGuard.{PlacedGuard}
@@ -84,11 +84,6 @@ AreMadeOf past time events tables = (tables.guards ≡ past.guards)
 abbrev pub AreOf : Past → ℕ → List Event → PastTables → Type 0
 AreOf past time events tables = (made : List Event) × HaveSameOf (past_names past.guards) made events
     × AreMadeOf past time made tables
-
--- of a step whose events are these but for those of the name
-abbrev pub AreOfBut : Past → ℕ → NameId → List Event → PastTables → Type 0
-AreOfBut past time name events tables = (others : List Event) × DifferIn name others events
-    × AreOf past time others tables
 
 -- they go on to be those of the step where its events of other names change
 abbrev pub TablesStay : Type 0

@@ -1,10 +1,9 @@
 //! What the left side of a `since` asks of the rows that are kept.
-ghost use Rattle.std.specs.Prelude.{◌↔◌, IfOk, Contains, IsTrue};
+ghost use Rattle.std.specs.Prelude.{IfOk};
 
 use crate::shared_guard::SharedGuard;
 use crate::surviving::{all_rows, surviving_rows};
 use crate::survivors::Survivors;
-use enf_value::events::NameId;
 use enf_value::memory::NoMemory;
 use monitorable_guard::{Past, StepEvents};
 use std::alloc::Global;
@@ -23,7 +22,6 @@ pub enum Left {
 
 impl Left {
     ghost use Rattle.past_state.specs.Lefts.{CanAskLeft, AreSurvivors};
-    ghost use Rattle.past_state.specs.Names.{left_names};
 
     /// Which of the rows that the window keeps survive a step with these events, from its outermost operators on the
     /// past.
@@ -48,16 +46,6 @@ impl Left {
                 let rows = surviving_rows(alloc, &kept, guard, events, past)?;
                 Ok(Survivors::Only(rows))
             }
-        }
-    }
-
-    /// Whether it looks for events of the name.
-    pub fn reads(&self, name: NameId) -> bool
-        ensures { IsTrue result ↔ Contains (left_names self.now) name }
-    {
-        match self {
-            Left::All => false,
-            Left::Denied(guard) | Left::ByRow(guard) => guard.guard().formula().reads(name),
         }
     }
 }

@@ -1,12 +1,11 @@
 //! What is kept for an operator on the past.
-ghost use Rattle.std.specs.Prelude.{◌↔◌, IfOk, OnOk, Contains, IsTrue};
+ghost use Rattle.std.specs.Prelude.{IfOk, OnOk};
 
 use crate::asking::LazyTables;
 use crate::left::Left;
 use crate::shared_guard::SharedGuard;
 use crate::surviving::all_rows;
 use crate::survivors::Survivors;
-use enf_value::events::NameId;
 use enf_value::memory::NoMemory;
 use monitorable_guard::StepEvents;
 use std::alloc::Global;
@@ -43,7 +42,6 @@ pub struct StepTables {
 impl Memory {
     ghost use Rattle.past_state.specs.Memories.{CanStep, AreStepTables, FitMemory, IsUpToTimeOf, IsCommittedTo};
     ghost use Rattle.past_state.specs.Memories.{IsSameMemory};
-    ghost use Rattle.past_state.specs.Names.{memory_names};
 
     /// What a step with these events brings, from the outermost operators of the operands.
     pub fn step_tables(
@@ -76,19 +74,6 @@ impl Memory {
                 let right = all_rows(alloc, right, events, &behind)?;
                 let surviving = left.survivors(alloc, window, events, past)?;
                 Ok(StepTables { surviving, right })
-            }
-        }
-    }
-
-    /// Whether an operand looks for events of the name.
-    pub fn reads(&self, name: NameId) -> bool
-        ensures { IsTrue result ↔ Contains (memory_names self.now) name }
-    {
-        match self {
-            Memory::Prev { operand, .. } => operand.guard().formula().reads(name),
-            Memory::Once { right, .. } => right.guard().formula().reads(name),
-            Memory::Since { left, right, .. } => {
-                left.reads(name) || right.guard().formula().reads(name)
             }
         }
     }

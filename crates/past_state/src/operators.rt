@@ -1,12 +1,10 @@
 //! The operators on the past of guards, from the inside out.
-ghost use Rattle.std.specs.Prelude.{◌≡◌, ◌↔◌, [], IfOk, OnOk, Contains, IsTrue};
+ghost use Rattle.std.specs.Prelude.{◌≡◌, [], IfOk, OnOk};
 ghost use Rattle.past_state.specs.LazyTables.{CanAskEach, tables_at};
-ghost use Rattle.past_state.specs.Names.{operator_names};
 ghost use Rattle.past_state.specs.Runs.{AreOrdered, AreUpToTimeOf, Runs, AllFit, AllCommitted, AreSameKinds};
 
 use crate::asking::LazyTables;
 use crate::memories::{Memory, StepTables};
-use enf_value::events::NameId;
 use enf_value::memory::NoMemory;
 use monitorable_guard::StepEvents;
 use std::alloc::Global;
@@ -55,18 +53,6 @@ pub fn run(
         steps.push(step)?;
     }
     Ok(Ran { steps, places })
-}
-
-/// Whether one of them looks for events of the name.
-pub fn some_reads(operators: &[OperatorState], name: NameId) -> bool
-    ensures { IsTrue result ↔ Contains (operator_names operators.now) name }
-{
-    for operator in operators {
-        if operator.memory.reads(name) {
-            return true;
-        }
-    }
-    false
 }
 
 /// Makes the step the last one of each operator, in a copy where others share them.

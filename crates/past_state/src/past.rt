@@ -9,7 +9,7 @@ use crate::kept::KeptRows;
 use crate::laws::{steps_stand, tables_are_known};
 use crate::memories::StepTables;
 use crate::names::GuardNames;
-use crate::operators::{OperatorStates, commit_shared, run, some_reads};
+use crate::operators::{OperatorStates, commit_shared, run};
 use enf_value::event_sets::EventSet;
 use enf_value::events::NameId;
 use enf_value::memory::NoMemory;
@@ -82,10 +82,10 @@ impl Model for Tables {
 
 impl PastState {
     ghost use Rattle.enf_value.specs.declared.steps.Step.{Step};
-    ghost use Rattle.past_state.specs.Past.{AreOf, AreOfBut, PastStands, TablesWillStand, CommittedWillStand};
+    ghost use Rattle.past_state.specs.Past.{AreOf, PastStands, TablesWillStand, CommittedWillStand};
     ghost use Rattle.past_state.specs.Past.{GuardsWillHold, PastCommitted, guard_names, past_names};
     ghost use Rattle.past_state.specs.Guarded.{AreCopies, IsFreshGuard};
-    ghost use Rattle.past_state.specs.Known.{AreKnown, AreThoseOrKnown};
+    ghost use Rattle.past_state.specs.Known.{AreKnown};
     ghost use Rattle.past_state.specs.LastTimes.{AreAtLast};
     ghost use Rattle.past_state.specs.Runs.{AreUpToTimeOf, AllFit};
     ghost use Rattle.past_state.specs.Saved.{AreRowsOf};
@@ -149,44 +149,11 @@ impl PastState {
         self.operators.items.is_empty()
     }
 
-    /// Whether an operator on the past of a guard looks for events of the name.
-    pub fn reads(&self, name: NameId) -> bool
-        ensures { IsTrue result ↔ Contains (past_names self.now.guards) name }
-    {
-        some_reads(self.operators.items.as_slice(), name)
-    }
-
     /// Whether a guard looks for events of the name, at a step or before it.
     pub fn looks_for(&self, name: NameId) -> bool
         ensures { IsTrue result ↔ Contains (guard_names self.now.guards) name }
     {
         self.names.has(name)
-    }
-
-    /// The tables at a step with these events, of the tables at that step before its events of the name changed. They
-    /// are made again only where an operator on the past looks for the name.
-    pub fn tables_again(
-        &self,
-        alloc: Global,
-        time: u64,
-        events: &EventSet,
-        changed: NameId,
-        tables: Tables,
-    ) -> Result<Tables, NoMemory>
-        requires later { AreUpToTimeOf time self.now.operators }
-        requires were { AreOfBut self.now time changed events.now tables }
-        ensures are { IfOk result (AreOf self.now time events.now) }
-        ensures stand { IfOk result (TablesWillStand self.now time events.now) }
-        ensures hold { IfOk result (GuardsWillHold self.now time events.now) }
-        ensures known { IfOk result (AreThoseOrKnown self.now events.now tables) }
-    {
-        present_is_satisfied();
-        steps_stand();
-        if some_reads(self.operators.items.as_slice(), changed) {
-            self.tables(alloc, time, events)
-        } else {
-            Ok(tables)
-        }
     }
 
     /// Makes the step of these tables the last one. After want of memory its guards are as they were, and nothing is

@@ -7,3 +7,4 @@ pub mod ComparisonLemmas
 pub mod LookupLemmas
 pub mod PartLemmas
 pub mod ArgumentLemmas
+pub mod FrameLemmas

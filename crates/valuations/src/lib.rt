@@ -5,6 +5,7 @@
 pub mod arguments;
 mod cells;
 pub mod comparing;
+pub mod filling;
 pub mod frame;
 mod joining;
 pub mod laws;

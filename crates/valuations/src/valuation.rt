@@ -70,16 +70,6 @@ impl Valuation {
     {
         self.bindings.as_slice()
     }
-
-    /// The binding at a place, in rising variable number, counted from 0.
-    pub fn item(&self, place: usize) -> Option<(VarId, &Value)>
-        ensures { option_map (λ found. (found.0, found.1.now)) result ≡ slice_get (bindings self.now) place }
-    {
-        match self.bindings.get(place) {
-            Some(binding) => Some((binding.0, &binding.1)),
-            None => None,
-        }
-    }
 }
 
 impl Duplicate for Valuation {

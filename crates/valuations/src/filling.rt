@@ -2,14 +2,14 @@
 ghost use Rattle.std.specs.Prelude.{◌≡◌, IfOk, OnOk};
 ghost use Rattle.valuations.specs.Scopes.{bound_in, filled, part_of};
 
+use crate::{Frame, Valuation};
 use enf_value::items::Duplicate;
 use enf_value::memory::NoMemory;
 use enf_value::terms::VarId;
 use enf_value::values::Value;
 use std::alloc::Global;
-use valuations::{Frame, Valuation};
 
-// The valuation that the frame stands for, in memory of its own.
+/// The valuation that the frame stands for, in memory of its own.
 pub fn valuation_in(alloc: Global, v: &Frame<'_>) -> Result<Valuation, NoMemory>
     ensures { IfOk result (λ w. w ≡ bound_in v.now) }
 {

@@ -6,9 +6,9 @@ use Rattle.enf_value.specs.declared.terms.VarId.{VarId}
 use Rattle.valuations.specs.Bindings.{with_value}
 use Rattle.valuations.specs.ScopeLaws.{part_is}
 use Rattle.valuations.specs.Scopes.{IsPartOf, bound_in}
-use Rattle.obligations.proofs.FrameLemmas.{none_copied, some_copied, part_bound, part_kept, part_same, part_without}
-use Rattle.obligations.proofs.frames.part_in.Goals as goal
-use Rattle.obligations.proofs.frames.part_in.Goals.{then-is_none+in-Some+in_ok-duplicate+in_ok-bind, then-is_none+in_default, else-is_none}
+use Rattle.valuations.proofs.FrameLemmas.{none_copied, some_copied, part_bound, part_kept, part_same, part_without}
+use Rattle.valuations.proofs.filling.part_in.Goals as goal
+use Rattle.valuations.proofs.filling.part_in.Goals.{then-is_none+in-Some+in_ok-duplicate+in_ok-bind, then-is_none+in_default, else-is_none}
 
 pub loop-variable-init : goal.loop-variable-init
 loop-variable-init c = subst (IsPartOf (bound_in c.args.v.now) []) (sym c.empty-part.ensures) (part_is (bound_in c.args.v.now) [])

@@ -1,7 +1,7 @@
 use Rattle.std.proofs.Common.{sym, ◌∙◌}
 use Rattle.std.proofs.lemmas.Slice.Zip.{zip_end}
-use Rattle.obligations.proofs.FrameLemmas.{filled_end}
-use Rattle.obligations.proofs.frames.fill.Goals as goal
+use Rattle.valuations.proofs.FrameLemmas.{filled_end}
+use Rattle.valuations.proofs.filling.fill.Goals as goal
 
 pub returns : goal.returns
 returns c =

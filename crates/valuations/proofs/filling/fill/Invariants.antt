@@ -1,6 +1,6 @@
 use Rattle.std.proofs.Common.{◌≡◌, length, drop}
 use Rattle.valuations.specs.Scopes.{filled}
-use Rattle.obligations.proofs.frames.fill.Given as goal
+use Rattle.valuations.proofs.filling.fill.Given as goal
 
 abbrev pub invariant-loop-column : goal.invariant-loop-column
 invariant-loop-column l =
