@@ -14,11 +14,11 @@ use Rattle.plan_terms.specs.Triggers.{TriggersAreMet}
 use Rattle.obligations.specs.declared.actions.Action.{Action}
 use Rattle.obligations.specs.declared.instances.Instance.{Instance}
 use Rattle.choice_step.specs.Acting.{ActsFor, AreSparedBehind, GoesFrom, StaysMet}
-use Rattle.choice_step.specs.Asked.{CanDecide, Finds, IsFound, IsMetBefore, Leads, NoneIsWoken, plans_of}
+use Rattle.choice_step.specs.Situations.{CanDecide, Finds, IsFound, IsMetBefore, Leads, NoneIsWoken, plans_of}
 use Rattle.choice_step.specs.Choice.{Waiting, roots_from, with_step}
 use Rattle.choice_step.specs.Looking.{RootsAreMet}
 use Rattle.choice_step.specs.Waking.{HasNoneOf}
-use Rattle.choice_step.specs.declared.asked.Asked.{Asked}
+use Rattle.choice_step.specs.declared.situation.Situation.{Situation}
 use Rattle.choice_step.specs.declared.looking.Found.{Found}
 use Rattle.choice_step.specs.declared.looking.Place.{Place}
 use Rattle.choice_step.proofs.ActingLemmas.{goes_behind, names_stay, spared_those}
@@ -28,105 +28,105 @@ use Rattle.choice_step.proofs.LookingLemmas.{found_behind, no_root, none_waiting
 use Rattle.choice_step.proofs.LoopLemmas.{Keeps, few, keeps_first, keeps_on}
 use Rattle.choice_step.proofs.UniverseLemmas.{given_values, possible}
 
-module _ (asked : Asked) (given : List Event) where
+module _ (situation : Situation) (given : List Event) where
   -- what was found is the first, and all before its place is met
   pub record IsOn (start : List Action) (f : Found) (events : List Event) (actions : List Action) : Type 0 where
-    pub led : Leads asked given given start events actions
-    pub same : HaveSameOf (guard_names asked.past.now.guards) given events
-    pub found : IsFound asked given events f
-    pub place : IsMetBefore asked events f.place
+    pub led : Leads situation given given start events actions
+    pub same : HaveSameOf (guard_names situation.past.now.guards) given events
+    pub found : IsFound situation given events f
+    pub place : IsMetBefore situation events f.place
 
   -- so it is at first
-  pub on_first : (start : List Action) (f : Found) (events : List Event) → events ≡ given → IsFound asked given given f
-      → IsMetBefore asked given f.place → IsOn start f events start
+  pub on_first : (start : List Action) (f : Found) (events : List Event) → events ≡ given → IsFound situation given given f
+      → IsMetBefore situation given f.place → IsOn start f events start
   on_first start f events is found place = record {
     led = ([], sym (append-nil start), is);
-    same = subst (HaveSameOf (guard_names asked.past.now.guards) given) (sym is) (λ event named. (λ there. there, λ there. there));
-    found = subst (λ l. IsFound asked given l f) (sym is) found;
-    place = subst (λ l. IsMetBefore asked l f.place) (sym is) place;
+    same = subst (HaveSameOf (guard_names situation.past.now.guards) given) (sym is) (λ event named. (λ there. there, λ there. there));
+    found = subst (λ l. IsFound situation given l f) (sym is) found;
+    place = subst (λ l. IsMetBefore situation l f.place) (sym is) place;
   }
 
-module _ (asked : Asked) (can : CanDecide asked) (given : List Event) where
+module _ (situation : Situation) (can : CanDecide situation) (given : List Event) where
   abbrev Acted : Found → List Event → List Action → List Event → List Action → Type 0
   Acted f events actions after all =
-      ActsFor (plans_of asked) asked.past.now asked.time asked.position f.action f.rule f.literals.items events actions after all
+      ActsFor (plans_of situation) situation.past.now situation.time situation.position f.action f.rule f.literals.items events actions after all
 
   pub led_on : (start : List Action) (f : Found) (events : List Event) (actions : List Action) (after : List Event) (all : List Action)
-      → IsOn asked given start f events actions → Acted f events actions after all → Leads asked given given start after all
+      → IsOn situation given start f events actions → Acted f events actions after all → Leads situation given given start after all
   led_on start f events actions after all on acted =
-      let more = acted asked.pending.now.instances asked.inserted given can.roles can.all on.found in (
+      let more = acted situation.pending.now.instances situation.inserted given can.roles can.all on.found in (
         on.led.0 ++ f.action ∷ more.0,
         more.1 ∙ (ap (λ l. l ++ f.action ∷ more.0) on.led.1 ∙ append_assoc start on.led.0 (f.action ∷ more.0)),
-        goes_behind (plans_of asked) asked.pending.now.instances asked.past.now asked.inserted asked.time asked.position given given on.led.0 events
+        goes_behind (plans_of situation) situation.pending.now.instances situation.past.now situation.inserted situation.time situation.position given given on.led.0 events
             (f.action ∷ more.0) after on.led.2 more.2,
       )
 
   pub more_on : (start : List Action) (f : Found) (events : List Event) (actions : List Action) (after : List Event) (all : List Action)
-      → IsOn asked given start f events actions → Acted f events actions after all → length actions < length all
+      → IsOn situation given start f events actions → Acted f events actions after all → length actions < length all
   more_on start f events actions after all on acted =
-      let more = acted asked.pending.now.instances asked.inserted given can.roles can.all on.found in
+      let more = acted situation.pending.now.instances situation.inserted given can.roles can.all on.found in
       let grown : length all ≡ length (actions ++ f.action ∷ more.0) = ap length more.1 in
       omega (arith, grown, length-append actions (f.action ∷ more.0))
 
-  pub longer : (start : List Action) (events : List Event) (actions : List Action) → Leads asked given given start events actions
+  pub longer : (start : List Action) (events : List Event) (actions : List Action) → Leads situation given given start events actions
       → length start ≤ length actions
   longer start events actions led =
       let grown : length actions ≡ length (start ++ led.0) = ap length led.1 in
       omega (arith, grown, length-append start led.0)
 
   pub few_on : HasNoRepeats given → (start : List Action) (events : List Event) (actions : List Action)
-      → Leads asked given given start events actions
-      → length actions ≤ length (possible (plans_of asked) asked.pending.now.instances asked.past.now given) + length start
+      → Leads situation given given start events actions
+      → length actions ≤ length (possible (plans_of situation) situation.pending.now.instances situation.past.now given) + length start
   few_on distinct start events actions led =
-      let plans = plans_of asked in
-      let pending = asked.pending.now.instances in
-      let past = asked.past.now in
+      let plans = plans_of situation in
+      let pending = situation.pending.now.instances in
+      let past = situation.past.now in
       let most : length led.0 ≤ length (possible plans pending past given) =
-      few plans pending past can.roles asked.inserted asked.time asked.position given led.0 events
-      (keeps_on plans pending past can.roles asked.inserted asked.time asked.position given [] given given led.0 events (given_values plans pending past given)
-      (keeps_first plans pending past asked.inserted asked.time asked.position given distinct) led.2)
+      few plans pending past can.roles situation.inserted situation.time situation.position given led.0 events
+      (keeps_on plans pending past can.roles situation.inserted situation.time situation.position given [] given given led.0 events (given_values plans pending past given)
+      (keeps_first plans pending past situation.inserted situation.time situation.position given distinct) led.2)
       in
       let grown : length actions ≡ length (start ++ led.0) = ap length led.1 in
       omega (arith, most, grown, length-append start led.0)
 
   pub same_on : (start : List Action) (f : Found) (events : List Event) (actions : List Action) (after : List Event) (all : List Action)
-      → IsOn asked given start f events actions → Acted f events actions after all → AreSparedBehind (guard_names asked.past.now.guards) actions all
-      → HaveSameOf (guard_names asked.past.now.guards) given after
+      → IsOn situation given start f events actions → Acted f events actions after all → AreSparedBehind (guard_names situation.past.now.guards) actions all
+      → HaveSameOf (guard_names situation.past.now.guards) given after
   same_on start f events actions after all on acted spared event named =
-      let names = guard_names asked.past.now.guards in
-      let more = acted asked.pending.now.instances asked.inserted given can.roles can.all on.found in
+      let names = guard_names situation.past.now.guards in
+      let more = acted situation.pending.now.instances situation.inserted given can.roles can.all on.found in
       let first = on.same event named in
       let next =
-      names_stay (plans_of asked) asked.pending.now.instances asked.past.now asked.inserted asked.time asked.position given events (f.action ∷ more.0) after names more.2
+      names_stay (plans_of situation) situation.pending.now.instances situation.past.now situation.inserted situation.time situation.position given events (f.action ∷ more.0) after names more.2
       (spared_those names actions (f.action ∷ more.0) all spared more.1) event named
       in
       (λ there. next.0 (first.0 there), λ there. first.1 (next.1 there))
 
   -- and all before the place to go on from is met
   pub place_on : (start : List Action) (f : Found) (events : List Event) (actions : List Action) (after : List Event) (place : Place)
-      → IsOn asked given start f events actions
-      → StaysMet (plans_of asked) asked.past.now asked.time asked.position f.action f.rule f.literals.items f.place events after place
-      → IsMetBefore asked after place
+      → IsOn situation given start f events actions
+      → StaysMet (plans_of situation) situation.past.now situation.time situation.position f.action f.rule f.literals.items f.place events after place
+      → IsMetBefore situation after place
   place_on start f events actions after place on stays =
-      stays asked.pending.now.instances asked.inserted given can.roles can.all on.found on.place
+      stays situation.pending.now.instances situation.inserted given can.roles can.all on.found on.place
 
   -- where the place is behind the pending instances and a rule behind which none is woken, nothing is missing
   pub none_behind : TriggersAreMet → (after : List Event) (rule : ℕ) (place : Place)
-      → HaveSameOf (guard_names asked.past.now.guards) given after → NoneIsWoken asked given rule
-      → length asked.pending.now.instances ≤ place.instances → rule < place.rules → IsMetBefore asked after place
-      → Finds asked after None
+      → HaveSameOf (guard_names situation.past.now.guards) given after → NoneIsWoken situation given rule
+      → length situation.pending.now.instances ≤ place.instances → rule < place.rules → IsMetBefore situation after place
+      → Finds situation after None
   none_behind met after rule place same none all behind before trace stands long later =
-      let plans = plans_of asked in
-      let now : List Step = with_step trace asked.time after in
+      let plans = plans_of situation in
+      let now : List Step = with_step trace situation.time after in
       let at = before trace stands long later in
-      let many : length plans ≡ length asked.plans.now = length-map asked.plans.now plan_of in
-      let roots : (to : ℕ) × (length plans ≤ to) × RootsAreMet plans asked.inserted now to =
+      let many : length plans ≡ length situation.plans.now = length-map situation.plans.now plan_of in
+      let roots : (to : ℕ) × (length plans ≤ to) × RootsAreMet plans situation.inserted now to =
       ⊎_elim
       (λ below. (
         length plans,
         omega arith,
-        all_asleep plans asked.inserted now asked.past.now.guards given after met can.all.roots
-            (ap (λ (s : Step). s.events) (last_step trace (record { time = asked.time; events = after }))) same
+        all_asleep plans situation.inserted now situation.past.now.guards given after met can.all.roots
+            (ap (λ (s : Step). s.events) (last_step trace (record { time = situation.time; events = after }))) same
             place.rules (length plans) (omega (arith, below))
             (λ r low high. subst (λ l. HasNoneOf (slice_get l r) given) can.wakes (none r (omega (arith, low, behind)) (omega (arith, high, many))))
             at.1,
@@ -134,9 +134,9 @@ module _ (asked : Asked) (can : CanDecide asked) (given : List Event) where
       (λ above. (place.rules, above, at.1))
       (cases_lt place.rules (length plans))
       in
-      found_behind plans asked.inserted now (map Waiting asked.pending.now.instances) (roots_from 0 plans) None
-      (none_waiting plans asked.inserted now asked.pending.now.instances place.instances all at.0)
-      (no_root plans asked.inserted now 0 plans roots.0 roots.1 roots.2)
+      found_behind plans situation.inserted now (map Waiting situation.pending.now.instances) (roots_from 0 plans) None
+      (none_waiting plans situation.inserted now situation.pending.now.instances place.instances all at.0)
+      (no_root plans situation.inserted now 0 plans roots.0 roots.1 roots.2)
 
 -- what the loop keeps from round to round
 pub keeps_led : (plans : List Plan) (pending : List Instance) (past : Past) (inserted : Bool) (time position : ℕ) (given : List Event)

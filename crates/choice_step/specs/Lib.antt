@@ -6,6 +6,6 @@ pub mod Waking
 pub mod Looking
 pub mod Choosing
 pub mod Acting
-pub mod Asked
+pub mod Situations
 pub mod Laws
 pub mod Cases

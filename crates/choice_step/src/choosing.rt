@@ -1,7 +1,7 @@
 //! The choice loop: what is added at a step and taken out, so that nothing is missing there.
 ghost use Rattle.std.specs.Prelude.{◌≡◌, ◌<◌, ◌≤◌, ◌^◌, false, IfNone, IfOk, IfSome, IsTrue, None, OnOk, length, map};
 ghost use Rattle.std.specs.List.{AllByRecursion};
-ghost use Rattle.choice_step.specs.Asked.{CanDecide, Finds, IsFound, IsMetBefore, Leads, NoneIsWoken};
+ghost use Rattle.choice_step.specs.Situations.{CanDecide, Finds, IsFound, IsMetBefore, Leads, NoneIsWoken};
 ghost use Rattle.choice_step.specs.Choosing.{ActsFrom, WillDecide};
 ghost use Rattle.choice_step.specs.Justifying.{WillBeJustified};
 ghost use Rattle.enf_formula.specs.Names.{HaveSameOf};
@@ -16,9 +16,9 @@ ghost use Rattle.plan_terms.specs.Triggers.{guard_triggers};
 
 use crate::acting::{act_for, has_no_choices};
 use crate::actions::Actions;
-use crate::asked::Asked;
 use crate::laws::actions_are_justified;
 use crate::looking::{Found, Place, first_action};
+use crate::situation::Situation;
 use crate::waking::Wakes;
 use enf_formula::laws::dependence;
 use enf_value::event_sets::EventSet;
@@ -128,7 +128,7 @@ pub fn choose_with(
     actions_are_justified();
     // Its clause says that no event stands twice.
     let _given = events.as_slice();
-    let asked = Asked {
+    let situation = Situation {
         plans,
         wakes,
         pending,
@@ -144,7 +144,7 @@ pub fn choose_with(
             events: after,
             tables,
             ended,
-        } = go_round(alloc, &asked, events, &mut actions)?;
+        } = go_round(alloc, &situation, events, &mut actions)?;
         if ended {
             return Ok(Choice {
                 events: after,
@@ -159,25 +159,25 @@ pub fn choose_with(
 // A round of the loop, up to an action on a name that a guard looks for: the tables are made once.
 fn go_round(
     alloc: Global,
-    asked: &Asked<'_>,
+    situation: &Situation<'_>,
     events: EventSet,
     actions: &mut Actions,
 ) -> Result<Round, NoMemory>
-    requires can { CanDecide asked.now }
-    ensures acts { IfOk result (λ round. Leads asked.now events events actions.old round.events actions.new) }
+    requires can { CanDecide situation.now }
+    ensures acts { IfOk result (λ round. Leads situation.now events events actions.old round.events actions.new) }
     ensures more { IfOk result (λ round. round.ended ≡ false → length actions.old < length actions.new) }
-    ensures nothing { IfOk result (λ round. IsTrue round.ended → Finds asked.now round.events None) }
+    ensures nothing { IfOk result (λ round. IsTrue round.ended → Finds situation.now round.events None) }
     ensures tables { IfOk result (λ round. IsTrue round.ended
-        → AreOf asked.now.past.now asked.now.time round.events round.tables) }
+        → AreOf situation.now.past.now situation.now.time round.events round.tables) }
     ensures hold { IfOk result (λ round. IsTrue round.ended
-        → GuardsWillHold asked.now.past.now asked.now.time round.events round.tables) }
+        → GuardsWillHold situation.now.past.now situation.now.time round.events round.tables) }
 {
     unread_tables_stay();
     let Seen {
         found,
         tables,
         last,
-    } = look(alloc, asked, &events)?;
+    } = look(alloc, situation, &events)?;
     let Some(found) = found else {
         return Ok(Round {
             events,
@@ -186,7 +186,7 @@ fn go_round(
         });
     };
     let mut after = events;
-    let ended = act_from(alloc, asked, &tables, found, last, &mut after, actions)?;
+    let ended = act_from(alloc, situation, &tables, found, last, &mut after, actions)?;
     Ok(Round {
         events: after,
         tables,
@@ -195,26 +195,27 @@ fn go_round(
 }
 
 // The first look of a round.
-fn look(alloc: Global, asked: &Asked<'_>, events: &EventSet) -> Result<Seen, NoMemory>
-    requires can { CanDecide asked.now }
-    ensures nothing { IfOk result (λ seen. IfNone seen.found (Finds asked.now events.now None)) }
-    ensures found { IfOk result (λ seen. IfSome seen.found (IsFound asked.now events.now events.now)) }
-    ensures place { IfOk result (λ seen. IfSome seen.found (λ f. IsMetBefore asked.now events.now f.place)) }
+fn look(alloc: Global, situation: &Situation<'_>, events: &EventSet) -> Result<Seen, NoMemory>
+    requires can { CanDecide situation.now }
+    ensures nothing { IfOk result (λ seen. IfNone seen.found (Finds situation.now events.now None)) }
+    ensures found { IfOk result (λ seen. IfSome seen.found (IsFound situation.now events.now events.now)) }
+    ensures place { IfOk result (λ seen. IfSome seen.found (λ f. IsMetBefore situation.now events.now f.place)) }
     ensures last { IfOk result (λ seen. IfSome seen.found
-        (λ f. IsTrue seen.last → NoneIsWoken asked.now events.now f.rule)) }
-    ensures are { IfOk result (λ seen. AreOf asked.now.past.now asked.now.time events.now seen.tables) }
-    ensures hold { IfOk result (λ seen. GuardsWillHold asked.now.past.now asked.now.time events.now seen.tables) }
-    ensures known { IfOk result (λ seen. AreKnown asked.now.past.now events.now seen.tables) }
+        (λ f. IsTrue seen.last → NoneIsWoken situation.now events.now f.rule)) }
+    ensures are { IfOk result (λ seen. AreOf situation.now.past.now situation.now.time events.now seen.tables) }
+    ensures hold { IfOk result (λ seen.
+        GuardsWillHold situation.now.past.now situation.now.time events.now seen.tables) }
+    ensures known { IfOk result (λ seen. AreKnown situation.now.past.now events.now seen.tables) }
 {
     let ordered = StepEvents::of(alloc, events)?;
-    let tables = asked.past.tables_at(alloc, asked.time, &ordered)?;
+    let tables = situation.past.tables_at(alloc, situation.time, &ordered)?;
     let start = Place {
         instances: 0,
         rules: 0,
     };
-    let found = next_from(alloc, asked, events, &ordered, &tables, start)?;
+    let found = next_from(alloc, situation, events, &ordered, &tables, start)?;
     let last = match &found {
-        Some(first) => is_last(asked, first, &ordered),
+        Some(first) => is_last(situation, first, &ordered),
         None => false,
     };
     Ok(Seen {
@@ -225,45 +226,45 @@ fn look(alloc: Global, asked: &Asked<'_>, events: &EventSet) -> Result<Seen, NoM
 }
 
 // Whether what was found is the root of a rule without choices, and the step wakes no rule behind it.
-fn is_last(asked: &Asked<'_>, found: &Found, ordered: &StepEvents<'_>) -> bool
-    ensures { IsTrue result → NoneIsWoken asked.now ordered.now found.now.rule }
+fn is_last(situation: &Situation<'_>, found: &Found, ordered: &StepEvents<'_>) -> bool
+    ensures { IsTrue result → NoneIsWoken situation.now ordered.now found.now.rule }
 {
     let all = ordered.set().as_slice();
     !found.literals.is_empty()
-        && has_no_choices(asked.plans, found.rule)
-        && asked
+        && has_no_choices(situation.plans, found.rule)
+        && situation
             .wakes
             .next_awake(found.rule as usize + 1, all, ordered)
-            >= asked.plans.len()
+            >= situation.plans.len()
 }
 
 // Acts for the root behind which no rule is woken; it answers whether no guard looks for a name that was acted on, so
 // that nothing is missing.
 fn act_last(
     alloc: Global,
-    asked: &Asked<'_>,
+    situation: &Situation<'_>,
     found: Found,
     events: &mut EventSet,
     actions: &mut Actions,
 ) -> Result<bool, NoMemory>
-    requires can { CanDecide asked.now }
-    requires found { IsFound asked.now events.old events.old found }
-    requires place { IsMetBefore asked.now events.old found.place }
-    requires last { NoneIsWoken asked.now events.old found.rule }
-    ensures acts { OnOk result (Leads asked.now events.old events.old actions.old events.new actions.new) }
+    requires can { CanDecide situation.now }
+    requires found { IsFound situation.now events.old events.old found }
+    requires place { IsMetBefore situation.now events.old found.place }
+    requires last { NoneIsWoken situation.now events.old found.rule }
+    ensures acts { OnOk result (Leads situation.now events.old events.old actions.old events.new actions.new) }
     ensures more { OnOk result (length actions.old < length actions.new) }
-    ensures nothing { IfOk result (λ ended. IsTrue ended → Finds asked.now events.new None) }
+    ensures nothing { IfOk result (λ ended. IsTrue ended → Finds situation.now events.new None) }
     ensures same { IfOk result (λ ended. IsTrue ended
-        → HaveSameOf (guard_names asked.now.past.now.guards) events.old events.new) }
+        → HaveSameOf (guard_names situation.now.past.now.guards) events.old events.new) }
 {
     triggers_are_met();
     let rule = found.rule as usize;
     let reached = act_for(
         alloc,
-        asked.plans,
-        asked.past,
-        asked.time,
-        asked.position,
+        situation.plans,
+        situation.past,
+        situation.time,
+        situation.position,
         found,
         events,
         actions,
@@ -271,7 +272,7 @@ fn act_last(
     let Some(place) = reached else {
         return Ok(false);
     };
-    if place.instances < asked.pending.len() || place.rules <= rule {
+    if place.instances < situation.pending.len() || place.rules <= rule {
         return Ok(false);
     }
     Ok(true)
@@ -282,57 +283,57 @@ fn act_last(
 // is missing.
 fn act_from(
     alloc: Global,
-    asked: &Asked<'_>,
+    situation: &Situation<'_>,
     tables: &Tables,
     found: Found,
     last: bool,
     events: &mut EventSet,
     actions: &mut Actions,
 ) -> Result<bool, NoMemory>
-    requires can { CanDecide asked.now }
-    requires are { AreOf asked.now.past.now asked.now.time events.old tables.now }
-    requires hold { GuardsWillHold asked.now.past.now asked.now.time events.old tables.now }
-    requires known { AreKnown asked.now.past.now events.old tables.now }
-    requires found { IsFound asked.now events.old events.old found }
-    requires place { IsMetBefore asked.now events.old found.place }
-    requires last { IsTrue last → NoneIsWoken asked.now events.old found.rule }
-    ensures acts { OnOk result (Leads asked.now events.old events.old actions.old events.new actions.new) }
+    requires can { CanDecide situation.now }
+    requires are { AreOf situation.now.past.now situation.now.time events.old tables.now }
+    requires hold { GuardsWillHold situation.now.past.now situation.now.time events.old tables.now }
+    requires known { AreKnown situation.now.past.now events.old tables.now }
+    requires found { IsFound situation.now events.old events.old found }
+    requires place { IsMetBefore situation.now events.old found.place }
+    requires last { IsTrue last → NoneIsWoken situation.now events.old found.rule }
+    ensures acts { OnOk result (Leads situation.now events.old events.old actions.old events.new actions.new) }
     ensures more { OnOk result (length actions.old < length actions.new) }
-    ensures nothing { IfOk result (λ ended. IsTrue ended → Finds asked.now events.new None) }
+    ensures nothing { IfOk result (λ ended. IsTrue ended → Finds situation.now events.new None) }
     ensures same { IfOk result (λ ended. IsTrue ended
-        → HaveSameOf (guard_names asked.now.past.now.guards) events.old events.new) }
+        → HaveSameOf (guard_names situation.now.past.now.guards) events.old events.new) }
 {
     if last {
-        return act_last(alloc, asked, found, events, actions);
+        return act_last(alloc, situation, found, events, actions);
     }
     let given = events.duplicate(alloc)?;
     let ordered = StepEvents::of(alloc, &given)?;
-    go_on(alloc, asked, &ordered, tables, found, events, actions)
+    go_on(alloc, situation, &ordered, tables, found, events, actions)
 }
 
 // Acts for what was found, and goes on from its place, until something looks for a name that was acted on; it answers
 // whether nothing did, so that nothing is missing.
 fn go_on(
     alloc: Global,
-    asked: &Asked<'_>,
+    situation: &Situation<'_>,
     ordered: &StepEvents<'_>,
     tables: &Tables,
     found: Found,
     events: &mut EventSet,
     actions: &mut Actions,
 ) -> Result<bool, NoMemory>
-    requires can { CanDecide asked.now }
-    requires are { AreOf asked.now.past.now asked.now.time ordered.now tables.now }
-    requires hold { GuardsWillHold asked.now.past.now asked.now.time ordered.now tables.now }
-    requires known { AreKnown asked.now.past.now ordered.now tables.now }
+    requires can { CanDecide situation.now }
+    requires are { AreOf situation.now.past.now situation.now.time ordered.now tables.now }
+    requires hold { GuardsWillHold situation.now.past.now situation.now.time ordered.now tables.now }
+    requires known { AreKnown situation.now.past.now ordered.now tables.now }
     requires same { events.old ≡ ordered.now }
-    requires found { IsFound asked.now ordered.now ordered.now found }
-    requires place { IsMetBefore asked.now ordered.now found.place }
-    ensures acts { OnOk result (Leads asked.now ordered.now ordered.now actions.old events.new actions.new) }
+    requires found { IsFound situation.now ordered.now ordered.now found }
+    requires place { IsMetBefore situation.now ordered.now found.place }
+    ensures acts { OnOk result (Leads situation.now ordered.now ordered.now actions.old events.new actions.new) }
     ensures more { OnOk result (length actions.old < length actions.new) }
-    ensures nothing { IfOk result (λ ended. IsTrue ended → Finds asked.now events.new None) }
+    ensures nothing { IfOk result (λ ended. IsTrue ended → Finds situation.now events.new None) }
     ensures same { IfOk result (λ ended. IsTrue ended
-        → HaveSameOf (guard_names asked.now.past.now.guards) ordered.now events.new) }
+        → HaveSameOf (guard_names situation.now.past.now.guards) ordered.now events.new) }
 {
     // Its clause says that no event stands twice.
     let _given = ordered.set().as_slice();
@@ -340,10 +341,10 @@ fn go_on(
     loop {
         let reached = act_for(
             alloc,
-            asked.plans,
-            asked.past,
-            asked.time,
-            asked.position,
+            situation.plans,
+            situation.past,
+            situation.time,
+            situation.position,
             first,
             events,
             actions,
@@ -351,7 +352,7 @@ fn go_on(
         let Some(place) = reached else {
             return Ok(false);
         };
-        let next = next_from(alloc, asked, events, ordered, tables, place)?;
+        let next = next_from(alloc, situation, events, ordered, tables, place)?;
         match next {
             Some(next) => first = next,
             None => return Ok(true),
@@ -363,37 +364,37 @@ fn go_on(
 // events changed in names that no guard looks for.
 fn next_from(
     alloc: Global,
-    asked: &Asked<'_>,
+    situation: &Situation<'_>,
     events: &EventSet,
     ordered: &StepEvents<'_>,
     tables: &Tables,
     from: Place,
 ) -> Result<Option<Found>, NoMemory>
-    requires can { CanDecide asked.now }
-    requires are { AreOf asked.now.past.now asked.now.time ordered.now tables.now }
-    requires hold { GuardsWillHold asked.now.past.now asked.now.time ordered.now tables.now }
-    requires known { AreKnown asked.now.past.now ordered.now tables.now }
-    requires same { HaveSameOf (guard_names asked.now.past.now.guards) ordered.now events.now }
-    requires before { IsMetBefore asked.now events.now from }
-    ensures nothing { IfOk result (λ found. IfNone found (Finds asked.now events.now None)) }
-    ensures found { IfOk result (λ found. IfSome found (IsFound asked.now ordered.now events.now)) }
-    ensures place { IfOk result (λ found. IfSome found (λ f. IsMetBefore asked.now events.now f.place)) }
+    requires can { CanDecide situation.now }
+    requires are { AreOf situation.now.past.now situation.now.time ordered.now tables.now }
+    requires hold { GuardsWillHold situation.now.past.now situation.now.time ordered.now tables.now }
+    requires known { AreKnown situation.now.past.now ordered.now tables.now }
+    requires same { HaveSameOf (guard_names situation.now.past.now.guards) ordered.now events.now }
+    requires before { IsMetBefore situation.now events.now from }
+    ensures nothing { IfOk result (λ found. IfNone found (Finds situation.now events.now None)) }
+    ensures found { IfOk result (λ found. IfSome found (IsFound situation.now ordered.now events.now)) }
+    ensures place { IfOk result (λ found. IfSome found (λ f. IsMetBefore situation.now events.now f.place)) }
 {
     dependence();
     let now = Now {
-        time: asked.time,
-        position: asked.position,
+        time: situation.time,
+        position: situation.position,
         events,
         ordered,
         tables,
     };
     let found = first_action(
         alloc,
-        asked.plans,
-        asked.wakes,
-        asked.pending,
+        situation.plans,
+        situation.wakes,
+        situation.pending,
         &now,
-        asked.inserted,
+        situation.inserted,
         from,
     )?;
     Ok(found)

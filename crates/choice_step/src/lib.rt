@@ -4,11 +4,11 @@
 
 mod acting;
 pub mod actions;
-mod asked;
 pub mod choosing;
 pub mod idle;
 pub mod laws;
 mod looking;
+mod situation;
 pub mod waking;
 mod woken;
 pub mod worked_cases;

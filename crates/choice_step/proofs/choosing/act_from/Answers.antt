@@ -3,31 +3,31 @@ use Rattle.enf_formula.specs.Names.{HaveSameOf}
 use Rattle.past_state.specs.Known.{AreKnown}
 use Rattle.past_state.specs.Past.{AreOf, GuardsWillHold, guard_names}
 use Rattle.std.proofs.lemmas.Result.{on_ok_weaker}
-use Rattle.choice_step.specs.Asked.{IsFound, IsMetBefore, Leads}
+use Rattle.choice_step.specs.Situations.{IsFound, IsMetBefore, Leads}
 use Rattle.choice_step.proofs.choosing.act_from.Goals as goal
 
 pub go_on-requires : goal.go_on-requires
 go_on-requires c =
-    let asked = c.args.asked.now in
+    let situation = c.args.situation.now in
     let found = c.args.found in
     let tables = c.args.tables.now in
     let same = sym (c.in_ok-ordered.ensures ∙ c.in_ok-given.ensures) in
     record {
       can = c.requires.can;
-      are = subst (λ l. AreOf asked.past.now asked.time l tables) same c.requires.are;
-      hold = subst (λ l. GuardsWillHold asked.past.now asked.time l tables) same c.requires.hold;
-      known = subst (λ l. AreKnown asked.past.now l tables) same c.requires.known;
+      are = subst (λ l. AreOf situation.past.now situation.time l tables) same c.requires.are;
+      hold = subst (λ l. GuardsWillHold situation.past.now situation.time l tables) same c.requires.hold;
+      known = subst (λ l. AreKnown situation.past.now l tables) same c.requires.known;
       same = same;
-      found = subst (λ l. IsFound asked l l found) same c.requires.found;
-      place = subst (λ l. IsMetBefore asked l found.place) same c.requires.place;
+      found = subst (λ l. IsFound situation l l found) same c.requires.found;
+      place = subst (λ l. IsMetBefore situation l found.place) same c.requires.place;
     }
 
 pub returns-clause-acts : goal.returns-clause-acts
 returns-clause-acts c =
-    on_ok_weaker c.go_on.result (λ acts. subst (λ l. Leads c.args.asked.now l l c.args.actions.now c.go_on.new.events c.go_on.new.actions) (c.in_ok-ordered.ensures ∙ c.in_ok-given.ensures) acts)
+    on_ok_weaker c.go_on.result (λ acts. subst (λ l. Leads c.args.situation.now l l c.args.actions.now c.go_on.new.events c.go_on.new.actions) (c.in_ok-ordered.ensures ∙ c.in_ok-given.ensures) acts)
     c.go_on.ensures.acts
 
 pub returns-clause-same : goal.returns-clause-same
 returns-clause-same c =
-    subst (λ l. IfOk c.go_on.result (λ ended. IsTrue ended → HaveSameOf (guard_names c.args.asked.now.past.now.guards) l c.go_on.new.events))
+    subst (λ l. IfOk c.go_on.result (λ ended. IsTrue ended → HaveSameOf (guard_names c.args.situation.now.past.now.guards) l c.go_on.new.events))
     (c.in_ok-ordered.ensures ∙ c.in_ok-given.ensures) c.go_on.ensures.same

@@ -2,7 +2,7 @@ use Rattle.std.proofs.Common.{refl, subst, arith}
 use Rattle.std.specs.Prelude.{IfSome}
 use Rattle.past_state.specs.Past.{guard_names}
 use Rattle.choice_step.specs.Acting.{AreSparedBehind, StaysMet}
-use Rattle.choice_step.specs.Asked.{plans_of}
+use Rattle.choice_step.specs.Situations.{plans_of}
 use Rattle.choice_step.proofs.PlaceLemmas.{led_on, more_on, none_behind, on_first, place_on, same_on}
 use Rattle.choice_step.proofs.choosing.act_last.Goals as goal
 
@@ -10,37 +10,37 @@ pub act_for-requires : goal.act_for-requires
 act_for-requires c = record { changes = c.requires.found.wanted.changes }
 
 pub returns-in_default-clause-acts : goal.returns-in_default-clause-acts
-returns-in_default-clause-acts c = led_on c.args.asked.now c.requires.can c.args.events.now c.args.actions.now c.args.found c.args.events.now c.args.actions.now c.act_for.new.events c.act_for.new.actions (on_first c.args.asked.now c.args.events.now c.args.actions.now c.args.found c.args.events.now refl c.requires.found c.requires.place) c.in_ok-reached.ensures.acts
+returns-in_default-clause-acts c = led_on c.args.situation.now c.requires.can c.args.events.now c.args.actions.now c.args.found c.args.events.now c.args.actions.now c.act_for.new.events c.act_for.new.actions (on_first c.args.situation.now c.args.events.now c.args.actions.now c.args.found c.args.events.now refl c.requires.found c.requires.place) c.in_ok-reached.ensures.acts
 
 pub returns-in_default-clause-more : goal.returns-in_default-clause-more
-returns-in_default-clause-more c = more_on c.args.asked.now c.requires.can c.args.events.now c.args.actions.now c.args.found c.args.events.now c.args.actions.now c.act_for.new.events c.act_for.new.actions (on_first c.args.asked.now c.args.events.now c.args.actions.now c.args.found c.args.events.now refl c.requires.found c.requires.place) c.in_ok-reached.ensures.acts
+returns-in_default-clause-more c = more_on c.args.situation.now c.requires.can c.args.events.now c.args.actions.now c.args.found c.args.events.now c.args.actions.now c.act_for.new.events c.act_for.new.actions (on_first c.args.situation.now c.args.events.now c.args.actions.now c.args.found c.args.events.now refl c.requires.found c.requires.place) c.in_ok-reached.ensures.acts
 
 pub returns-then-place-len-clause-acts : goal.returns-then-place-len-clause-acts
-returns-then-place-len-clause-acts c = led_on c.args.asked.now c.requires.can c.args.events.now c.args.actions.now c.args.found c.args.events.now c.args.actions.now c.act_for.new.events c.act_for.new.actions (on_first c.args.asked.now c.args.events.now c.args.actions.now c.args.found c.args.events.now refl c.requires.found c.requires.place) c.in_ok-reached.ensures.acts
+returns-then-place-len-clause-acts c = led_on c.args.situation.now c.requires.can c.args.events.now c.args.actions.now c.args.found c.args.events.now c.args.actions.now c.act_for.new.events c.act_for.new.actions (on_first c.args.situation.now c.args.events.now c.args.actions.now c.args.found c.args.events.now refl c.requires.found c.requires.place) c.in_ok-reached.ensures.acts
 
 pub returns-then-place-len-clause-more : goal.returns-then-place-len-clause-more
-returns-then-place-len-clause-more c = more_on c.args.asked.now c.requires.can c.args.events.now c.args.actions.now c.args.found c.args.events.now c.args.actions.now c.act_for.new.events c.act_for.new.actions (on_first c.args.asked.now c.args.events.now c.args.actions.now c.args.found c.args.events.now refl c.requires.found c.requires.place) c.in_ok-reached.ensures.acts
+returns-then-place-len-clause-more c = more_on c.args.situation.now c.requires.can c.args.events.now c.args.actions.now c.args.found c.args.events.now c.args.actions.now c.act_for.new.events c.act_for.new.actions (on_first c.args.situation.now c.args.events.now c.args.actions.now c.args.found c.args.events.now refl c.requires.found c.requires.place) c.in_ok-reached.ensures.acts
 
 pub returns-clause-acts : goal.returns-clause-acts
-returns-clause-acts c = led_on c.args.asked.now c.requires.can c.args.events.now c.args.actions.now c.args.found c.args.events.now c.args.actions.now c.act_for.new.events c.act_for.new.actions (on_first c.args.asked.now c.args.events.now c.args.actions.now c.args.found c.args.events.now refl c.requires.found c.requires.place) c.in_ok-reached.ensures.acts
+returns-clause-acts c = led_on c.args.situation.now c.requires.can c.args.events.now c.args.actions.now c.args.found c.args.events.now c.args.actions.now c.act_for.new.events c.act_for.new.actions (on_first c.args.situation.now c.args.events.now c.args.actions.now c.args.found c.args.events.now refl c.requires.found c.requires.place) c.in_ok-reached.ensures.acts
 
 pub returns-clause-more : goal.returns-clause-more
-returns-clause-more c = more_on c.args.asked.now c.requires.can c.args.events.now c.args.actions.now c.args.found c.args.events.now c.args.actions.now c.act_for.new.events c.act_for.new.actions (on_first c.args.asked.now c.args.events.now c.args.actions.now c.args.found c.args.events.now refl c.requires.found c.requires.place) c.in_ok-reached.ensures.acts
+returns-clause-more c = more_on c.args.situation.now c.requires.can c.args.events.now c.args.actions.now c.args.found c.args.events.now c.args.actions.now c.act_for.new.events c.act_for.new.actions (on_first c.args.situation.now c.args.events.now c.args.actions.now c.args.found c.args.events.now refl c.requires.found c.requires.place) c.in_ok-reached.ensures.acts
 
 pub returns-clause-nothing : goal.returns-clause-nothing
 returns-clause-nothing c _ =
-    let asked = c.args.asked.now in
+    let situation = c.args.situation.now in
     let f = c.args.found in
-    none_behind asked c.requires.can c.args.events.now c.triggers_are_met.ensures c.act_for.new.events f.rule c.in-Some.place
-    (same_on c.args.asked.now c.requires.can c.args.events.now c.args.actions.now c.args.found c.args.events.now c.args.actions.now c.act_for.new.events c.act_for.new.actions
-    (on_first c.args.asked.now c.args.events.now c.args.actions.now c.args.found c.args.events.now refl c.requires.found c.requires.place) c.in_ok-reached.ensures.acts
-    (subst (λ o. IfSome o (λ place. AreSparedBehind (guard_names c.args.asked.now.past.now.guards) c.args.actions.now c.act_for.new.actions)) c.in-Some.is c.in_ok-reached.ensures.spared)) c.requires.last
+    none_behind situation c.requires.can c.args.events.now c.triggers_are_met.ensures c.act_for.new.events f.rule c.in-Some.place
+    (same_on c.args.situation.now c.requires.can c.args.events.now c.args.actions.now c.args.found c.args.events.now c.args.actions.now c.act_for.new.events c.act_for.new.actions
+    (on_first c.args.situation.now c.args.events.now c.args.actions.now c.args.found c.args.events.now refl c.requires.found c.requires.place) c.in_ok-reached.ensures.acts
+    (subst (λ o. IfSome o (λ place. AreSparedBehind (guard_names c.args.situation.now.past.now.guards) c.args.actions.now c.act_for.new.actions)) c.in-Some.is c.in_ok-reached.ensures.spared)) c.requires.last
     (omega (arith, c.len.ensures, c.if-place-len.false)) c.if-place-rule.false
-    (place_on asked c.requires.can c.args.events.now c.args.actions.now f c.args.events.now c.args.actions.now c.act_for.new.events c.in-Some.place (on_first c.args.asked.now c.args.events.now c.args.actions.now c.args.found c.args.events.now refl c.requires.found c.requires.place)
-    (subst (λ o. IfSome o (λ place. StaysMet (plans_of asked) asked.past.now asked.time asked.position f.action f.rule f.literals.items f.place c.args.events.now c.act_for.new.events place)) c.in-Some.is c.in_ok-reached.ensures.met))
+    (place_on situation c.requires.can c.args.events.now c.args.actions.now f c.args.events.now c.args.actions.now c.act_for.new.events c.in-Some.place (on_first c.args.situation.now c.args.events.now c.args.actions.now c.args.found c.args.events.now refl c.requires.found c.requires.place)
+    (subst (λ o. IfSome o (λ place. StaysMet (plans_of situation) situation.past.now situation.time situation.position f.action f.rule f.literals.items f.place c.args.events.now c.act_for.new.events place)) c.in-Some.is c.in_ok-reached.ensures.met))
 
 pub returns-clause-same : goal.returns-clause-same
 returns-clause-same c _ =
-    same_on c.args.asked.now c.requires.can c.args.events.now c.args.actions.now c.args.found c.args.events.now c.args.actions.now c.act_for.new.events c.act_for.new.actions
-    (on_first c.args.asked.now c.args.events.now c.args.actions.now c.args.found c.args.events.now refl c.requires.found c.requires.place) c.in_ok-reached.ensures.acts
-    (subst (λ o. IfSome o (λ place. AreSparedBehind (guard_names c.args.asked.now.past.now.guards) c.args.actions.now c.act_for.new.actions)) c.in-Some.is c.in_ok-reached.ensures.spared)
+    same_on c.args.situation.now c.requires.can c.args.events.now c.args.actions.now c.args.found c.args.events.now c.args.actions.now c.act_for.new.events c.act_for.new.actions
+    (on_first c.args.situation.now c.args.events.now c.args.actions.now c.args.found c.args.events.now refl c.requires.found c.requires.place) c.in_ok-reached.ensures.acts
+    (subst (λ o. IfSome o (λ place. AreSparedBehind (guard_names c.args.situation.now.past.now.guards) c.args.actions.now c.act_for.new.actions)) c.in-Some.is c.in_ok-reached.ensures.spared)

@@ -2,7 +2,7 @@ use Rattle.std.proofs.Common.{[], None, refl, sym, subst, append-nil}
 use Rattle.std.specs.Prelude.{IfNone, IfSome, IsTrue}
 use Rattle.enf_formula.specs.Names.{HaveSameOf}
 use Rattle.past_state.specs.Past.{guard_names}
-use Rattle.choice_step.specs.Asked.{Finds, IsFound, IsMetBefore, NoneIsWoken}
+use Rattle.choice_step.specs.Situations.{Finds, IsFound, IsMetBefore, NoneIsWoken}
 use Rattle.choice_step.proofs.choosing.go_round.Goals as goal
 
 pub returns-in_default-clause-acts : goal.returns-in_default-clause-acts
@@ -10,20 +10,20 @@ returns-in_default-clause-acts c = ([], sym (append-nil c.args.actions.now), ref
 
 pub returns-in_default-clause-nothing : goal.returns-in_default-clause-nothing
 returns-in_default-clause-nothing c _ =
-    subst (λ o. IfNone o (Finds c.args.asked.now c.args.events None)) c.in_default.is c.in_ok-found.ensures.nothing
+    subst (λ o. IfNone o (Finds c.args.situation.now c.args.events None)) c.in_default.is c.in_ok-found.ensures.nothing
 
 pub act_from-requires : goal.act_from-requires
 act_from-requires c =
-    let asked = c.args.asked.now in
+    let situation = c.args.situation.now in
     let events = c.args.events in
     record {
       can = c.requires.can;
       are = c.in_ok-found.ensures.are;
       hold = c.in_ok-found.ensures.hold;
       known = c.in_ok-found.ensures.known;
-      found = subst (λ o. IfSome o (IsFound asked events events)) c.in-Some.is c.in_ok-found.ensures.found;
-      place = subst (λ o. IfSome o (λ f. IsMetBefore asked events f.place)) c.in-Some.is c.in_ok-found.ensures.place;
-      last = subst (λ o. IfSome o (λ f. IsTrue c.in_ok-found.field-0.last → NoneIsWoken asked events f.rule)) c.in-Some.is c.in_ok-found.ensures.last;
+      found = subst (λ o. IfSome o (IsFound situation events events)) c.in-Some.is c.in_ok-found.ensures.found;
+      place = subst (λ o. IfSome o (λ f. IsMetBefore situation events f.place)) c.in-Some.is c.in_ok-found.ensures.place;
+      last = subst (λ o. IfSome o (λ f. IsTrue c.in_ok-found.field-0.last → NoneIsWoken situation events f.rule)) c.in-Some.is c.in_ok-found.ensures.last;
     }
 
 pub returns-clause-more : goal.returns-clause-more
@@ -31,13 +31,13 @@ returns-clause-more c _ = c.in_ok-ended.ensures.more
 
 pub returns-clause-tables : goal.returns-clause-tables
 returns-clause-tables c ended =
-    let asked = c.args.asked.now in
-    c.unread_tables_stay.ensures.are asked.past.now asked.time c.args.events c.act_from.new.events c.in_ok-found.field-0.tables
+    let situation = c.args.situation.now in
+    c.unread_tables_stay.ensures.are situation.past.now situation.time c.args.events c.act_from.new.events c.in_ok-found.field-0.tables
     (c.in_ok-ended.ensures.same ended) c.in_ok-found.ensures.are
 
 pub returns-clause-hold : goal.returns-clause-hold
 returns-clause-hold c ended =
-    let asked = c.args.asked.now in
-    c.unread_tables_stay.ensures.hold asked.past.now asked.time c.args.events c.act_from.new.events c.in_ok-found.field-0.tables
+    let situation = c.args.situation.now in
+    c.unread_tables_stay.ensures.hold situation.past.now situation.time c.args.events c.act_from.new.events c.in_ok-found.field-0.tables
     (subst (λ gs. HaveSameOf (guard_names gs) c.args.events c.act_from.new.events) (sym c.in_ok-found.ensures.are.2.0) (c.in_ok-ended.ensures.same ended))
     c.in_ok-found.ensures.hold

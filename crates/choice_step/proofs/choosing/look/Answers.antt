@@ -10,13 +10,13 @@ next_from-requires c = record {
   are = c.in_ok-tables.ensures.are;
   hold = c.in_ok-tables.ensures.hold;
   known = c.in_ok-tables.ensures.known;
-  same = subst (λ l. HaveSameOf (guard_names c.args.asked.now.past.now.guards) l c.args.events.now) (sym c.in_ok-ordered.ensures) (λ event named. (λ there. there, λ there. there));
+  same = subst (λ l. HaveSameOf (guard_names c.args.situation.now.past.now.guards) l c.args.events.now) (sym c.in_ok-ordered.ensures) (λ event named. (λ there. there, λ there. there));
   before = λ trace stands long later. (tt, tt);
 }
 
 pub returns-clause-are : goal.returns-clause-are
 returns-clause-are c =
-    subst (λ l. AreOf c.args.asked.now.past.now c.args.asked.now.time l c.in_ok-tables.tables) c.in_ok-ordered.ensures c.in_ok-tables.ensures.are
+    subst (λ l. AreOf c.args.situation.now.past.now c.args.situation.now.time l c.in_ok-tables.tables) c.in_ok-ordered.ensures c.in_ok-tables.ensures.are
 
 pub returns-clause-known : goal.returns-clause-known
-returns-clause-known c = subst (λ l. AreKnown c.args.asked.now.past.now l c.in_ok-tables.tables) c.in_ok-ordered.ensures c.in_ok-tables.ensures.known
+returns-clause-known c = subst (λ l. AreKnown c.args.situation.now.past.now l c.in_ok-tables.tables) c.in_ok-ordered.ensures c.in_ok-tables.ensures.known

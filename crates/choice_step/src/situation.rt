@@ -1,4 +1,4 @@
-//! What is asked at a step.
+//! The situation in which a step is decided.
 use crate::waking::Wakes;
 use obligations::Pending;
 use past_state::PastState;
@@ -7,7 +7,7 @@ use plan_terms::Plan;
 // A step at which it is asked who misses something: the plans of the rules and what wakes them, what is pending, what
 // is remembered of the steps before, its time and position, and whether it is inserted.
 #[derive(Drop)]
-pub struct Asked<'a> {
+pub struct Situation<'a> {
     pub plans: &'a [Plan],
     pub wakes: &'a Wakes,
     pub pending: &'a Pending,
