@@ -41,6 +41,7 @@ fn mark(kind: StepKind) -> u8
     }
 }
 
+#[inline(always)]
 fn print_events(signature: &Signature, events: &[Event], out: &mut Vec<u8>) -> Result<(), NoMemory>
     ensures ok { OnOk result (out.new.items ≡ out.old.items
         ++ flat_map (λ event. 32 ∷ spelled_event (names_of signature.now) event) events.now) }
@@ -56,6 +57,7 @@ fn print_events(signature: &Signature, events: &[Event], out: &mut Vec<u8>) -> R
 
 /// Appends an event behind a space; for want of memory a front of it is appended. Of a name that the signature lacks
 /// nothing is printed.
+#[inline(always)]
 pub fn print_event(signature: &Signature, event: &Event, out: &mut Vec<u8>) -> Result<(), NoMemory>
     ensures ok { OnOk result (out.new.items
         ≡ out.old.items ++ 32 ∷ spelled_event (names_of signature.now) event.now) }
@@ -69,6 +71,7 @@ pub fn print_event(signature: &Signature, event: &Event, out: &mut Vec<u8>) -> R
     print_byte(b')', out)
 }
 
+#[inline(always)]
 fn print_name(signature: &Signature, name: NameId, out: &mut Vec<u8>) -> Result<(), NoMemory>
     ensures ok { OnOk result (out.new.items
         ≡ out.old.items ++ slice_index_or (names_of signature.now) name.0 []) }
@@ -81,6 +84,7 @@ fn print_name(signature: &Signature, name: NameId, out: &mut Vec<u8>) -> Result<
 }
 
 // Values with commas between them.
+#[inline(always)]
 fn print_row(row: &[Value], out: &mut Vec<u8>) -> Result<(), NoMemory>
     ensures ok { OnOk result (out.new.items ≡ out.old.items ++ spelled_row row.now) }
     ensures err { OnErr result (AppendsPart (spelled_row row.now) out.old.items out.new.items) }

@@ -11,7 +11,7 @@ use crate::items::{Found, LogItem, LogMode, LogRefusal};
 use crate::limits::MOST_RECORD_BYTES;
 use crate::records::read_record;
 use crate::scanning::Scan;
-use enf_value::NoMemory;
+use enf_value::{Event, NoMemory};
 use signature::Signature;
 use std::alloc::Global;
 use std::marker::Model;
@@ -27,6 +27,8 @@ pub struct LogReader {
     scanned: usize,
     scan: Scan,
     refused: Option<LogRefusal>,
+    // memory for the events of a record
+    room: Vec<Event>,
 }
 
 impl Model for LogReader {
@@ -78,13 +80,14 @@ fn read_ahead(
     mode: LogMode,
     bytes: &[u8],
     front: usize,
+    room: &mut Vec<Event>,
 ) -> Option<(LogItem, usize)>
     requires { front ≤ length bytes.now }
     ensures { IfSome result (λ read. StandsWhole signature.now mode bytes.now front read.0 read.1) }
 {
     let begin = skip_blanks(bytes, front);
     let most = MOST_RECORD_BYTES.min(bytes.len() - begin);
-    match read_record(alloc, signature, mode, &bytes[begin..begin + most]) {
+    match read_record(alloc, signature, mode, &bytes[begin..begin + most], room) {
         Ok((item, length)) => Some((item, begin + length)),
         Err(_) => None,
     }
@@ -103,7 +106,15 @@ impl LogReader {
             scanned: 0,
             scan: Scan::Outside,
             refused: None,
+            room: Vec::new(alloc),
         }
+    }
+
+    /// Keeps memory for the events of a later record.
+    pub fn keep_room(&mut self, room: Vec<Event>)
+        ensures { self.new ≡ self.old }
+    {
+        self.room = room;
     }
 
     /// Puts a piece behind what was fed. After a refusal nothing is kept.
@@ -140,12 +151,20 @@ impl LogReader {
             return None;
         }
         let bytes = self.bytes.as_slice();
-        let (item, end) = read_ahead(alloc, &self.signature, self.mode, bytes, self.front)?;
+        let (item, end) = read_ahead(
+            alloc,
+            &self.signature,
+            self.mode,
+            bytes,
+            self.front,
+            &mut self.room,
+        )?;
         self.front = end;
         Some(item)
     }
 
     // The next record by a look for its end.
+    #[inline(never)]
     fn found(&mut self, alloc: Global) -> Result<Found, LogRefusal>
         ensures { ReadsNext self.old result self.new }
     {
@@ -154,7 +173,13 @@ impl LogReader {
         }
         match front_at(&self.bytes, self.front, self.scanned, self.scan) {
             Front::Whole { begin, end } => {
-                match read_record(alloc, &self.signature, self.mode, &self.bytes[begin..end]) {
+                match read_record(
+                    alloc,
+                    &self.signature,
+                    self.mode,
+                    &self.bytes[begin..end],
+                    &mut self.room,
+                ) {
                     Ok((item, _length)) => {
                         self.front = end;
                         self.scanned = 0;

@@ -21,6 +21,7 @@ use crate::limits::{MOST_EVENTS, MOST_RECORD_BYTES};
 use enf_value::{Event, EventSet, NameId, NoMemory, Place, Row, Value};
 use signature::{NameEntry, Signature, Sort};
 use std::alloc::Global;
+use std::mem;
 use trace_meaning::StepKind;
 
 // The greatest time of a step.
@@ -237,6 +238,17 @@ fn read_events(
     }
 }
 
+// The memory for events, with none in it.
+fn emptied(alloc: Global, room: &mut Vec<Event>) -> Vec<Event>
+    ensures { result.items ≡ [] }
+{
+    let mut events = mem::replace(room, Vec::new(alloc));
+    if !events.is_empty() {
+        events.clear();
+    }
+    events
+}
+
 // Reads what is behind the mark of a step, and gives how many bytes the record has.
 fn read_step(
     alloc: Global,
@@ -244,6 +256,7 @@ fn read_step(
     kind: StepKind,
     bytes: &[u8],
     from: usize,
+    room: &mut Vec<Event>,
 ) -> Result<(LogItem, usize), LogRefusal>
     requires within { from ≤ length bytes.now }
     requires short { length bytes.now ≤ MOST_RECORD_BYTES }
@@ -253,7 +266,7 @@ fn read_step(
     let Some((time, next)) = time_at(bytes, from) else {
         return Err(bad_at(from));
     };
-    let mut events = Vec::new(alloc);
+    let mut events = emptied(alloc, room);
     let mut refused = None;
     let at = read_events(alloc, signature, bytes, next, &mut events, &mut refused)?;
     if time > most_time(kind) {
@@ -267,6 +280,7 @@ fn read_step(
 }
 
 // Reads what is behind the mark of a tick, and gives how many bytes the record has.
+#[inline(never)]
 fn read_tick(bytes: &[u8], from: usize) -> Result<(LogItem, usize), LogRefusal>
     requires within { from ≤ length bytes.now }
     requires short { length bytes.now ≤ MOST_RECORD_BYTES }
@@ -287,24 +301,26 @@ fn read_tick(bytes: &[u8], from: usize) -> Result<(LogItem, usize), LogRefusal>
 
 // Reads the record at the front of bytes, and gives how many it has; what is behind it counts for nothing. A refusal is
 // that of the record where the bytes are those of one record alone.
+#[inline(always)]
 pub(crate) fn read_record(
     alloc: Global,
     signature: &Signature,
     mode: LogMode,
     bytes: &[u8],
+    room: &mut Vec<Event>,
 ) -> Result<(LogItem, usize), LogRefusal>
     requires { length bytes.now ≤ MOST_RECORD_BYTES }
     ensures { ReadsFront signature.now mode bytes.now result }
 {
     if let Some(next) = behind_mark(bytes, 0, b'@') {
-        return read_step(alloc, signature, StepKind::System, bytes, next);
+        return read_step(alloc, signature, StepKind::System, bytes, next, room);
     }
     if let Some(next) = behind_mark(bytes, 0, b'>') {
         return read_tick(bytes, next);
     }
     if mode == LogMode::TraceLog {
         if let Some(next) = behind_mark(bytes, 0, b'+') {
-            return read_step(alloc, signature, StepKind::Inserted, bytes, next);
+            return read_step(alloc, signature, StepKind::Inserted, bytes, next, room);
         }
     }
     Err(bad_at(0))

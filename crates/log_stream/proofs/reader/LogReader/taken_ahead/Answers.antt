@@ -5,8 +5,8 @@ use Rattle.log_stream.specs.declared.items.Found.TheVariants.{Item}
 use Rattle.log_stream.proofs.Readers.{behind_item, item_read, no_refusal, reader_at}
 use Rattle.log_stream.proofs.reader.LogReader.taken_ahead.Goals as goal
 
-pub invariant_of-self : goal.invariant_of-self
-invariant_of-self c =
+pub invariant_of-self-2 : goal.invariant_of-self-2
+invariant_of-self-2 c =
     let stands = subst (λ (l : List ℕ). StandsWhole c.self.inside.signature c.self.inside.mode l c.self.inside.front c.in_ok-item.item c.in_ok-item.end) c.as_slice-bytes.ensures.value c.in_ok-item.ensures in
     behind_item c.self.inside.bytes.items c.self.inside.front c.in_ok-item.end c.self.inside.scanned c.self.inside.scan c.self.inside.refused (omega (arith, c.if-self-gt0.false)) stands.whole.within c.self.invariant
 
