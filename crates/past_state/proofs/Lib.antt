@@ -1,4 +1,5 @@
 pub mod BoundsLemmas
+pub mod ShapeLemmas
 pub mod Decided
 pub mod CaseLemmas
 pub mod CountLemmas

@@ -5,6 +5,7 @@ pub mod Cases
 pub mod Counts
 pub mod Kept
 pub mod Saved
+pub mod Shapes
 pub mod Operators
 pub mod Past
 pub mod PastCodes

@@ -13,6 +13,7 @@ mod names;
 pub mod operators;
 pub mod past;
 mod restoring;
+pub mod shapes;
 mod shared_guard;
 mod surviving;
 pub mod survivors;
@@ -20,3 +21,4 @@ pub mod worked_cases;
 
 pub use kept::{KeptRow, KeptRows};
 pub use past::{PastState, Tables};
+pub use shapes::{RowOutOfBounds, WindowShape, check_rows, window_shapes};

@@ -1,0 +1,10 @@
+use Rattle.std.proofs.Common.{map, take, Some}
+use Rattle.std.specs.Option.{option_copied}
+use Rattle.past_state.specs.Bounds.{AreWithinBounds}
+use Rattle.past_state.specs.Shapes.{operator_of}
+use Rattle.past_state.proofs.ShapeLemmas.{IsLastOf}
+use Rattle.past_state.proofs.shapes.check_each.Given as goal
+
+abbrev pub invariant-loop-place : goal.invariant-loop-place
+invariant-loop-place l =
+    record { within : AreWithinBounds (map operator_of l.shapes) (Some l.last) (take l.place l.rows); last_is : IsLastOf (take l.place l.rows) (option_copied l.before) }

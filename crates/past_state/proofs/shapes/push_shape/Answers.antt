@@ -1,0 +1,7 @@
+use Rattle.std.proofs.Common.{All, sym, subst}
+use Rattle.std.proofs.lemmas.List.Elements.{All-push}
+use Rattle.past_state.specs.Shapes.{HasItsColumns}
+use Rattle.past_state.proofs.shapes.push_shape.Goals as goal
+
+pub returns-clause-columns : goal.returns-clause-columns
+returns-clause-columns c = λ fits each. subst (All HasItsColumns) (sym c.in_ok-push.ensures.items) (All-push HasItsColumns c.args.out.now.items _ each (fits _ c.in_ok-columns.ensures))
