@@ -1,6 +1,6 @@
 //! Worked cases of what has to be kept, and of what a past state can be made of, each a clause of a function with an
 //! empty body.
-ghost use Rattle.std.specs.Prelude.{[], ◌∷◌, None};
+ghost use Rattle.std.specs.Prelude.{◌≡◌, [], ◌∷◌, None, Some};
 ghost use Rattle.enf_formula.specs.Formulas.{Historically, Not, Once};
 ghost use Rattle.enf_formula.specs.Satisfaction.{Anywhere};
 ghost use Rattle.past_state.specs.Cases.{IsKeptIn, IsNotKeptIn, at_last};
@@ -8,6 +8,7 @@ ghost use Rattle.past_state.specs.Cases.{IsKeptBy, IsNotKeptBy, p_of_x, q_since_
 ghost use Rattle.past_state.specs.Cases.{IsKeptInWindow, IsNotKeptInWindow, nothing_then_p, p_then_nothing};
 ghost use Rattle.past_state.specs.RestoringCases.{CanBeKept, DoNotFit, Fit, FitBoth, at, in_second, of_two, once_in};
 ghost use Rattle.past_state.specs.RestoringCases.{prev};
+ghost use Rattle.past_state.specs.Shapes.{IsFirstOutOfBounds, numbered_operators};
 ghost use Rattle.windows.specs.Cases.{from_on, within};
 
 /// At time 3, of rows that are right at the times 0 and 2.
@@ -71,4 +72,16 @@ pub fn bounds()
     ensures twice { DoNotFit (once_in (within 3 8)) (at 1 5 ∷ at 1 5 ∷ []) }
     ensures no_rows { CanBeKept (once_in (within 3 8)) None [] }
     ensures before_the_first_step { CanBeKept (once_in (within 3 8)) None (at 1 0 ∷ []) → ⊥ }
+{}
+
+/// The operators of the first and the third of three guards, and the first row that is out of bounds, where 9 is the
+/// last time and before the first step.
+pub fn windows()
+    ensures by_number { numbered_operators 0 (once_in (within 3 8) ∷ p_of_x ∷ prev ∷ [])
+        ≡ (0, once_in (within 3 8)) ∷ (2, prev) ∷ [] }
+    ensures second_far { IsFirstOutOfBounds (once_in (within 3 8) ∷ []) (Some 9)
+        (at 1 2 ∷ at 1 5 ∷ at 1 6 ∷ []) 1 }
+    ensures not_the_third { IsFirstOutOfBounds (once_in (within 3 8) ∷ []) (Some 9)
+        (at 1 2 ∷ at 1 5 ∷ at 1 6 ∷ []) 2 → ⊥ }
+    ensures none_before_the_first_step { IsFirstOutOfBounds (prev ∷ []) None (at 1 9 ∷ []) 0 }
 {}
