@@ -1,0 +1,6 @@
+use Rattle.std.proofs.Common.{◌≡◌, ◌++◌, map, take}
+use Rattle.save_codec.specs.Lines.{values_text}
+use Rattle.save_codec.proofs.saving.print_bound.Given as goal
+
+abbrev pub invariant-loop-binding : goal.invariant-loop-binding
+invariant-loop-binding l = l.out.items ≡ l.fn.out.items ++ values_text (map (λ b. b.1) (take l.binding-index l.bindings))

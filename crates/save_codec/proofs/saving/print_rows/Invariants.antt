@@ -1,0 +1,7 @@
+use Rattle.std.proofs.Common.{◌≡◌, ◌++◌, map, take}
+use Rattle.save_codec.specs.Lines.{lines_text}
+use Rattle.save_codec.specs.Saved.{row_line}
+use Rattle.save_codec.proofs.saving.print_rows.Given as goal
+
+abbrev pub invariant-loop-row : goal.invariant-loop-row
+invariant-loop-row l = l.out.items ≡ l.fn.out.items ++ lines_text (map row_line (take l.row-index l.rows))

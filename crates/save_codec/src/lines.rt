@@ -1,0 +1,128 @@
+//! The lines of a saved text, and how they are printed.
+ghost use Rattle.std.specs.Prelude.{◌≡◌, ◌++◌, OnOk, codes};
+ghost use Rattle.save_codec.specs.Lines.{due_text, last_text, line_text, spaced, values_text};
+
+use enf_value::{NoMemory, Row, Value, print_byte, print_bytes, print_number, print_value};
+
+/// A line of a saved text, behind the bytes of the signature and of the policy. Its numbers are below 2^63.
+#[derive(Drop)]
+pub enum Line {
+    Clock(u64),
+    Last(Option<u64>),
+    Position(u64),
+    Row {
+        window: u64,
+        time: u64,
+        values: Row,
+    },
+    Due {
+        rule: u64,
+        node: u64,
+        origin: u64,
+        low: u64,
+        high: u64,
+        values: Row,
+    },
+    End,
+}
+
+// Appends a number behind a space.
+pub(crate) fn print_spaced(number: u64, out: &mut Vec<u8>) -> Result<(), NoMemory>
+    ensures { OnOk result (out.new.items ≡ out.old.items ++ spaced number) }
+{
+    print_byte(b' ', out)?;
+    print_number(number, out)
+}
+
+// Appends a line that has one number.
+pub(crate) fn print_numbered(word: &[u8], number: u64, out: &mut Vec<u8>) -> Result<(), NoMemory>
+    ensures { OnOk result (out.new.items ≡ out.old.items ++ (word.now ++ (spaced number ++ codes "\n"))) }
+{
+    print_bytes(word, out)?;
+    print_spaced(number, out)?;
+    print_byte(b'\n', out)
+}
+
+pub(crate) fn print_last(last: Option<u64>, out: &mut Vec<u8>) -> Result<(), NoMemory>
+    ensures { OnOk result (out.new.items ≡ out.old.items ++ (codes "last" ++ (last_text last ++ codes "\n"))) }
+{
+    match last {
+        Some(last) => print_numbered(b"last", last, out),
+        None => print_bytes(b"last -\n", out),
+    }
+}
+
+// Appends values, each behind a space.
+fn print_values(values: &[Value], out: &mut Vec<u8>) -> Result<(), NoMemory>
+    ensures { OnOk result (out.new.items ≡ out.old.items ++ values_text values.now) }
+{
+    for value in values {
+        print_byte(b' ', out)?;
+        print_value(value, out)?;
+    }
+    Ok(())
+}
+
+pub(crate) fn print_row(
+    window: u64,
+    time: u64,
+    values: &[Value],
+    out: &mut Vec<u8>,
+) -> Result<(), NoMemory>
+    ensures { OnOk result (out.new.items ≡ out.old.items
+        ++ (codes "row" ++ (spaced window ++ (spaced time ++ (values_text values.now ++ codes "\n"))))) }
+{
+    print_bytes(b"row", out)?;
+    print_spaced(window, out)?;
+    print_spaced(time, out)?;
+    print_values(values, out)?;
+    print_byte(b'\n', out)
+}
+
+// Appends what stands in the line of an instance before its values.
+pub(crate) fn print_due(
+    rule: u64,
+    node: u64,
+    origin: u64,
+    low: u64,
+    high: u64,
+    out: &mut Vec<u8>,
+) -> Result<(), NoMemory>
+    ensures { OnOk result (out.new.items ≡ out.old.items ++ due_text rule node origin low high) }
+{
+    print_bytes(b"due", out)?;
+    print_spaced(rule, out)?;
+    print_spaced(node, out)?;
+    print_spaced(origin, out)?;
+    print_spaced(low, out)?;
+    print_spaced(high, out)
+}
+
+// Appends a line.
+pub(crate) fn print_line(line: &Line, out: &mut Vec<u8>) -> Result<(), NoMemory>
+    ensures { OnOk result (out.new.items ≡ out.old.items ++ line_text line.now) }
+{
+    match line {
+        Line::Clock(time) => print_numbered(b"clock", *time, out),
+        Line::Last(last) => print_last(*last, out),
+        Line::Position(position) => print_numbered(b"position", *position, out),
+        Line::Row {
+            window,
+            time,
+            values,
+        } => print_row(*window, *time, values.as_slice(), out),
+        Line::Due {
+            rule,
+            node,
+            origin,
+            low,
+            high,
+            values,
+        } => {
+            print_due(*rule, *node, *origin, *low, *high, out)?;
+            print_values(values.as_slice(), out)?;
+            print_byte(b'\n', out)
+        }
+        Line::End => print_bytes(b"end\n", out),
+    }
+}
