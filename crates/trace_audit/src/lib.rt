@@ -1,0 +1,15 @@
+//! The audit of a trace: whether it satisfies a policy, and else where it breaks which rule first. It stands on the
+//! plans of `enforce_types` and on the tables of `past_state`, and on nothing that decides what an enforcer does.
+#![tactic(auto)]
+
+pub mod auditor;
+mod evaluation;
+mod following;
+pub mod laws;
+mod present;
+mod residuals;
+pub mod verdicts;
+pub mod worked_cases;
+
+pub use auditor::{Auditor, audit};
+pub use verdicts::Verdict;
