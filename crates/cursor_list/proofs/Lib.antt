@@ -1,0 +1,4 @@
+pub mod Chained
+pub mod Cuts
+pub mod Kept
+pub mod Memory

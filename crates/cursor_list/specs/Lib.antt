@@ -1,0 +1,3 @@
+-- Words on lists that are changed at a place.
+pub mod Places
+pub mod Split
