@@ -9,6 +9,7 @@ pub mod ExistingLemmas
 pub mod JustifyingLemmas
 pub mod LetLemmas
 pub mod PassLemmas
+pub mod PresentLemmas
 pub mod StepLemmas
 pub mod TransparentLemmas
 pub mod TriggerLemmas

@@ -1,10 +1,11 @@
 //! What is remembered of the steps that went out.
-ghost use Rattle.std.specs.Prelude.{◌≡◌, ◌+◌, ◌^◌, ◌<◌, ◌≤◌, ℕ, IfOk, IsTrue, OnErr, OnOk, map};
+ghost use Rattle.std.specs.Prelude.{◌≡◌, ◌+◌, ◌^◌, ◌<◌, ◌≤◌, ℕ, [], IfOk, IsTrue, OnErr, OnOk, map};
 ghost use Rattle.choice_step.specs.Follows.{is_inserted as is_of_deadline};
 ghost use Rattle.plan_terms.specs.Plans.{plan_of};
 ghost use Rattle.plan_terms.specs.Triggers.{guard_triggers};
 ghost use Rattle.obligations.specs.declared.now.TheConstants.{MOST_TIME};
 ghost use Rattle.obligations.specs.Asked.{placed_guard};
+ghost use Rattle.obligations.specs.Traces.{LooksAtNow};
 ghost use Rattle.obligations.specs.Waiting.{CanAskOf, KeepsDeadlines};
 ghost use Rattle.past_state.specs.Past.{GuardsWillHold};
 ghost use Rattle.std.specs.List.{AllByRecursion};
@@ -24,7 +25,7 @@ use enf_value::event_sets::EventSet;
 use enf_value::memory::NoMemory;
 use enforce_types::TypedPolicy;
 use monitorable_guard::StepEvents;
-use obligations::laws::{now_stands, traces_grow};
+use obligations::laws::{now_stands, pending_exists, pending_is_enough, traces_grow};
 use obligations::{Now, Pending};
 use past_state::{PastState, Tables};
 use plan_terms::Plan;
@@ -49,6 +50,7 @@ pub(crate) struct Passed {
 impl Remembered {
     // Decides a step of a kind at a time, which has these events to begin with, and remembers it. After want of memory
     // it is fit to be dropped.
+    #[inline(always)]
     pub(crate) fn decide(
         &mut self,
         alloc: Global,
@@ -87,6 +89,7 @@ impl Remembered {
     }
 
     // The same where the rules are asked.
+    #[inline(never)]
     fn decide_awake(
         &mut self,
         alloc: Global,
@@ -122,9 +125,7 @@ impl Remembered {
         )?;
         // Its clause says that no event stands twice.
         let _given = events.as_slice();
-        let ordered = StepEvents::of(alloc, &events)?;
-        self.progress(alloc, plans, time, &ordered, &tables)?;
-        drop(ordered);
+        self.progress(alloc, plans, time, &events, &tables)?;
         self.past.commit(time, &events, tables)?;
         self.position += 1;
         Ok(OutStep {
@@ -136,7 +137,37 @@ impl Remembered {
     }
 
     // Inserts a step at each deadline that is passed, least first; where no time is given, all are.
+    #[inline(always)]
     pub(crate) fn pass(
+        &mut self,
+        alloc: Global,
+        wakes: &Wakes,
+        policy: &TypedPolicy,
+        clock: u64,
+        until: Option<u64>,
+    ) -> Result<Passed, NoMemory>
+        requires wakes { wakes.now ≡ map guard_triggers (plans_in policy.now) }
+        requires serves { Serves (enforcing_at policy.now self.old clock) }
+        requires room { self.old.position < most_positions }
+        ensures passes { IfOk result (λ passed. Passes until (enforcing_at policy.now self.old clock)
+            (acted_steps passed.steps.items) (enforcing_at policy.now self.new passed.clock)) }
+        ensures none_left { IfOk result (λ passed. NoneIsLeft until
+            (enforcing_at policy.now self.new passed.clock)) }
+        ensures memory { OnErr result (NoneIsLeft until (enforcing_at policy.now self.old clock) → ⊥) }
+    {
+        step_laws();
+        if self.passed(until).is_none() {
+            return Ok(Passed {
+                steps: Vec::new(alloc),
+                clock,
+            });
+        }
+        self.pass_each(alloc, wakes, policy, clock, until)
+    }
+
+    // The same by a look at each.
+    #[inline(never)]
+    fn pass_each(
         &mut self,
         alloc: Global,
         wakes: &Wakes,
@@ -238,6 +269,45 @@ impl Remembered {
         alloc: Global,
         plans: &[Plan],
         time: u64,
+        events: &EventSet,
+        tables: &Tables,
+    ) -> Result<(), NoMemory>
+        requires can { CanAskAll (map plan_of plans.now) self.old }
+        requires guards { tables.now.guards ≡ self.old.past.guards }
+        requires hold { GuardsWillHold self.old.past time events.now tables.now }
+        requires in_time { time ≤ MOST_TIME }
+        ensures past { self.new.past ≡ self.old.past }
+        ensures position { self.new.position ≡ self.old.position }
+        ensures goes { OnOk result (PendingGoes (map plan_of plans.now) self.old time events.now
+            self.new.pending.instances) }
+        ensures deadlines { OnOk result (KeepsDeadlines (map plan_of plans.now) self.new.pending) }
+        ensures instances { OnOk result (AllByRecursion
+            (CanAskOf (map placed_guard self.old.past.guards) (map plan_of plans.now)) self.new.pending.instances) }
+    {
+        pending_exists();
+        pending_is_enough();
+        traces_grow();
+        if self.looks_at_now(plans) {
+            return Ok(());
+        }
+        let ordered = StepEvents::of(alloc, events)?;
+        self.progress_over(alloc, plans, time, &ordered, tables)
+    }
+
+    // Whether nothing is pending and no plan looks ahead.
+    fn looks_at_now(&self, plans: &[Plan]) -> bool
+        ensures { IsTrue result → (self.now.pending.instances ≡ [])
+            × AllByRecursion LooksAtNow (map plan_of plans.now) }
+    {
+        self.pending.len() == 0 && none_looks_ahead(plans)
+    }
+
+    // What is pending becomes what it becomes behind the step, over its events in their order.
+    fn progress_over(
+        &mut self,
+        alloc: Global,
+        plans: &[Plan],
+        time: u64,
         ordered: &StepEvents<'_>,
         tables: &Tables,
     ) -> Result<(), NoMemory>
@@ -263,6 +333,18 @@ impl Remembered {
         };
         self.pending.progress(alloc, plans, &now)
     }
+}
+
+// Whether no plan looks ahead.
+fn none_looks_ahead(plans: &[Plan]) -> bool
+    ensures { IsTrue result → AllByRecursion LooksAtNow (map plan_of plans.now) }
+{
+    for plan in plans {
+        if plan.has_future() {
+            return false;
+        }
+    }
+    true
 }
 
 fn is_inserted(kind: StepKind) -> bool

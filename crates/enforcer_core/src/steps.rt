@@ -1,9 +1,10 @@
 //! The steps that an enforcer gives, and its refusals.
 ghost use Rattle.enforcer_core.specs.declared.steps.StepRefusal.TheVariants.{NoMemory as OutOfMemory};
 ghost use Rattle.enforcer_core.specs.Answered.{refused_as};
-ghost use Rattle.std.specs.Prelude.{◌≡◌, ◌↔◌, ◌++◌, ◌∷◌, [], IfOk, IsTrue, length};
+ghost use Rattle.std.specs.Prelude.{◌≡◌, ◌↔◌, ◌++◌, ◌∷◌, [], IfOk, IfSome, IsTrue, length};
 
 use choice_step::Actions;
+use enf_value::Event;
 use enf_value::event_sets::EventSet;
 use enf_value::memory::NoMemory;
 use std::marker::Model;
@@ -81,6 +82,16 @@ impl OutSteps {
         ensures { IsTrue result ↔ (self.now ≡ []) }
     {
         self.as_slice().is_empty()
+    }
+
+    /// Memory that the events of one step alone took.
+    pub fn into_room(self) -> Option<Vec<Event>>
+        ensures { IfSome result (λ room. room.items ≡ []) }
+    {
+        match self.steps {
+            Kept::One(step) => step.events.into_room(),
+            Kept::Many(_) => None,
+        }
     }
 
     /// The steps in order.

@@ -35,13 +35,13 @@ returns-clause-decided c =
             (c.in_ok-events.ensures.decided trace remembers.past (sym remembers.position) later);
       };
       goes = λ trace remembers later.
-          subst (λ (l : List Event). Goes plans (trace ++ record { time = c.args.time; events = l } ∷ []) before.pending.instances c.progress.new.self.pending.instances) c.in_ok-ordered.ensures (c.in_ok-progress.ensures.goes trace remembers later);
+          c.in_ok-progress.ensures.goes trace remembers later;
       remembers = λ trace remembers later.
           let at = remembers.position in
           record {
             position = omega (arith, long, at, length-append trace (record { time = c.args.time; events = events } ∷ []));
             past = stand trace (record { time = c.args.time; events = events }) refl refl later remembers.past are;
             pending = c.traces_grow.ensures.pending plans trace (record { time = c.args.time; events = events }) before.pending.instances c.progress.new.self.pending.instances remembers.pending
-                (subst (λ (l : List Event). Goes plans (trace ++ record { time = c.args.time; events = l } ∷ []) before.pending.instances c.progress.new.self.pending.instances) c.in_ok-ordered.ensures (c.in_ok-progress.ensures.goes trace remembers later));
+                (c.in_ok-progress.ensures.goes trace remembers later);
           };
     }

@@ -1,17 +1,18 @@
-use Rattle.std.proofs.Common.{List, [], ◌∷◌, ◌++◌, map, sym, subst}
-use Rattle.std.proofs.lemmas.Result.{on_ok_weaker}
-use Rattle.enf_value.specs.declared.events.Event.{Event}
+use Rattle.std.proofs.Common.{◌≡◌, List, [], ◌∷◌, ◌++◌, map, sym, subst, ◌∙◌}
+use Rattle.enf_value.specs.declared.steps.Step.{Step}
+use Rattle.obligations.specs.Asked.{placed_guard}
 use Rattle.obligations.specs.Pending.{Goes}
-use Rattle.past_state.specs.Past.{GuardsWillHold}
+use Rattle.obligations.specs.declared.instances.Instance.{Instance}
 use Rattle.plan_terms.specs.Plans.{plan_of}
 use Rattle.enforcer_core.proofs.remembered.Remembered.progress.Goals as goal
 
-pub returns-clause-goes : goal.returns-clause-goes
-returns-clause-goes c = on_ok_weaker c.progress.result
-    (λ goes trace remembers later.
-    subst (λ (events : List Event). Goes (map plan_of c.args.plans.now) (trace ++ record { time = c.args.time; events = events } ∷ []) c.args.self.now.pending.instances c.progress.new.self.instances) c.set.ensures
-    (goes (trace ++ record { time = c.args.time; events = c.set.result.now } ∷ [])
-    (c.now_stands.ensures c.args.self.now.past trace _ (sym c.set.ensures)
-    (subst (λ (events : List Event). GuardsWillHold c.args.self.now.past c.args.time events c.args.tables.now) (sym c.set.ensures) c.requires.hold)
-    remembers.past (sym remembers.position) later)))
-    c.progress.ensures.goes
+pub returns-then-looks_at_now-clause-goes : goal.returns-then-looks_at_now-clause-goes
+returns-then-looks_at_now-clause-goes c = λ trace remembers later.
+    let plans = map plan_of c.args.plans.now in
+    let before = c.args.self.now.pending.instances in
+    let step : Step = record { time = c.args.time; events = c.args.events.now } in
+    let present = c.looks_at_now.ensures c.if-looks_at_now.true in
+    let goes = c.pending_exists.ensures.goes (map placed_guard c.args.self.now.past.guards) plans (trace ++ step ∷ []) before c.requires.can.roots c.requires.can.instances in
+    let pend = c.traces_grow.ensures.pending plans trace step before goes.0 remembers.pending goes.1 in
+    let none : goes.0 ≡ [] = c.pending_is_enough.ensures.nothing plans (trace ++ step ∷ []) goes.0 present.1 pend in
+    subst (λ (l : List Instance). Goes plans (trace ++ step ∷ []) before l) (none ∙ sym present.0) goes.1

@@ -4,7 +4,7 @@ use Rattle.trace_meaning.specs.declared.kinds.StepKind.TheVariants.{Inserted}
 use Rattle.enforcer_core.specs.Enforcers.{acted_steps}
 use Rattle.enforcer_core.specs.Keeping.{enforcing_at}
 use Rattle.enforcer_core.specs.Passing.{NoneIsLeft, Passes}
-use Rattle.enforcer_core.proofs.remembered.Remembered.pass.Given as goal
+use Rattle.enforcer_core.proofs.remembered.Remembered.pass_each.Given as goal
 
 abbrev pub invariant-loop-deadline : goal.invariant-loop-deadline
 invariant-loop-deadline l = record {

@@ -13,7 +13,7 @@ use Rattle.enforcer_core.specs.Remembering.{CanGoOn, IsDecided}
 use Rattle.enforcer_core.specs.declared.remembered.Remembered.{Remembered}
 use Rattle.enforcer_core.specs.declared.steps.OutStep as made
 use Rattle.enforcer_core.proofs.PassLemmas.{acted_more, not_before, on_err, passes_join, passes_one, within_most}
-use Rattle.enforcer_core.proofs.remembered.Remembered.pass.Goals as goal
+use Rattle.enforcer_core.proofs.remembered.Remembered.pass_each.Goals as goal
 
 pub decide-requires-clause-can : goal.decide-requires-clause-can
 decide-requires-clause-can c =
