@@ -31,3 +31,5 @@ pub mod HeldLemmas
 pub mod LosingLemmas
 pub mod ServingLemmas
 pub mod ServedLemmas
+pub mod ScopeLemmas
+pub mod BoundLemmas

@@ -21,3 +21,6 @@ pub mod Patient
 pub mod Unread
 pub mod Justified
 pub mod Cases
+pub mod Scopes
+pub mod Bounds
+pub mod BoundCases

@@ -1,4 +1,5 @@
 //! Laws of what plans miss and begin, each the contract of a function that does nothing.
+ghost use Rattle.obligations.specs.Bounds.{PendCanBePending};
 ghost use Rattle.obligations.specs.DeadlineLaws.{DeadlineIsListed, ListedIsDeadline};
 ghost use Rattle.obligations.specs.Enough.{NothingMissedIsEnough, NothingMissedIsEnoughPending, SomethingMissedIsLost};
 ghost use Rattle.obligations.specs.Existing.{AfterExists, BegunCanBeAsked, BegunExists, GoesCanBeAsked, GoesExists};
@@ -187,3 +188,10 @@ pub fn deadlines_are_listed()
     ensures listed { DeadlineIsListed }
     ensures only { ListedIsDeadline }
 {}
+
+/// What is pending behind a trace can be so, at a clock at which no deadline is over.
+pub fn pending_can_be()
+    ensures { PendCanBePending }
+{
+    nodes_have_scopes();
+}

@@ -10,6 +10,7 @@ ghost use Rattle.obligations.specs.Waiting.{CanAskOf, CanAskRoots, IsLeastOf, Ke
 ghost use Rattle.obligations.specs.declared.now.TheConstants.{MOST_TIME};
 
 use crate::carrying::carry_on;
+use crate::deadlines::hold_each;
 use crate::instances::{Instance, Instances};
 use crate::now::Now;
 use deadline_queue::DeadlineQueue;
@@ -50,6 +51,19 @@ impl Pending {
             instances: Instances::new(alloc),
             deadlines: DeadlineQueue::new(alloc),
         }
+    }
+
+    /// Those of a list, with the deadlines that they have.
+    pub fn from_list(alloc: Global, plans: &[Plan], list: Instances) -> Result<Pending, NoMemory>
+        ensures instances { IfOk result (λ p. p.instances ≡ list) }
+        ensures deadlines { IfOk result (KeepsDeadlines (map plan_of plans.now)) }
+    {
+        let mut deadlines = DeadlineQueue::new(alloc);
+        hold_each(plans, list.as_slice(), &mut deadlines)?;
+        Ok(Pending {
+            instances: list,
+            deadlines,
+        })
     }
 
     /// How many instances there are.

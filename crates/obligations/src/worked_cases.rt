@@ -1,8 +1,10 @@
 //! Worked cases of the definitions, each a clause of a function with an empty body.
-ghost use Rattle.std.specs.Prelude.{◌≡◌, [], ◌∷◌, true, false};
+ghost use Rattle.std.specs.Prelude.{◌≡◌, [], ◌∷◌, None, Some, true, false};
 ghost use Rattle.enf_value.specs.Valuations.{no_values};
-ghost use Rattle.enf_formula.specs.Cases.{at_time, event_p, event_q};
+ghost use Rattle.enf_formula.specs.Cases.{at_time, event_p, event_q, x};
 ghost use Rattle.obligations.specs.Begun.{Begun};
+ghost use Rattle.obligations.specs.BoundCases.{CannotWait, from_to, next, soon, throughout};
+ghost use Rattle.obligations.specs.Bounds.{CanWait};
 ghost use Rattle.obligations.specs.Cases.{at_5, always_p, bar_q, cause_p, each_q, fails, holds, next_p};
 ghost use Rattle.obligations.specs.Cases.{no_q_until_p, p_of_1, q_of_1, q_of_2, soon_p, two_and_one, waiting, Begins};
 ghost use Rattle.obligations.specs.Cases.{begun_at_5, begun_then, each_next, next_for, one, second_at_5, then_at, two};
@@ -11,7 +13,9 @@ ghost use Rattle.obligations.specs.Cases.{IsRightAtOnce, IsRightThen, at_once_fo
 ghost use Rattle.obligations.specs.Justified.{IsNeeded};
 ghost use Rattle.obligations.specs.Missing.{Missing, cause, suppress};
 ghost use Rattle.obligations.specs.Pending.{IsClean, IsReady, NoneIsOver, Pend};
+ghost use Rattle.obligations.specs.Scopes.{future_in};
 ghost use Rattle.obligations.specs.declared.literals.LiteralKind.TheVariants as kind;
+ghost use Rattle.plan_terms.specs.Cases.{each_soon, soon_q_x};
 ghost use Rattle.plan_terms.specs.Plans as plan;
 ghost use Rattle.trace_meaning.specs.declared.kinds.StepKind.TheVariants.{Inserted, System};
 
@@ -263,4 +267,21 @@ pub fn needed()
     ensures met_in_time { IsNeeded (soon_p 0 0 ∷ []) (at_5 (event_p ∷ [])) 15 → ⊥ }
     ensures no_deadline { IsNeeded (always_p 0 0 ∷ []) (at_5 []) 15 → ⊥ }
     ensures no_rule { IsNeeded [] (at_5 []) 15 → ⊥ }
+{}
+
+/// Which instances can be pending at a clock, behind so many steps, and which numbers name an operator on the future.
+pub fn bounds()
+    ensures waits { CanWait soon 10 3 (from_to 2 7 10) }
+    ensures over { CannotWait soon 11 3 (from_to 2 7 10) }
+    ensures no_deadline { CanWait throughout 11 3 (from_to 2 7 10) }
+    ensures wider { CannotWait soon 10 3 (from_to 2 7 11) }
+    ensures narrower { CannotWait soon 9 3 (from_to 2 7 9) }
+    ensures too_early { CannotWait soon 0 3 (from_to 2 1 4) }
+    ensures not_begun { CannotWait soon 10 2 (from_to 2 7 10) }
+    ensures newly { CanWait next 10 3 (from_to 2 6 11) }
+    ensures earlier { CannotWait next 10 4 (from_to 2 6 11) }
+    ensures ahead { future_in (each_soon ∷ []) 0 1 ≡ Some (soon_q_x, x ∷ []) }
+    ensures not_ahead { future_in (each_soon ∷ []) 0 0 ≡ None }
+    ensures no_node { future_in (each_soon ∷ []) 0 3 ≡ None }
+    ensures no_rule { future_in (each_soon ∷ []) 1 1 ≡ None }
 {}
