@@ -68,6 +68,7 @@ pub(crate) fn variables_of(policy: &Policy, rule: u32) -> &[TextValue]
     }
 }
 
+#[inline(always)]
 fn print_labelled(word: &[u8], number: u64, out: &mut Vec<u8>) -> Result<(), NoMemory>
     ensures ok { OnOk result (out.new.items ≡ out.old.items ++ labelled word.now number) }
     ensures err { OnErr result (AppendsPart (labelled word.now number) out.old.items out.new.items) }
@@ -76,6 +77,7 @@ fn print_labelled(word: &[u8], number: u64, out: &mut Vec<u8>) -> Result<(), NoM
     print_number(number, out)
 }
 
+#[inline(always)]
 fn print_when(action: &Action, out: &mut Vec<u8>) -> Result<(), NoMemory>
     ensures ok { OnOk result (out.new.items ≡ out.old.items ++ when_text action.now) }
     ensures err { OnErr result (AppendsPart (when_text action.now) out.old.items out.new.items) }
@@ -84,6 +86,7 @@ fn print_when(action: &Action, out: &mut Vec<u8>) -> Result<(), NoMemory>
     print_labelled(b" step ", action.position, out)
 }
 
+#[inline(always)]
 fn print_cause(name: &[u8], action: &Action, out: &mut Vec<u8>) -> Result<(), NoMemory>
     ensures ok { OnOk result (out.new.items ≡ out.old.items ++ cause_text name.now action.now) }
     ensures err { OnErr result (AppendsPart (cause_text name.now action.now) out.old.items out.new.items) }
@@ -95,6 +98,7 @@ fn print_cause(name: &[u8], action: &Action, out: &mut Vec<u8>) -> Result<(), No
     print_labelled(b" origin ", action.origin, out)
 }
 
+#[inline(always)]
 fn print_bindings(
     vars: &[TextValue],
     bindings: &[(VarId, Value)],
