@@ -2,9 +2,11 @@
 //! what is pending, on `past_state`, which has what the windows keep, and on what these stand on.
 #![tactic(auto)]
 
+pub mod laws;
 pub mod lines;
 mod saving;
 pub mod snapshots;
+pub mod worked_cases;
 
 pub use saving::save;
 pub use snapshots::Snapshot;

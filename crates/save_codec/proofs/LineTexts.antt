@@ -1,0 +1,33 @@
+-- The lines by their parts.
+use Rattle.std.proofs.Common.{◌≡◌, ◌<◌, ◌^◌, ◌++◌, ◌∷◌, [], ℕ, List, Option, Some, None, codes, decimal, slice_index, refl, sym, ap, ◌∙◌, arith, append_assoc}
+use Rattle.enf_value.specs.declared.values.Value.{Value}
+use Rattle.save_codec.specs.Lines.{IsSmallTime, due_text, last_text, line_text, spaced, values_text}
+use Rattle.save_codec.specs.declared.lines.Line.{Line}
+use Rattle.save_codec.specs.declared.lines.Line.TheVariants.{Row, Due}
+use Rattle.save_codec.proofs.Fronts.{cancel, decimal_is_no_minus}
+
+pub no_dash : (last : Option ℕ) (rest left behind : List ℕ) → IsSmallTime last → left ≡ last_text last ++ rest → left ≡ 32 ∷ 45 ∷ behind → None ≡ last
+no_dash None rest left behind small e dash = refl
+no_dash (Some time) rest left behind small e dash =
+    let after : decimal time ++ rest ≡ 45 ∷ behind = cancel (32 ∷ []) (decimal time ++ rest) (45 ∷ behind) (sym e ∙ dash) in
+    absurd (decimal_is_no_minus time rest (decimal time ++ rest) small refl (ap (λ l. slice_index l 0) after))
+
+pub row_split : (window time : ℕ) (values : List Value) (rest : List ℕ)
+    → line_text (Row window time values) ++ rest ≡ codes "row" ++ (spaced window ++ (spaced time ++ (values_text values ++ (codes "\n" ++ rest))))
+row_split window time values rest = simp append_assoc
+
+pub due_split : (rule node origin low high : ℕ) (values : List Value) (rest : List ℕ)
+    → line_text (Due rule node origin low high values) ++ rest
+    ≡ codes "due" ++ (spaced rule ++ (spaced node ++ (spaced origin ++ (spaced low ++ (spaced high ++ (values_text values ++ (codes "\n" ++ rest)))))))
+due_split rule node origin low high values rest =
+    append_assoc (due_text rule node origin low high) (values_text values ++ codes "\n") rest
+    ∙ ap (λ l. due_text rule node origin low high ++ l) (append_assoc (values_text values) (codes "\n") rest)
+    ∙ numbers (values_text values ++ (codes "\n" ++ rest))
+  where
+    numbers : (behind : List ℕ) → due_text rule node origin low high ++ behind
+        ≡ codes "due" ++ (spaced rule ++ (spaced node ++ (spaced origin ++ (spaced low ++ (spaced high ++ behind)))))
+    numbers behind =
+        append_assoc (codes "due" ++ spaced rule) (spaced node ++ (spaced origin ++ (spaced low ++ spaced high))) behind
+        ∙ ap (λ l. codes "due" ++ (spaced rule ++ l)) (append_assoc (spaced node) (spaced origin ++ (spaced low ++ spaced high)) behind
+        ∙ ap (λ l. spaced node ++ l) (append_assoc (spaced origin) (spaced low ++ spaced high) behind
+        ∙ ap (λ l. spaced origin ++ l) (append_assoc (spaced low) (spaced high) behind)))
