@@ -1,8 +1,7 @@
 -- The lines by their parts.
-use Rattle.std.proofs.Common.{◌≡◌, ◌<◌, ◌^◌, ◌++◌, ◌∷◌, [], ℕ, List, Option, Some, None, codes, decimal, slice_index, refl, sym, ap, ◌∙◌, arith, append_assoc}
+use Rattle.std.proofs.Common.{◌≡◌, ◌++◌, ◌∷◌, [], ℕ, List, Option, Some, None, codes, decimal, slice_index, refl, sym, ap, ◌∙◌, append_assoc}
 use Rattle.enf_value.specs.declared.values.Value.{Value}
 use Rattle.save_codec.specs.Lines.{IsSmallTime, due_text, last_text, line_text, spaced, values_text}
-use Rattle.save_codec.specs.declared.lines.Line.{Line}
 use Rattle.save_codec.specs.declared.lines.Line.TheVariants.{Row, Due}
 use Rattle.save_codec.proofs.Fronts.{cancel, decimal_is_no_minus}
 

@@ -1,13 +1,13 @@
 -- A text has one head and one list of lines.
-use Rattle.std.proofs.Common.{◌≡◌, ◌++◌, ◌∷◌, ◌<◌, ◌≤◌, ◌+◌, ◌^◌, [], suc, zero, pos, ℕ, List, Option, Some, None, All, codes, decimal, length, drop, take, slice_index, refl, sym, ap, subst, ◌∙◌, arith, append_assoc, length-append}
-use Rattle.std.specs.List.{AllByRecursion, flat_map}
-use Rattle.std.proofs.lemmas.List.{drop_at, take_at}
+use Rattle.std.proofs.Common.{◌≡◌, ◌++◌, ◌∷◌, ◌<◌, ◌≤◌, ◌+◌, ◌^◌, [], pos, ℕ, List, Option, Some, None, codes, decimal, length, take, slice_index, refl, sym, ap, ◌∙◌, arith, append_assoc, length-append}
+use Rattle.std.specs.List.{AllByRecursion}
+use Rattle.std.proofs.lemmas.List.{take_at}
 use Rattle.enf_value.specs.Spelling.{spelled}
 use Rattle.enf_value.specs.ValueTokens.{EndsBefore, IsNoDigit, IsValue, OneTokenAtPlace, PrintedIsToken}
 use Rattle.enf_value.specs.declared.values.Value.{Value}
 use Rattle.enf_value.specs.declared.values.Value.TheVariants.{Num}
 use Rattle.save_codec.specs.Lines.{IsLine, IsSmall, IsSmallTime, head_text, last_text, line_text, lines_text, sized, spaced, values_text}
-use Rattle.save_codec.specs.Forms.{Follow, IsText}
+use Rattle.save_codec.specs.Forms.{Follow}
 use Rattle.save_codec.specs.Laws.{OneText}
 use Rattle.save_codec.specs.Parts.{EndsValues}
 use Rattle.save_codec.specs.declared.lines.Line.{Line}

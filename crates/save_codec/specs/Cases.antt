@@ -1,5 +1,5 @@
 -- What the worked cases of saved texts speak of.
-use Rattle.std.specs.Prelude.{ℕ, List, [], ◌∷◌, None, Some, codes, pos}
+use Rattle.std.specs.Prelude.{[], ◌∷◌, None, Some, codes, pos}
 use Rattle.std.specs.FinMap as map
 use Rattle.enf_value.specs.Valuations.{Valuation}
 use Rattle.enf_value.specs.declared.values.Value.{Value}

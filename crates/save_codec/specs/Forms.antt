@@ -1,8 +1,6 @@
--- The grammar of saved texts, and the first line that is not of it.
-use Rattle.std.specs.Prelude.{◌≡◌, ℕ, suc, zero, Bool, true, false, List, [], ◌∷◌, ◌++◌, Option, None, Some, IsTrue}
-use Rattle.std.specs.Prelude.{length}
-use Rattle.std.specs.List.{AllByRecursion}
-use Rattle.save_codec.specs.Lines.{IsLine, head_text, line_text, lines_text}
+-- The grammar of saved texts.
+use Rattle.std.specs.Prelude.{◌≡◌, ℕ, Bool, true, false, List, [], ◌∷◌, ◌++◌, Option, None, Some, IsTrue}
+use Rattle.save_codec.specs.Lines.{IsLine, head_text, lines_text}
 use Rattle.save_codec.specs.declared.lines.Line.{Line}
 use Rattle.save_codec.specs.declared.lines.Line.TheVariants.{Clock, Last, Position, Row, Due, End}
 
@@ -43,26 +41,3 @@ AreLines lines = Follow None lines × IsTrue (is_end (last_line None lines))
 pub record IsText (bytes signature policy : List ℕ) (lines : List Line) : Type 0 where
   pub form : AreLines lines
   pub text : bytes ≡ head_text signature policy ++ lines_text lines
-
--- the bytes begin with no head
-abbrev pub HasNoHead : List ℕ → Type 0
-HasNoHead bytes = (signature policy rest : List ℕ) → bytes ≡ head_text signature policy ++ rest → ⊥
-
--- behind some lines no line of the form follows, and the text does not end there as it may
-pub record IsStuckBehind (text : List ℕ) (front : List Line) : Type 0 where
-  pub rest : List ℕ
-  pub begins : text ≡ lines_text front ++ rest
-  pub form : Follow None front
-  pub unfinished : IsTrue (is_end (last_line None front)) → rest ≡ [] → ⊥
-  pub stuck : (line : Line) (more : List ℕ) → IsLine line → IsTrue (follows (last_line None front) line)
-      → rest ≡ line_text line ++ more → ⊥
-
--- so many lines of the form are the most that the text begins with
-abbrev pub StopsBehind : (text : List ℕ) → ℕ → Type 0
-StopsBehind text count = (front : List Line) × IsStuckBehind text front × (length front ≡ count)
-
--- the first line that has not the form: lines are counted from 1 on, and what is before them is line 0
-abbrev pub IsFault : List ℕ → ℕ → Type 0
-IsFault bytes zero = HasNoHead bytes
-IsFault bytes (suc count) =
-    (signature policy text : List ℕ) × (bytes ≡ head_text signature policy ++ text) × StopsBehind text count

@@ -1,5 +1,5 @@
 -- What is read of a text, part by part.
-use Rattle.std.specs.Prelude.{◌≡◌, ◌≢◌, ℕ, ◌+◌, ◌<◌, ◌≤◌, List, [], ◌∷◌, ◌++◌, Option, Some, None, length}
+use Rattle.std.specs.Prelude.{◌≡◌, ◌≢◌, ℕ, List, [], ◌∷◌, ◌++◌, Option, Some}
 use Rattle.enf_value.specs.ValueTokens.{IsNoDigit}
 use Rattle.save_codec.specs.Lines.{IsLine, IsSmall, line_text}
 use Rattle.save_codec.specs.declared.lines.Line.{Line}

@@ -1,5 +1,5 @@
 -- The parts of the text were printed in order.
-use Rattle.std.proofs.Common.{◌++◌, List, ap, ◌∙◌, codes, map}
+use Rattle.std.proofs.Common.{◌++◌, List, ap, ◌∙◌, map}
 use Rattle.past_state.specs.declared.kept.KeptRow.{KeptRow}
 use Rattle.obligations.specs.declared.instances.Instance.{Instance}
 use Rattle.save_codec.specs.Lines.{head_text, line_text, lines_text}
