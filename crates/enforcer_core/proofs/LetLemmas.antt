@@ -7,6 +7,7 @@ use Rattle.enf_value.specs.declared.steps.Step.{Step}
 use Rattle.trace_meaning.specs.Records.{Record, StepRecord, Tick, most_time, time_of}
 use Rattle.trace_meaning.specs.declared.kinds.StepKind.{StepKind}
 use Rattle.trace_meaning.specs.declared.kinds.StepKind.TheVariants.{Inserted, System}
+use Rattle.past_state.specs.Guarded.{AreCopies}
 use Rattle.plan_terms.specs.Plans.{Plan}
 use Rattle.rank_check.specs.declared.horizon.TheConstants.{MOST_HORIZON}
 use Rattle.enforce_types.specs.Typed.{StoredTyped, WorkTogether, typed_of}
@@ -49,6 +50,7 @@ module _ (laws : StepLaws) (policy : StoredTyped) (r r' : Remembered) (from midd
       let within = in_time in let few = passes.few in
       record {
         serves = record {
+          guards = passes.serves.guards;
           can = λ at then. passes.serves.can at (omega (arith, within, then));
           trace = passes.serves.trace;
           stands = later passes.serves.trace passes.serves.stands;
@@ -73,7 +75,7 @@ module _ (laws : StepLaws) (policy : StoredTyped) (r r' : Remembered) (from midd
     after = enforcing_at policy r'' time
 
     of_trace : (trace : List Step) → Stands (enforcing_at policy r' time) trace → Remembers plans r' trace
-    of_trace trace stands = record { position = stands.position; past = stands.past; pending = stands.pending }
+    of_trace trace stands = record { position = stands.position; last = stands.last; past = stands.past; pending = stands.pending }
 
     goes : (trace : List Step) → Stands (enforcing_at policy r' time) trace → GoesOut plans trace System time events (acted_step o)
     goes trace stands = decided.goes_out trace (of_trace trace stands) stands.ready.not_later
@@ -110,6 +112,7 @@ module _ (laws : StepLaws) (policy : StoredTyped) (r r' : Remembered) (from midd
         let within = in_time in let few = passes.few in let position = passes.goes_on.position in let then = decided.position in
         record {
           serves = record {
+            guards = subst (AreCopies policy.guards) (sym decided.guards) passes.serves.guards;
             can = can;
             trace = passes.serves.trace ++ (acted_step o).step ∷ [];
             stands = stood;

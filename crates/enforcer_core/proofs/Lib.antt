@@ -13,3 +13,4 @@ pub mod PresentLemmas
 pub mod StepLemmas
 pub mod TransparentLemmas
 pub mod TriggerLemmas
+pub mod SnapshotLemmas

@@ -7,6 +7,7 @@ use Rattle.trace_meaning.specs.Continuation.{last_time}
 use Rattle.trace_meaning.specs.Records.{most_time}
 use Rattle.trace_meaning.specs.declared.kinds.StepKind.{StepKind}
 use Rattle.trace_meaning.specs.declared.kinds.StepKind.TheVariants.{Inserted, System}
+use Rattle.past_state.specs.Guarded.{AreCopies}
 use Rattle.plan_terms.specs.Plans.{Plan}
 use Rattle.enforce_types.specs.Typed.{StoredTyped, WorkTogether, typed_of}
 use Rattle.obligations.specs.DeadlineLaws.{deadline_is_listed}
@@ -165,7 +166,7 @@ module _ (laws : StepLaws) (policy : StoredTyped) (together : WorkTogether (type
   from_clock = not_before laws policy r clock deadline serves least
 
   of_trace : (trace : List Step) → Stands before trace → Remembers plans r trace
-  of_trace trace stands = record { position = stands.position; past = stands.past; pending = stands.pending }
+  of_trace trace stands = record { position = stands.position; last = stands.last; past = stands.past; pending = stands.pending }
 
   not_later : (trace : List Step) → Stands before trace → last_time trace ≤ deadline
   not_later trace stands = let last = stands.ready.not_later in let le = from_clock in omega (arith, last, le)
@@ -191,6 +192,7 @@ module _ (laws : StepLaws) (policy : StoredTyped) (together : WorkTogether (type
       let le = from_clock in let reach = reached laws policy r clock deadline serves least in let most = within_most laws policy r clock deadline serves least in let less = falls.1 in let at = decided.time_is in let position = decided.position in let bound = serves.in_reach in
       record {
         serves = record {
+          guards = subst (AreCopies policy.guards) (sym decided.guards) serves.guards;
           can = λ time later. can time (omega (arith, later));
           trace = serves.trace ++ (acted_step o).step ∷ [];
           stands = stands_one serves.trace serves.stands;

@@ -156,6 +156,7 @@ module _ (laws : StepLaws) (policy : StoredTyped) (r r' : Remembered) (clock tim
     ready = ready_behind laws plans trace kind time events o goes r.pending.instances stands.pending clock behind stands.ready order none_over not_later
         r'.pending.instances remembers.pending none_behind;
     position = remembers.position;
+    last = remembers.last;
     past = remembers.past;
     pending = remembers.pending;
     deadlines = keeps;
@@ -175,6 +176,7 @@ stands_later policy r clock time later none_over trace stands = record {
     not_later = let last = stands.ready.not_later in omega (arith, last, later);
   };
   position = stands.position;
+  last = stands.last;
   past = stands.past;
   pending = stands.pending;
   deadlines = stands.deadlines;

@@ -1,5 +1,5 @@
 -- What is seen of an enforcer and of its answers.
-use Rattle.std.specs.Prelude.{ℕ, Bool, List, map}
+use Rattle.std.specs.Prelude.{ℕ, Bool, List, Option, map}
 use Rattle.enf_formula.specs.Formulas.{Formula}
 use Rattle.enf_value.specs.declared.steps.Step.{Step}
 use Rattle.trace_meaning.specs.OutSteps.{OutStep}
@@ -14,12 +14,13 @@ use Rattle.choice_step.specs.Follows.{ActedStep}
 use Rattle.enforcer_core.specs.declared.steps.OutStep as made
 
 -- the policy that it keeps, what the guards remember, what is pending, the number of the steps that went out, the time
--- below which all is over, and whether it answers no more
+-- of the last of them, the time below which all is over, and whether it answers no more
 pub record Enforcing : Type 0 where
   pub policy : StoredTyped
   pub past : Past
   pub pending : PendingList
   pub position : ℕ
+  pub last : Option ℕ
   pub clock : ℕ
   pub stopped : Bool
 

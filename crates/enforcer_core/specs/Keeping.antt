@@ -4,6 +4,7 @@ use Rattle.enf_value.specs.declared.steps.Step.{Step}
 use Rattle.trace_meaning.specs.Records.{most_time}
 use Rattle.trace_meaning.specs.declared.kinds.StepKind.TheVariants.{Inserted}
 use Rattle.enforce_types.specs.Typed.{StoredTyped, WorkTogether, typed_of}
+use Rattle.past_state.specs.Guarded.{AreCopies}
 use Rattle.enforcer_core.specs.Ending.{reach_of}
 use Rattle.enforcer_core.specs.Enforcers.{Enforcing, plans_of}
 use Rattle.enforcer_core.specs.Remembering.{CanGoOn}
@@ -13,7 +14,7 @@ use Rattle.enforcer_core.specs.declared.remembered.Remembered.{Remembered}
 -- what it remembers
 abbrev pub remembered_in : Enforcing → Remembered
 remembered_in enforcer =
-    record { past = enforcer.past; pending = enforcer.pending; position = enforcer.position }
+    record { past = enforcer.past; pending = enforcer.pending; position = enforcer.position; last = enforcer.last }
 
 -- one that remembers this and goes on, at a clock
 abbrev pub enforcing_at : StoredTyped → Remembered → (clock : ℕ) → Enforcing
@@ -22,6 +23,7 @@ enforcing_at policy r clock = record {
   past = r.past;
   pending = r.pending;
   position = r.position;
+  last = r.last;
   clock = clock;
   stopped = false;
 }
@@ -31,9 +33,10 @@ abbrev pub reach_in : Enforcing → ℕ
 reach_in enforcer =
     reach_of (typed_of enforcer.policy).ranked.ranks (plans_of enforcer) enforcer.pending.instances
 
--- its plans can be asked at its clock and later, it stands for some trace, and what it has pending is owed for no
--- longer than inserted steps can go out
+-- it remembers for the guards of its policy, its plans can be asked at its clock and later, it stands for some trace,
+-- and what it has pending is owed for no longer than inserted steps can go out
 pub record Serves (enforcer : Enforcing) : Type 0 where
+  pub guards : AreCopies enforcer.policy.guards enforcer.past.guards
   pub can : (time : ℕ) → enforcer.clock ≤ time → CanGoOn (plans_of enforcer) (remembered_in enforcer) time
   pub trace : List Step
   pub stands : Stands enforcer trace

@@ -17,6 +17,7 @@ pub mod Laws
 pub mod Passing
 pub mod Remembering
 pub mod Stands
+pub mod Snapshots
 pub mod StepLaws
 pub mod Steps
 pub mod Transparency

@@ -9,6 +9,7 @@ use Rattle.trace_meaning.specs.Continuation.{last_time}
 use Rattle.trace_meaning.specs.declared.kinds.StepKind.{StepKind}
 use Rattle.plan_terms.specs.Changes.{NothingClashes}
 use Rattle.plan_terms.specs.Plans.{Plan}
+use Rattle.past_state.specs.LastTimes.{IsLastTime}
 use Rattle.past_state.specs.Past.{PastStands}
 use Rattle.past_state.specs.Runs.{AreUpToTimeOf}
 use Rattle.obligations.specs.Asked.{placed_guard}
@@ -41,10 +42,12 @@ pub record CanGoOn (plans : List Plan) (r : Remembered) (time : ℕ) : Type 0 wh
   pub asked : CanAskAll plans r
   pub up_to : AreUpToTimeOf time r.past.operators
 
--- it is a trace that is remembered: its length, what its guards' operators need of it, and what it leaves pending
+-- it is a trace that is remembered: its length and last time, what its guards' operators need of it, and what it leaves
+-- pending
 pub record Remembers (plans : List Plan) (r : Remembered) (trace : List Step) : Type 0 where
   pub position : r.position ≡ length trace
   pub past : PastStands trace r.past
+  pub last : IsLastTime trace r.last
   pub pending : Pend plans trace r.pending.instances
 
 -- for each trace that is remembered, what is pending goes where a step with these events at a time leads it
@@ -60,6 +63,7 @@ pub record IsDecided (plans : List Plan) (before : Remembered) (kind : StepKind)
   pub time_is : o.time ≡ time
   pub distinct : HasNoRepeats o.events
   pub acts : ActsFrom plans events o.actions o.events
+  pub guards : after.past.guards ≡ before.past.guards
   pub position : after.position ≡ before.position + 1
   pub deadlines : KeepsDeadlines plans after.pending
   pub goes_out : (trace : List Step) → Remembers plans before trace → last_time trace ≤ time

@@ -5,6 +5,7 @@ use Rattle.enf_value.specs.declared.steps.Step.{Step}
 use Rattle.trace_meaning.specs.Satisfies.{Satisfies}
 use Rattle.obligations.specs.Pending.{IsReady, Pend}
 use Rattle.obligations.specs.Waiting.{KeepsDeadlines}
+use Rattle.past_state.specs.LastTimes.{IsLastTime}
 use Rattle.past_state.specs.Past.{PastStands}
 use Rattle.choice_step.specs.Follows.{ActedStep, steps_of}
 use Rattle.enforcer_core.specs.Enforcers.{Enforcing, formulas_for, plans_of}
@@ -15,6 +16,7 @@ pub record Stands (enforcer : Enforcing) (trace : List Step) : Type 0 where
   pub is_trace : IsTrace trace
   pub ready : IsReady (plans_of enforcer) trace enforcer.clock
   pub position : enforcer.position ≡ length trace
+  pub last : IsLastTime trace enforcer.last
   pub past : PastStands trace enforcer.past
   pub pending : Pend (plans_of enforcer) trace enforcer.pending.instances
   pub deadlines : KeepsDeadlines (plans_of enforcer) enforcer.pending

@@ -9,6 +9,7 @@ ghost use Rattle.enforcer_core.specs.Enforcers.{acted_steps, plans_of};
 ghost use Rattle.enforcer_core.specs.Follows.{FollowsDrainFrom, FollowsFrom};
 ghost use Rattle.enforcer_core.specs.Justifying.{IsJustifiedFrom};
 ghost use Rattle.enforcer_core.specs.Remembering.{most_positions};
+ghost use Rattle.enforcer_core.specs.Snapshots.{IsKeptOf, SavesTrace};
 ghost use Rattle.enforcer_core.specs.Stands.{KeepsStanding, SatisfiesBehind, Stands};
 ghost use Rattle.enforcer_core.specs.Transparency.{DrainsNothing, LeavesAlone};
 
@@ -22,11 +23,13 @@ use enforce_types::TypedPolicy;
 use obligations::laws::{pending_is_enough, well_formed_can_be_asked};
 use obligations::{Instance, Pending};
 use past_state::PastState;
+use past_state::laws::operators_are_nodes;
+use save_codec::Snapshot;
 use std::alloc::Global;
 use std::marker::Model;
 
 /// An enforcer of a policy, seen as the policy, what its guards remember, what is pending, the number of the steps that
-/// went out, the clock and whether it is stopped.
+/// went out, the time of the last one, the clock and whether it is stopped.
 #[derive(Drop)]
 pub struct Enforcer {
     policy: TypedPolicy,
@@ -58,6 +61,7 @@ impl Model for Enforcer {
       past = e.remembered.past;
       pending = e.remembered.pending;
       position = e.remembered.position;
+      last = e.remembered.last;
       clock = e.clock;
       stopped = e.stopped;
     } };
@@ -67,6 +71,7 @@ impl Model for Enforcer {
       past = e.remembered.past;
       pending = e.remembered.pending;
       position = e.remembered.position;
+      last = e.remembered.last;
       clock = e.clock;
       stopped = e.stopped;
     }) × (e.wakes ≡ map guard_triggers (plans_in e.policy)) };
@@ -89,6 +94,7 @@ impl Enforcer {
                 past,
                 pending: Pending::new(alloc),
                 position: 0,
+                last: None,
             },
             clock: 0,
             stopped: false,
@@ -128,6 +134,24 @@ impl Enforcer {
         ensures { result ≡ self.now.stopped }
     {
         self.stopped
+    }
+
+    /// What is kept of it between two steps.
+    pub fn snapshot(&self, alloc: Global) -> Result<Snapshot, NoMemory>
+        requires goes_on { self.now.stopped ≡ false }
+        ensures kept { IfOk result (IsKeptOf self.now) }
+        ensures saves { IfOk result (SavesTrace self.now) }
+    {
+        operators_are_nodes();
+        let kept = self.remembered.past.kept(alloc)?;
+        let pending = self.remembered.pending.to_list(alloc)?;
+        Ok(Snapshot {
+            clock: self.clock,
+            last: self.remembered.last,
+            position: self.remembered.position,
+            kept,
+            pending,
+        })
     }
 
     /// Takes a step of the system at a time up to 10^15. First it inserts a step at each deadline below that time,

@@ -31,13 +31,16 @@ use past_state::{PastState, Tables};
 use plan_terms::Plan;
 use std::alloc::Global;
 use trace_meaning::kinds::StepKind;
+use trace_meaning::laws::trace_grows;
 
-// What the guards remember of the steps that went out, what they left pending, and how many they are.
+// What the guards remember of the steps that went out, what they left pending, how many they are, and the time of the
+// last one.
 #[derive(Drop)]
 pub(crate) struct Remembered {
     pub(crate) past: PastState,
     pub(crate) pending: Pending,
     pub(crate) position: u64,
+    pub(crate) last: Option<u64>,
 }
 
 // Steps that went out at deadlines, and the time below which all is over behind them.
@@ -68,9 +71,11 @@ impl Remembered {
         ensures can { OnOk result ((later : ℕ) → time ≤ later → CanGoOn (map plan_of plans.now) self.new later) }
     {
         traces_grow();
+        trace_grows();
         asleep_is_idle();
         if self.is_idle(wakes, events.as_slice()) {
             self.position += 1;
+            self.last = Some(time);
             return Ok(OutStep {
                 kind,
                 time,
@@ -107,6 +112,7 @@ impl Remembered {
         ensures can { OnOk result ((later : ℕ) → time ≤ later → CanGoOn (map plan_of plans.now) self.new later) }
     {
         traces_grow();
+        trace_grows();
         let inserted = is_inserted(kind);
         let Choice {
             events,
@@ -128,6 +134,7 @@ impl Remembered {
         self.progress(alloc, plans, time, &events, &tables)?;
         self.past.commit(time, &events, tables)?;
         self.position += 1;
+        self.last = Some(time);
         Ok(OutStep {
             kind,
             time,
@@ -278,6 +285,7 @@ impl Remembered {
         requires in_time { time ≤ MOST_TIME }
         ensures past { self.new.past ≡ self.old.past }
         ensures position { self.new.position ≡ self.old.position }
+        ensures last { self.new.last ≡ self.old.last }
         ensures goes { OnOk result (PendingGoes (map plan_of plans.now) self.old time events.now
             self.new.pending.instances) }
         ensures deadlines { OnOk result (KeepsDeadlines (map plan_of plans.now) self.new.pending) }
@@ -317,6 +325,7 @@ impl Remembered {
         requires in_time { time ≤ MOST_TIME }
         ensures past { self.new.past ≡ self.old.past }
         ensures position { self.new.position ≡ self.old.position }
+        ensures last { self.new.last ≡ self.old.last }
         ensures goes { OnOk result (PendingGoes (map plan_of plans.now) self.old time ordered.now
             self.new.pending.instances) }
         ensures deadlines { OnOk result (KeepsDeadlines (map plan_of plans.now) self.new.pending) }

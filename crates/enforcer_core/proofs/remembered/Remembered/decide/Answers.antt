@@ -34,6 +34,7 @@ returns-then-is_idle-clause-decided c =
       time_is = refl;
       distinct = c.as_slice.ensures.distinct;
       acts = subst (λ (l : List Action). ActsFrom (map plan_of c.args.plans.now) c.args.events l c.args.events) (sym c.new.ensures) refl;
+      guards = refl;
       position = refl;
       deadlines = c.requires.can.asked.deadlines;
       goes_out = λ trace remembers later. record {
@@ -50,6 +51,7 @@ returns-then-is_idle-clause-decided c =
           let at = remembers.position in
           record {
             position = omega (arith, at, length-append trace (record { time = c.args.time; events = c.args.events } ∷ []));
+            last = (omega (arith, length-append trace (record { time = c.args.time; events = c.args.events } ∷ [])), sym (c.trace_grows.ensures.last trace (record { time = c.args.time; events = c.args.events })));
             past = idle.stands (trace ++ record { time = c.args.time; events = c.args.events } ∷ []);
             pending = c.traces_grow.ensures.pending plans trace (record { time = c.args.time; events = c.args.events }) before.pending.instances before.pending.instances remembers.pending (goes trace);
           };

@@ -1,4 +1,4 @@
-use Rattle.std.proofs.Common.{◌≡◌, List, [], ◌∷◌, ◌++◌, length-append, map, refl, sym, subst, arith}
+use Rattle.std.proofs.Common.{◌≡◌, ◌∙◌, ap, List, [], ◌∷◌, ◌++◌, length-append, map, refl, sym, subst, arith}
 use Rattle.enf_value.specs.declared.events.Event.{Event}
 use Rattle.obligations.specs.Pending.{Goes}
 use Rattle.past_state.specs.Past.{AreOf, CommittedWillStand, Past}
@@ -24,6 +24,7 @@ returns-clause-decided c =
       time_is = refl;
       distinct = c.as_slice-given.ensures.distinct;
       acts = c.in_ok-events.ensures.acted;
+      guards = c.in_ok-commit.ensures.guards ∙ ap (λ p. p.guards) c.in_ok-progress.ensures.past;
       position = omega (arith, long);
       deadlines = c.in_ok-progress.ensures.deadlines;
       goes_out = λ trace remembers later. record {
@@ -40,6 +41,7 @@ returns-clause-decided c =
           let at = remembers.position in
           record {
             position = omega (arith, long, at, length-append trace (record { time = c.args.time; events = events } ∷ []));
+            last = (omega (arith, length-append trace (record { time = c.args.time; events = events } ∷ [])), sym (c.trace_grows.ensures.last trace (record { time = c.args.time; events = events })));
             past = stand trace (record { time = c.args.time; events = events }) refl refl later remembers.past are;
             pending = c.traces_grow.ensures.pending plans trace (record { time = c.args.time; events = events }) before.pending.instances c.progress.new.self.pending.instances remembers.pending
                 (c.in_ok-progress.ensures.goes trace remembers later);
