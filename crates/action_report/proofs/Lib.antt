@@ -5,4 +5,3 @@ pub mod OneAction
 pub mod Parts
 pub mod ReadLemmas
 pub mod RowLemmas
-pub mod ScopeLemmas
