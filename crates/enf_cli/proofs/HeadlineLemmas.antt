@@ -1,51 +1,109 @@
 -- The headline, from what holds at each status.
-use Rattle.std.proofs.Common.{◌≡◌, ◌≢◌, ℕ, List, [], ◌++◌, refl, sym, ap, subst, ◌∙◌, length, drop, take, get_or, inl, inr, Option, Some}
-use Rattle.std.specs.Prelude.{◌⊎◌}
-use Rattle.std.specs.Option.{option_map}
+use Rattle.std.proofs.Common.{◌≡◌, ◌≢◌, ℕ, ◌+◌, List, [], ◌++◌, refl, sym, ap, subst, ◌∙◌, length, drop, take, get_or, inl, inr, Option, None, Some}
+use Rattle.std.specs.Prelude.{◌⊎◌, codes, decimal}
 use Rattle.std.proofs.lemmas.List.{append-nil, drop_at}
+use Rattle.enf_io.specs.Contents.{Contents, Holds}
 use Rattle.enf_io.specs.Exchange.{Exchange, Gave, with_given}
 use Rattle.enf_io.specs.Since.{AtEachMark, OfCalls, taken_bytes}
-use Rattle.enf_io.specs.SinceLaws.{OfCalls-none}
+use Rattle.enf_io.specs.SinceLaws.{OfCalls-none, OfCalls-weaker}
 use Rattle.enf_io.specs.Streams.{Stream}
 use Rattle.std.proofs.lemmas.List.Elements.{All-nil}
 use Rattle.enforce_types.specs.Accepted.{AcceptedIsNotRefused}
 use Rattle.formula_reader.specs.Resolution.{Rule}
 use Rattle.signature.specs.Laws.{OneAnswer}
 use Rattle.signature.specs.declared.entries.NameEntry.{NameEntry}
-use Rattle.log_stream.specs.Logs.{Spells}
+use Rattle.log_stream.specs.Logs.{BeginsWith, Refuses as RefusesLog, Spells}
+use Rattle.log_stream.specs.declared.items.LogItem.{LogItem}
+use Rattle.log_stream.specs.declared.items.LogMode.{LogMode}
 use Rattle.log_stream.specs.declared.items.LogMode.TheVariants.{Input}
-use Rattle.enf_cli.specs.Accepted.{UpToDate, records_of}
-use Rattle.enf_cli.specs.Actions.{action_lines}
+use Rattle.enf_cli.specs.Accepted.{UpToDate}
 use Rattle.enf_cli.specs.Calls.{Call, LeavesGate}
-use Rattle.enf_cli.specs.Dues.{AsksPolicy, AsksTold}
+use Rattle.enf_cli.specs.Dues.{AsksPolicy, AsksTold, TellBytes}
 use Rattle.enf_cli.specs.Exchanges.{Exchanged, IsExchange}
-use Rattle.enf_cli.specs.Headline.{HasTakenLog, Headline, IsKept, IsLastLine, IsKeptSoFar, IsUsed, status_after}
-use Rattle.enf_cli.specs.Logs.{CutsRun, EndsAs, RunsLog, taken_of}
-use Rattle.enf_cli.specs.Outcomes.{AsksToEnforce, BreaksOffLog, IsCut, Meets, MissesFile, Outcome}
+use Rattle.enf_cli.specs.Headline.{HasEnded, HasTakenLog, Headline, IsAsked, IsFront, IsKept, IsKeptSoFar, IsRefusedFor, action_lines, text_of_log_refusal}
+use Rattle.enf_cli.specs.Logs.{CutsRun, EndsAs, IsRefusedAs, RunsLog, Taken, clock_behind, taken_of}
+use Rattle.enf_cli.specs.Outcomes.{AsksToEnforce, BreaksOffLog, IsCut, Meets, MissesFile, Outcome, Refuses}
 use Rattle.enf_cli.specs.Owed.{Setting, anew}
-use Rattle.enf_cli.specs.Refusals.{status_of, text_of_refusal}
+use Rattle.enf_cli.specs.Refusals.{text_of_record_refusal, text_of_refusal}
 use Rattle.enf_cli.specs.Reports.{IsReported}
+use Rattle.enf_cli.specs.declared.refusals.RecordRefusal.{RecordRefusal}
+use Rattle.enf_cli.specs.declared.refusals.RecordRefusal.TheVariants as records
 use Rattle.enf_cli.specs.declared.refusals.Refusal.{Refusal}
 use Rattle.enf_cli.specs.declared.refusals.Refusal.TheVariants as refusals
-use Rattle.enf_cli.specs.Seen.{seen_of}
+use Rattle.enf_cli.specs.Seen.{Seen, seen_of}
 use Rattle.enf_cli.specs.Words.{IsCheck, IsEnforce, IsGenerate}
 use Rattle.enf_cli.specs.declared.endings.Cut.TheVariants as cuts
 use Rattle.enf_cli.specs.declared.log.Verdict.{Verdict}
 use Rattle.enf_cli.specs.declared.log.Verdict.TheVariants as verdicts
 use Rattle.enf_cli.specs.declared.refusals.Status.{Status}
 use Rattle.enf_cli.specs.declared.refusals.Status.TheVariants as statuses
-use Rattle.enf_cli.proofs.DueLemmas.{OneTextAnswer, enforce_or_check, files_or_generate, one_setting, ran_told}
+use Rattle.enf_cli.proofs.DueLemmas.{OneTextAnswer, enforce_or_check, files_or_generate, one_setting}
 use Rattle.enf_cli.proofs.ExchangeLemmas.{gave_more, gave_none}
 
 -- a device that told one thing told no other
 same_exchange : (x y : Exchange) → ◌≡◌ {A = Option Exchange} (Some x) (Some y) → x ≡ y
 same_exchange x y e = cc
 
--- what a device was given in between
-gave_between : (text : List ℕ) (before after : Option Exchange) (x : Exchange) → IsUsed before after x → Gave text before after → x.given ≡ text
-gave_between text before after x used gave =
-    let is : ◌≡◌ {A = Option Exchange} (Some used.last) (Some (with_given text used.first)) = sym used.told' ∙ gave ∙ ap (option_map (with_given text)) used.told in
-    ap (λ (e : Exchange). e.given) used.is ∙ ap (λ (e : Exchange). drop (length used.first.given) e.given) (same_exchange used.last (with_given text used.first) is) ∙ drop_at used.first.given text (length used.first.given) refl
+-- what a device was given by the calls
+given_by : (text : List ℕ) (before after : Option Exchange) → Gave text before after → OfCalls (λ x. x.given ≡ text) before after
+given_by text None after gave = tt
+given_by text (Some x) None gave = tt
+given_by text (Some x) (Some y) gave =
+    ap (λ (e : Exchange). drop (length x.given) e.given) (same_exchange y (with_given text x) gave) ∙ drop_at x.given text (length x.given) refl
+
+-- files that tell hold these bytes under a name
+held : (told : Option (List ℕ → Contents)) (files : List ℕ → Contents) (name bytes : List ℕ) → told ≡ Some files → files name ≡ Holds bytes → TellBytes told name bytes
+held told files name bytes tell holds = subst (λ (o : Option (List ℕ → Contents)). TellBytes o name bytes) (sym tell) holds
+
+-- what is asked is what the statuses speak of
+asks_policy : {Gate : Type 0} (call : Call Gate) (entries : List NameEntry) (rules : List Rule) → IsAsked call.words call.before.files.contents entries rules → AsksPolicy IsEnforce call entries rules
+asks_policy call entries rules a =
+    let told = call.before.files.contents in
+    record {
+      asks = record {
+        signature_file = a.signature_file;
+        policy_file = a.policy_file;
+        form = a.form;
+        bytes = a.signature;
+        told = held told a.files a.signature_file a.signature a.tell a.first;
+        is_signature = record { short = a.is_signature.0; answer = a.is_signature.1 };
+      };
+      bytes = a.policy;
+      told = held told a.files a.policy_file a.policy a.tell a.second;
+      is_policy = record { reads = record { short = a.is_policy.0; answer = a.is_policy.1 }; accepted = a.accepted };
+    }
+
+-- the words of a refusal are those of the report
+refused_for : (t : Taken) (after : Stream) (why : RecordRefusal) → t.setting.mode ≡ Input → IsRefusedAs t after why → IsRefusedFor t.setting.entries (clock_behind t) t.count t.rest after (text_of_record_refusal why)
+refused_for t after (records.Log why) input (inl refused) = inl (why, subst (λ (mode : LogMode). RefusesLog t.setting.entries mode t.rest why) input refused, refl)
+refused_for t after (records.Log why) input (inr (is, truncated, met)) = inr (inl (truncated, met, ap text_of_log_refusal is))
+refused_for t after (records.Falling given at) input (is, f) =
+    inr (inr (inl (f.item, f.more, subst (λ (mode : LogMode). BeginsWith t.setting.entries mode t.rest f.item f.more) input f.begins, f.below, (λ i. codes "time " ++ decimal (f.time i) ++ codes " is below " ++ decimal (is i)))))
+refused_for t after records.InputLimit input (pending, limit) = inr (inr (inr (pending, limit, refl)))
+
+-- the last line of the report, behind so many accepted records
+abbrev IsLast : Verdict → ℕ → List ℕ → Type 0
+IsLast verdicts.Accepted accepted last = last ≡ []
+IsLast verdicts.Fault accepted last = IsFront (codes "read fault\n") last
+IsLast (verdicts.Refused why) accepted last = IsFront (text_of_refusal (refusals.Record (accepted + 1) why)) last
+
+-- the status of a run behind a log that ended so
+abbrev status_after : Verdict → Status
+status_after verdicts.Accepted = statuses.Done
+status_after verdicts.Fault = statuses.ReadFault
+status_after (verdicts.Refused why) = statuses.Record
+
+has_ended : (entries : List NameEntry) (rules : List Rule) (read : List LogItem) (taken rest last : List ℕ) (before after : Stream) (verdict : Verdict)
+    → EndsAs (taken_of (anew entries rules) read taken rest) before after verdict → IsLast verdict (length read) last → HasEnded entries read taken rest last before after (status_after verdict)
+has_ended entries rules read taken rest last before after verdicts.Accepted (blank, met, reads) line = (blank, met, reads, line)
+has_ended entries rules read taken rest last before after verdicts.Fault (pending, reads) line = (pending, reads, line)
+has_ended entries rules read taken rest last before after (verdicts.Refused why) (refused, reads) line =
+    (text_of_record_refusal why, refused_for (taken_of (anew entries rules) read taken rest) after why refl refused, reads, line)
+
+-- a log was run, and the last line behind it is this
+record Ran (s : Setting) (verdict : Verdict) (before after : Seen) (last : List ℕ) : Type 0 where
+  pub ran : RunsLog s verdict before after
+  pub line : IsLast verdict (length ran.answers.read) last
 
 -- a line, or a part of it
 record HasLine (why : Refusal) (before after : Stream) : Type 0 where
@@ -60,12 +118,12 @@ line_given why before after (inr part) = record { text = part.0.front; missing =
 
 module _ {Gate : Type 0} (call : Call Gate) where
   -- no log was taken at another status
-  other_status : (result : Status) → result ≢ statuses.Done → result ≢ statuses.Record → result ≢ statuses.ReadFault → HasTakenLog call result → ⊥
+  other_status : (result : Status) → result ≢ statuses.Done → result ≢ statuses.Record → result ≢ statuses.ReadFault → HasTakenLog call.before.gate call.after.gate result → ⊥
   other_status result done refused fault (inl is) = done is
   other_status result done refused fault (inr (inl is)) = refused is
   other_status result done refused fault (inr (inr (is, moved))) = fault is
 
-  module _ (one : OneAnswer) (one_text : OneTextAnswer) (accepted : AcceptedIsNotRefused) (entries : List NameEntry) (rules : List Rule) (asks : AsksPolicy IsEnforce call entries rules) (gate : Exchange) (used : IsUsed call.before.gate.told call.after.gate.told gate) where
+  module _ (one : OneAnswer) (one_text : OneTextAnswer) (accepted : AcceptedIsNotRefused) (entries : List NameEntry) (rules : List Rule) (asks : AsksPolicy IsEnforce call entries rules) where
     abbrev s : Setting
     s = anew entries rules
 
@@ -73,7 +131,7 @@ module _ {Gate : Type 0} (call : Call Gate) where
     asks_told = record { asks = asks; is_setting = refl }
 
     abbrev AtReads : Type 0
-    AtReads = AtEachMark (IsKeptSoFar entries rules) gate
+    AtReads = OfCalls (AtEachMark (IsKeptSoFar entries rules)) call.before.gate.told call.after.gate.told
 
     not_generated : (start steps : ℕ) → IsGenerate call.words start steps → ⊥
     not_generated start steps form = files_or_generate call.words asks.asks.signature_file asks.asks.policy_file start steps (inl asks.asks.form) form
@@ -81,20 +139,12 @@ module _ {Gate : Type 0} (call : Call Gate) where
     not_checked : (signature policy : List ℕ) → IsCheck call.words signature policy → ⊥
     not_checked signature policy form = enforce_or_check call.words asks.asks.signature_file asks.asks.policy_file signature policy asks.asks.form form
 
-    -- what holds of the calls holds of what was used
-    of_used : (P : Exchange → Type 0) → OfCalls P call.before.gate.told call.after.gate.told → P gate
-    of_used P h =
-        subst P (sym used.is) (subst (λ (b : Option Exchange). OfCalls P (Some used.first) b) used.told' (subst (λ (a : Option Exchange). OfCalls P a call.after.gate.told) used.told h))
-
     so_far : (taken given : List ℕ) → UpToDate s taken given → IsKeptSoFar entries rules taken given
     so_far taken given u =
         let a = u.answers in
         record {
-          records = records_of a.read;
-          out = a.out;
-          answered = record { read = a.read; rest = u.rest; spelled = a.accepts.spelled; are = refl; rising = a.accepts.rising; text = a.text };
+          answered = record { read = a.read; rest = u.rest; spelled = a.accepts.spelled; rising = a.accepts.rising; out = a.out; text = a.text; lawful = a.owed.keeps_up.lawful; justified = a.owed.justified };
           pending = u.pending;
-          changed = record { lawful = a.owed.keeps_up.lawful; justified = a.owed.justified };
           within = a.owed.keeps_up.within;
           good = a.owed.keeps_up.good;
           alone = a.owed.alone;
@@ -104,14 +154,14 @@ module _ {Gate : Type 0} (call : Call Gate) where
     at_reads : (other : Setting) (taken given : List ℕ) → AsksToEnforce call other → Exchanged (UpToDate other) taken given call.before.gate.told call.after.gate.told → AtReads
     at_reads other taken given asked exchanged =
         let mine = subst (λ (o : Setting). Exchanged (UpToDate o) taken given call.before.gate.told call.after.gate.told) (sym (one_setting one one_text accepted call s asks_told other asked)) exchanged in
-        let marks = (of_used (IsExchange (UpToDate s) taken given) mine.calls).marks in
-        λ k d below. let mark = get_or gate.marks k d in so_far (take mark.0 gate.input) (take mark.1 gate.given) (marks k d below)
+        OfCalls-weaker (IsExchange (UpToDate s) taken given) (AtEachMark (IsKeptSoFar entries rules)) call.before.gate.told call.after.gate.told
+        (λ x is k d below. let mark = get_or x.marks k d in so_far (take mark.0 x.input) (take mark.1 x.given) (is.marks k d below)) mine.calls
 
     no_reads : LeavesGate call → AtReads
     no_reads left =
         let P = AtEachMark (IsKeptSoFar entries rules) in
-        of_used P (subst (λ (b : Option Exchange). OfCalls P call.before.gate.told b) (sym (ap (λ (stream : Stream). stream.told) left.1))
-        (OfCalls-none P call.before.gate.told (λ input. All-nil (λ (mark : ℕ × ℕ). IsKeptSoFar entries rules (take mark.0 input) (take mark.1 [])))))
+        subst (λ (b : Option Exchange). OfCalls P call.before.gate.told b) (sym (ap (λ (stream : Stream). stream.told) left.1))
+        (OfCalls-none P call.before.gate.told (λ input. All-nil (λ (mark : ℕ × ℕ). IsKeptSoFar entries rules (take mark.0 input) (take mark.1 []))))
 
     -- so it is by how the work of a run ends
     reads_met : (report : Stream) (why : Refusal) → Meets call report why → AtReads
@@ -150,58 +200,72 @@ module _ {Gate : Type 0} (call : Call Gate) where
     reads_of statuses.NoMemory (inl o) = reads_lacked o.between o.cut
     reads_of statuses.NoMemory (inr o) = reads_met o.between o.why o.meets
 
-    module _ (said : Exchange) (used_report : IsUsed call.before.report.told call.after.report.told said) where
-      -- a log that was run is kept, where the report was so behind it
-      kept : (report : Stream) (other : Setting) (verdict : Verdict) → AsksToEnforce call other → RunsLog other verdict (seen_of call.before.gate call.before.report) (seen_of call.after.gate report)
-          → (result : Status) → result ≡ status_after verdict → (more : List ℕ) → Gave more report.told call.after.report.told → IsLastLine result more → IsKept call result entries rules (taken_bytes gate) gate.given said.given
-      kept report other verdict asked ran result status more gave line =
-          let mine = ran_told one one_text accepted call s asks_told report other verdict asked ran in
-          let exchange = of_used (IsExchange (UpToDate s) mine.taken mine.given) mine.exchanged.calls in
-          let a = mine.answers in
-          let lines : List ℕ = action_lines entries rules a.out in
-          record {
-            records = records_of a.read;
+    abbrev AtEnd : Status → Type 0
+    AtEnd result = OfCalls (λ log. OfCalls (λ said. IsKept entries rules call.before.gate call.after.gate result (taken_bytes log) log.given said.given) call.before.report.told call.after.report.told) call.before.gate.told call.after.gate.told
+
+    -- a log that was run is kept, where the report was so behind it
+    kept : (report : Stream) (other : Setting) (verdict : Verdict) (last : List ℕ) → AsksToEnforce call other → Ran other verdict (seen_of call.before.gate call.before.report) (seen_of call.after.gate report) last
+        → Gave last report.told call.after.report.told → AtEnd (status_after verdict)
+    kept report other verdict last asked its gave =
+        let mine = subst (λ (o : Setting). Ran o verdict (seen_of call.before.gate call.before.report) (seen_of call.after.gate report) last) (sym (one_setting one one_text accepted call s asks_told other asked)) its in
+        let a = mine.ran.answers in
+        let text : List ℕ = action_lines entries rules a.out ++ last in
+        let of_report = given_by text call.before.report.told call.after.report.told (gave_more (action_lines entries rules a.out) last call.before.report.told report.told call.after.report.told mine.ran.actions.gave gave) in
+        OfCalls-weaker (IsExchange (UpToDate s) mine.ran.taken mine.ran.given) (λ log. OfCalls (λ said. IsKept entries rules call.before.gate call.after.gate (status_after verdict) (taken_bytes log) log.given said.given) call.before.report.told call.after.report.told) call.before.gate.told call.after.gate.told
+        (λ log exchange. OfCalls-weaker (λ said. said.given ≡ text) (λ said. IsKept entries rules call.before.gate call.after.gate (status_after verdict) (taken_bytes log) log.given said.given) call.before.report.told call.after.report.told
+        (λ said is. record {
+          answered = record {
+            read = a.read;
+            rest = mine.ran.rest;
+            spelled = subst (λ (b : List ℕ). Spells entries Input b a.read mine.ran.rest) (sym exchange.took) a.accepts.spelled;
+            rising = a.accepts.rising;
             out = a.out;
-            answered = record { read = a.read; rest = mine.rest; spelled = subst (λ (b : List ℕ). Spells entries Input b a.read mine.rest) (sym exchange.took) a.accepts.spelled; are = refl; rising = a.accepts.rising; text = exchange.gave ∙ a.text };
-            verdict = verdict;
-            ended = subst (λ (b : List ℕ). EndsAs (taken_of s a.read b mine.rest) call.before.gate call.after.gate verdict) (sym exchange.took) mine.ends;
-            status = status;
-            changed = record { lawful = a.owed.enforced.lawful; justified = a.owed.justified };
-            satisfied = a.owed.enforced.satisfied;
-            last = more;
-            reported = gave_between (lines ++ more) call.before.report.told call.after.report.told said used_report (gave_more lines more call.before.report.told report.told call.after.report.told mine.actions.gave gave);
-            line = line;
-            alone = a.owed.alone;
-          }
+            text = exchange.gave ∙ a.text;
+            lawful = a.owed.enforced.lawful;
+            justified = a.owed.justified;
+          };
+          last = last;
+          ended = has_ended entries rules a.read (taken_bytes log) mine.ran.rest last call.before.gate call.after.gate verdict
+              (subst (λ (b : List ℕ). EndsAs (taken_of s a.read b mine.ran.rest) call.before.gate call.after.gate verdict) (sym exchange.took) mine.ran.ends) mine.line;
+          satisfied = a.owed.enforced.satisfied;
+          reported = is;
+          alone = a.owed.alone;
+        }) of_report) mine.ran.exchanged.calls
 
-      kept_behind : (why : Refusal) (between : Stream) → IsReported (text_of_refusal why) between call.after.report → (other : Setting) (verdict : Verdict) → AsksToEnforce call other
-          → RunsLog other verdict (seen_of call.before.gate call.before.report) (seen_of call.after.gate between) → status_of why ≡ status_after verdict → IsKept call (status_of why) entries rules (taken_bytes gate) gate.given said.given
-      kept_behind why between reported other verdict asked ran status =
-          let line = line_given why between call.after.report reported in
-          kept between other verdict asked ran (status_of why) status line.text line.gave (inr (why, refl, (line.missing, line.is)))
+    kept_record : (number : ℕ) (why : RecordRefusal) → Refuses call (refusals.Record number why) → AtEnd statuses.Record
+    kept_record number why o =
+        let line = line_given (refusals.Record number why) o.between call.after.report o.line in
+        kept o.between o.meets.setting (verdicts.Refused why) line.text o.meets.asks
+        (record { ran = o.meets.ran; line = (line.missing, subst (λ (n : ℕ). text_of_refusal (refusals.Record n why) ≡ line.text ++ line.missing) o.meets.number_is line.is) }) line.gave
 
-      kept_of : (result : Status) → Outcome call result → HasTakenLog call result → IsKept call result entries rules (taken_bytes gate) gate.given said.given
-      kept_of statuses.Done (inl (inl done)) taken =
-          kept call.after.report done.setting verdicts.Accepted done.asks done.ran statuses.Done refl [] (gave_none call.after.report.told) (inl (refl, refl))
-      kept_of statuses.Done (inl (inr generated)) taken = absurd (not_generated generated.log.start generated.log.steps generated.log.form)
-      kept_of statuses.Done (inr checked) taken = absurd (not_checked checked.policy.asks.signature_file checked.policy.asks.policy_file checked.policy.asks.form)
-      kept_of statuses.Record (number, why, o) taken = kept_behind (refusals.Record number why) o.between o.line o.meets.setting (verdicts.Refused why) o.meets.asks o.meets.ran refl
-      kept_of statuses.ReadFault o taken = by o.meets taken
-        where
-          by : MissesFile call o.between ⊎ BreaksOffLog call o.between → HasTakenLog call statuses.ReadFault → IsKept call statuses.ReadFault entries rules (taken_bytes gate) gate.given said.given
-          by (inr m) log = kept_behind refusals.ReadFault o.between o.line m.setting verdicts.Fault m.asks m.ran refl
-          by (inl missed) (inl is) = cc
-          by (inl missed) (inr (inl is)) = cc
-          by (inl missed) (inr (inr (is, moved))) = absurd (moved (ap (λ (stream : Stream). stream.read_faults) missed.gate.1))
-      kept_of statuses.Words o taken = absurd (other_status statuses.Words (λ is. cc) (λ is. cc) (λ is. cc) taken)
-      kept_of statuses.Files o taken = absurd (other_status statuses.Files (λ is. cc) (λ is. cc) (λ is. cc) taken)
-      kept_of statuses.WriteFault o taken = absurd (other_status statuses.WriteFault (λ is. cc) (λ is. cc) (λ is. cc) taken)
-      kept_of statuses.NoMemory o taken = absurd (other_status statuses.NoMemory (λ is. cc) (λ is. cc) (λ is. cc) taken)
+    kept_fault : (between : Stream) → IsReported (text_of_refusal refusals.ReadFault) between call.after.report → BreaksOffLog call between → AtEnd statuses.ReadFault
+    kept_fault between reported m =
+        let line = line_given refusals.ReadFault between call.after.report reported in
+        kept between m.setting verdicts.Fault line.text m.asks (record { ran = m.ran; line = (line.missing, line.is) }) line.gave
+
+    kept_of : (result : Status) → Outcome call result → HasTakenLog call.before.gate call.after.gate result → AtEnd result
+    kept_of statuses.Done (inl (inl done)) taken =
+        kept call.after.report done.setting verdicts.Accepted [] done.asks (record { ran = done.ran; line = refl }) (gave_none call.after.report.told)
+    kept_of statuses.Done (inl (inr generated)) taken = absurd (not_generated generated.log.start generated.log.steps generated.log.form)
+    kept_of statuses.Done (inr checked) taken = absurd (not_checked checked.policy.asks.signature_file checked.policy.asks.policy_file checked.policy.asks.form)
+    kept_of statuses.Record (number, why, o) taken = kept_record number why o
+    kept_of statuses.ReadFault o taken = by o.meets taken
+      where
+        by : MissesFile call o.between ⊎ BreaksOffLog call o.between → HasTakenLog call.before.gate call.after.gate statuses.ReadFault → AtEnd statuses.ReadFault
+        by (inr m) log = kept_fault o.between o.line m
+        by (inl missed) (inl is) = cc
+        by (inl missed) (inr (inl is)) = cc
+        by (inl missed) (inr (inr (is, moved))) = absurd (moved (ap (λ (stream : Stream). stream.read_faults) missed.gate.1))
+    kept_of statuses.Words o taken = absurd (other_status statuses.Words (λ is. cc) (λ is. cc) (λ is. cc) taken)
+    kept_of statuses.Files o taken = absurd (other_status statuses.Files (λ is. cc) (λ is. cc) (λ is. cc) taken)
+    kept_of statuses.WriteFault o taken = absurd (other_status statuses.WriteFault (λ is. cc) (λ is. cc) (λ is. cc) taken)
+    kept_of statuses.NoMemory o taken = absurd (other_status statuses.NoMemory (λ is. cc) (λ is. cc) (λ is. cc) taken)
 
   -- so the headline holds
-  pub headline_of : (one : OneAnswer) (one_text : OneTextAnswer) (accepted : AcceptedIsNotRefused) (result : Status) → Outcome call result → Headline call result
+  pub headline_of : (one : OneAnswer) (one_text : OneTextAnswer) (accepted : AcceptedIsNotRefused) (result : Status) → Outcome call result
+      → Headline call.words call.before.files call.before.gate call.after.gate call.before.report call.after.report result
   headline_of one one_text accepted result o =
       record {
-        at_the_end = λ entries rules gate said asks used used_report taken. kept_of one one_text accepted entries rules asks gate used said used_report result o taken;
-        at_each_read = λ entries rules gate asks used. reads_of one one_text accepted entries rules asks gate used result o;
+        at_the_end = λ entries rules asked taken. kept_of one one_text accepted entries rules (asks_policy call entries rules asked) result o taken;
+        at_each_read = λ entries rules asked. reads_of one one_text accepted entries rules (asks_policy call entries rules asked) result o;
       }

@@ -1,24 +1,16 @@
 -- Which records of a log are accepted, and what is given for them.
-use Rattle.std.specs.Prelude.{◌≡◌, ℕ, List, map}
+use Rattle.std.specs.Prelude.{◌≡◌, ℕ, List}
 use Rattle.log_stream.specs.Lines.{text_of}
 use Rattle.log_stream.specs.Logs.{IsPending, Spells}
 use Rattle.log_stream.specs.declared.items.LogItem.{LogItem}
-use Rattle.log_stream.specs.declared.items.LogItem.TheVariants as items
 use Rattle.log_stream.specs.declared.items.LogMode.{LogMode}
 use Rattle.signature.specs.Grammar.{names as names_of}
 use Rattle.signature.specs.declared.entries.NameEntry.{NameEntry}
 use Rattle.choice_step.specs.Follows.{ActedStep}
 use Rattle.enforcer_core.specs.Enforcers.{out_steps}
-use Rattle.trace_meaning.specs.Records.{NeverFall, Record, StepRecord, Tick}
+use Rattle.trace_meaning.specs.Records.{NeverFall, Record}
+pub use Rattle.enf_cli.specs.Headline.{record_of, records_of}
 use Rattle.enf_cli.specs.Owed.{IsOwedInAll, IsOwedSoFar, Setting}
-
--- what an item of a log is for an enforcer
-abbrev pub record_of : LogItem → Record
-record_of (items.Step kind time events) = StepRecord (record { time = time; events = events })
-record_of (items.Tick time) = Tick time
-
-abbrev pub records_of : List LogItem → List Record
-records_of read = map record_of read
 
 -- whole records whose times never fall from a clock on are accepted, in order, and a rest is left
 pub record Accepts (entries : List NameEntry) (mode : LogMode) (clock : ℕ) (bytes : List ℕ)

@@ -4,18 +4,10 @@ use Rattle.std.specs.List.{flat_map}
 use Rattle.enf_io.specs.Counts.{one_more}
 use Rattle.enf_io.specs.Exchange.{Gave}
 use Rattle.enf_io.specs.Streams.{Stream}
-use Rattle.action_report.specs.Lines.{action_line}
 use Rattle.choice_step.specs.Follows.{ActedStep}
 use Rattle.formula_reader.specs.Resolution.{Rule}
 use Rattle.signature.specs.declared.entries.NameEntry.{NameEntry}
-
--- the lines of the actions that made a step, in their order
-abbrev pub lines_of_actions : List NameEntry → List Rule → ActedStep → List ℕ
-lines_of_actions entries rules step = flat_map (action_line entries rules) step.actions
-
--- and those of all these steps
-abbrev pub action_lines : List NameEntry → List Rule → List ActedStep → List ℕ
-action_lines entries rules steps = flat_map (lines_of_actions entries rules) steps
+pub use Rattle.enf_cli.specs.Headline.{action_lines, lines_of_actions}
 
 -- a device gained this text, and no call of it failed
 pub record Gains (text : List ℕ) (before after : Stream) : Type 0 where

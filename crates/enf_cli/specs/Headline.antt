@@ -1,125 +1,187 @@
--- The headline, in its own words: what has become of a log that a run enforced under an accepted policy, of files, a
--- gate and a report that tell.
-use Rattle.std.specs.Prelude.{◌≡◌, ◌≢◌, ◌⊎◌, ℕ, List, [], ◌++◌, Option, Some}
-use Rattle.enf_io.specs.Exchange.{Exchange}
-use Rattle.enf_io.specs.Since.{AtEachMark, since, taken_bytes}
-use Rattle.log_stream.specs.Lines.{text_of}
-use Rattle.log_stream.specs.Logs.{IsPending, Spells}
-use Rattle.log_stream.specs.declared.items.LogItem.{LogItem}
-use Rattle.log_stream.specs.declared.items.LogMode.TheVariants.{Input}
+-- The headline, in its own words over definitions of the crates below: what becomes of a log that a run enforces, where
+-- the files tell an accepted policy, and the gate and the report tell what goes through them.
+use Rattle.std.specs.Prelude.{◌≡◌, ◌≢◌, ◌⊎◌, ℕ, ◌+◌, ◌<◌, ◌≤◌, IsTrue, List, [], ◌∷◌, ◌++◌, length, map, codes}
+use Rattle.std.specs.Prelude.{decimal, Option, Some, Ok}
+use Rattle.std.specs.List.{flat_map}
+use Rattle.enf_io.specs.Contents.{Contents, Holds}
+use Rattle.enf_io.specs.Counts.{one_more}
+use Rattle.enf_io.specs.Exchange.{IsAtEnd}
+use Rattle.enf_io.specs.FileCalls.{FileView}
+use Rattle.enf_io.specs.Since.{AtEachMark, OfCalls, taken_bytes}
+use Rattle.enf_io.specs.Streams.{Stream}
+use Rattle.enf_value.specs.declared.limits.TheConstants.{MOST_FILE_BYTES}
+use Rattle.enf_value.specs.declared.terms.VarId.{VarId}
+use Rattle.enf_formula.specs.Formulas.{Formula}
 use Rattle.signature.specs.Grammar.{names as names_of}
+use Rattle.signature.specs.Refusals.{IsAnswer}
 use Rattle.signature.specs.declared.entries.NameEntry.{NameEntry}
+use Rattle.formula_reader.specs.Reading.{IsTextAnswer}
 use Rattle.formula_reader.specs.Resolution.{Rule}
+use Rattle.log_stream.specs.Lines.{text_of}
+use Rattle.log_stream.specs.Logs.{BeginsWith, IsPending, IsTruncated, Refuses, Spells, behind_blanks}
+use Rattle.log_stream.specs.declared.items.LogItem.{LogItem}
+use Rattle.log_stream.specs.declared.items.LogItem.TheVariants as items
+use Rattle.log_stream.specs.declared.items.LogMode.TheVariants.{Input}
+use Rattle.log_stream.specs.declared.items.LogRefusal.{LogRefusal}
+use Rattle.log_stream.specs.declared.items.LogRefusal.TheVariants as log
+use Rattle.plan_terms.specs.Plans.{Plan}
+use Rattle.rank_check.specs.Transparent.{is_transparent}
+use Rattle.enforce_types.specs.Accepted.{IsAccepted}
 use Rattle.enforce_types.specs.Marks.{is_causable, is_suppressible}
-use Rattle.choice_step.specs.Follows.{ActedStep}
+use Rattle.enforce_types.specs.PolicyPlans.{ArePlanned}
 use Rattle.trace_meaning.specs.Good.{Good}
 use Rattle.trace_meaning.specs.Lawful.{Lawful}
 use Rattle.trace_meaning.specs.OutSteps.{IsWithin, trace_of}
-use Rattle.trace_meaning.specs.Records.{NeverFall, Record, clock_after, recorded}
+use Rattle.trace_meaning.specs.Records.{NeverFall, Record, StepRecord, Tick, clock_after, recorded, time_of}
 use Rattle.trace_meaning.specs.Satisfies.{Satisfies}
+use Rattle.choice_step.specs.Follows.{ActedStep}
+use Rattle.action_report.specs.Lines.{action_line}
 use Rattle.enforcer_core.specs.Enforcers.{out_steps}
 use Rattle.enforcer_core.specs.Justifying.{IsJustifiedByPolicy}
 use Rattle.enforcer_core.specs.Transparency.{untouched}
-use Rattle.enf_cli.specs.Accepted.{records_of}
-use Rattle.enf_cli.specs.Actions.{action_lines}
-use Rattle.enf_cli.specs.Calls.{Call}
-use Rattle.enf_cli.specs.Dues.{AsksPolicy}
-use Rattle.enf_cli.specs.Logs.{EndsAs, taken_of}
-use Rattle.enf_cli.specs.Owed.{IsMarked, anew}
-use Rattle.enf_cli.specs.Policies.{formulas}
-use Rattle.enf_cli.specs.Refusals.{status_of, text_of_refusal}
-use Rattle.enf_cli.specs.Words.{IsEnforce}
-use Rattle.enf_cli.specs.declared.log.Verdict.{Verdict}
-use Rattle.enf_cli.specs.declared.log.Verdict.TheVariants as verdicts
-use Rattle.enf_cli.specs.declared.refusals.Refusal.{Refusal}
 use Rattle.enf_cli.specs.declared.refusals.Status.{Status}
 use Rattle.enf_cli.specs.declared.refusals.Status.TheVariants as statuses
 
--- a device told before the call and behind it, and so it was used in between
-pub record IsUsed (before after : Option Exchange) (x : Exchange) : Type 0 where
-  pub first : Exchange
-  pub told : before ≡ Some first
-  pub last : Exchange
-  pub told' : after ≡ Some last
-  pub is : x ≡ since first last
+-- the formulas of a policy's rules
+abbrev pub formulas : List Rule → List Formula
+formulas rules = map (λ rule. rule.formula) rules
 
--- of a log, these bytes are the records, whose times never fall, up to a rest, and those the lines of the steps that
--- went out for them
-pub record IsAnswered (entries : List NameEntry) (taken given : List ℕ) (records : List Record)
-    (out : List ActedStep) : Type 0 where
+-- the words are `enforce SIGNATURE POLICY`; the files tell a signature, and an accepted policy under it
+pub record IsAsked (words : List (List ℕ)) (told : Option (List ℕ → Contents)) (entries : List NameEntry)
+    (rules : List Rule) : Type 0 where
+  pub signature_file : List ℕ
+  pub policy_file : List ℕ
+  pub form : words ≡ codes "enforce" ∷ signature_file ∷ policy_file ∷ []
+  pub files : List ℕ → Contents
+  pub tell : told ≡ Some files
+  pub signature : List ℕ
+  pub first : files signature_file ≡ Holds signature
+  pub is_signature : (length signature ≤ MOST_FILE_BYTES) × IsAnswer signature (Ok entries)
+  pub policy : List ℕ
+  pub second : files policy_file ≡ Holds policy
+  pub is_policy : (length policy ≤ MOST_FILE_BYTES) × IsTextAnswer entries policy (Ok rules)
+  pub accepted : IsAccepted entries (formulas rules)
+
+-- what an item of a log is for an enforcer
+abbrev pub record_of : LogItem → Record
+record_of (items.Step kind time events) = StepRecord (record { time = time; events = events })
+record_of (items.Tick time) = Tick time
+
+abbrev pub records_of : List LogItem → List Record
+records_of read = map record_of read
+
+-- the bytes taken are these records, whose times never fall, and a rest; those given are the lines of what went out
+pub record IsAnswered (entries : List NameEntry) (rules : List Rule) (taken given : List ℕ) : Type 0 where
   pub read : List LogItem
   pub rest : List ℕ
   pub spelled : Spells entries Input taken read rest
-  pub are : records ≡ records_of read
-  pub rising : NeverFall 0 records
+  pub rising : NeverFall 0 (records_of read)
+  pub out : List ActedStep
   pub text : given ≡ text_of (names_of entries) (out_steps out)
+  -- the step of each record is kept, only causable events were added and only suppressible ones taken out
+  pub lawful : Lawful (is_causable entries) (is_suppressible entries) (records_of read) (out_steps out)
+  -- each such action, and each inserted step, serves what is owed and is otherwise lost
+  pub justified : IsJustifiedByPolicy entries (formulas rules) [] (records_of read) out
 
--- each step of the records is kept, only causable events were added and only suppressible ones taken out, and each such
--- action, and each inserted step, serves what is owed and was otherwise lost
-pub record IsChangedWell (entries : List NameEntry) (rules : List Rule) (records : List Record)
-    (out : List ActedStep) : Type 0 where
-  pub lawful : Lawful (is_causable entries) (is_suppressible entries) records (out_steps out)
-  pub justified : IsJustifiedByPolicy entries (formulas rules) [] records out
+-- a policy has the transparent mark where the plans of its rules have it
+pub record IsMarked (entries : List NameEntry) (policy : List Formula) : Type 0 where
+  pub plans : List Plan
+  pub guards : List (Formula × List VarId)
+  pub planned : ArePlanned entries policy plans guards
+  pub marked : IsTrue (is_transparent plans)
 
--- the status of a run behind a log that ended so
-abbrev pub status_after : Verdict → Status
-status_after verdicts.Accepted = statuses.Done
-status_after verdicts.Fault = statuses.ReadFault
-status_after (verdicts.Refused why) = statuses.Record
-
--- so far: no whole record is left; what went out, the inserted steps below the clock, can be continued well from it on,
--- and under the transparent mark it is the steps of the records, as they came, where these can be
+-- so far: no whole record is left; what went out, the inserted steps below the clock, can be continued well from it on;
+-- and under the mark it is the steps of the records, as they came, where these can be
 pub record IsKeptSoFar (entries : List NameEntry) (rules : List Rule) (taken given : List ℕ) : Type 0 where
-  pub records : List Record
-  pub out : List ActedStep
-  pub answered : IsAnswered entries taken given records out
+  pub answered : IsAnswered entries rules taken given
   pub pending : IsPending answered.rest
-  pub changed : IsChangedWell entries rules records out
-  pub within : IsWithin 0 (clock_after 0 records) (out_steps out)
-  pub good : Good (formulas rules) (trace_of (out_steps out)) (clock_after 0 records)
-  pub alone : IsMarked entries (formulas rules) → Good (formulas rules) (recorded records) (clock_after 0 records)
-      → out ≡ untouched (recorded records)
+  pub within : IsWithin 0 (clock_after 0 (records_of answered.read)) (out_steps answered.out)
+  pub good : Good (formulas rules) (trace_of (out_steps answered.out)) (clock_after 0 (records_of answered.read))
+  pub alone : IsMarked entries (formulas rules)
+      → Good (formulas rules) (recorded (records_of answered.read)) (clock_after 0 (records_of answered.read))
+      → answered.out ≡ untouched (recorded (records_of answered.read))
 
--- the last line of the report: none where the run is done, or a front of one that says a refusal of the status
-abbrev pub IsLastLine : Status → List ℕ → Type 0
-IsLastLine result last =
-    ((result ≡ statuses.Done) × (last ≡ []))
-    ⊎ ((why : Refusal) × (result ≡ status_of why)
-    × ((missing : List ℕ) × (text_of_refusal why ≡ last ++ missing)))
+-- the greatest number of bytes that are taken of a log
+abbrev pub most_log_bytes : ℕ
+most_log_bytes = 1099511627776
 
--- at the end: the log ended as the status says, with nothing left of it, a record that is refused, or a read that
--- failed; what went out satisfies every rule at every position, each action has its line on the report, and under the
--- mark it is the steps of the records, as they came, where these satisfy the policy
-pub record IsKept {Gate : Type 0} (call : Call Gate) (result : Status) (entries : List NameEntry) (rules : List Rule)
+-- the input was taken to its end, where that is told
+abbrev pub MetEnd : ℕ → Stream → Type 0
+MetEnd count after = (count < most_log_bytes) × IsAtEnd after.told
+
+-- why the reader of logs refuses a record, in the words of the report
+abbrev pub text_of_log_refusal : LogRefusal → List ℕ
+text_of_log_refusal (log.BadRecord place) = codes "bad at " ++ decimal place
+text_of_log_refusal (log.UnknownName place) = codes "unknown name at " ++ decimal place
+text_of_log_refusal (log.Arity place) = codes "arity at " ++ decimal place
+text_of_log_refusal (log.SortClash place) = codes "sort at " ++ decimal place
+text_of_log_refusal log.TooLong = codes "too long"
+text_of_log_refusal log.TimeTooLarge = codes "time too large"
+text_of_log_refusal log.Truncated = codes "truncated"
+text_of_log_refusal log.NoMemory = codes "no memory"
+
+-- why the rest of so many bytes is refused, in these words: by the reader of logs; since the input ends within a
+-- record; since its time is below the clock; or since no more may be taken
+abbrev pub IsRefusedFor : List NameEntry → (clock count : ℕ) → (rest : List ℕ) → Stream → (words : List ℕ) → Type 0
+IsRefusedFor entries clock count rest gate words =
+    ((why : LogRefusal) × Refuses entries Input rest why × (words ≡ text_of_log_refusal why))
+    ⊎ ((IsTruncated rest × MetEnd count gate × (words ≡ codes "truncated"))
+    ⊎ (((item : LogItem) × (more : List ℕ) × BeginsWith entries Input rest item more
+    × (time_of (record_of item) < clock)
+    × (words ≡ codes "time " ++ decimal (time_of (record_of item)) ++ codes " is below " ++ decimal clock))
+    ⊎ (IsPending rest × (count ≡ most_log_bytes) × (words ≡ codes "input limit"))))
+
+-- a front of a line
+abbrev pub IsFront : (line front : List ℕ) → Type 0
+IsFront line front = (missing : List ℕ) × (line ≡ front ++ missing)
+
+-- how the log ended, by the status: nothing of it is left, or its next record is refused, or a read failed; and the
+-- last line of the report
+abbrev pub HasEnded : List NameEntry → (read : List LogItem) → (taken rest last : List ℕ) → (gate gate' : Stream)
+    → Status → Type 0
+HasEnded entries read taken rest last gate gate' statuses.Done =
+    (behind_blanks rest ≡ []) × MetEnd (length taken) gate' × (gate'.read_faults ≡ gate.read_faults) × (last ≡ [])
+HasEnded entries read taken rest last gate gate' statuses.Record =
+    (words : List ℕ) × IsRefusedFor entries (clock_after 0 (records_of read)) (length taken) rest gate' words
+    × (gate'.read_faults ≡ gate.read_faults)
+    × IsFront (codes "record " ++ decimal (length read + 1) ++ codes ": " ++ words ++ codes "\n") last
+HasEnded entries read taken rest last gate gate' statuses.ReadFault =
+    IsPending rest × (gate'.read_faults ≡ one_more gate.read_faults) × IsFront (codes "read fault\n") last
+HasEnded entries read taken rest last gate gate' other = ⊥
+
+-- the lines of the actions that made a step, in their order, and of all that made these steps
+abbrev pub lines_of_actions : List NameEntry → List Rule → ActedStep → List ℕ
+lines_of_actions entries rules step = flat_map (action_line entries rules) step.actions
+
+abbrev pub action_lines : List NameEntry → List Rule → List ActedStep → List ℕ
+action_lines entries rules steps = flat_map (lines_of_actions entries rules) steps
+
+-- at the end: what went out satisfies every rule at every position, each action has its line on the report, and under
+-- the mark what went out is the steps of the records, as they came, where these satisfy the policy
+pub record IsKept (entries : List NameEntry) (rules : List Rule) (gate gate' : Stream) (result : Status)
     (taken given said : List ℕ) : Type 0 where
-  pub records : List Record
-  pub out : List ActedStep
-  pub answered : IsAnswered entries taken given records out
-  pub verdict : Verdict
-  pub ended : EndsAs (taken_of (anew entries rules) answered.read taken answered.rest)
-      call.before.gate call.after.gate verdict
-  pub status : result ≡ status_after verdict
-  pub changed : IsChangedWell entries rules records out
-  pub satisfied : Satisfies (trace_of (out_steps out)) (formulas rules)
+  pub answered : IsAnswered entries rules taken given
   pub last : List ℕ
-  pub reported : said ≡ action_lines entries rules out ++ last
-  pub line : IsLastLine result last
-  pub alone : IsMarked entries (formulas rules) → Satisfies (recorded records) (formulas rules)
-      → out ≡ untouched (recorded records)
+  pub ended : HasEnded entries answered.read taken answered.rest last gate gate' result
+  pub satisfied : Satisfies (trace_of (out_steps answered.out)) (formulas rules)
+  pub reported : said ≡ action_lines entries rules answered.out ++ last
+  pub alone : IsMarked entries (formulas rules) → Satisfies (recorded (records_of answered.read)) (formulas rules)
+      → answered.out ≡ untouched (recorded (records_of answered.read))
 
 -- the log was taken to its end, to a record that is refused, or to a read that failed
-abbrev pub HasTakenLog : {Gate : Type 0} → Call Gate → Status → Type 0
-HasTakenLog call result =
+abbrev pub HasTakenLog : (gate gate' : Stream) → Status → Type 0
+HasTakenLog gate gate' result =
     (result ≡ statuses.Done)
     ⊎ ((result ≡ statuses.Record)
-    ⊎ ((result ≡ statuses.ReadFault) × (call.after.gate.read_faults ≢ call.before.gate.read_faults)))
+    ⊎ ((result ≡ statuses.ReadFault) × (gate'.read_faults ≢ gate.read_faults)))
 
--- where files tell an accepted policy and the words ask to enforce it
-pub record Headline {Gate : Type 0} (call : Call Gate) (result : Status) : Type 0 where
-  pub at_the_end : (entries : List NameEntry) (rules : List Rule) (gate report : Exchange)
-      → AsksPolicy IsEnforce call entries rules → IsUsed call.before.gate.told call.after.gate.told gate
-      → IsUsed call.before.report.told call.after.report.told report → HasTakenLog call result
-      → IsKept call result entries rules (taken_bytes gate) gate.given report.given
-  pub at_each_read : (entries : List NameEntry) (rules : List Rule) (gate : Exchange)
-      → AsksPolicy IsEnforce call entries rules → IsUsed call.before.gate.told call.after.gate.told gate
-      → AtEachMark (IsKeptSoFar entries rules) gate
+-- the gate and the report are as they are seen before the call and behind it
+pub record Headline (words : List (List ℕ)) (files : FileView) (gate gate' report report' : Stream)
+    (result : Status) : Type 0 where
+  pub at_the_end : (entries : List NameEntry) (rules : List Rule) → IsAsked words files.contents entries rules
+      → HasTakenLog gate gate' result
+      → OfCalls (λ log. OfCalls (λ said.
+      IsKept entries rules gate gate' result (taken_bytes log) log.given said.given
+      ) report.told report'.told) gate.told gate'.told
+  pub at_each_read : (entries : List NameEntry) (rules : List Rule) → IsAsked words files.contents entries rules
+      → OfCalls (AtEachMark (IsKeptSoFar entries rules)) gate.told gate'.told

@@ -1,9 +1,6 @@
 -- The limits of logs, and of what generated logs are asked for.
 use Rattle.std.specs.Prelude.{ℕ}
-
--- the greatest number of bytes that are taken of a log
-abbrev pub most_log_bytes : ℕ
-most_log_bytes = 1099511627776
+pub use Rattle.enf_cli.specs.Headline.{most_log_bytes}
 
 -- the greatest number of bytes that one read takes
 abbrev pub most_read_bytes : ℕ

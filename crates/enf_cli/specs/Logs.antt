@@ -1,7 +1,6 @@
 -- What a run of the log takes from the gate, gives to it and says on the report, by how it ends.
 use Rattle.std.specs.Prelude.{◌≡◌, ◌≢◌, ℕ, ◌+◌, ◌<◌, List, [], ◌∷◌, ◌++◌, length, ◌⊎◌, Result, Ok, Err}
 use Rattle.enf_io.specs.Counts.{one_more}
-use Rattle.enf_io.specs.Exchange.{IsAtEnd}
 use Rattle.enf_io.specs.Streams.{Stream}
 use Rattle.log_stream.specs.Lines.{line_of, text_of}
 use Rattle.log_stream.specs.Logs.{BeginsWith, IsPending, IsTruncated, Refuses, behind_blanks}
@@ -22,6 +21,7 @@ use Rattle.enf_cli.specs.Exchanges.{Exchanged, IsBegun}
 use Rattle.enf_cli.specs.declared.endings.Cut.{Cut}
 use Rattle.enf_cli.specs.declared.endings.Cut.TheVariants as cuts
 use Rattle.enf_cli.specs.Limits.{most_log_bytes}
+pub use Rattle.enf_cli.specs.Headline.{MetEnd}
 use Rattle.enf_cli.specs.Seen.{Seen}
 use Rattle.enf_cli.specs.declared.log.Judged.{Judged}
 use Rattle.enf_cli.specs.declared.log.Verdict.{Verdict}
@@ -39,10 +39,6 @@ pub record IsFalling (entries : List NameEntry) (mode : LogMode) (clock : ℕ) (
   pub begins : BeginsWith entries mode rest item more
   pub time : given ≡ time_of (record_of item)
   pub below : time_of (record_of item) < clock
-
--- the input was taken to its end, where that is told
-abbrev pub MetEnd : ℕ → Stream → Type 0
-MetEnd count after = (count < most_log_bytes) × IsAtEnd after.told
 
 -- what was taken of a log that is enforced in a setting: the records that were accepted of it, how many bytes in all,
 -- and the rest of them behind these records

@@ -1,10 +1,7 @@
 -- What is owed to the records of a log.
-use Rattle.std.specs.Prelude.{◌≡◌, IsTrue, List, ◌++◌}
+use Rattle.std.specs.Prelude.{◌≡◌, List, ◌++◌}
 use Rattle.enf_formula.specs.Formulas.{Formula}
 use Rattle.enf_value.specs.declared.steps.Step.{Step}
-use Rattle.enf_value.specs.declared.terms.VarId.{VarId}
-use Rattle.plan_terms.specs.Plans.{Plan}
-use Rattle.rank_check.specs.Transparent.{is_transparent}
 use Rattle.enforce_types.specs.Marks.{is_causable, is_suppressible}
 use Rattle.enforce_types.specs.PolicyPlans.{ArePlanned}
 use Rattle.enforce_types.specs.Typed.{typed_of}
@@ -23,6 +20,7 @@ use Rattle.trace_meaning.specs.Records.{Record, clock_after, recorded}
 use Rattle.trace_meaning.specs.Satisfies.{Satisfies}
 use Rattle.trace_meaning.specs.Start.{Start, from_nothing}
 use Rattle.enf_cli.specs.Policies.{formulas}
+pub use Rattle.enf_cli.specs.Headline.{IsMarked}
 
 -- under which names and which rules a log is enforced, as what it is read, and from where
 pub record Setting : Type 0 where
@@ -48,13 +46,6 @@ HasPlans entries rules enforcer =
 abbrev pub setting_of : List NameEntry → List Rule → Enforcing → List Step → Setting
 setting_of entries rules enforcer trace =
     record { entries = entries; rules = rules; mode = Input; start = start_of enforcer trace }
-
--- a policy has the transparent mark where the plans of its rules have it
-pub record IsMarked (entries : List NameEntry) (policy : List Formula) : Type 0 where
-  pub plans : List Plan
-  pub guards : List (Formula × List VarId)
-  pub planned : ArePlanned entries policy plans guards
-  pub marked : IsTrue (is_transparent plans)
 
 -- these steps are owed to the records so far: they keep up with them, each change is justified, and the policy decides
 -- these and no others; under the mark the steps of the records go out alone, as they came, while they can be

@@ -1,6 +1,5 @@
 -- The text of a policy, and which policies are accepted.
-use Rattle.std.specs.Prelude.{ℕ, ◌≤◌, List, length, map, Ok, Err}
-use Rattle.enf_formula.specs.Formulas.{Formula}
+use Rattle.std.specs.Prelude.{ℕ, ◌≤◌, List, length, Ok, Err}
 use Rattle.enf_value.specs.declared.limits.TheConstants.{MOST_FILE_BYTES}
 use Rattle.enforce_types.specs.Accepted.{IsAccepted, RefusesPolicy}
 use Rattle.enforce_types.specs.declared.refusals.TypeRefusal.{TypeRefusal}
@@ -8,10 +7,7 @@ use Rattle.formula_reader.specs.Reading.{IsTextAnswer}
 use Rattle.formula_reader.specs.Resolution.{Rule}
 use Rattle.formula_reader.specs.declared.policies.PolicyRefusal.{PolicyRefusal}
 use Rattle.signature.specs.declared.entries.NameEntry.{NameEntry}
-
--- the formulas of a policy's rules
-abbrev pub formulas : List Rule → List Formula
-formulas policy = map (λ rule. rule.formula) policy
+pub use Rattle.enf_cli.specs.Headline.{formulas}
 
 -- the bytes are a policy of these rules, no more than a file may have
 pub record ReadsPolicy (entries : List NameEntry) (bytes : List ℕ) (policy : List Rule) : Type 0 where

@@ -4,10 +4,9 @@ use Rattle.enforce_types.specs.declared.refusals.TypeRefusal.{TypeRefusal}
 use Rattle.enforce_types.specs.declared.refusals.TypeRefusal.TheVariants as types
 use Rattle.formula_reader.specs.declared.policies.PolicyRefusal.{PolicyRefusal as ReadRefusal}
 use Rattle.formula_reader.specs.declared.policies.PolicyRefusal.TheVariants as read
-use Rattle.log_stream.specs.declared.items.LogRefusal.{LogRefusal}
-use Rattle.log_stream.specs.declared.items.LogRefusal.TheVariants as log
 use Rattle.signature.specs.declared.refusals.SignatureRefusal.{SignatureRefusal as TextRefusal}
 use Rattle.signature.specs.declared.refusals.SignatureRefusal.TheVariants as answers
+pub use Rattle.enf_cli.specs.Headline.{text_of_log_refusal}
 use Rattle.enf_cli.specs.declared.refusals.PolicyRefusal.{PolicyRefusal}
 use Rattle.enf_cli.specs.declared.refusals.PolicyRefusal.TheVariants as policies
 use Rattle.enf_cli.specs.declared.refusals.RecordRefusal.{RecordRefusal}
@@ -65,17 +64,7 @@ text_of_policy_refusal policies.TooLong = codes "policy: too long\n"
 text_of_policy_refusal (policies.Text why) = text_of_reading why
 text_of_policy_refusal (policies.Typing why name) = text_of_typing why name.items
 
--- what is said of a record that the reader of logs refuses
-abbrev pub text_of_log_refusal : LogRefusal → List ℕ
-text_of_log_refusal (log.BadRecord place) = codes "bad at " ++ decimal place
-text_of_log_refusal (log.UnknownName place) = codes "unknown name at " ++ decimal place
-text_of_log_refusal (log.Arity place) = codes "arity at " ++ decimal place
-text_of_log_refusal (log.SortClash place) = codes "sort at " ++ decimal place
-text_of_log_refusal log.TooLong = codes "too long"
-text_of_log_refusal log.TimeTooLarge = codes "time too large"
-text_of_log_refusal log.Truncated = codes "truncated"
-text_of_log_refusal log.NoMemory = codes "no memory"
-
+-- what is said of a record that is refused
 abbrev pub text_of_record_refusal : RecordRefusal → List ℕ
 text_of_record_refusal (records.Log why) = text_of_log_refusal why
 text_of_record_refusal (records.Falling given clock) =

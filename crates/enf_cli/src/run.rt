@@ -1,5 +1,5 @@
 //! The top call: all that the program does.
-ghost use Rattle.std.specs.Prelude.{◌≡◌, ◌<◌, ◌^◌, ℕ, List};
+ghost use Rattle.std.specs.Prelude.{◌≡◌, ◌<◌, ◌^◌, ℕ, List, map, string_bytes};
 ghost use Rattle.enf_io.specs.Streams.{Stream};
 ghost use Rattle.enf_cli.specs.Calls.{call_of, devices};
 ghost use Rattle.enf_cli.specs.Dues.{Dues};
@@ -41,9 +41,8 @@ pub fn run<G: Gate, F: Files, R: Sink>(
         (devices gate.new (G.seen gate.new) (F.seen files.new) (R.seen report.new))) result }
 
     // What has become of a log that was enforced under an accepted policy, where the devices tell.
-    ensures headline { Headline (call_of words.now
-        (devices gate.old (G.seen gate.old) (F.seen files.old) (R.seen report.old))
-        (devices gate.new (G.seen gate.new) (F.seen files.new) (R.seen report.new))) result }
+    ensures headline { Headline (map string_bytes words.now) (F.seen files.old)
+        (G.seen gate.old) (G.seen gate.new) (R.seen report.old) (R.seen report.new) result }
 {
     signature::laws::one_answer();
     formula_reader::laws::one_text_answer();
