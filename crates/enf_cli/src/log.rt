@@ -32,7 +32,7 @@ use enf_value::{Duplicate, NoMemory};
 use enforce_types::TypedPolicy;
 use enforce_types::laws::policy_has_one_answer;
 use enforcer_core::enforcer::Enforcer;
-use enforcer_core::steps::{StepOut, StepRefusal};
+use enforcer_core::steps::{OutSteps, StepOut, StepRefusal};
 use enforcer_core::{existing, laws};
 use log_stream::{Found, LogItem, LogMode, LogReader, LogRefusal};
 use signature::Signature;
@@ -164,6 +164,7 @@ fn enforcer_laws()
 }
 
 // Gives the lines of what is still owed at the end of the log.
+#[inline(never)]
 fn drain<G: Sink, R: Sink>(
     alloc: Global,
     names: &Names<'_>,
@@ -240,6 +241,7 @@ fn go_on<G: Gate, R: Sink>(
 }
 
 // Takes the next piece of the log and feeds it, unless none may be taken any more.
+#[inline(never)]
 fn take_piece<G: Gate>(
     gate: &mut G,
     piece: &mut [u8],
@@ -302,7 +304,7 @@ fn enforce_next<G: Sink, R: Sink>(
         Ok(Found::Pending) => Ok(Next::Pending),
         Err(refusal) => Ok(Next::Refused(refusal_of(refusal)?)),
         Ok(Found::Item(item)) => {
-            match enforce_item(alloc, names, enforcer, item, line, gate, report)? {
+            match enforce_item(alloc, names, reader, enforcer, item, line, gate, report)? {
                 None => Ok(Next::Taken),
                 Some(why) => Ok(Next::Refused(why)),
             }
@@ -314,6 +316,7 @@ fn enforce_next<G: Sink, R: Sink>(
 fn enforce_item<G: Sink, R: Sink>(
     alloc: Global,
     names: &Names<'_>,
+    reader: &mut LogReader,
     enforcer: &mut Enforcer,
     item: LogItem,
     line: &mut Vec<u8>,
@@ -329,10 +332,12 @@ fn enforce_item<G: Sink, R: Sink>(
     ensures cut { IfErr result (CutsItem names.now.signature.now (rules_of names.now.policy.now) (record_of item)
         (moment enforcer.old (seen_of (G.seen gate.old) (R.seen report.old)))
         (seen_of (G.seen gate.new) (R.seen report.new))) }
+    ensures stays { reader.new ≡ reader.old }
 {
     match take_item(alloc, enforcer, item) {
         Ok(out) => {
             write_steps(names, out.steps.as_slice(), line, gate, report)?;
+            give_back(out.steps, reader);
             Ok(None)
         }
         Err(StepRefusal::Falling { clock, given }) => Ok(Some(RecordRefusal::Falling {
@@ -340,6 +345,15 @@ fn enforce_item<G: Sink, R: Sink>(
             clock,
         })),
         Err(StepRefusal::Stopped | StepRefusal::NoMemory) => Err(Cut::NoMemory),
+    }
+}
+
+// Gives the reader the memory that the events of a step took, for those of a later record.
+fn give_back(steps: OutSteps, reader: &mut LogReader)
+    ensures { reader.new ≡ reader.old }
+{
+    if let Some(room) = steps.into_room() {
+        reader.keep_room(room);
     }
 }
 

@@ -21,7 +21,8 @@ returns-in_err-enforce_item-in-Ok-Item-clause-cut g c =
 pub returns-in-None-clause-next : goal.returns-in-None-clause-next
 returns-in-None-clause-next g c =
     let r = reads_item c.args.names.now.signature.now c.args.reader.now c.next_record.new.self c.requires.going c.in-Ok-Item.item (rw c.in-Ok-Item.field-0-is at c.in-Ok-Item.ensures) in
-    record { item = c.in-Ok-Item.item; begins = r.0; reader_is = r.1; taken = rw c.in-None.is at c.in_ok-enforce_item-in-Ok-Item.ensures.answer }
+    rw c.in_ok-enforce_item-in-Ok-Item.ensures.stays
+    (record { item = c.in-Ok-Item.item; begins = r.0; reader_is = r.1; taken = rw c.in-None.is at c.in_ok-enforce_item-in-Ok-Item.ensures.answer })
 
 pub returns-in-Some-clause-next : goal.returns-in-Some-clause-next
 returns-in-Some-clause-next g c =
