@@ -6,8 +6,8 @@ use crate::output::Output;
 use crate::parts::find;
 use crate::running::Way;
 use crate::{
-    arguments, beginnings, enforcing, evaluations, event_sets, guards, holds, intervals, logs,
-    long_runs, past, policies, reports, signatures, tables, typing, values, window_runs,
+    arguments, audits, beginnings, enforcing, evaluations, event_sets, guards, holds, intervals,
+    logs, long_runs, past, policies, reports, signatures, tables, typing, values, window_runs,
 };
 use log_stream::LogMode;
 use std::alloc::Global;
@@ -36,10 +36,11 @@ pub enum Kind {
     Past(Way),
     Holds,
     Report,
+    Audit,
     Long,
 }
 
-static KINDS: [(&[u8], Kind); 28] = [
+static KINDS: [(&[u8], Kind); 29] = [
     (b"text", Kind::Text),
     (b"value", Kind::Value),
     (b"compare", Kind::Compare),
@@ -67,6 +68,7 @@ static KINDS: [(&[u8], Kind); 28] = [
     (b"again", Kind::Past(Way::Again)),
     (b"holds", Kind::Holds),
     (b"report", Kind::Report),
+    (b"audit", Kind::Audit),
     (b"long", Kind::Long),
 ];
 
@@ -104,6 +106,7 @@ pub fn answer_kind(
         Kind::Past(way) => past::answer(alloc, way, input, out),
         Kind::Holds => holds::answer(alloc, input, out),
         Kind::Report => reports::answer(alloc, input, out),
+        Kind::Audit => audits::answer(alloc, input, out),
         Kind::Long => long_runs::answer(alloc, input, out),
     }
 }

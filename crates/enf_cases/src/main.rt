@@ -5,6 +5,7 @@
 #![tactic(auto)]
 
 mod arguments;
+mod audits;
 mod beginnings;
 mod case;
 mod enforcing;
