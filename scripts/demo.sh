@@ -1,6 +1,7 @@
 #!/usr/bin/env bash
-# Enforces the logs of examples/, and shows for each what was changed, the report and the status. One of them is a
-# generated log, which it generates again. It checks two policies, of which one is refused.
+# Enforces the logs of examples/, and shows for each what was changed, the report and the status, and what an audit says
+# of what goes out and of the log as it came. One of them is a generated log, which it generates again. It checks two
+# policies, of which one is refused.
 set -u
 cd "$(dirname "$0")/.." || exit 1
 work=$(mktemp -d) || exit 1
@@ -37,12 +38,23 @@ show_checked() {
     show_end "$1"
 }
 
+# show_audited NAME: what goes out satisfies the policy, and the log as it came does not.
+show_audited() {
+    echo
+    echo "== enf audit, on examples/$1/$1.enforced and on examples/$1/$1.log"
+    show_lines "$work/$1-enforced.output"
+    show_lines "$work/$1-log.output"
+    want "$1-enforced" 0 <(echo holds)
+    want "$1-log" 7 "$work/$1-log.output"
+}
+
 # enforce_folder NAME: the policy of a folder on its log.
 enforce_folder() {
     show_file "$1/$1.sig"
     show_file "$1/$1.policy"
     show_enforced "$1" "$1/$1.log"
     want "$1" 0 "examples/$1/$1.enforced" "examples/$1/$1.report"
+    show_audited "$1"
 }
 
 say_program
@@ -50,6 +62,8 @@ mkdir "$work/files"
 cp examples/*/* "$work/files"
 for name in data access safety generated; do
     add_run "$name" "examples/$name/$name.log" enforce "$name.sig" "$name.policy"
+    add_run "$name-enforced" "examples/$name/$name.enforced" audit "$name.sig" "$name.policy"
+    add_run "$name-log" "examples/$name/$name.log" audit "$name.sig" "$name.policy"
 done
 add_run falling examples/access/falling.log enforce access.sig access.policy
 add_run log /dev/null gen 1 8

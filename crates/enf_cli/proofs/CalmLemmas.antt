@@ -9,7 +9,7 @@ use Rattle.enf_cli.specs.Files.{FailsToRead, HoldsSignature}
 use Rattle.enf_cli.specs.Logs.{CutsRun}
 use Rattle.enf_cli.specs.Seen.{seen_of}
 use Rattle.enf_io.specs.Streams.{Stream}
-use Rattle.enf_cli.specs.Outcomes.{BreaksOffLog, MissesFile, Outcome}
+use Rattle.enf_cli.specs.Outcomes.{BreaksOffAudit, BreaksOffLog, MissesFile, Outcome}
 use Rattle.enf_cli.specs.Words.{NamesFiles}
 use Rattle.enf_cli.specs.declared.endings.Cut.TheVariants as cuts
 use Rattle.enf_cli.specs.declared.refusals.Status.TheVariants as statuses
@@ -39,9 +39,10 @@ module _ {Gate : Type 0} (call : Call Gate) (x : CalmContents) (files : call.bef
     pub no_read_fault : call.before.gate.read_faults ≡ 0 → call.after.gate.read_faults ≡ 0 → Outcome call statuses.ReadFault → ⊥
     no_read_fault before after o = by o.meets
       where
-        by : MissesFile call o.between ⊎ BreaksOffLog call o.between → ⊥
+        by : MissesFile call o.between ⊎ (BreaksOffLog call o.between ⊎ BreaksOffAudit call o.between) → ⊥
         by (inl m) = misses_none o.between m
-        by (inr b) = none_more call.before.gate.read_faults call.after.gate.read_faults before after b.failed
+        by (inr (inr b)) = none_more call.before.gate.read_faults call.after.gate.read_faults before after b.audit.whole.ends.1
+        by (inr (inl b)) = none_more call.before.gate.read_faults call.after.gate.read_faults before after b.failed
 
   -- no write fault comes
   pub no_write_fault : call.before.gate.write_faults ≡ 0 → call.after.gate.write_faults ≡ 0 → call.before.report.write_faults ≡ 0 → call.after.report.write_faults ≡ 0 → Outcome call statuses.WriteFault → ⊥
@@ -51,4 +52,5 @@ module _ {Gate : Type 0} (call : Call Gate) (x : CalmContents) (files : call.bef
       by (inl gate) = none_more call.before.gate.write_faults call.after.gate.write_faults before after gate.writes
       by (inr report) = none_more call.before.report.write_faults call.after.report.write_faults said-before said-after report.actions.writes
   no_write_fault before after said-before said-after (inl (inr generated)) = none_more call.before.gate.write_faults call.after.gate.write_faults before after generated.writes
-  no_write_fault before after said-before said-after (inr checked) = none_more call.before.gate.write_faults call.after.gate.write_faults before after checked.writes
+  no_write_fault before after said-before said-after (inr (inl checked)) = none_more call.before.gate.write_faults call.after.gate.write_faults before after checked.writes
+  no_write_fault before after said-before said-after (inr (inr found)) = none_more call.before.gate.write_faults call.after.gate.write_faults before after found.writes

@@ -1,12 +1,8 @@
 -- Where each status must come: what holds at the other statuses leaves no room for it.
-use Rattle.std.proofs.Common.{◌≡◌, ◌≢◌, ℕ, ◌-◌, ◌<◌, ◌≤◌, List, [], ◌∷◌, ◌++◌, Option, Some, None, Result, Err, Ok, length, take, drop, codes, refl, sym, ap, subst, ◌∙◌, inl, inr, arith, length-take}
+use Rattle.std.proofs.Common.{◌≡◌, ◌≢◌, ℕ, ◌-◌, ◌<◌, List, [], ◌∷◌, Option, Some, None, Result, Err, Ok, length, take, codes, get_or, refl, sym, ap, subst, ◌∙◌, inl, inr, arith}
 use Rattle.std.specs.Prelude.{◌⊎◌}
-use Rattle.std.proofs.lemmas.List.{append-nil, take-append-drop}
 use Rattle.enf_io.specs.Contents.{Contents}
-use Rattle.enf_io.specs.Exchange.{Exchange, IsAtEnd, left}
 use Rattle.enf_io.specs.FileCalls.{FileView}
-use Rattle.enf_io.specs.Since.{Grew, GrewWhereTold, OfCalls}
-use Rattle.enf_io.specs.SinceLaws.{left-since}
 use Rattle.enf_io.specs.Streams.{Stream}
 use Rattle.enforce_types.specs.Accepted.{AcceptedIsNotRefused, RefusesPolicy}
 use Rattle.enforce_types.specs.declared.refusals.TypeRefusal.{TypeRefusal}
@@ -14,47 +10,41 @@ use Rattle.enforce_types.specs.declared.refusals.TypeRefusal.TheVariants as type
 use Rattle.formula_reader.specs.Reading.{IsTextAnswer}
 use Rattle.formula_reader.specs.Resolution.{Rule}
 use Rattle.formula_reader.specs.declared.policies.PolicyRefusal.{PolicyRefusal as PolicyTextRefusal}
-use Rattle.log_stream.specs.Judgement.{IsAnswer}
-use Rattle.log_stream.specs.LogLaws.{BeginsWith-append, Refuses-append, Spells-append}
-use Rattle.log_stream.specs.Logs.{BeginsWith, HasRecord, IsLog, IsPending, Refuses as RefusesText, Spells, behind_blanks, record_bytes, record_length}
 use Rattle.log_stream.specs.declared.items.LogItem.{LogItem}
-use Rattle.log_stream.specs.declared.items.LogMode.{LogMode}
-use Rattle.log_stream.specs.declared.items.LogRefusal.{LogRefusal}
 use Rattle.log_stream.specs.declared.items.LogRefusal.TheVariants as log
 use Rattle.signature.specs.Laws.{OneAnswer, same_answer}
 use Rattle.signature.specs.Refusals.{IsAnswer as IsSignatureAnswer}
 use Rattle.signature.specs.declared.entries.NameEntry.{NameEntry}
 use Rattle.signature.specs.declared.refusals.SignatureRefusal.{SignatureRefusal as TextRefusal}
-use Rattle.trace_meaning.specs.Records.{NeverFall, clock_after, time_of}
-use Rattle.enf_cli.specs.Accepted.{UpToDate, record_of, records_of}
+use Rattle.trace_audit.specs.Laws.{VerdictIsOne}
+use Rattle.trace_audit.specs.Verdicts.{IsVerdict}
+use Rattle.trace_audit.specs.declared.verdicts.Verdict.{Verdict as Found}
+use Rattle.trace_audit.specs.declared.verdicts.Verdict.TheVariants.{Holds, Fails}
+use Rattle.trace_meaning.specs.Records.{recorded}
+use Rattle.enf_cli.specs.Accepted.{UpToDate}
+use Rattle.enf_cli.specs.Audits.{GivesNothing, TakesWholeTrace, as_trace}
 use Rattle.enf_cli.specs.Calls.{Call, LeavesFiles, LeavesGate}
-use Rattle.enf_cli.specs.Dues.{AsksPolicy, AsksRefused, AsksRefusedPolicy, AsksRefusedSignature, AsksSignature, AsksToCheck, AsksToGenerate, AsksTold, BreaksOff, Dues, IsAcceptable, MeetsReadFault, MeetsRefusal, TellBytes, taken_between}
-use Rattle.enf_cli.specs.Exchanges.{Exchanged, IsExchange}
+use Rattle.enf_cli.specs.Dues.{AsksPolicy, AsksRefused, AsksRefusedPolicy, AsksRefusedSignature, AsksSignature, AsksToCheck, AsksToGenerate, AsksToRead, AsksTold, BreaksOff, CanBeDone, Dues, IsAcceptable, IsAuditable, IsViolating, MeetsReadFault, MeetsRefusal, TellBytes, taken_between}
 use Rattle.enf_cli.specs.Files.{AreHeld, AreUnder, HoldsSignature, IsRefusedPolicy, IsRefusedSignature}
-use Rattle.enf_cli.specs.Limits.{most_log_bytes}
-use Rattle.enf_cli.specs.Logs.{IsFalling, IsRefusedAs, RunsLog, Taken, clock_behind, taken_of}
-use Rattle.enf_cli.specs.Owed.{Setting, anew}
-use Rattle.enf_cli.specs.Seen.{seen_of}
-use Rattle.enf_cli.specs.Outcomes.{Asks, AsksToEnforce, ChecksPolicy, GeneratesLog, IsDone, Outcome, Refuses, RefusesPolicyFile, RefusesRecord, RefusesSignatureFile, RefusesWords}
+use Rattle.enf_cli.specs.Logs.{RunsLog}
+use Rattle.enf_cli.specs.Owed.{Setting, anew, reading_of}
+use Rattle.enf_cli.specs.Readings.{Accepts, IsRefusedAs, Reading, ReadsToEnd, records_of, taken_in}
+use Rattle.enf_cli.specs.Seen.{Seen, seen_of}
+use Rattle.enf_cli.specs.Outcomes.{Asks, AsksToEnforce, AuditsLog, ChecksPolicy, FindsVerdict, GeneratesLog, IsDone, Meets, Outcome, Refuses, RefusesAudited, RefusesPolicyFile, RefusesRecord, RefusesSignatureFile, RefusesWords, SaysVerdict}
 use Rattle.enf_cli.specs.Policies.{ReadsPolicy, SpellsPolicy, SpellsRefused, formulas}
 use Rattle.enf_cli.specs.Signatures.{SpellsSignature}
-use Rattle.enf_cli.specs.Words.{IsCheck, IsEnforce, IsGenerate, MatchNoForm, NamesFiles}
-use Rattle.enf_cli.specs.declared.log.Verdict.{Verdict}
-use Rattle.enf_cli.specs.declared.log.Verdict.TheVariants as verdicts
+use Rattle.enf_cli.specs.Words.{IsAudit, IsCheck, IsEnforce, IsGenerate, MatchNoForm, NamesFiles}
+use Rattle.enf_cli.proofs.ReadOnce.{OneRecordAnswer, refused_not_whole, whole_meets_none, whole_read}
+use Rattle.enf_cli.specs.declared.intake.Verdict.{Verdict}
+use Rattle.enf_cli.specs.declared.intake.Verdict.TheVariants as verdicts
 use Rattle.enf_cli.specs.declared.refusals.PolicyRefusal.{PolicyRefusal}
 use Rattle.enf_cli.specs.declared.refusals.PolicyRefusal.TheVariants as policies
 use Rattle.enf_cli.specs.declared.refusals.RecordRefusal.{RecordRefusal}
-use Rattle.enf_cli.specs.declared.refusals.RecordRefusal.TheVariants as records
 use Rattle.enf_cli.specs.declared.refusals.Refusal.TheVariants as refusals
 use Rattle.enf_cli.specs.declared.refusals.SignatureRefusal.{SignatureRefusal}
 use Rattle.enf_cli.specs.declared.refusals.SignatureRefusal.TheVariants as signatures
 use Rattle.enf_cli.specs.declared.refusals.Status.{Status}
 use Rattle.enf_cli.specs.declared.refusals.Status.TheVariants as statuses
-
--- the bytes of a record have one answer at most
-abbrev pub OneRecordAnswer : Type 0
-OneRecordAnswer = (entries : List NameEntry) (mode : LogMode) (bytes : List ℕ) (answer other : Result LogItem LogRefusal)
-    → IsAnswer entries mode bytes answer → IsAnswer entries mode bytes other → answer ≡ other
 
 -- ---- the words and the files ask for one thing
 
@@ -70,31 +60,51 @@ same_files words command other signature policy signature' policy' e f =
     let both : command ∷ signature ∷ policy ∷ [] ≡ other ∷ signature' ∷ policy' ∷ [] = sym e ∙ f in
     (cc, cc)
 
+-- words that name files are a command of more than three letters, and the two names
+record AreNamed (words : List (List ℕ)) (signature policy : List ℕ) : Type 0 where
+  pub command : List ℕ
+  pub long : 3 < length command
+  pub form : words ≡ command ∷ signature ∷ policy ∷ []
+
+named : (words : List (List ℕ)) (signature policy : List ℕ) → NamesFiles words signature policy → AreNamed words signature policy
+named words signature policy (inl e) = record { command = codes "enforce"; long = omega arith; form = e }
+named words signature policy (inr (inl e)) = record { command = codes "check"; long = omega arith; form = e }
+named words signature policy (inr (inr e)) = record { command = codes "audit"; long = omega arith; form = e }
+
 -- the words name one signature and one policy
 pub one_form : (words : List (List ℕ)) (signature policy signature' policy' : List ℕ) → NamesFiles words signature policy → NamesFiles words signature' policy' → (signature ≡ signature') × (policy ≡ policy')
-one_form words signature policy signature' policy' (inl e) (inl f) = same_files words (codes "enforce") (codes "enforce") signature policy signature' policy' e f
-one_form words signature policy signature' policy' (inl e) (inr f) = same_files words (codes "enforce") (codes "check") signature policy signature' policy' e f
-one_form words signature policy signature' policy' (inr e) (inl f) = same_files words (codes "check") (codes "enforce") signature policy signature' policy' e f
-one_form words signature policy signature' policy' (inr e) (inr f) = same_files words (codes "check") (codes "check") signature policy signature' policy' e f
+one_form words signature policy signature' policy' e f =
+    let n = named words signature policy e in
+    let m = named words signature' policy' f in
+    same_files words n.command m.command signature policy signature' policy' n.form m.form
 
 -- and they do not ask to generate
 pub files_or_generate : (words : List (List ℕ)) (signature policy : List ℕ) (start steps : ℕ) → NamesFiles words signature policy → IsGenerate words start steps → ⊥
-files_or_generate words signature policy start steps (inl e) g =
-    let command : codes "enforce" ≡ codes "gen" = same_command words (codes "enforce") (codes "gen") (signature ∷ policy ∷ []) (g.start_word ∷ g.steps_word ∷ []) e g.form in
-    omega (arith, ap length command)
-files_or_generate words signature policy start steps (inr e) g =
-    let command : codes "check" ≡ codes "gen" = same_command words (codes "check") (codes "gen") (signature ∷ policy ∷ []) (g.start_word ∷ g.steps_word ∷ []) e g.form in
-    omega (arith, ap length command)
+files_or_generate words signature policy start steps e g =
+    let n = named words signature policy e in
+    let command : n.command ≡ codes "gen" = same_command words n.command (codes "gen") (signature ∷ policy ∷ []) (g.start_word ∷ g.steps_word ∷ []) n.form g.form in
+    omega (arith, n.long, ap length command)
 
 pub enforce_or_check : (words : List (List ℕ)) (signature policy signature' policy' : List ℕ) → IsEnforce words signature policy → IsCheck words signature' policy' → ⊥
 enforce_or_check words signature policy signature' policy' e f =
     let command : codes "enforce" ≡ codes "check" = same_command words (codes "enforce") (codes "check") (signature ∷ policy ∷ []) (signature' ∷ policy' ∷ []) e f in
     omega (arith, ap length command)
 
+pub enforce_or_audit : (words : List (List ℕ)) (signature policy signature' policy' : List ℕ) → IsEnforce words signature policy → IsAudit words signature' policy' → ⊥
+enforce_or_audit words signature policy signature' policy' e f =
+    let command : codes "enforce" ≡ codes "audit" = same_command words (codes "enforce") (codes "audit") (signature ∷ policy ∷ []) (signature' ∷ policy' ∷ []) e f in
+    omega (arith, ap length command)
+
+check_or_audit : (words : List (List ℕ)) (signature policy signature' policy' : List ℕ) → IsCheck words signature policy → IsAudit words signature' policy' → ⊥
+check_or_audit words signature policy signature' policy' e f =
+    let command : codes "check" ≡ codes "audit" = same_command words (codes "check") (codes "audit") (signature ∷ policy ∷ []) (signature' ∷ policy' ∷ []) e f in
+    omega (arith, ap (λ (bytes : List ℕ). get_or bytes 0 0) command)
+
 -- words that name files match a form
 some_form : (words : List (List ℕ)) (signature policy : List ℕ) → NamesFiles words signature policy → MatchNoForm words → ⊥
 some_form words signature policy (inl e) none = none.enforce signature policy e
-some_form words signature policy (inr e) none = none.check signature policy e
+some_form words signature policy (inr (inl e)) none = none.check signature policy e
+some_form words signature policy (inr (inr e)) none = none.audit signature policy e
 
 -- where files tell a file's bytes, no others are under its name
 told_bytes : (files : Option (List ℕ → Contents)) (name other all bytes : List ℕ) → name ≡ other → TellBytes files name all → AreUnder files other bytes → bytes ≡ all
@@ -110,28 +120,49 @@ OneTextAnswer = (entries : List NameEntry) (bytes : List ℕ)
 same_text_answer : OneTextAnswer → (entries : List NameEntry) (bytes : List ℕ) (answer other : Result (List Rule) PolicyTextRefusal) → IsTextAnswer entries bytes answer → IsTextAnswer entries bytes other → answer ≡ other
 same_text_answer one entries bytes answer other is also = let all = one entries bytes in all.2 answer is ∙ sym (all.2 other also)
 
--- what is asked for in one form
-asks_named : {Gate : Type 0} (call : Call Gate) (entries : List NameEntry) (policy : List Rule) → Asks IsEnforce call entries policy ⊎ Asks IsCheck call entries policy → Asks NamesFiles call entries policy
-asks_named call entries policy (inl a) =
-    record { signature_file = a.signature_file; policy_file = a.policy_file; form = inl a.form; holds_signature = a.holds_signature; holds_policy = a.holds_policy }
-asks_named call entries policy (inr a) =
-    record { signature_file = a.signature_file; policy_file = a.policy_file; form = inr a.form; holds_signature = a.holds_signature; holds_policy = a.holds_policy }
+-- a form that names files
+abbrev IsNaming : (List (List ℕ) → List ℕ → List ℕ → Type 0) → Type 0
+IsNaming IsForm = (words : List (List ℕ)) (signature policy : List ℕ) → IsForm words signature policy → NamesFiles words signature policy
 
-policy_named : {Gate : Type 0} (call : Call Gate) (entries : List NameEntry) (policy : List Rule) → AsksPolicy IsEnforce call entries policy ⊎ AsksPolicy IsCheck call entries policy → AsksPolicy NamesFiles call entries policy
-policy_named call entries policy (inl t) =
-    record {
-      asks = record { signature_file = t.asks.signature_file; policy_file = t.asks.policy_file; form = inl t.asks.form; bytes = t.asks.bytes; told = t.asks.told; is_signature = t.asks.is_signature };
-      bytes = t.bytes;
-      told = t.told;
-      is_policy = t.is_policy;
-    }
-policy_named call entries policy (inr t) =
-    record {
-      asks = record { signature_file = t.asks.signature_file; policy_file = t.asks.policy_file; form = inr t.asks.form; bytes = t.asks.bytes; told = t.asks.told; is_signature = t.asks.is_signature };
-      bytes = t.bytes;
-      told = t.told;
-      is_policy = t.is_policy;
-    }
+enforce_names : IsNaming IsEnforce
+enforce_names words signature policy e = inl e
+
+check_names : IsNaming IsCheck
+check_names words signature policy e = inr (inl e)
+
+audit_names : IsNaming IsAudit
+audit_names words signature policy e = inr (inr e)
+
+all_names : IsNaming NamesFiles
+all_names words signature policy e = e
+
+-- what is asked for in one form
+module _ {Gate : Type 0} (call : Call Gate) (entries : List NameEntry) (policy : List Rule) (IsForm : List (List ℕ) → List ℕ → List ℕ → Type 0) (names : IsNaming IsForm) where
+  asks_named : Asks IsForm call entries policy → Asks NamesFiles call entries policy
+  asks_named a =
+      record {
+        signature_file = a.signature_file;
+        policy_file = a.policy_file;
+        form = names call.words a.signature_file a.policy_file a.form;
+        holds_signature = a.holds_signature;
+        holds_policy = a.holds_policy;
+      }
+
+  policy_named : AsksPolicy IsForm call entries policy → AsksPolicy NamesFiles call entries policy
+  policy_named t =
+      record {
+        asks = record {
+          signature_file = t.asks.signature_file;
+          policy_file = t.asks.policy_file;
+          form = names call.words t.asks.signature_file t.asks.policy_file t.asks.form;
+          bytes = t.asks.bytes;
+          told = t.asks.told;
+          is_signature = t.asks.is_signature;
+        };
+        bytes = t.bytes;
+        told = t.told;
+        is_policy = t.is_policy;
+      }
 
 -- each text of a signature has one answer, and each of a policy; and a policy that is accepted is not refused
 module _ (one : OneAnswer) (one_text : OneTextAnswer) (accepted : AcceptedIsNotRefused) where
@@ -214,13 +245,9 @@ module _ (one : OneAnswer) (one_text : OneTextAnswer) (accepted : AcceptedIsNotR
     refused_policy_not_asked : (t : AsksRefusedPolicy call) (others : List NameEntry) (policy : List Rule) → Asks NamesFiles call others policy → ⊥
     refused_policy_not_asked t others policy a = policy_not_refused t.entries t.why t.bytes policy (one_policy call t.entries t.asks t.bytes t.told others policy a).1 t.refused
 
-    not_asked : AsksRefused call → (s : Setting) → AsksToEnforce call s → ⊥
-    not_asked (inl t) s a = refused_signature_not_asked t s.entries s.rules (asks_named call s.entries s.rules (inl a.asks))
-    not_asked (inr t) s a = refused_policy_not_asked t s.entries s.rules (asks_named call s.entries s.rules (inl a.asks))
-
-    not_checked : AsksRefused call → (entries : List NameEntry) (policy : List Rule) → Asks IsCheck call entries policy → ⊥
-    not_checked (inl t) entries policy a = refused_signature_not_asked t entries policy (asks_named call entries policy (inr a))
-    not_checked (inr t) entries policy a = refused_policy_not_asked t entries policy (asks_named call entries policy (inr a))
+    not_asked : AsksRefused call → (entries : List NameEntry) (policy : List Rule) → Asks NamesFiles call entries policy → ⊥
+    not_asked (inl t) entries policy a = refused_signature_not_asked t entries policy a
+    not_asked (inr t) entries policy a = refused_policy_not_asked t entries policy a
 
     -- words that match no form ask for nothing
     files_some_form : AsksRefused call → MatchNoForm call.words → ⊥
@@ -249,243 +276,139 @@ module _ (one : OneAnswer) (one_text : OneTextAnswer) (accepted : AcceptedIsNotR
             let here = subst (λ (es : List NameEntry). IsRefusedPolicy es why w.bytes) (sym same) w.refused in
             policy_not_refused entries why t.bytes policy t.is_policy (subst (IsRefusedPolicy entries why) all here)
 
-    enforced_not_refused : (s : Setting) → AsksTold call s → FilesRefused → ⊥
-    enforced_not_refused s t o = no_refusal_of_files s.entries s.rules (policy_named call s.entries s.rules (inl t.asks)) o
-
-    checked_not_refused : AsksToCheck call → FilesRefused → ⊥
-    checked_not_refused (entries, policy, t) o = no_refusal_of_files entries policy (policy_named call entries policy (inr t)) o
+  module _ {Gate : Type 0} (call : Call Gate) (IsForm : List (List ℕ) → List ℕ → List ℕ → Type 0) (names : IsNaming IsForm) (entries : List NameEntry) (policy : List Rule) (t : AsksPolicy IsForm call entries policy) where
+    -- the files tell one signature and one policy
+    one_asked : (others : List NameEntry) (other : List Rule) → Asks IsForm call others other → (entries ≡ others) × (policy ≡ other)
+    one_asked others other a =
+        let mine = policy_named call entries policy IsForm names t in
+        let same = one_policy call entries mine.asks mine.bytes mine.told others other (asks_named call others other IsForm names a) in
+        (same.0, same_policy entries mine.bytes policy other mine.is_policy.reads same.1.reads)
 
   module _ {Gate : Type 0} (call : Call Gate) (s : Setting) (t : AsksTold call s) where
     -- what is asked for is this setting
     pub one_setting : (other : Setting) → AsksToEnforce call other → s ≡ other
     one_setting other a =
-        let named = policy_named call s.entries s.rules (inl t.asks) in
-        let same = one_policy call s.entries named.asks named.bytes named.told other.entries other.rules (asks_named call other.entries other.rules (inl a.asks)) in
-        let policies = same_policy s.entries named.bytes s.rules other.rules named.is_policy.reads same.1.reads in
-        t.is_setting ∙ (λ i. anew (same.0 i) (policies i)) ∙ sym a.is_setting
+        let same = one_asked call IsEnforce enforce_names s.entries s.rules t.asks other.entries other.rules a.asks in
+        t.is_setting ∙ (λ i. anew (same.0 i) (same.1 i)) ∙ sym a.is_setting
 
     -- the log is run in the setting that is told
     pub ran_told : (report : Stream) (other : Setting) (verdict : Verdict) → AsksToEnforce call other → RunsLog other verdict (seen_of call.before.gate call.before.report) (seen_of call.after.gate report) → RunsLog s verdict (seen_of call.before.gate call.before.report) (seen_of call.after.gate report)
     ran_told report other verdict asks ran = subst (λ (o : Setting). RunsLog o verdict (seen_of call.before.gate call.before.report) (seen_of call.after.gate report)) (sym (one_setting other asks)) ran
 
-  -- ---- a log is read in one way
-
-  none_some : (n : ℕ) → ◌≡◌ {A = Option ℕ} None (Some n) → ⊥
-  none_some n e = cc
-
-  same_number : (n m : ℕ) → ◌≡◌ {A = Option ℕ} (Some n) (Some m) → n ≡ m
-  same_number n m e = cc
-
-  same_item : (x y : LogItem) → ◌≡◌ {A = Result LogItem LogRefusal} (Ok x) (Ok y) → x ≡ y
-  same_item x y e = cc
-
-  ok_not_err : (x : LogItem) (refusal : LogRefusal) → ◌≡◌ {A = Result LogItem LogRefusal} (Ok x) (Err refusal) → ⊥
-  ok_not_err x refusal e = cc
-
   module _ (law : OneRecordAnswer) where
-    module _ (mode : LogMode) where
-      -- a record at the front is one alone
-      begins_same : (entries : List NameEntry) (bytes : List ℕ) (x y : LogItem) (r s : List ℕ) → BeginsWith entries mode bytes x r → BeginsWith entries mode bytes y s → (x ≡ y) × (r ≡ s)
-      begins_same entries bytes x y r s (n, whole, answer, is) (m, whole', answer', is') =
-          let same : n ≡ m = same_number n m (sym whole ∙ whole') in
-          let other = subst (λ (k : ℕ). IsAnswer entries mode (take k (behind_blanks bytes)) (Ok y)) (sym same) answer' in
-          (same_item x y (law entries mode (take n (behind_blanks bytes)) (Ok x) (Ok y) answer other), is ∙ ap (λ (k : ℕ). drop k (behind_blanks bytes)) same ∙ sym is')
+    -- ---- the run of a log, and an audit, take it so
 
-      by_answer : (entries : List NameEntry) (bytes : List ℕ) (x : LogItem) (r : List ℕ) (refusal : LogRefusal) → BeginsWith entries mode bytes x r → (n : ℕ) → HasRecord bytes n → IsAnswer entries mode (record_bytes bytes n) (Err refusal) → ⊥
-      by_answer entries bytes x r refusal (m, whole, answer, is) n whole' answer' =
-          let same : m ≡ n = same_number m n (sym whole ∙ whole') in
-          let mine = subst (λ (k : ℕ). IsAnswer entries mode (take k (behind_blanks bytes)) (Ok x)) same answer in
-          ok_not_err x refusal (law entries mode (take n (behind_blanks bytes)) (Ok x) (Err refusal) mine answer')
+    ran_to_end : (s : Setting) (verdict : Verdict) (before after : Seen) → RunsLog s verdict before after → ReadsToEnd (UpToDate s) (reading_of s) verdict before.gate after.gate
+    ran_to_end s verdict before after ran =
+        record {
+          log = record { taken = ran.taken; given = ran.given; exchanged = ran.exchanged; read = ran.answers.read; rest = ran.rest; accepts = ran.answers.accepts };
+          ends = ran.ends;
+        }
 
-      -- and it is not refused
-      begins_not_refused : (entries : List NameEntry) (bytes : List ℕ) (x : LogItem) (r : List ℕ) (refusal : LogRefusal) → BeginsWith entries mode bytes x r → RefusesText entries mode bytes refusal → ⊥
-      begins_not_refused entries bytes x r log.TooLong begins refused = none_some begins.0 (sym refused.0 ∙ begins.1)
-      begins_not_refused entries bytes x r log.Truncated begins refused = refused
-      begins_not_refused entries bytes x r log.NoMemory begins refused = refused
-      begins_not_refused entries bytes x r (log.BadRecord place) begins refused = by_answer entries bytes x r (log.BadRecord place) begins refused.0 refused.1 refused.2
-      begins_not_refused entries bytes x r (log.UnknownName place) begins refused = by_answer entries bytes x r (log.UnknownName place) begins refused.0 refused.1 refused.2
-      begins_not_refused entries bytes x r (log.Arity place) begins refused = by_answer entries bytes x r (log.Arity place) begins refused.0 refused.1 refused.2
-      begins_not_refused entries bytes x r (log.SortClash place) begins refused = by_answer entries bytes x r (log.SortClash place) begins refused.0 refused.1 refused.2
-      begins_not_refused entries bytes x r log.TimeTooLarge begins refused = by_answer entries bytes x r log.TimeTooLarge begins refused.0 refused.1 refused.2
+    module _ {Gate : Type 0} (call : Call Gate) where
+      -- a run in the setting that is told, and an audit under what is told, are those of what is asked
+      told_run : (s : Setting) → AsksTold call s → (report : Stream) (other : Setting) (verdict : Verdict) → AsksToEnforce call other → RunsLog other verdict (seen_of call.before.gate call.before.report) (seen_of call.after.gate report)
+          → ReadsToEnd (UpToDate s) (reading_of s) verdict call.before.gate call.after.gate
+      told_run s t report other verdict asks ran =
+          ran_to_end s verdict (seen_of call.before.gate call.before.report) (seen_of call.after.gate report) (ran_told call s t report other verdict asks ran)
 
-      -- no record at the front has a time that is not below the clock
-      abbrev Stops : List NameEntry → ℕ → List ℕ → Type 0
-      Stops entries clock rest = (item : LogItem) (more : List ℕ) → BeginsWith entries mode rest item more → time_of (record_of item) < clock
+      told_audit : (entries : List NameEntry) (policy : List Rule) → AsksPolicy IsAudit call entries policy → (report : Stream) (verdict : Verdict) (a : AuditsLog call report verdict)
+          → TakesWholeTrace entries verdict call.before.gate call.after.gate
+      told_audit entries policy t report verdict a =
+          let same = one_asked call IsAudit audit_names entries policy t a.entries a.policy a.asks in
+          subst (λ (es : List NameEntry). TakesWholeTrace es verdict call.before.gate call.after.gate) (sym same.0) a.whole
 
-      refused_stops : (entries : List NameEntry) (clock : ℕ) (rest : List ℕ) (refusal : LogRefusal) → RefusesText entries mode rest refusal → Stops entries clock rest
-      refused_stops entries clock rest refusal refused item more begins = absurd (begins_not_refused entries rest item more refusal begins refused)
+      done_meets_none : (report : Stream) → IsDone call report → MeetsRefusal call → ⊥
+      done_meets_none report d m = by m.reading m.asks m.read m.rest m.accepts m.why m.refused
+        where
+          by : (r : Reading) → AsksToRead call r → (read : List LogItem) (rest : List ℕ) → Accepts r.entries r.mode r.clock (taken_between m.x m.y) read rest
+              → (why : RecordRefusal) → IsRefusedAs (taken_in r read (taken_between m.x m.y) rest) call.after.gate why → ⊥
+          by r (inl (s, asks, is)) read rest accepts why refused =
+              let w = subst (λ (k : Reading). ReadsToEnd (UpToDate s) k verdicts.Accepted call.before.gate call.after.gate) (sym is) (told_run s asks report d.setting verdicts.Accepted d.asks d.ran) in
+              whole_meets_none law (UpToDate s) r call.before.gate call.after.gate w m.x m.y m.told m.told' read rest accepts why refused
+          by r (inr (entries, policy, asks, is)) read rest accepts why refused =
+              enforce_or_audit call.words d.asks.asks.signature_file d.asks.asks.policy_file asks.asks.signature_file asks.asks.policy_file d.asks.asks.form asks.asks.form
 
-      pending_stops : (entries : List NameEntry) (clock : ℕ) (rest : List ℕ) → IsPending rest → Stops entries clock rest
-      pending_stops entries clock rest pending item more begins = absurd (none_some begins.0 (sym pending.0 ∙ begins.1))
+      audit_meets_none : (report : Stream) → AuditsLog call report verdicts.Accepted → MeetsRefusal call → ⊥
+      audit_meets_none report a m = by m.reading m.asks m.read m.rest m.accepts m.why m.refused
+        where
+          by : (r : Reading) → AsksToRead call r → (read : List LogItem) (rest : List ℕ) → Accepts r.entries r.mode r.clock (taken_between m.x m.y) read rest
+              → (why : RecordRefusal) → IsRefusedAs (taken_in r read (taken_between m.x m.y) rest) call.after.gate why → ⊥
+          by r (inl (s, asks, is)) read rest accepts why refused =
+              enforce_or_audit call.words asks.asks.asks.signature_file asks.asks.asks.policy_file a.asks.signature_file a.asks.policy_file asks.asks.asks.form a.asks.form
+          by r (inr (entries, policy, asks, is)) read rest accepts why refused =
+              let w = subst (λ (k : Reading). ReadsToEnd GivesNothing k verdicts.Accepted call.before.gate call.after.gate) (sym is) (told_audit entries policy asks report verdicts.Accepted a) in
+              whole_meets_none law GivesNothing r call.before.gate call.after.gate w m.x m.y m.told m.told' read rest accepts why refused
 
-      blank_stops : (entries : List NameEntry) (clock : ℕ) (rest : List ℕ) → behind_blanks rest ≡ [] → Stops entries clock rest
-      blank_stops entries clock rest blank item more begins = absurd (none_some begins.0 (sym (ap record_length blank) ∙ begins.1))
+      -- a log that is refused in a run, or in an audit, is no whole one
+      record_not_acceptable : (report : Stream) (number : ℕ) (why : RecordRefusal) → RefusesRecord call report number why → IsAcceptable call → ⊥
+      record_not_acceptable report number why o due =
+          refused_not_whole law (UpToDate due.setting) (reading_of due.setting) call.before.gate call.after.gate why (told_run due.setting due.asks report o.setting (verdicts.Refused why) o.asks o.ran) due.whole
 
-      falling_stops : (entries : List NameEntry) (clock : ℕ) (rest : List ℕ) (given : ℕ) → IsFalling entries mode clock rest given → Stops entries clock rest
-      falling_stops entries clock rest given falling item more begins =
-          let same = begins_same entries rest falling.item item falling.more more falling.begins begins in
-          omega (arith, falling.below, ap (λ (x : LogItem). time_of (record_of x)) same.0)
+      audited_not_acceptable : (report : Stream) (why : RecordRefusal) → AuditsLog call report (verdicts.Refused why) → (found : Found) → IsAuditable call found → ⊥
+      audited_not_acceptable report why a found due =
+          refused_not_whole law GivesNothing (as_trace due.entries) call.before.gate call.after.gate why (told_audit due.entries due.policy due.asks report (verdicts.Refused why) a) due.whole
 
-      blank_not_refused : (entries : List NameEntry) (rest : List ℕ) (refusal : LogRefusal) → behind_blanks rest ≡ [] → RefusesText entries mode rest refusal → ⊥
-      blank_not_refused entries rest log.TooLong blank h = omega (arith, h.1, ap length blank)
-      blank_not_refused entries rest log.Truncated blank h = h
-      blank_not_refused entries rest log.NoMemory blank h = h
-      blank_not_refused entries rest (log.BadRecord place) blank h = none_some h.0 (sym (ap record_length blank) ∙ h.1)
-      blank_not_refused entries rest (log.UnknownName place) blank h = none_some h.0 (sym (ap record_length blank) ∙ h.1)
-      blank_not_refused entries rest (log.Arity place) blank h = none_some h.0 (sym (ap record_length blank) ∙ h.1)
-      blank_not_refused entries rest (log.SortClash place) blank h = none_some h.0 (sym (ap record_length blank) ∙ h.1)
-      blank_not_refused entries rest log.TimeTooLarge blank h = none_some h.0 (sym (ap record_length blank) ∙ h.1)
+      -- an audit finds what is to be found
+      one_found : VerdictIsOne → (report : Stream) (found other : Found) → FindsVerdict call report found → IsAuditable call other → found ≡ other
+      one_found one_verdict report found other f due = subst Q same.0 base f.audit.whole f.is_verdict yours
+        where
+          same : (due.entries ≡ f.audit.entries) × (due.policy ≡ f.audit.policy)
+          same = one_asked call IsAudit audit_names due.entries due.policy due.asks f.audit.entries f.audit.policy f.audit.asks
 
-      -- blanks in front count for nothing
-      begins_blanks : (entries : List NameEntry) (text other : List ℕ) (item : LogItem) (rest : List ℕ) → behind_blanks text ≡ behind_blanks other → BeginsWith entries mode text item rest → BeginsWith entries mode other item rest
-      begins_blanks entries text other item rest same begins =
-          let P : List ℕ → Type 0 = λ l. (n : ℕ) × (record_length l ≡ Some n) × IsAnswer entries mode (take n l) (Ok item) × (rest ≡ drop n l) in
-          subst P same begins
+          IsFound : List LogItem → Found → Type 0
+          IsFound read verdict = IsVerdict (formulas f.audit.policy) (recorded (records_of read)) verdict
 
-      -- up to where records stop, those that are accepted are the same
-      read_same : (entries : List NameEntry) (clock : ℕ) (bytes : List ℕ) (xs : List LogItem) (r : List ℕ) (ys : List LogItem) (s : List ℕ) → Stops entries (clock_after clock (records_of xs)) r → Stops entries (clock_after clock (records_of ys)) s
-          → Spells entries mode bytes xs r → NeverFall clock (records_of xs) → Spells entries mode bytes ys s → NeverFall clock (records_of ys) → (xs ≡ ys) × (behind_blanks r ≡ behind_blanks s)
-      read_same entries clock bytes [] r [] s r-stops s-stops p m q n = (refl, p ∙ sym q)
-      read_same entries clock bytes [] r (y ∷ ys) s r-stops s-stops p m q n =
-          let below = r-stops y q.0 (begins_blanks entries bytes r y q.0 (sym p) q.1) in
-          absurd (omega (arith, below, n.0))
-      read_same entries clock bytes (x ∷ xs) r [] s r-stops s-stops p m q n =
-          let below = s-stops x p.0 (begins_blanks entries bytes s x p.0 (sym q) p.1) in
-          absurd (omega (arith, below, m.0))
-      read_same entries clock bytes (x ∷ xs) r (y ∷ ys) s r-stops s-stops p m q n =
-          let same = begins_same entries bytes x y p.0 q.0 p.1 q.1 in
-          let time : time_of (record_of y) ≡ time_of (record_of x) = ap (λ (z : LogItem). time_of (record_of z)) (sym same.0) in
-          let stops = subst (λ (k : ℕ). Stops entries (clock_after k (records_of ys)) s) time s-stops in
-          let others = read_same entries (time_of (record_of x)) p.0 xs r ys s r-stops stops p.2 m.1 (subst (λ (b : List ℕ). Spells entries mode b ys s) (sym same.1) q.2) (subst (λ (k : ℕ). NeverFall k (records_of ys)) time n.1) in
-          (rw (same.0, others.0) refl, others.1)
+          yours : IsFound due.whole.read other
+          yours = subst (λ (rules : List Rule). IsVerdict (formulas rules) (recorded (records_of due.whole.read)) other) same.1 due.is_verdict
 
-    -- where a record is refused, records stop
-    refusal_stops : (t : Taken) (after : Stream) (why : RecordRefusal) → IsRefusedAs t after why → Stops t.setting.mode t.setting.entries (clock_behind t) t.rest
-    refusal_stops t after (records.Log why) (inl h) = refused_stops t.setting.mode t.setting.entries (clock_behind t) t.rest why h
-    refusal_stops t after (records.Log why) (inr (is, truncated, met)) = pending_stops t.setting.mode t.setting.entries (clock_behind t) t.rest truncated.0
-    refusal_stops t after (records.Falling given at) h = falling_stops t.setting.mode t.setting.entries (clock_behind t) t.rest given h.1
-    refusal_stops t after records.InputLimit h = pending_stops t.setting.mode t.setting.entries (clock_behind t) t.rest h.0
+          Q : List NameEntry → Type 0
+          Q entries = (w : TakesWholeTrace entries verdicts.Accepted call.before.gate call.after.gate) → IsFound w.log.read found → IsFound due.whole.read other → found ≡ other
 
-    -- ---- what was taken
-
-    -- what a gate that tells was seen to take is what was taken between
-    taken_at : (P : List ℕ → List ℕ → Type 0) (taken given : List ℕ) (before after : Option Exchange) (x y : Exchange) → before ≡ Some x → after ≡ Some y → Exchanged P taken given before after → taken ≡ taken_between x y
-    taken_at P taken given before after x y e f h =
-        let told = subst (λ (b : Option Exchange). OfCalls (IsExchange P taken given) (Some x) b) f (subst (λ (a : Option Exchange). OfCalls (IsExchange P taken given) a after) e h.calls) in
-        sym told.took
-
-    -- a gate that told tells still
-    still_told : (x : Exchange) (after : Option Exchange) → GrewWhereTold (Some x) after → (y : Exchange) × (after ≡ Some y) × Grew x y
-    still_told x None grew = absurd grew
-    still_told x (Some y) grew = (y, refl, grew)
-
-    tells_still : (before after : Option Exchange) (x : Exchange) → before ≡ Some x → GrewWhereTold before after → (y : Exchange) × (after ≡ Some y) × Grew x y
-    tells_still before after x e grew = still_told x after (subst (λ (b : Option Exchange). GrewWhereTold b after) e grew)
-
-    -- all was taken where nothing is left
-    all_between : (x y : Exchange) → Grew x y → left y ≡ [] → taken_between x y ≡ left x
-    all_between x y grew ended =
-        let count = y.taken - x.taken in
-        let behind : drop count (left x) ≡ [] = left-since x y grew ∙ ended in
-        sym (append-nil (take count (left x))) ∙ ap (λ (t : List ℕ). take count (left x) ++ t) (sym behind) ∙ take-append-drop count (left x)
-
-    between_le : (x y : Exchange) → length (taken_between x y) ≤ length (left x)
-    between_le x y = omega (arith, length-take (y.taken - x.taken) (left x))
-
-    -- ---- what a run meets
-
-    -- a run that is done meets no refusal
-    done_meets_none : {Gate : Type 0} (call : Call Gate) (report : Stream) → IsDone call report → MeetsRefusal call → ⊥
-    done_meets_none call report d m = by m.why m.refused (read_same s.mode s.entries s.start.clock bytes m.read m.rest ran.answers.read ran.rest
-        (refusal_stops (taken_of s m.read bytes m.rest) call.after.gate m.why m.refused)
-        (blank_stops s.mode s.entries (clock_after s.start.clock (records_of ran.answers.read)) ran.rest ran.ends.0) m.accepts.spelled m.accepts.rising mine ran.answers.accepts.rising)
-      where
-        s : Setting
-        s = m.setting
-
-        ran : RunsLog s verdicts.Accepted (seen_of call.before.gate call.before.report) (seen_of call.after.gate report)
-        ran = ran_told call s m.asks report d.setting verdicts.Accepted d.asks d.ran
-
-        bytes : List ℕ
-        bytes = taken_between m.x m.y
-
-        taken : ran.taken ≡ taken_between m.x m.y
-        taken = taken_at (UpToDate s) ran.taken ran.given call.before.gate.told call.after.gate.told m.x m.y m.told m.told' ran.exchanged
-
-        mine : Spells s.entries s.mode (taken_between m.x m.y) ran.answers.read ran.rest
-        mine = subst (λ (b : List ℕ). Spells s.entries s.mode b ran.answers.read ran.rest) taken ran.answers.accepts.spelled
-
-        blank : (m.read ≡ ran.answers.read) × (behind_blanks m.rest ≡ behind_blanks ran.rest) → behind_blanks m.rest ≡ []
-        blank same = same.1 ∙ ran.ends.0
-
-        by : (why : RecordRefusal) → IsRefusedAs (taken_of s m.read (taken_between m.x m.y) m.rest) call.after.gate why
-            → (m.read ≡ ran.answers.read) × (behind_blanks m.rest ≡ behind_blanks ran.rest) → ⊥
-        by (records.Log why) (inl h) same = blank_not_refused s.mode s.entries m.rest why (blank same) h
-        by (records.Log why) (inr (is, truncated, met)) same = omega (arith, truncated.1, ap length (blank same))
-        by (records.Falling given at) h same = none_some h.1.begins.0 (sym (ap record_length (blank same)) ∙ h.1.begins.1)
-        by records.InputLimit h same = omega (arith, h.1, ran.ends.1.0, ap length taken)
-
-    module _ {Gate : Type 0} (call : Call Gate) (report : Stream) (s : Setting) (why : RecordRefusal) (ran : RunsLog s (verdicts.Refused why) (seen_of call.before.gate call.before.report) (seen_of call.after.gate report))
-        (x : Exchange) (told : call.before.gate.told ≡ Some x) where
-      -- a refusal behind the bytes taken is one behind a whole log, whose records end there
-      module _ (read : List LogItem) (is_log : IsLog s.entries s.mode (left x) read None) (rising : NeverFall s.start.clock (records_of read)) (y : Exchange) (told' : call.after.gate.told ≡ Some y) (grew : Grew x y) where
-        abbrev more : List ℕ
-        more = drop (y.taken - x.taken) (left x)
-
-        abbrev clock : ℕ
-        clock = clock_after s.start.clock (records_of ran.answers.read)
-
-        taken : ran.taken ≡ taken_between x y
-        taken = taken_at (UpToDate s) ran.taken ran.given call.before.gate.told call.after.gate.told x y told told' ran.exchanged
-
-        whole : ran.taken ++ more ≡ left x
-        whole = ap (λ (t : List ℕ). t ++ more) taken ∙ take-append-drop (y.taken - x.taken) (left x)
-
-        -- what is left of it is all of it
-        nothing_more : (rest : List ℕ) → Stops s.mode s.entries clock rest → Spells s.entries s.mode (left x) ran.answers.read rest → behind_blanks rest ≡ []
-        nothing_more rest stops spelled =
-            (read_same s.mode s.entries s.start.clock (left x) ran.answers.read rest read is_log.0 stops
-            (blank_stops s.mode s.entries (clock_after s.start.clock (records_of read)) is_log.0 is_log.2) spelled ran.answers.accepts.rising is_log.1 rising).1 ∙ is_log.2
-
-        longer : Spells s.entries s.mode (left x) ran.answers.read (ran.rest ++ more)
-        longer =
-            subst (λ (b : List ℕ). Spells s.entries s.mode b ran.answers.read (ran.rest ++ more)) whole
-            (Spells-append s.entries s.mode ran.taken ran.answers.read ran.rest more ran.answers.accepts.spelled)
-
-        not_acceptable : length (left x) < most_log_bytes → ⊥
-        not_acceptable below = by why ran.ends.0
-          where
-            by : (why : RecordRefusal) → IsRefusedAs (taken_of s ran.answers.read ran.taken ran.rest) call.after.gate why → ⊥
-            by (records.Log refusal) (inl h) =
-                let r = Refuses-append s.entries s.mode ran.rest more refusal h in
-                blank_not_refused s.mode s.entries (ran.rest ++ more) refusal (nothing_more (ran.rest ++ more) (refused_stops s.mode s.entries clock (ran.rest ++ more) refusal r) longer) r
-            by (records.Log refusal) (inr (is, truncated, met)) =
-                let all = taken ∙ all_between x y grew (subst IsAtEnd told' met.1) in
-                let spelled = subst (λ (b : List ℕ). Spells s.entries s.mode b ran.answers.read ran.rest) all ran.answers.accepts.spelled in
-                omega (arith, truncated.1, ap length (nothing_more ran.rest (pending_stops s.mode s.entries clock ran.rest truncated.0) spelled))
-            by (records.Falling given at) h =
-                let f = h.1 in
-                let begins = BeginsWith-append s.entries s.mode ran.rest f.item f.more more f.begins in
-                let still : IsFalling s.entries s.mode clock (ran.rest ++ more) given =
-                record { item = f.item; more = f.more ++ more; begins = begins; time = f.time; below = f.below } in
-                let blank = nothing_more (ran.rest ++ more) (falling_stops s.mode s.entries clock (ran.rest ++ more) given still) longer in
-                none_some begins.0 (sym (ap record_length blank) ∙ begins.1)
-            by records.InputLimit h = omega (arith, h.1, ap length taken, between_le x y, below)
+          base : Q due.entries
+          base w mine also =
+              let read = whole_read law GivesNothing (as_trace due.entries) call.before.gate call.after.gate w due.whole in
+              one_verdict (formulas f.audit.policy) (recorded (records_of due.whole.read)) found other (subst (λ (r : List LogItem). IsFound r found) read mine) also
 
     -- ---- where each status must come
 
-    module _ {Gate : Type 0} (call : Call Gate) where
+    module _ (verdict_is_one : VerdictIsOne) {Gate : Type 0} (call : Call Gate) where
       -- no read failed
       no_read_fault : LeavesFiles call → call.after.gate.read_faults ≡ call.before.gate.read_faults → MeetsReadFault call → ⊥
       no_read_fault files gate (inl (name, moved)) = moved (ap (λ (v : FileView). v.read_faults name) files)
       no_read_fault files gate (inr moved) = moved gate
 
+      -- the words ask for one thing
+      not_enforced : (entries : List NameEntry) (policy : List Rule) → Asks IsEnforce call entries policy → IsViolating call → ⊥
+      not_enforced entries policy a due =
+          enforce_or_audit call.words a.signature_file a.policy_file due.2.asks.asks.signature_file due.2.asks.asks.policy_file a.form due.2.asks.asks.form
+
+      not_generated : (start steps : ℕ) → IsGenerate call.words start steps → (signature policy : List ℕ) → NamesFiles call.words signature policy → ⊥
+      not_generated start steps form signature policy names = files_or_generate call.words signature policy start steps names form
+
+      -- a refusal that is met is that of a log
+      refusal_named : MeetsRefusal call → (signature : List ℕ) × (policy : List ℕ) × (IsEnforce call.words signature policy ⊎ IsAudit call.words signature policy)
+      refusal_named m = by m.reading m.asks
+        where
+          by : (r : Reading) → AsksToRead call r → (signature : List ℕ) × (policy : List ℕ) × (IsEnforce call.words signature policy ⊎ IsAudit call.words signature policy)
+          by r (inl (s, a, is)) = (a.asks.asks.signature_file, a.asks.asks.policy_file, inl a.asks.asks.form)
+          by r (inr (entries, policy, a, is)) = (a.asks.signature_file, a.asks.policy_file, inr a.asks.form)
+
+      refusal_names : MeetsRefusal call → (signature : List ℕ) × (policy : List ℕ) × NamesFiles call.words signature policy
+      refusal_names m = let n = refusal_named m in (n.0, n.1, by n.0 n.1 n.2)
+        where
+          by : (signature policy : List ℕ) → IsEnforce call.words signature policy ⊎ IsAudit call.words signature policy → NamesFiles call.words signature policy
+          by signature policy (inl e) = inl e
+          by signature policy (inr e) = inr (inr e)
+
       dues_done : IsDone call call.after.report → Dues call statuses.Done
       dues_done o =
+          let a = o.asks.asks in
           record {
             done = λ due. inl refl;
-            words = λ due. absurd (due.enforce o.asks.asks.signature_file o.asks.asks.policy_file o.asks.asks.form);
-            files = λ due. absurd (not_asked call due o.setting o.asks);
+            violated = λ due. absurd (not_enforced o.setting.entries o.setting.rules a due);
+            words = λ due. absurd (due.enforce a.signature_file a.policy_file a.form);
+            files = λ due. absurd (not_asked call due o.setting.entries o.setting.rules (asks_named call o.setting.entries o.setting.rules IsEnforce enforce_names a));
             refused_record = λ due. absurd (done_meets_none call call.after.report o due);
             read_fault = λ due. absurd (no_read_fault o.files o.ran.ends.2 due);
             write_fault = λ due. absurd (due o.ran.writes);
@@ -494,31 +417,102 @@ module _ (one : OneAnswer) (one_text : OneTextAnswer) (accepted : AcceptedIsNotR
 
       dues_generated : GeneratesLog call call.after.report → Dues call statuses.Done
       dues_generated o =
+          let g = o.log in
           record {
             done = λ due. inl refl;
-            words = λ due. absurd (due.generate o.log.start o.log.steps o.log.form);
-            files = λ due. absurd (files_not_generated call due o.log.start o.log.steps o.log.form);
-            refused_record = λ due. absurd (files_or_generate call.words due.asks.asks.asks.signature_file due.asks.asks.asks.policy_file o.log.start o.log.steps (inl due.asks.asks.asks.form) o.log.form);
-            read_fault = λ due. absurd (no_read_fault o.log.files o.log.reads due);
+            violated = λ due. absurd (not_generated g.start g.steps g.form due.2.asks.asks.signature_file due.2.asks.asks.policy_file (inr (inr due.2.asks.asks.form)));
+            words = λ due. absurd (due.generate g.start g.steps g.form);
+            files = λ due. absurd (files_not_generated call due g.start g.steps g.form);
+            refused_record = λ due. let n = refusal_names due in absurd (not_generated g.start g.steps g.form n.0 n.1 n.2);
+            read_fault = λ due. absurd (no_read_fault g.files g.reads due);
             write_fault = λ due. absurd (due o.writes);
-            report_fault = λ moved. absurd (moved (ap (λ (s : Stream). s.write_faults) o.log.silent));
+            report_fault = λ moved. absurd (moved (ap (λ (s : Stream). s.write_faults) g.silent));
           }
+
+      -- a check is no reading of a log
+      not_read : (signature policy : List ℕ) → IsCheck call.words signature policy → MeetsRefusal call → ⊥
+      not_read signature policy form due = let n = refusal_named due in by n.0 n.1 n.2
+        where
+          by : (other others : List ℕ) → IsEnforce call.words other others ⊎ IsAudit call.words other others → ⊥
+          by other others (inl e) = enforce_or_check call.words other others signature policy e form
+          by other others (inr e) = check_or_audit call.words signature policy other others form e
 
       dues_checked : ChecksPolicy call call.after.report → Dues call statuses.Done
       dues_checked o =
           let a = o.policy.asks in
           record {
             done = λ due. inl refl;
+            violated = λ due. absurd (check_or_audit call.words a.signature_file a.policy_file due.2.asks.asks.signature_file due.2.asks.asks.policy_file a.form due.2.asks.asks.form);
             words = λ due. absurd (due.check a.signature_file a.policy_file a.form);
-            files = λ due. absurd (not_checked call due o.policy.entries o.policy.policy a);
-            refused_record = λ due. absurd (enforce_or_check call.words due.asks.asks.asks.signature_file due.asks.asks.asks.policy_file a.signature_file a.policy_file due.asks.asks.asks.form a.form);
+            files = λ due. absurd (not_asked call due o.policy.entries o.policy.policy (asks_named call o.policy.entries o.policy.policy IsCheck check_names a));
+            refused_record = λ due. absurd (not_read a.signature_file a.policy_file a.form due);
             read_fault = λ due. absurd (no_read_fault o.policy.files o.policy.reads due);
             write_fault = λ due. absurd (due o.writes);
             report_fault = λ moved. absurd (moved (ap (λ (s : Stream). s.write_faults) o.policy.silent));
           }
 
-      words_not_done : (report : Stream) → RefusesWords call report → IsAcceptable call ⊎ (AsksToGenerate call ⊎ AsksToCheck call) → ⊥
-      words_not_done report o (inl due) = o.words.enforce due.asks.asks.asks.signature_file due.asks.asks.asks.policy_file due.asks.asks.asks.form
+      -- what is due of an audit but its verdict
+      module _ (found : Found) (o : SaysVerdict call call.after.report found) where
+        abbrev audit : AuditsLog call call.after.report verdicts.Accepted
+        audit = o.finds.audit
+
+        audit_files : AsksRefused call → ⊥
+        audit_files due = not_asked call due audit.entries audit.policy (asks_named call audit.entries audit.policy IsAudit audit_names audit.asks)
+
+        audit_reads : MeetsReadFault call → ⊥
+        audit_reads due = no_read_fault audit.files audit.whole.ends.2 due
+
+        audit_silent : call.after.report.write_faults ≢ call.before.report.write_faults → ⊥
+        audit_silent moved = moved (ap (λ (s : Stream). s.write_faults) audit.silent)
+
+        not_other : (other : Found) → (found ≡ other → ⊥) → IsAuditable call other → ⊥
+        not_other other differs due = differs (one_found call verdict_is_one call.after.report found other o.finds due)
+
+      dues_held : SaysVerdict call call.after.report Holds → Dues call statuses.Done
+      dues_held o =
+          record {
+            done = λ due. inl refl;
+            violated = λ due. absurd (not_other Holds o (Fails due.0 due.1) (λ is. cc) due.2);
+            words = λ due. absurd (due.audit o.finds.audit.asks.signature_file o.finds.audit.asks.policy_file o.finds.audit.asks.form);
+            files = λ due. absurd (audit_files Holds o due);
+            refused_record = λ due. absurd (audit_meets_none call call.after.report o.finds.audit due);
+            read_fault = λ due. absurd (audit_reads Holds o due);
+            write_fault = λ due. absurd (due o.writes);
+            report_fault = λ moved. absurd (audit_silent Holds o moved);
+          }
+
+      -- an audit is nothing else
+      audit_alone : (signature policy : List ℕ) → IsAudit call.words signature policy → IsAcceptable call ⊎ (AsksToGenerate call ⊎ AsksToCheck call) → ⊥
+      audit_alone signature policy form (inl due) = enforce_or_audit call.words due.asks.asks.asks.signature_file due.asks.asks.asks.policy_file signature policy due.asks.asks.asks.form form
+      audit_alone signature policy form (inr (inl due)) = files_or_generate call.words signature policy due.0 due.1 (inr (inr form)) due.2
+      audit_alone signature policy form (inr (inr due)) = check_or_audit call.words due.2.asks.signature_file due.2.asks.policy_file signature policy due.2.asks.form form
+
+      module _ (rule position : ℕ) (o : SaysVerdict call call.after.report (Fails rule position)) where
+        violation_not_done : CanBeDone call → ⊥
+        violation_not_done (inl (inl due)) = audit_alone o.finds.audit.asks.signature_file o.finds.audit.asks.policy_file o.finds.audit.asks.form (inl due)
+        violation_not_done (inl (inr due)) = not_other (Fails rule position) o Holds (λ is. cc) due
+        violation_not_done (inr due) = audit_alone o.finds.audit.asks.signature_file o.finds.audit.asks.policy_file o.finds.audit.asks.form (inr due)
+
+        dues_violated : Dues call statuses.Violated
+        dues_violated =
+            record {
+              done = λ due. absurd (violation_not_done due);
+              violated = λ due. inl refl;
+              words = λ due. absurd (due.audit o.finds.audit.asks.signature_file o.finds.audit.asks.policy_file o.finds.audit.asks.form);
+              files = λ due. absurd (audit_files (Fails rule position) o due);
+              refused_record = λ due. absurd (audit_meets_none call call.after.report o.finds.audit due);
+              read_fault = λ due. absurd (audit_reads (Fails rule position) o due);
+              write_fault = λ due. absurd (due o.writes);
+              report_fault = λ moved. absurd (audit_silent (Fails rule position) o moved);
+            }
+
+      -- a status that is neither leaves room for no other
+      abbrev IsUndone : Status → Type 0
+      IsUndone result = (result ≢ statuses.Done) × (result ≢ statuses.Violated)
+
+      words_not_done : (report : Stream) → RefusesWords call report → CanBeDone call → ⊥
+      words_not_done report o (inl (inl due)) = o.words.enforce due.asks.asks.asks.signature_file due.asks.asks.asks.policy_file due.asks.asks.asks.form
+      words_not_done report o (inl (inr due)) = o.words.audit due.asks.asks.signature_file due.asks.asks.policy_file due.asks.asks.form
       words_not_done report o (inr (inl due)) = o.words.generate due.0 due.1 due.2
       words_not_done report o (inr (inr due)) = o.words.check due.2.asks.signature_file due.2.asks.policy_file due.2.asks.form
 
@@ -526,12 +520,13 @@ module _ (one : OneAnswer) (one_text : OneTextAnswer) (accepted : AcceptedIsNotR
       dues_words report o =
           record {
             done = λ due. absurd (words_not_done report o due);
+            violated = λ due. absurd (o.words.audit due.2.asks.asks.signature_file due.2.asks.asks.policy_file due.2.asks.asks.form);
             words = λ due. inl refl;
             files = λ due. absurd (files_some_form call due o.words);
-            refused_record = λ due. absurd (o.words.enforce due.asks.asks.asks.signature_file due.asks.asks.asks.policy_file due.asks.asks.asks.form);
+            refused_record = λ due. let n = refusal_names due in absurd (some_form call.words n.0 n.1 n.2 o.words);
             read_fault = λ due. absurd (no_read_fault o.files (ap (λ (s : Stream). s.read_faults) o.gate.1) due);
             write_fault = λ due. absurd (due (ap (λ (s : Stream). s.write_faults) o.gate.1));
-            report_fault = λ moved is. cc;
+            report_fault = λ moved. ((λ is. cc), (λ is. cc));
           }
 
       refused_gate : FilesRefused call → LeavesGate call
@@ -547,56 +542,109 @@ module _ (one : OneAnswer) (one_text : OneTextAnswer) (accepted : AcceptedIsNotR
       refused_named (inl (why, r)) = (r.meets.signature_file, r.meets.policy_file, r.meets.form)
       refused_named (inr (why, r)) = (r.meets.signature_file, r.meets.policy_file, r.meets.form)
 
-      refused_not_done : FilesRefused call → IsAcceptable call ⊎ (AsksToGenerate call ⊎ AsksToCheck call) → ⊥
-      refused_not_done o (inl due) = enforced_not_refused call due.setting due.asks o
+      -- files that are refused are not accepted
+      told_not_refused : (entries : List NameEntry) (policy : List Rule) (IsForm : List (List ℕ) → List ℕ → List ℕ → Type 0) → IsNaming IsForm → AsksPolicy IsForm call entries policy → FilesRefused call → ⊥
+      told_not_refused entries policy IsForm names t o = no_refusal_of_files call entries policy (policy_named call entries policy IsForm names t) o
+
+      read_not_refused_files : MeetsRefusal call → FilesRefused call → ⊥
+      read_not_refused_files m o = by m.reading m.asks
+        where
+          by : (r : Reading) → AsksToRead call r → ⊥
+          by r (inl (s, a, is)) = told_not_refused s.entries s.rules IsEnforce enforce_names a.asks o
+          by r (inr (entries, policy, a, is)) = told_not_refused entries policy IsAudit audit_names a o
+
+      refused_not_done : FilesRefused call → CanBeDone call → ⊥
+      refused_not_done o (inl (inl due)) = told_not_refused due.setting.entries due.setting.rules IsEnforce enforce_names due.asks.asks o
+      refused_not_done o (inl (inr due)) = told_not_refused due.entries due.policy IsAudit audit_names due.asks o
       refused_not_done o (inr (inl due)) = let n = refused_named o in files_or_generate call.words n.0 n.1 due.0 due.1 n.2 due.2
-      refused_not_done o (inr (inr due)) = checked_not_refused call due o
+      refused_not_done o (inr (inr due)) = told_not_refused due.0 due.1 IsCheck check_names due.2 o
 
       dues_files : FilesRefused call → Dues call statuses.Files
       dues_files o =
           record {
             done = λ due. absurd (refused_not_done o due);
+            violated = λ due. absurd (told_not_refused due.2.entries due.2.policy IsAudit audit_names due.2.asks o);
             words = λ due. absurd (let n = refused_named o in some_form call.words n.0 n.1 n.2 due);
             files = λ due. inl refl;
-            refused_record = λ due. absurd (enforced_not_refused call due.setting due.asks o);
+            refused_record = λ due. absurd (read_not_refused_files due o);
             read_fault = λ due. absurd (no_read_fault (refused_files o) (ap (λ (s : Stream). s.read_faults) (refused_gate o).1) due);
             write_fault = λ due. absurd (due (ap (λ (s : Stream). s.write_faults) (refused_gate o).1));
-            report_fault = λ moved is. cc;
+            report_fault = λ moved. ((λ is. cc), (λ is. cc));
           }
 
       module _ (report : Stream) (number : ℕ) (why : RecordRefusal) (o : RefusesRecord call report number why) where
-        record_not_done : IsAcceptable call ⊎ (AsksToGenerate call ⊎ AsksToCheck call) → ⊥
-        record_not_done (inr (inl due)) = files_or_generate call.words o.asks.asks.signature_file o.asks.asks.policy_file due.0 due.1 (inl o.asks.asks.form) due.2
-        record_not_done (inr (inr due)) = enforce_or_check call.words o.asks.asks.signature_file o.asks.asks.policy_file due.2.asks.signature_file due.2.asks.policy_file o.asks.asks.form due.2.asks.form
-        record_not_done (inl due) =
-            let ran = ran_told call due.setting due.asks report o.setting (verdicts.Refused why) o.asks o.ran in
-            let y = tells_still call.before.gate.told call.after.gate.told due.gate due.told ran.exchanged.grew in
-            not_acceptable call report due.setting why ran due.gate due.told due.read due.log due.rising y.0 y.1 y.2 due.below
+        abbrev asks_of_record : Asks IsEnforce call o.setting.entries o.setting.rules
+        asks_of_record = o.asks.asks
+
+        record_not_done : CanBeDone call → ⊥
+        record_not_done (inl (inl due)) = record_not_acceptable call report number why o due
+        record_not_done (inl (inr due)) = enforce_or_audit call.words asks_of_record.signature_file asks_of_record.policy_file due.asks.asks.signature_file due.asks.asks.policy_file asks_of_record.form due.asks.asks.form
+        record_not_done (inr (inl due)) = files_or_generate call.words asks_of_record.signature_file asks_of_record.policy_file due.0 due.1 (inl asks_of_record.form) due.2
+        record_not_done (inr (inr due)) = enforce_or_check call.words asks_of_record.signature_file asks_of_record.policy_file due.2.asks.signature_file due.2.asks.policy_file asks_of_record.form due.2.asks.form
 
         dues_record : Dues call statuses.Record
         dues_record =
             record {
               done = λ due. absurd (record_not_done due);
-              words = λ due. absurd (due.enforce o.asks.asks.signature_file o.asks.asks.policy_file o.asks.asks.form);
-              files = λ due. absurd (not_asked call due o.setting o.asks);
+              violated = λ due. absurd (not_enforced o.setting.entries o.setting.rules asks_of_record due);
+              words = λ due. absurd (due.enforce asks_of_record.signature_file asks_of_record.policy_file asks_of_record.form);
+              files = λ due. absurd (not_asked call due o.setting.entries o.setting.rules (asks_named call o.setting.entries o.setting.rules IsEnforce enforce_names asks_of_record));
               refused_record = λ due. inl refl;
               read_fault = λ due. absurd (no_read_fault o.files o.ran.ends.1 due);
               write_fault = λ due. absurd (due o.ran.writes);
-              report_fault = λ moved is. cc;
+              report_fault = λ moved. ((λ is. cc), (λ is. cc));
             }
 
-      dues_broken : (result : Status) → BreaksOff result → result ≢ statuses.Done → Dues call result
+      module _ (report : Stream) (number : ℕ) (why : RecordRefusal) (o : RefusesAudited call report number why) where
+        abbrev refused_audit : AuditsLog call report (verdicts.Refused why)
+        refused_audit = o.silence.audit
+
+        audited_not_done : CanBeDone call → ⊥
+        audited_not_done (inl (inl due)) = audit_alone refused_audit.asks.signature_file refused_audit.asks.policy_file refused_audit.asks.form (inl due)
+        audited_not_done (inl (inr due)) = audited_not_acceptable call report why refused_audit Holds due
+        audited_not_done (inr due) = audit_alone refused_audit.asks.signature_file refused_audit.asks.policy_file refused_audit.asks.form (inr due)
+
+        dues_audited : Dues call statuses.Record
+        dues_audited =
+            let a = refused_audit in
+            record {
+              done = λ due. absurd (audited_not_done due);
+              violated = λ due. absurd (audited_not_acceptable call report why a (Fails due.0 due.1) due.2);
+              words = λ due. absurd (due.audit a.asks.signature_file a.asks.policy_file a.asks.form);
+              files = λ due. absurd (not_asked call due a.entries a.policy (asks_named call a.entries a.policy IsAudit audit_names a.asks));
+              refused_record = λ due. inl refl;
+              read_fault = λ due. absurd (no_read_fault a.files a.whole.ends.1 due);
+              write_fault = λ due. absurd (due o.silence.writes);
+              report_fault = λ moved. ((λ is. cc), (λ is. cc));
+            }
+
+      dues_broken : (result : Status) → BreaksOff result → IsUndone result → Dues call result
       dues_broken result b undone =
-          record { done = λ due. inr b; words = λ due. inr b; files = λ due. inr b; refused_record = λ due. inr b; read_fault = λ due. inr b; write_fault = λ due. inr b; report_fault = λ moved. undone }
+          record {
+            done = λ due. inr b;
+            violated = λ due. inr b;
+            words = λ due. inr b;
+            files = λ due. inr b;
+            refused_record = λ due. inr b;
+            read_fault = λ due. inr b;
+            write_fault = λ due. inr b;
+            report_fault = λ moved. undone;
+          }
 
       -- what holds at a status leaves no room for another that is due
       pub dues_of : (result : Status) → Outcome call result → Dues call result
       dues_of statuses.Done (inl (inl done)) = dues_done done
       dues_of statuses.Done (inl (inr generated)) = dues_generated generated
-      dues_of statuses.Done (inr checked) = dues_checked checked
+      dues_of statuses.Done (inr (inl checked)) = dues_checked checked
+      dues_of statuses.Done (inr (inr held)) = dues_held held
       dues_of statuses.Words o = dues_words o.between o.meets
       dues_of statuses.Files o = dues_files o
-      dues_of statuses.Record o = dues_record o.2.between o.0 o.1 o.2.meets
-      dues_of statuses.ReadFault o = dues_broken statuses.ReadFault (inl refl) (λ is. cc)
-      dues_of statuses.WriteFault o = dues_broken statuses.WriteFault (inr (inl refl)) (λ is. cc)
-      dues_of statuses.NoMemory o = dues_broken statuses.NoMemory (inr (inr refl)) (λ is. cc)
+      dues_of statuses.Record (number, why, o) = by o.meets
+        where
+          by : Meets call o.between (refusals.Record number why) → Dues call statuses.Record
+          by (inl refused) = dues_record o.between number why refused
+          by (inr refused) = dues_audited o.between number why refused
+      dues_of statuses.ReadFault o = dues_broken statuses.ReadFault (inl refl) ((λ is. cc), (λ is. cc))
+      dues_of statuses.WriteFault o = dues_broken statuses.WriteFault (inr (inl refl)) ((λ is. cc), (λ is. cc))
+      dues_of statuses.NoMemory o = dues_broken statuses.NoMemory (inr (inr refl)) ((λ is. cc), (λ is. cc))
+      dues_of statuses.Violated (rule, position, o) = dues_violated rule position o

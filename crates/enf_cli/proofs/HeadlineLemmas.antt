@@ -21,8 +21,9 @@ use Rattle.enf_cli.specs.Calls.{Call, LeavesGate}
 use Rattle.enf_cli.specs.Dues.{AsksPolicy, AsksTold, TellBytes}
 use Rattle.enf_cli.specs.Exchanges.{Exchanged, IsExchange}
 use Rattle.enf_cli.specs.Headline.{HasEnded, HasTakenLog, Headline, IsAsked, IsFront, IsKept, IsKeptSoFar, IsRefusedFor, action_lines, text_of_log_refusal}
-use Rattle.enf_cli.specs.Logs.{CutsRun, EndsAs, IsRefusedAs, RunsLog, Taken, clock_behind, taken_of}
-use Rattle.enf_cli.specs.Outcomes.{AsksToEnforce, BreaksOffLog, IsCut, Meets, MissesFile, Outcome, Refuses}
+use Rattle.enf_cli.specs.Logs.{CutsRun, RunsLog, taken_of}
+use Rattle.enf_cli.specs.Readings.{EndsAs, IsRefusedAs, Taken, clock_behind}
+use Rattle.enf_cli.specs.Outcomes.{AsksToEnforce, BreaksOffAudit, BreaksOffLog, IsCut, Meets, MissesFile, Outcome, RefusesAudited, RefusesRecord}
 use Rattle.enf_cli.specs.Owed.{Setting, anew}
 use Rattle.enf_cli.specs.Refusals.{text_of_record_refusal, text_of_refusal}
 use Rattle.enf_cli.specs.Reports.{IsReported}
@@ -31,13 +32,13 @@ use Rattle.enf_cli.specs.declared.refusals.RecordRefusal.TheVariants as records
 use Rattle.enf_cli.specs.declared.refusals.Refusal.{Refusal}
 use Rattle.enf_cli.specs.declared.refusals.Refusal.TheVariants as refusals
 use Rattle.enf_cli.specs.Seen.{Seen, seen_of}
-use Rattle.enf_cli.specs.Words.{IsCheck, IsEnforce, IsGenerate}
+use Rattle.enf_cli.specs.Words.{IsAudit, IsCheck, IsEnforce, IsGenerate}
 use Rattle.enf_cli.specs.declared.endings.Cut.TheVariants as cuts
-use Rattle.enf_cli.specs.declared.log.Verdict.{Verdict}
-use Rattle.enf_cli.specs.declared.log.Verdict.TheVariants as verdicts
+use Rattle.enf_cli.specs.declared.intake.Verdict.{Verdict}
+use Rattle.enf_cli.specs.declared.intake.Verdict.TheVariants as verdicts
 use Rattle.enf_cli.specs.declared.refusals.Status.{Status}
 use Rattle.enf_cli.specs.declared.refusals.Status.TheVariants as statuses
-use Rattle.enf_cli.proofs.DueLemmas.{OneTextAnswer, enforce_or_check, files_or_generate, one_setting}
+use Rattle.enf_cli.proofs.DueLemmas.{OneTextAnswer, enforce_or_audit, enforce_or_check, files_or_generate, one_setting}
 use Rattle.enf_cli.proofs.ExchangeLemmas.{gave_more, gave_none}
 
 -- a device that told one thing told no other
@@ -74,11 +75,11 @@ asks_policy call entries rules a =
     }
 
 -- the words of a refusal are those of the report
-refused_for : (t : Taken) (after : Stream) (why : RecordRefusal) → t.setting.mode ≡ Input → IsRefusedAs t after why → IsRefusedFor t.setting.entries (clock_behind t) t.count t.rest after (text_of_record_refusal why)
-refused_for t after (records.Log why) input (inl refused) = inl (why, subst (λ (mode : LogMode). RefusesLog t.setting.entries mode t.rest why) input refused, refl)
+refused_for : (t : Taken) (after : Stream) (why : RecordRefusal) → t.reading.mode ≡ Input → IsRefusedAs t after why → IsRefusedFor t.reading.entries (clock_behind t) t.count t.rest after (text_of_record_refusal why)
+refused_for t after (records.Log why) input (inl refused) = inl (why, subst (λ (mode : LogMode). RefusesLog t.reading.entries mode t.rest why) input refused, refl)
 refused_for t after (records.Log why) input (inr (is, truncated, met)) = inr (inl (truncated, met, ap text_of_log_refusal is))
 refused_for t after (records.Falling given at) input (is, f) =
-    inr (inr (inl (f.item, f.more, subst (λ (mode : LogMode). BeginsWith t.setting.entries mode t.rest f.item f.more) input f.begins, f.below, (λ i. codes "time " ++ decimal (f.time i) ++ codes " is below " ++ decimal (is i)))))
+    inr (inr (inl (f.item, f.more, subst (λ (mode : LogMode). BeginsWith t.reading.entries mode t.rest f.item f.more) input f.begins, f.below, (λ i. codes "time " ++ decimal (f.time i) ++ codes " is below " ++ decimal (is i)))))
 refused_for t after records.InputLimit input (pending, limit) = inr (inr (inr (pending, limit, refl)))
 
 -- the last line of the report, behind so many accepted records
@@ -139,6 +140,9 @@ module _ {Gate : Type 0} (call : Call Gate) where
     not_checked : (signature policy : List ℕ) → IsCheck call.words signature policy → ⊥
     not_checked signature policy form = enforce_or_check call.words asks.asks.signature_file asks.asks.policy_file signature policy asks.asks.form form
 
+    not_audited : (signature policy : List ℕ) → IsAudit call.words signature policy → ⊥
+    not_audited signature policy form = enforce_or_audit call.words asks.asks.signature_file asks.asks.policy_file signature policy asks.asks.form form
+
     so_far : (taken given : List ℕ) → UpToDate s taken given → IsKeptSoFar entries rules taken given
     so_far taken given u =
         let a = u.answers in
@@ -168,9 +172,11 @@ module _ {Gate : Type 0} (call : Call Gate) where
     reads_met report refusals.Words m = no_reads m.gate
     reads_met report (refusals.Signature why) m = no_reads m.gate
     reads_met report (refusals.Policy why) m = no_reads m.gate
-    reads_met report (refusals.Record number why) m = at_reads m.setting m.ran.taken m.ran.given m.asks m.ran.exchanged
+    reads_met report (refusals.Record number why) (inl m) = at_reads m.setting m.ran.taken m.ran.given m.asks m.ran.exchanged
+    reads_met report (refusals.Record number why) (inr m) = let a = m.silence.audit.asks in absurd (not_audited a.signature_file a.policy_file a.form)
     reads_met report refusals.ReadFault (inl m) = no_reads m.gate
-    reads_met report refusals.ReadFault (inr m) = at_reads m.setting m.ran.taken m.ran.given m.asks m.ran.exchanged
+    reads_met report refusals.ReadFault (inr (inl m)) = at_reads m.setting m.ran.taken m.ran.given m.asks m.ran.exchanged
+    reads_met report refusals.ReadFault (inr (inr m)) = let a = m.audit.asks in absurd (not_audited a.signature_file a.policy_file a.form)
 
     reads_failed : (report : Stream) → IsCut call report cuts.WriteFault → AtReads
     reads_failed report (inl (inl failed)) = by failed.cut
@@ -179,18 +185,23 @@ module _ {Gate : Type 0} (call : Call Gate) where
         by (inl at) = at_reads failed.setting at.short.taken at.short.given failed.asks at.short.exchanged
         by (inr at) = at_reads failed.setting at.short.taken at.short.given failed.asks at.short.exchanged
     reads_failed report (inl (inr generated)) = absurd (not_generated generated.log.start generated.log.steps generated.log.form)
-    reads_failed report (inr checked) = absurd (not_checked checked.policy.asks.signature_file checked.policy.asks.policy_file checked.policy.asks.form)
+    reads_failed report (inr (inl checked)) = absurd (not_checked checked.policy.asks.signature_file checked.policy.asks.policy_file checked.policy.asks.form)
+    reads_failed report (inr (inr said)) = let a = said.finds.audit.asks in absurd (not_audited a.signature_file a.policy_file a.form)
 
     reads_lacked : (report : Stream) → IsCut call report cuts.NoMemory → AtReads
     reads_lacked report (inl (inl before)) = no_reads before.gate
     reads_lacked report (inl (inr within)) = at_reads within.setting within.cut.short.taken within.cut.short.given within.asks within.cut.short.exchanged
-    reads_lacked report (inr (inl generated)) = absurd (not_generated generated.log.start generated.log.steps generated.log.form)
-    reads_lacked report (inr (inr checked)) = absurd (not_checked checked.policy.asks.signature_file checked.policy.asks.policy_file checked.policy.asks.form)
+    reads_lacked report (inr (inl (inl generated))) = absurd (not_generated generated.log.start generated.log.steps generated.log.form)
+    reads_lacked report (inr (inl (inr checked))) = absurd (not_checked checked.policy.asks.signature_file checked.policy.asks.policy_file checked.policy.asks.form)
+    reads_lacked report (inr (inr (inl audited))) = absurd (not_audited audited.asks.signature_file audited.asks.policy_file audited.asks.form)
+    reads_lacked report (inr (inr (inr said))) = let a = said.finds.audit.asks in absurd (not_audited a.signature_file a.policy_file a.form)
 
     reads_of : (result : Status) → Outcome call result → AtReads
     reads_of statuses.Done (inl (inl done)) = at_reads done.setting done.ran.taken done.ran.given done.asks done.ran.exchanged
     reads_of statuses.Done (inl (inr generated)) = absurd (not_generated generated.log.start generated.log.steps generated.log.form)
-    reads_of statuses.Done (inr checked) = absurd (not_checked checked.policy.asks.signature_file checked.policy.asks.policy_file checked.policy.asks.form)
+    reads_of statuses.Done (inr (inl checked)) = absurd (not_checked checked.policy.asks.signature_file checked.policy.asks.policy_file checked.policy.asks.form)
+    reads_of statuses.Done (inr (inr said)) = let a = said.finds.audit.asks in absurd (not_audited a.signature_file a.policy_file a.form)
+    reads_of statuses.Violated (rule, position, said) = let a = said.finds.audit.asks in absurd (not_audited a.signature_file a.policy_file a.form)
     reads_of statuses.Words o = reads_met o.between refusals.Words o.meets
     reads_of statuses.Files (inl (why, o)) = reads_met o.between (refusals.Signature why) o.meets
     reads_of statuses.Files (inr (why, o)) = reads_met o.between (refusals.Policy why) o.meets
@@ -232,11 +243,13 @@ module _ {Gate : Type 0} (call : Call Gate) where
           alone = a.owed.alone;
         }) of_report) mine.ran.exchanged.calls
 
-    kept_record : (number : ℕ) (why : RecordRefusal) → Refuses call (refusals.Record number why) → AtEnd statuses.Record
-    kept_record number why o =
-        let line = line_given (refusals.Record number why) o.between call.after.report o.line in
-        kept o.between o.meets.setting (verdicts.Refused why) line.text o.meets.asks
-        (record { ran = o.meets.ran; line = (line.missing, subst (λ (n : ℕ). text_of_refusal (refusals.Record n why) ≡ line.text ++ line.missing) o.meets.number_is line.is) }) line.gave
+    kept_record : (between : Stream) (number : ℕ) (why : RecordRefusal) → IsReported (text_of_refusal (refusals.Record number why)) between call.after.report
+        → RefusesRecord call between number why ⊎ RefusesAudited call between number why → AtEnd statuses.Record
+    kept_record between number why reported (inl m) =
+        let line = line_given (refusals.Record number why) between call.after.report reported in
+        kept between m.setting (verdicts.Refused why) line.text m.asks
+        (record { ran = m.ran; line = (line.missing, subst (λ (n : ℕ). text_of_refusal (refusals.Record n why) ≡ line.text ++ line.missing) m.number_is line.is) }) line.gave
+    kept_record between number why reported (inr m) = let a = m.silence.audit.asks in absurd (not_audited a.signature_file a.policy_file a.form)
 
     kept_fault : (between : Stream) → IsReported (text_of_refusal refusals.ReadFault) between call.after.report → BreaksOffLog call between → AtEnd statuses.ReadFault
     kept_fault between reported m =
@@ -247,15 +260,18 @@ module _ {Gate : Type 0} (call : Call Gate) where
     kept_of statuses.Done (inl (inl done)) taken =
         kept call.after.report done.setting verdicts.Accepted [] done.asks (record { ran = done.ran; line = refl }) (gave_none call.after.report.told)
     kept_of statuses.Done (inl (inr generated)) taken = absurd (not_generated generated.log.start generated.log.steps generated.log.form)
-    kept_of statuses.Done (inr checked) taken = absurd (not_checked checked.policy.asks.signature_file checked.policy.asks.policy_file checked.policy.asks.form)
-    kept_of statuses.Record (number, why, o) taken = kept_record number why o
+    kept_of statuses.Done (inr (inl checked)) taken = absurd (not_checked checked.policy.asks.signature_file checked.policy.asks.policy_file checked.policy.asks.form)
+    kept_of statuses.Done (inr (inr found)) taken = let a = found.finds.audit.asks in absurd (not_audited a.signature_file a.policy_file a.form)
+    kept_of statuses.Record (number, why, o) taken = kept_record o.between number why o.line o.meets
     kept_of statuses.ReadFault o taken = by o.meets taken
       where
-        by : MissesFile call o.between ⊎ BreaksOffLog call o.between → HasTakenLog call.before.gate call.after.gate statuses.ReadFault → AtEnd statuses.ReadFault
-        by (inr m) log = kept_fault o.between o.line m
+        by : MissesFile call o.between ⊎ (BreaksOffLog call o.between ⊎ BreaksOffAudit call o.between) → HasTakenLog call.before.gate call.after.gate statuses.ReadFault → AtEnd statuses.ReadFault
+        by (inr (inl m)) log = kept_fault o.between o.line m
+        by (inr (inr m)) log = let a = m.audit.asks in absurd (not_audited a.signature_file a.policy_file a.form)
         by (inl missed) (inl is) = cc
         by (inl missed) (inr (inl is)) = cc
         by (inl missed) (inr (inr (is, moved))) = absurd (moved (ap (λ (stream : Stream). stream.read_faults) missed.gate.1))
+    kept_of statuses.Violated o taken = absurd (other_status statuses.Violated (λ is. cc) (λ is. cc) (λ is. cc) taken)
     kept_of statuses.Words o taken = absurd (other_status statuses.Words (λ is. cc) (λ is. cc) (λ is. cc) taken)
     kept_of statuses.Files o taken = absurd (other_status statuses.Files (λ is. cc) (λ is. cc) (λ is. cc) taken)
     kept_of statuses.WriteFault o taken = absurd (other_status statuses.WriteFault (λ is. cc) (λ is. cc) (λ is. cc) taken)

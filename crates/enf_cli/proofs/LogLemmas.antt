@@ -23,7 +23,7 @@ use Rattle.signature.specs.declared.entries.NameEntry.{NameEntry}
 use Rattle.trace_meaning.specs.Records.{most_time, time_of}
 use Rattle.trace_meaning.specs.declared.kinds.StepKind.{StepKind}
 use Rattle.trace_meaning.specs.declared.kinds.StepKind.TheVariants.{System, Inserted}
-use Rattle.enf_cli.specs.Accepted.{record_of, records_of}
+use Rattle.enf_cli.specs.Readings.{record_of, records_of}
 
 -- without its blanks in front a text is no longer
 pub behind_le : (text : List ℕ) → length (behind_blanks text) ≤ length text
@@ -44,26 +44,38 @@ pub same_item : (x y : LogItem) → ◌≡◌ {A = Result LogItem LogRefusal} (O
 same_item x y e = cc
 
 -- a step that is read has its time
-step_time : (item : LogItem) (time : ℕ) (events : List Event) (refusal : Option LogRefusal) → judged_step System time events refusal ≡ Ok item → time ≤ 1000000000000000 → time_of (record_of item) ≤ 1000000000000000
-step_time item time events None is le = subst (λ (x : LogItem). time_of (record_of x) ≤ 1000000000000000) (same_item (items.Step System time events) item is) le
-step_time item time events (Some refusal) is le = cc
+step_time : (kind : StepKind) (most : ℕ) (item : LogItem) (time : ℕ) (events : List Event) (refusal : Option LogRefusal) → judged_step kind time events refusal ≡ Ok item → time ≤ most → time_of (record_of item) ≤ most
+step_time kind most item time events None is le = subst (λ (x : LogItem). time_of (record_of x) ≤ most) (same_item (items.Step kind time events) item is) le
+step_time kind most item time events (Some refusal) is le = cc
+
+tick_time : (most : ℕ) (item : LogItem) (time : ℕ) → ◌≡◌ {A = Result LogItem LogRefusal} (if nat_lt 1000000000000000 time then Err TimeTooLarge else Ok (items.Tick time)) (Ok item) → 1000000000000000 ≤ most → time_of (record_of item) ≤ most
+tick_time most item time is le = by (nat_lt 1000000000000000 time) refl is
+  where
+    by : (b : Bool) → nat_lt 1000000000000000 time ≡ b
+        → ◌≡◌ {A = Result LogItem LogRefusal} (if b then Err TimeTooLarge else Ok (items.Tick time)) (Ok item) → time_of (record_of item) ≤ most
+    by true e is = cc
+    by false e is = subst (λ (x : LogItem). time_of (record_of x) ≤ most) (same_item (items.Tick time) item is) (grind (arith, nat_tests, e, le))
+
+line_time : (kind : StepKind) (most : ℕ) (item : LogItem) (time : ℕ) (events : List Event) (refusal : Option LogRefusal)
+    → ◌≡◌ {A = Result LogItem LogRefusal} (if nat_lt (most_time kind) time then Err TimeTooLarge else judged_step kind time events refusal) (Ok item) → most_time kind ≤ most → time_of (record_of item) ≤ most
+line_time kind most item time events refusal is le = by (nat_lt (most_time kind) time) refl is
+  where
+    by : (b : Bool) → nat_lt (most_time kind) time ≡ b
+        → ◌≡◌ {A = Result LogItem LogRefusal} (if b then Err TimeTooLarge else judged_step kind time events refusal) (Ok item) → time_of (record_of item) ≤ most
+    by true e is = cc
+    by false e is = step_time kind most item time events refusal is (grind (arith, nat_tests, e, le))
 
 -- the time of a record that is read is one that an enforcer takes
 pub item_time : (entries : List NameEntry) (bytes : List ℕ) (item : LogItem) → IsAnswer entries Input bytes (Ok item) → time_of (record_of item) ≤ 1000000000000000
-item_time entries bytes item (Line System time events, spelled, is) = by (nat_lt 1000000000000000 time) refl is
-  where
-    by : (b : Bool) → nat_lt 1000000000000000 time ≡ b
-        → ◌≡◌ {A = Result LogItem LogRefusal} (if b then Err TimeTooLarge else judged_step System time (events_of entries events) (first_refusal entries events)) (Ok item)
-        → time_of (record_of item) ≤ 1000000000000000
-    by true e is = cc
-    by false e is = step_time item time (events_of entries events) (first_refusal entries events) is (grind (arith, nat_tests, e))
+item_time entries bytes item (Line System time events, spelled, is) = line_time System 1000000000000000 item time (events_of entries events) (first_refusal entries events) is (omega arith)
 item_time entries bytes item (Line Inserted time events, spelled, is) = absurd spelled.0.0
-item_time entries bytes item (TickLine time, spelled, is) = by (nat_lt 1000000000000000 time) refl is
-  where
-    by : (b : Bool) → nat_lt 1000000000000000 time ≡ b
-        → ◌≡◌ {A = Result LogItem LogRefusal} (if b then Err TimeTooLarge else Ok (items.Tick time)) (Ok item) → time_of (record_of item) ≤ 1000000000000000
-    by true e is = cc
-    by false e is = subst (λ (x : LogItem). time_of (record_of x) ≤ 1000000000000000) (same_item (items.Tick time) item is) (grind (arith, nat_tests, e))
+item_time entries bytes item (TickLine time, spelled, is) = tick_time 1000000000000000 item time is (omega arith)
+
+-- and with inserted steps one that an auditor takes
+pub trace_time : (entries : List NameEntry) (mode : LogMode) (bytes : List ℕ) (item : LogItem) → IsAnswer entries mode bytes (Ok item) → time_of (record_of item) ≤ 2000000000000000
+trace_time entries mode bytes item (Line System time events, spelled, is) = line_time System 2000000000000000 item time (events_of entries events) (first_refusal entries events) is (omega arith)
+trace_time entries mode bytes item (Line Inserted time events, spelled, is) = line_time Inserted 2000000000000000 item time (events_of entries events) (first_refusal entries events) is (omega arith)
+trace_time entries mode bytes item (TickLine time, spelled, is) = tick_time 2000000000000000 item time is (omega arith)
 
 -- the events that a record has are put one after another, each where it is not there already
 put_distinct : (events : List Event) (event : Event) → HasNoRepeats events → HasNoRepeats (put events event)

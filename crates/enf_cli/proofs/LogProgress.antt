@@ -1,10 +1,9 @@
 -- How far the run of a log has come, and one turn more.
-use Rattle.std.proofs.Common.{◌≡◌, ℕ, ◌+◌, ◌-◌, ◌<◌, ◌≤◌, List, [], ◌∷◌, ◌++◌, length, refl, sym, ap, subst, ◌∙◌, inl, inr, Option, None, Some, arith, length-append, append_assoc}
+use Rattle.std.proofs.Common.{◌≡◌, ℕ, ◌+◌, ◌-◌, ◌<◌, ◌≤◌, List, [], ◌∷◌, ◌++◌, length, refl, sym, ap, subst, ◌∙◌, inl, inr, Option, arith, append_assoc}
 use Rattle.std.specs.Prelude.{◌⊎◌}
-use Rattle.std.specs.Option.{option_map}
 use Rattle.std.proofs.lemmas.List.{append-nil, map-append, length_push}
 use Rattle.enf_io.specs.Counts.{one_more}
-use Rattle.enf_io.specs.Exchange.{Exchange, Gave, IsAtEnd, with_given}
+use Rattle.enf_io.specs.Exchange.{Exchange, Gave}
 use Rattle.enf_io.specs.Streams.{Stream}
 use Rattle.enf_formula.specs.Formulas.{Formula}
 use Rattle.formula_reader.specs.Resolution.{Rule}
@@ -29,7 +28,7 @@ use Rattle.signature.specs.declared.entries.NameEntry.{NameEntry}
 use Rattle.trace_meaning.specs.Good.{Good, GoodPrefix}
 use Rattle.trace_meaning.specs.OutSteps.{trace_of}
 use Rattle.trace_meaning.specs.Records.{Record, clock_after, recorded}
-use Rattle.enf_cli.specs.Accepted.{Accepts, UpToDate, record_of, records_of}
+use Rattle.enf_cli.specs.Accepted.{UpToDate}
 use Rattle.enforce_types.specs.Marks.{is_causable, is_suppressible}
 use Rattle.enforce_types.specs.Typed.{WorkTogether, typed_of}
 use Rattle.enf_cli.specs.Actions.{SaysActions}
@@ -40,42 +39,22 @@ use Rattle.enf_cli.proofs.CutLemmas.{cut_none}
 use Rattle.enf_cli.proofs.LineLemmas.{all_said, fails_within, gains_none, lines_behind, said_in_part, says_more}
 use Rattle.enf_cli.specs.Exchanges.{Exchanged, IsBegun}
 use Rattle.enf_cli.specs.Limits.{most_log_bytes}
-use Rattle.enf_cli.specs.Logs.{CutsRun, EndsAs, FailsAtGate, FailsAtReport, IsCutLine, IsOwedWhere, IsRefusedAs, LacksMemory, RanAsJudged, RunsShort, Taken, taken_of}
+use Rattle.enf_cli.specs.Intakes.{LosesBytes, TakesBytes}
+use Rattle.enf_cli.specs.Logs.{CutsRun, FailsAtGate, FailsAtReport, IsCutLine, IsOwedWhere, LacksMemory, RanAsJudged, RunsShort, taken_of}
+use Rattle.enf_cli.specs.Readings.{Accepts, record_of, records_of}
 use Rattle.enf_cli.specs.Owed.{HasPlans, IsMarked, IsOwedInAll, IsOwedSoFar, Setting, setting_of}
 use Rattle.plan_terms.specs.Plans.{Plan}
 use Rattle.rank_check.specs.Transparent.{is_transparent}
 use Rattle.std.specs.Prelude.{IsTrue}
-use Rattle.enf_cli.specs.Progress.{CutsDrain, CutsDrainLines, CutsTaken, Drains, GivesDrain, Laws, LosesBytes, LosesTurn, TakesBytes, TakesItem, TakesRecord, WritesNothing, moment}
+use Rattle.enf_cli.specs.Progress.{CutsDrain, CutsDrainLines, CutsTaken, Drains, GivesDrain, Laws, LosesTurn, TakesItem, TakesRecord, WritesNothing, moment}
 use Rattle.enf_cli.specs.declared.endings.Cut.{Cut}
 use Rattle.enf_cli.specs.declared.endings.Cut.TheVariants as cuts
 use Rattle.enf_cli.specs.declared.log.Enforcement.{Enforcement}
-use Rattle.enf_cli.specs.declared.log.Verdict.{Verdict}
-use Rattle.enf_cli.specs.declared.log.Verdict.TheVariants as verdicts
-use Rattle.enf_cli.specs.declared.refusals.RecordRefusal.{RecordRefusal}
+use Rattle.enf_cli.specs.declared.intake.Verdict.{Verdict}
 use Rattle.enf_cli.specs.declared.refusals.RecordRefusal.TheVariants as records
-use Rattle.enf_cli.proofs.ExchangeLemmas.{IsSteady, begun_gave, begun_took, exchanged_gave, exchanged_none, exchanged_took, steady_gave, steady_none, steady_took}
+use Rattle.enf_cli.proofs.ExchangeLemmas.{begun_gave, exchanged_gave}
+use Rattle.enf_cli.proofs.IntakeLemmas.{IsEnded, IsFar, ends_gave, exchanged_more, far_gave, far_none, far_took}
 use Rattle.enf_cli.proofs.LogLemmas.{begins_shorter, read_distinct}
-
--- what is given behind the end of the input leaves it ended
-end_gave : (bytes : List ℕ) (told told' : Option Exchange) → Gave bytes told told' → IsAtEnd told → IsAtEnd told'
-end_gave bytes told told' gave ended = subst IsAtEnd (sym gave) (by told ended)
-  where
-    by : (told : Option Exchange) → IsAtEnd told → IsAtEnd (option_map (with_given bytes) told)
-    by None h = h
-    by (Some x) h = h
-
--- so the log has ended as it had
-module _ (t : Taken) (before b c : Stream) (bytes : List ℕ) (gave : Gave bytes b.told c.told) (reads : c.read_faults ≡ b.read_faults) where
-  refused_gave : (why : RecordRefusal) → IsRefusedAs t b why → IsRefusedAs t c why
-  refused_gave (records.Log why) (inl h) = inl h
-  refused_gave (records.Log why) (inr (is, truncated, met)) = inr (is, truncated, (met.0, end_gave bytes b.told c.told gave met.1))
-  refused_gave (records.Falling given at) h = h
-  refused_gave records.InputLimit h = h
-
-  pub ends_gave : (verdict : Verdict) → EndsAs t before b verdict → EndsAs t before c verdict
-  ends_gave verdicts.Accepted h = (h.0, (h.1.0, end_gave bytes b.told c.told gave h.1.1), reads ∙ h.2)
-  ends_gave verdicts.Fault h = (h.0, reads ∙ h.1)
-  ends_gave (verdicts.Refused why) h = (refused_gave why h.0, reads ∙ h.1)
 
 -- where just one list of steps goes out, none goes out beside it
 none_else : (P : List ActedStep → Type 0) → IsJustOne P → (out : List ActedStep) → P out → (others : List ActedStep) → P others → others ≡ out
@@ -103,10 +82,7 @@ module _ (entries : List NameEntry) (rules : List Rule) (first : Enforcing) (tra
   pub record Progress (before : Seen) (taken rest : List ℕ) (accepted : ℕ) (now : Enforcing) (after : Seen) : Type 0 where
     pub so_far : HasRead taken rest now
     pub count : accepted ≡ length so_far.read
-    pub exchanged : Exchanged (UpToDate setting) taken (text_of (names_of entries) (out_steps so_far.out)) before.gate.told after.gate.told
-    pub steady : IsSteady before.gate.told after.gate.told
-    pub begun : 0 < length taken → IsBegun before.gate.told after.gate.told
-    pub reads : after.gate.read_faults ≡ before.gate.read_faults
+    pub far : IsFar (UpToDate setting) before.gate taken (text_of (names_of entries) (out_steps so_far.out)) after.gate
     pub writes : after.gate.write_faults ≡ before.gate.write_faults
     pub actions : SaysActions entries rules so_far.out before.report after.report
 
@@ -114,9 +90,7 @@ module _ (entries : List NameEntry) (rules : List Rule) (first : Enforcing) (tra
   pub record Ended (before : Seen) (taken rest : List ℕ) (accepted : ℕ) (now : Enforcing) (verdict : Verdict) (after : Seen) : Type 0 where
     pub so_far : HasRead taken rest now
     pub count : accepted ≡ length so_far.read
-    pub exchanged : Exchanged (UpToDate setting) taken (text_of (names_of entries) (out_steps so_far.out)) before.gate.told after.gate.told
-    pub ends : EndsAs (taken_of setting so_far.read taken rest) before.gate after.gate verdict
-    pub begun : IsBegun before.gate.told after.gate.told
+    pub ended : IsEnded (UpToDate setting) (taken_of setting so_far.read taken rest) verdict before.gate taken (text_of (names_of entries) (out_steps so_far.out)) after.gate
     pub writes : after.gate.write_faults ≡ before.gate.write_faults
     pub actions : SaysActions entries rules so_far.out before.report after.report
 
@@ -130,10 +104,7 @@ module _ (entries : List NameEntry) (rules : List Rule) (first : Enforcing) (tra
         record {
           so_far = record { read = []; spelled = Spells-none entries Input []; out = []; course = laws.begins first trace stands };
           count = refl;
-          exchanged = exchanged_none (UpToDate setting) before.gate.told;
-          steady = steady_none before.gate.told;
-          begun = λ some. absurd (omega (arith, some));
-          reads = refl;
+          far = far_none (UpToDate setting) before.gate;
           writes = refl;
           actions = gains_none before.report;
         }
@@ -217,7 +188,7 @@ module _ (entries : List NameEntry) (rules : List Rule) (first : Enforcing) (tra
         is (o ∷ out) = ap (λ (steps : List Step). o.step ∷ steps) (is out)
 
     -- what is owed can be continued well
-    good_owed : (read : List LogItem) (taken rest : List ℕ) (before after : Stream) (out : List ActedStep) → IsOwedWhere (taken_of setting read taken rest) before after out → (clock : ℕ) × Good policy (trace ++ steps_of out) clock
+    good_owed : (read : List LogItem) (taken rest : List ℕ) (before after : Stream) (out : List ActedStep) → IsOwedWhere setting (taken_of setting read taken rest) before after out → (clock : ℕ) × Good policy (trace ++ steps_of out) clock
     good_owed read taken rest before after out (inl within) = (clock_after first.clock (records_of read), same_steps out (λ steps. Good policy (trace ++ steps) (clock_after first.clock (records_of read))) within.0.keeps_up.good)
     good_owed read taken rest before after out (inr (inl so_far, ended)) = (clock_after first.clock (records_of read), same_steps out (λ steps. Good policy (trace ++ steps) (clock_after first.clock (records_of read))) so_far.keeps_up.good)
     good_owed read taken rest before after out (inr (inr in_all, ended)) =
@@ -226,7 +197,7 @@ module _ (entries : List NameEntry) (rules : List Rule) (first : Enforcing) (tra
     -- of more steps the first were given, and of the next one's line a part
     abbrev short_steps : (before : Stream) (taken rest : List ℕ) (read : List LogItem) (b c : Stream) (out steps whole behind : List ActedStep) (cut : List ℕ) → steps ≡ whole ++ behind → Accepts entries Input first.clock taken read rest
         → Exchanged (UpToDate setting) taken (text_of (names_of entries) (out_steps out)) before.told b.told → Gave (text_of (names_of entries) (out_steps whole) ++ cut) b.told c.told → IsCutLine (names_of entries) behind cut
-        → IsOwedWhere (taken_of setting read taken rest) before c (out ++ steps) → RunsShort setting before c
+        → IsOwedWhere setting (taken_of setting read taken rest) before c (out ++ steps) → RunsShort setting before c
     short_steps before taken rest read b c out steps whole behind cut is accepted exchanged gave line owed =
         let given = text_of (names_of entries) (out_steps out) in
         let good = good_owed read taken rest before c (out ++ steps) owed in
@@ -252,7 +223,7 @@ module _ (entries : List NameEntry) (rules : List Rule) (first : Enforcing) (tra
     -- the giving of more steps was cut
     module _ (before : Seen) (taken rest : List ℕ) (read : List LogItem) (b c : Seen) (out steps : List ActedStep) (accepted : Accepts entries Input first.clock taken read rest)
         (exchanged : Exchanged (UpToDate setting) taken (text_of (names_of entries) (out_steps out)) before.gate.told b.gate.told) (begun : IsBegun before.gate.told b.gate.told) (writes : b.gate.write_faults ≡ before.gate.write_faults) (actions : SaysActions entries rules out before.report b.report)
-        (owed : (bytes : List ℕ) → Gave bytes b.gate.told c.gate.told → c.gate.read_faults ≡ b.gate.read_faults → IsOwedWhere (taken_of setting read taken rest) before.gate c.gate (out ++ steps)) where
+        (owed : (bytes : List ℕ) → Gave bytes b.gate.told c.gate.told → c.gate.read_faults ≡ b.gate.read_faults → IsOwedWhere setting (taken_of setting read taken rest) before.gate c.gate (out ++ steps)) where
       abbrev given : List ℕ
       given = text_of (names_of entries) (out_steps out)
 
@@ -307,7 +278,7 @@ module _ (entries : List NameEntry) (rules : List Rule) (first : Enforcing) (tra
 
     -- nothing more was given for want of memory
     lacks_all : (before c : Seen) (taken rest : List ℕ) (now : Enforcing) (h : HasRead taken rest now) → Exchanged (UpToDate setting) taken (text_of (names_of entries) (out_steps h.out)) before.gate.told c.gate.told
-        → IsOwedWhere (taken_of setting h.read taken rest) before.gate c.gate h.out → c.gate.write_faults ≡ before.gate.write_faults → SaysActions entries rules h.out before.report c.report → LacksMemory setting before c
+        → IsOwedWhere setting (taken_of setting h.read taken rest) before.gate c.gate h.out → c.gate.write_faults ≡ before.gate.write_faults → SaysActions entries rules h.out before.report c.report → LacksMemory setting before c
     lacks_all before c taken rest now h exchanged owed writes actions =
         let given = text_of (names_of entries) (out_steps h.out) in
         let good = good_owed h.read taken rest before.gate c.gate h.out owed in
@@ -346,11 +317,8 @@ module _ (entries : List NameEntry) (rules : List Rule) (first : Enforcing) (tra
           record {
             so_far = one_more_read taken rest now h.so_far more item t.made after begins t.takes;
             count = omega (arith, h.count, length_push h.so_far.read item);
-            exchanged = subst (λ (g : List ℕ). Exchanged (UpToDate setting) taken g before.gate.told c.gate.told) (sym (lines_behind (names_of entries) out steps))
-                (exchanged_gave (UpToDate setting) taken given before.gate.told b.gate.told c.gate.told h.exchanged lines gave.gave);
-            steady = steady_gave lines before.gate.told b.gate.told c.gate.told h.exchanged.grew gave.gave h.steady;
-            begun = λ some. begun_gave (UpToDate setting) taken given before.gate.told b.gate.told c.gate.told h.exchanged lines gave.gave (h.begun some);
-            reads = gave.reads ∙ h.reads;
+            far = subst (λ (g : List ℕ). IsFar (UpToDate setting) before.gate taken g c.gate) (sym (lines_behind (names_of entries) out steps))
+                (far_gave (UpToDate setting) before.gate taken given b.gate c.gate h.far lines gave.gave gave.reads);
             writes = gave.writes ∙ h.writes;
             actions = says_more entries rules out steps before.report b.report c.report h.actions t.given.actions;
           }
@@ -364,10 +332,7 @@ module _ (entries : List NameEntry) (rules : List Rule) (first : Enforcing) (tra
           record {
             so_far = read_more taken rest now so_far bytes;
             count = h.count;
-            exchanged = exchanged_took (UpToDate setting) taken given before.gate.told b.gate.told c.gate.told h.exchanged (up_to_date taken rest now so_far pending) h.steady bytes takes.took takes.piece (omega (arith, takes.within, h.exchanged.limit, length-append taken bytes));
-            steady = steady_took bytes before.gate.told b.gate.told c.gate.told h.exchanged.grew takes.took some h.steady;
-            begun = λ some. begun_took (UpToDate setting) taken given before.gate.told b.gate.told c.gate.told h.exchanged bytes takes.took;
-            reads = reads ∙ h.reads;
+            far = far_took (UpToDate setting) before.gate taken given b.gate c.gate h.far (up_to_date taken rest now so_far pending) bytes takes some reads;
             writes = nothing.gate ∙ h.writes;
             actions = subst (SaysActions entries rules so_far.out before.report) (sym nothing.report) h.actions;
           }
@@ -378,16 +343,16 @@ module _ (entries : List NameEntry) (rules : List Rule) (first : Enforcing) (tra
           let answer = t.answer in
           let more = one_more_read taken rest now h.so_far t.more t.item answer.made answer.after t.begins answer.takes in
           let some : 0 < length taken = omega (arith, room, begins_shorter entries Input rest t.item t.more t.begins) in
-          cut_steps before taken t.more more.read b c h.so_far.out (acted_steps answer.made.steps) (accepts taken t.more answer.after more) h.exchanged (h.begun some) h.writes h.actions
-          (λ bytes gave reads. inl (owed_so_far taken t.more answer.after more, reads ∙ h.reads)) cut answer.given
+          cut_steps before taken t.more more.read b c h.so_far.out (acted_steps answer.made.steps) (accepts taken t.more answer.after more) h.far.exchanged (h.far.begun some) h.writes h.actions
+          (λ bytes gave reads. inl (owed_so_far taken t.more answer.after more, reads ∙ h.far.reads)) cut answer.given
 
     -- a turn was cut for want of memory
-    pub cut_memory : (before : Seen) (taken : List ℕ) (log : Enforcement) (b c : Seen) → Progress before taken log.reader.rest log.accepted log.enforcer b → log.taken ≡ length taken
+    pub cut_memory : (before : Seen) (taken : List ℕ) (log : Enforcement) (b c : Seen) → Progress before taken log.intake.reader.rest log.intake.accepted log.enforcer b → log.intake.taken ≡ length taken
         → LosesTurn log b c → LacksMemory setting before c
     cut_memory before taken log b c h count t = by t.told
       where
         reads : c.gate.read_faults ≡ before.gate.read_faults
-        reads = t.reads ∙ h.reads
+        reads = t.reads ∙ h.far.reads
 
         writes : c.gate.write_faults ≡ before.gate.write_faults
         writes = t.nothing.gate ∙ h.writes
@@ -395,17 +360,17 @@ module _ (entries : List NameEntry) (rules : List Rule) (first : Enforcing) (tra
         actions : SaysActions entries rules h.so_far.out before.report c.report
         actions = subst (SaysActions entries rules h.so_far.out before.report) (sym t.nothing.report) h.actions
 
-        by : (c.gate.told ≡ b.gate.told) ⊎ LosesBytes log b.gate.told c.gate.told → LacksMemory setting before c
+        by : (c.gate.told ≡ b.gate.told) ⊎ LosesBytes log.intake b.gate.told c.gate.told → LacksMemory setting before c
         by (inl same) =
-            lacks_all before c taken log.reader.rest log.enforcer h.so_far
-            (subst (λ (o : Option Exchange). Exchanged (UpToDate setting) taken (text_of (names_of entries) (out_steps h.so_far.out)) before.gate.told o) (sym same) h.exchanged)
-            (inl (owed_so_far taken log.reader.rest log.enforcer h.so_far, reads)) writes actions
+            lacks_all before c taken log.intake.reader.rest log.enforcer h.so_far
+            (subst (λ (o : Option Exchange). Exchanged (UpToDate setting) taken (text_of (names_of entries) (out_steps h.so_far.out)) before.gate.told o) (sym same) h.far.exchanged)
+            (inl (owed_so_far taken log.intake.reader.rest log.enforcer h.so_far, reads)) writes actions
         by (inr lost) =
             let takes = subst (λ (n : ℕ). TakesBytes (most_log_bytes - n) lost.bytes b.gate.told c.gate.told) count lost.takes in
-            let rest = behind_blanks log.reader.rest ++ lost.bytes in
-            let read = read_more taken log.reader.rest log.enforcer h.so_far lost.bytes in
+            let rest = behind_blanks log.intake.reader.rest ++ lost.bytes in
+            let read = read_more taken log.intake.reader.rest log.enforcer h.so_far lost.bytes in
             let given = text_of (names_of entries) (out_steps h.so_far.out) in
-            let exchanged = exchanged_took (UpToDate setting) taken given before.gate.told b.gate.told c.gate.told h.exchanged (up_to_date taken log.reader.rest log.enforcer h.so_far lost.pending) h.steady lost.bytes takes.took takes.piece (omega (arith, takes.within, h.exchanged.limit, length-append taken lost.bytes)) in
+            let exchanged = exchanged_more (UpToDate setting) before.gate taken given b.gate c.gate h.far (up_to_date taken log.intake.reader.rest log.enforcer h.so_far lost.pending) lost.bytes takes in
             lacks_all before c (taken ++ lost.bytes) rest log.enforcer read exchanged (inl (owed_so_far (taken ++ lost.bytes) rest log.enforcer read, reads)) writes actions
 
     module _ (before : Seen) (taken rest : List ℕ) (accepted : ℕ) (now : Enforcing) (verdict : Verdict) (b c : Seen) (e : Ended before taken rest accepted now verdict b) where
@@ -421,10 +386,10 @@ module _ (entries : List NameEntry) (rules : List Rule) (first : Enforcing) (tra
               taken = taken;
               given = text_of (names_of entries) (out_steps (h.out ++ steps));
               exchanged = subst (λ (l : List ℕ). Exchanged (UpToDate setting) taken l before.gate.told c.gate.told) (sym (lines_behind (names_of entries) h.out steps))
-                  (exchanged_gave (UpToDate setting) taken (text_of (names_of entries) (out_steps h.out)) before.gate.told b.gate.told c.gate.told e.exchanged lines gave.gave);
+                  (exchanged_gave (UpToDate setting) taken (text_of (names_of entries) (out_steps h.out)) before.gate.told b.gate.told c.gate.told e.ended.exchanged lines gave.gave);
               rest = rest;
               answers = record { read = h.read; accepts = accepts taken rest now h; out = h.out ++ steps; text = refl; owed = owed_in_all taken rest now h g.made after g.drains };
-              ends = ends_gave (taken_of setting h.read taken rest) before.gate b.gate c.gate lines gave.gave gave.reads verdict e.ends;
+              ends = ends_gave (taken_of setting h.read taken rest) before.gate b.gate c.gate lines gave.gave gave.reads verdict e.ended.ends;
               writes = gave.writes ∙ e.writes;
               actions = says_more entries rules h.out steps before.report b.report c.report e.actions g.given.actions;
             };
@@ -435,8 +400,8 @@ module _ (entries : List NameEntry) (rules : List Rule) (first : Enforcing) (tra
       cut_lines : (cut : Cut) → CutsDrainLines entries rules cut (moment now b) c → CutsRun setting before c cut
       cut_lines cut t =
           let h = e.so_far in
-          cut_steps before taken rest h.read b c h.out (acted_steps t.made.steps) (accepts taken rest now h) e.exchanged e.begun e.writes e.actions
-          (λ bytes gave reads. inr (inr (owed_in_all taken rest now h t.made t.after t.drains), (verdict, ends_gave (taken_of setting h.read taken rest) before.gate b.gate c.gate bytes gave reads verdict e.ends))) cut t.given
+          cut_steps before taken rest h.read b c h.out (acted_steps t.made.steps) (accepts taken rest now h) e.ended.exchanged e.ended.begun e.writes e.actions
+          (λ bytes gave reads. inr (inr (owed_in_all taken rest now h t.made t.after t.drains), (verdict, ends_gave (taken_of setting h.read taken rest) before.gate b.gate c.gate bytes gave reads verdict e.ended.ends))) cut t.given
 
       pub cut_drain : (cut : Cut) → CutsDrain entries rules (moment now b) c cut → CutsRun setting before c cut
       cut_drain cuts.WriteFault t = cut_lines cuts.WriteFault t
@@ -444,4 +409,4 @@ module _ (entries : List NameEntry) (rules : List Rule) (first : Enforcing) (tra
       cut_drain cuts.NoMemory (inl same) =
           let h = e.so_far in
           subst (LacksMemory setting before) (sym same)
-          (lacks_all before b taken rest now h e.exchanged (inr (inl (owed_so_far taken rest now h), (verdict, e.ends))) e.writes e.actions)
+          (lacks_all before b taken rest now h e.ended.exchanged (inr (inl (owed_so_far taken rest now h), (verdict, e.ended.ends))) e.writes e.actions)

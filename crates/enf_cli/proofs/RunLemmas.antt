@@ -1,5 +1,5 @@
 -- How a run ends, from how its parts end.
-use Rattle.std.proofs.Common.{◌≡◌, ℕ, ◌+◌, List, [], length, inl, inr, refl, sym, ap, subst, Ok, Err}
+use Rattle.std.proofs.Common.{◌≡◌, ℕ, ◌+◌, List, [], length, inl, inr, refl, sym, ap, subst, ◌∙◌, Ok, Err}
 use Rattle.enforcer_core.specs.Enforcers.{Enforcing}
 use Rattle.formula_reader.specs.Resolution.{Rule}
 use Rattle.log_stream.specs.declared.items.LogMode.TheVariants.{Input}
@@ -9,25 +9,36 @@ use Rattle.enf_io.specs.declared.devices.IoRefusal.TheVariants as io
 use Rattle.enf_cli.specs.Calls.{Call, LeavesFiles}
 use Rattle.enf_cli.specs.Seen.{seen_of}
 use Rattle.enf_cli.specs.Checking.{check_text}
-use Rattle.enf_cli.specs.Endings.{ending_after_file}
+use Rattle.enf_cli.specs.Endings.{ending_after_file, faults_behind}
 use Rattle.enf_cli.specs.Policies.{formulas}
 use Rattle.enf_cli.specs.Files.{EndsFile, HoldsPolicy, HoldsRefusedPolicy, HoldsRefusedSignature, HoldsSignature}
 use Rattle.enf_cli.specs.Logs.{CutsRun, RunsLog, conclusion_of}
 use Rattle.enf_cli.specs.Owed.{Setting, anew, setting_of}
-use Rattle.enf_cli.specs.Outcomes.{Asks, AsksToEnforce, ChecksPolicy, IsCut, IsDone, Meets, Outcome, Performs, Refuses}
+use Rattle.enf_cli.specs.Outcomes.{Asks, AsksToEnforce, AuditsLog, ChecksPolicy, FindsVerdict, GivesNoVerdict, IsCut, IsDone, Meets, Outcome, Performs, Refuses, SaysVerdict, SaysVerdictInPart}
+use Rattle.enf_cli.specs.Audits.{GivesNothing, HasAudited, LosesLog, TakesTrace, TakesWholeTrace, as_trace, finish_after, verdict_line}
+use Rattle.enf_cli.specs.Exchanges.{Exchanged}
+use Rattle.enf_cli.specs.Readings.{EndsAs, records_of, taken_in}
+use Rattle.enf_cli.specs.declared.auditing.Audited.{Audited}
+use Rattle.enf_io.specs.Exchange.{Gave}
+use Rattle.trace_audit.specs.Laws.{VerdictIsOfPolicy}
+use Rattle.trace_audit.specs.declared.verdicts.Verdict.{Verdict as Found}
+use Rattle.trace_audit.specs.declared.verdicts.Verdict.TheVariants.{Holds, Fails}
+use Rattle.trace_meaning.specs.Records.{recorded}
+use Rattle.enf_cli.proofs.ExchangeLemmas.{exchanged_gave}
+use Rattle.enf_cli.proofs.IntakeLemmas.{ends_gave}
 use Rattle.enf_cli.specs.Refusals.{status_of}
 use Rattle.enf_cli.specs.Reports.{EndsWith, WritesText}
 use Rattle.enforce_types.specs.Accepted.{IsTyped}
 use Rattle.enforce_types.specs.Typed.{Typed}
-use Rattle.enf_cli.specs.Words.{IsCheck, IsEnforce, NamesFiles}
+use Rattle.enf_cli.specs.Words.{IsAudit, IsCheck, IsEnforce, NamesFiles}
 use Rattle.enf_cli.specs.declared.endings.Cut.{Cut}
 use Rattle.enf_cli.specs.declared.endings.Cut.TheVariants as cuts
 use Rattle.enf_cli.specs.declared.endings.Ending.{Ending}
 use Rattle.enf_cli.specs.declared.endings.Ending.TheVariants as endings
 use Rattle.enf_cli.specs.declared.endings.FileEnding.{FileEnding}
 use Rattle.enf_cli.specs.declared.endings.FileEnding.TheVariants as files
-use Rattle.enf_cli.specs.declared.log.Verdict.{Verdict}
-use Rattle.enf_cli.specs.declared.log.Verdict.TheVariants as verdicts
+use Rattle.enf_cli.specs.declared.intake.Verdict.{Verdict}
+use Rattle.enf_cli.specs.declared.intake.Verdict.TheVariants as verdicts
 use Rattle.enf_cli.specs.declared.refusals.PolicyRefusal.{PolicyRefusal}
 use Rattle.enf_cli.specs.declared.refusals.Refusal.{Refusal}
 use Rattle.enf_cli.specs.declared.refusals.Refusal.TheVariants as refusals
@@ -89,10 +100,10 @@ module _ {Gate : Type 0} (call : Call Gate) (report : Stream) (signature_file po
   log_refused accepted verdicts.Accepted ran why count h = cc
   log_refused accepted verdicts.Fault ran why count h =
       let is : why ≡ refusals.ReadFault = cc in
-      subst (Meets call report) (sym is) (inr (record { setting = here; asks = asks; ran = ran; failed = ran.ends.1; files = same }))
+      subst (Meets call report) (sym is) (inr (inl (record { setting = here; asks = asks; ran = ran; failed = ran.ends.1; files = same })))
   log_refused accepted (verdicts.Refused refusal) ran why count h =
       let is : why ≡ refusals.Record (accepted + 1) refusal = cc in
-      subst (Meets call report) (sym is) (record { setting = here; asks = asks; ran = ran; number_is = ap (λ n. n + 1) count; files = same })
+      subst (Meets call report) (sym is) (inl (record { setting = here; asks = asks; ran = ran; number_is = ap (λ n. n + 1) count; files = same }))
 
   -- the judgement of the log is that all is accepted
   pub log_done : (accepted : ℕ) (verdict : Verdict) (ran : RunsLog here verdict (seen_of call.before.gate call.before.report) (seen_of call.after.gate report)) → Ok tt ≡ conclusion_of accepted verdict → IsDone call report
@@ -117,15 +128,93 @@ module _ {Gate : Type 0} (call : Call Gate) (report : Stream) (signature_file po
   -- or a part of it
   pub check_ends : (cut : Cut) → WritesText {T = Unit {0}} (check_text entries policy typed.ranked) (Err cut) call.before.gate call.after.gate → Performs call report (Err (endings.Cut cut))
   check_ends cuts.WriteFault w =
-      inr (record {
-        policy = record { entries = entries; policy = policy; asks = asks_check; typed = typed; is_typed = is_typed; given = w.adds; reads = w.reads; files = same; silent = silent };
-        writes = w.writes;
-      })
-  check_ends cuts.NoMemory w =
-      inr (inr (record {
+      inr (inl (record {
         policy = record { entries = entries; policy = policy; asks = asks_check; typed = typed; is_typed = is_typed; given = w.adds; reads = w.reads; files = same; silent = silent };
         writes = w.writes;
       }))
+  check_ends cuts.NoMemory w =
+      inr (inl (inr (record {
+        policy = record { entries = entries; policy = policy; asks = asks_check; typed = typed; is_typed = is_typed; given = w.adds; reads = w.reads; files = same; silent = silent };
+        writes = w.writes;
+      })))
+
+-- how an audit ends
+module _ {Gate : Type 0} (call : Call Gate) (report : Stream) (signature_file policy_file : List ℕ) (form : IsAudit call.words signature_file policy_file) (entries : List NameEntry) (policy : List Rule)
+    (holds_signature : HoldsSignature call.before.files.contents signature_file entries) (holds_policy : HoldsPolicy call.before.files.contents policy_file entries policy)
+    (same : LeavesFiles call) (silent : report ≡ call.before.report) where
+  abbrev asks_audit : Asks IsAudit call entries policy
+  asks_audit = record { signature_file = signature_file; policy_file = policy_file; form = form; holds_signature = holds_signature; holds_policy = holds_policy }
+
+  -- memory ran out within the log
+  pub audit_lost : LosesLog entries call.before.gate call.after.gate → call.after.gate.write_faults ≡ call.before.gate.write_faults → Performs call report (Err (endings.Cut cuts.NoMemory))
+  audit_lost lost writes = inr (inr (inl (record { entries = entries; policy = policy; asks = asks_audit; lost = lost; writes = writes; files = same; silent = silent })))
+
+  abbrev audit_so : (verdict : Verdict) → TakesWholeTrace entries verdict call.before.gate call.after.gate → AuditsLog call report verdict
+  audit_so verdict whole = record { entries = entries; policy = policy; asks = asks_audit; whole = whole; files = same; silent = silent }
+
+  -- the log ended with a refusal or a fault, behind which nothing was given
+  module _ (log : TakesTrace entries call.before.gate call.after.gate) (nothing : log.given ≡ []) (writes : call.after.gate.write_faults ≡ call.before.gate.write_faults) where
+    abbrev silent_so : (verdict : Verdict) → EndsAs (taken_in (as_trace entries) log.read log.taken log.rest) call.before.gate call.after.gate verdict → GivesNoVerdict call report verdict
+    silent_so verdict ends = record { audit = audit_so verdict (record { log = log; ends = ends }); nothing = nothing; writes = writes }
+
+    pub audit_refused : (accepted : ℕ) → accepted ≡ length log.read → (verdict : Verdict) → EndsAs (taken_in (as_trace entries) log.read log.taken log.rest) call.before.gate call.after.gate verdict
+        → (why : Refusal) → Err why ≡ conclusion_of accepted verdict → Meets call report why
+    audit_refused accepted count verdicts.Accepted ends why h = cc
+    audit_refused accepted count verdicts.Fault ends why h =
+        let is : why ≡ refusals.ReadFault = cc in
+        subst (Meets call report) (sym is) (inr (inr (silent_so verdicts.Fault ends)))
+    audit_refused accepted count (verdicts.Refused refusal) ends why h =
+        let is : why ≡ refusals.Record (accepted + 1) refusal = cc in
+        subst (Meets call report) (sym is) (inr (record { silence = silent_so (verdicts.Refused refusal) ends; number_is = ap (λ n. n + 1) count }))
+
+  -- it was accepted, and its verdict was to be given behind it
+  module _ (middle : Stream) (typed : Typed) (is_typed : IsTyped entries (formulas policy) typed) (law : VerdictIsOfPolicy) (audited : Audited) (has : HasAudited entries typed.plans audited call.before.gate middle)
+      (writes : middle.write_faults ≡ call.before.gate.write_faults) (accepted : Ok tt ≡ conclusion_of audited.judged.accepted audited.judged.verdict) where
+    abbrev log : TakesTrace entries call.before.gate middle
+    log = has.ended.log
+
+    ends_accepted : (verdict : Verdict) → EndsAs (taken_in (as_trace entries) log.read log.taken log.rest) call.before.gate middle verdict → Ok tt ≡ conclusion_of audited.judged.accepted verdict
+        → EndsAs (taken_in (as_trace entries) log.read log.taken log.rest) call.before.gate middle verdicts.Accepted
+    ends_accepted verdicts.Accepted ends h = ends
+    ends_accepted verdicts.Fault ends h = cc
+    ends_accepted (verdicts.Refused refusal) ends h = cc
+
+    -- what was given behind it is all that was given
+    abbrev finds : (bytes : List ℕ) → Gave bytes middle.told call.after.gate.told → call.after.gate.read_faults ≡ middle.read_faults → FindsVerdict call report audited.found
+    finds bytes gave reads =
+        record {
+          audit = audit_so verdicts.Accepted (record {
+            log = record {
+              taken = log.taken;
+              given = bytes;
+              exchanged = exchanged_gave GivesNothing log.taken [] call.before.gate.told middle.told call.after.gate.told
+                  (subst (λ (given : List ℕ). Exchanged GivesNothing log.taken given call.before.gate.told middle.told) has.nothing log.exchanged) bytes gave;
+              read = log.read;
+              rest = log.rest;
+              accepts = log.accepts;
+            };
+            ends = ends_gave (taken_in (as_trace entries) log.read log.taken log.rest) call.before.gate middle call.after.gate bytes gave reads verdicts.Accepted
+                (ends_accepted audited.judged.verdict has.ended.ends accepted);
+          });
+          is_verdict = law entries (formulas policy) typed.plans typed.guards (recorded (records_of log.read)) audited.found is_typed.planned has.found;
+        }
+
+    -- the line was given whole
+    pub audit_said : WritesText {T = Unit {0}} (verdict_line policy audited.found) (Ok tt) middle call.after.gate → Performs call report (Ok (finish_after audited.found))
+    audit_said w = by audited.found (record { finds = finds (verdict_line policy audited.found) w.adds w.reads; line = refl; writes = w.writes ∙ writes })
+      where
+        by : (found : Found) → SaysVerdict call report found → Performs call report (Ok (finish_after found))
+        by Holds says = inr (inr says)
+        by (Fails rule position) says = (rule, position, says)
+
+    -- or a part of it
+    abbrev says_part : (cut : Cut) → WritesText {T = Unit {0}} (verdict_line policy audited.found) (Err cut) middle call.after.gate → SaysVerdictInPart call report cut
+    says_part cut w =
+        record { found = audited.found; finds = finds w.adds.front w.adds.gave w.reads; part = w.adds.part; writes = w.writes ∙ ap (faults_behind cut) writes }
+
+    pub audit_cut : (cut : Cut) → WritesText {T = Unit {0}} (verdict_line policy audited.found) (Err cut) middle call.after.gate → Performs call report (Err (endings.Cut cut))
+    audit_cut cuts.WriteFault w = inr (inr (says_part cuts.WriteFault w))
+    audit_cut cuts.NoMemory w = inr (inr (inr (says_part cuts.NoMemory w)))
 
 -- ---- the outcome
 

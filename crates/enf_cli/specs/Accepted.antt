@@ -1,22 +1,14 @@
--- Which records of a log are accepted, and what is given for them.
+-- What is given for the records of a log that are accepted.
 use Rattle.std.specs.Prelude.{◌≡◌, ℕ, List}
 use Rattle.log_stream.specs.Lines.{text_of}
-use Rattle.log_stream.specs.Logs.{IsPending, Spells}
+use Rattle.log_stream.specs.Logs.{IsPending}
 use Rattle.log_stream.specs.declared.items.LogItem.{LogItem}
-use Rattle.log_stream.specs.declared.items.LogMode.{LogMode}
 use Rattle.signature.specs.Grammar.{names as names_of}
-use Rattle.signature.specs.declared.entries.NameEntry.{NameEntry}
 use Rattle.choice_step.specs.Follows.{ActedStep}
 use Rattle.enforcer_core.specs.Enforcers.{out_steps}
-use Rattle.trace_meaning.specs.Records.{NeverFall, Record}
-pub use Rattle.enf_cli.specs.Headline.{record_of, records_of}
+use Rattle.trace_meaning.specs.Records.{Record}
 use Rattle.enf_cli.specs.Owed.{IsOwedInAll, IsOwedSoFar, Setting}
-
--- whole records whose times never fall from a clock on are accepted, in order, and a rest is left
-pub record Accepts (entries : List NameEntry) (mode : LogMode) (clock : ℕ) (bytes : List ℕ)
-    (read : List LogItem) (rest : List ℕ) : Type 0 where
-  pub spelled : Spells entries mode bytes read rest
-  pub rising : NeverFall clock (records_of read)
+use Rattle.enf_cli.specs.Readings.{Accepts, records_of}
 
 -- the records of the bytes taken, up to a rest, are accepted, and the bytes given are the text of what is owed to them
 pub record Gives (IsOwed : List Record → List ActedStep → Type 0) (s : Setting)

@@ -6,16 +6,19 @@ use Rattle.formula_reader.specs.Resolution.{Rule}
 use Rattle.signature.specs.declared.entries.NameEntry.{NameEntry}
 use Rattle.log_stream.specs.Logs.{IsLog}
 use Rattle.log_stream.specs.declared.items.LogItem.{LogItem}
-use Rattle.trace_meaning.specs.Records.{NeverFall}
-use Rattle.enf_cli.specs.Accepted.{Accepts, records_of}
+use Rattle.trace_audit.specs.Verdicts.{IsVerdict}
+use Rattle.trace_audit.specs.declared.verdicts.Verdict.{Verdict as Found}
+use Rattle.trace_audit.specs.declared.verdicts.Verdict.TheVariants.{Holds, Fails}
+use Rattle.trace_meaning.specs.Records.{NeverFall, recorded}
+use Rattle.enf_cli.specs.Audits.{as_trace}
 use Rattle.enf_cli.specs.Calls.{Call}
 use Rattle.enf_cli.specs.Limits.{most_log_bytes}
 use Rattle.enf_cli.specs.Files.{IsRefusedPolicy, IsRefusedSignature}
-use Rattle.enf_cli.specs.Logs.{IsRefusedAs, taken_of}
-use Rattle.enf_cli.specs.Owed.{Setting, anew}
-use Rattle.enf_cli.specs.Policies.{SpellsPolicy}
+use Rattle.enf_cli.specs.Owed.{Setting, anew, reading_of}
+use Rattle.enf_cli.specs.Policies.{SpellsPolicy, formulas}
+use Rattle.enf_cli.specs.Readings.{Accepts, IsRefusedAs, Reading, records_of, taken_in}
 use Rattle.enf_cli.specs.Signatures.{SpellsSignature}
-use Rattle.enf_cli.specs.Words.{IsCheck, IsEnforce, IsGenerate, MatchNoForm, NamesFiles}
+use Rattle.enf_cli.specs.Words.{IsAudit, IsCheck, IsEnforce, IsGenerate, MatchNoForm, NamesFiles}
 use Rattle.enf_cli.specs.declared.refusals.PolicyRefusal.{PolicyRefusal}
 use Rattle.enf_cli.specs.declared.refusals.RecordRefusal.{RecordRefusal}
 use Rattle.enf_cli.specs.declared.refusals.SignatureRefusal.{SignatureRefusal}
@@ -51,6 +54,13 @@ pub record AsksTold {Gate : Type 0} (call : Call Gate) (s : Setting) : Type 0 wh
   pub asks : AsksPolicy IsEnforce call s.entries s.rules
   pub is_setting : s ≡ anew s.entries s.rules
 
+-- the words ask so to enforce or to audit a log, which is read so
+abbrev pub AsksToRead : {Gate : Type 0} → Call Gate → Reading → Type 0
+AsksToRead call r =
+    ((s : Setting) × AsksTold call s × (r ≡ reading_of s))
+    ⊎ ((entries : List NameEntry) × (policy : List Rule) × AsksPolicy IsAudit call entries policy
+    × (r ≡ as_trace entries))
+
 -- the words name a signature that files tell and that is refused
 pub record AsksRefusedSignature {Gate : Type 0} (call : Call Gate) : Type 0 where
   pub signature_file : List ℕ
@@ -78,16 +88,28 @@ AsksRefused call = AsksRefusedSignature call ⊎ AsksRefusedPolicy call
 abbrev pub taken_between : Exchange → Exchange → List ℕ
 taken_between x y = take (y.taken - x.taken) (left x)
 
--- the gate tells, and the words, the files and its whole input are such as can be enforced
+-- the gate tells, and its whole input is a log that is accepted to its end
+pub record IsWholeLog (r : Reading) (before : Option Exchange) : Type 0 where
+  pub gate : Exchange
+  pub told : before ≡ Some gate
+  pub read : List LogItem
+  pub log : IsLog r.entries r.mode (left gate) read None
+  pub rising : NeverFall r.clock (records_of read)
+  pub below : length (left gate) < most_log_bytes
+
+-- the words, the files and the input are such as can be enforced
 pub record IsAcceptable {Gate : Type 0} (call : Call Gate) : Type 0 where
   pub setting : Setting
   pub asks : AsksTold call setting
-  pub gate : Exchange
-  pub told : call.before.gate.told ≡ Some gate
-  pub read : List LogItem
-  pub log : IsLog setting.entries setting.mode (left gate) read None
-  pub rising : NeverFall setting.start.clock (records_of read)
-  pub below : length (left gate) < most_log_bytes
+  pub whole : IsWholeLog (reading_of setting) call.before.gate.told
+
+-- or such as can be audited, with this verdict
+pub record IsAuditable {Gate : Type 0} (call : Call Gate) (found : Found) : Type 0 where
+  pub entries : List NameEntry
+  pub policy : List Rule
+  pub asks : AsksPolicy IsAudit call entries policy
+  pub whole : IsWholeLog (as_trace entries) call.before.gate.told
+  pub is_verdict : IsVerdict (formulas policy) (recorded (records_of whole.read)) found
 
 -- the words ask to generate a log
 abbrev pub AsksToGenerate : {Gate : Type 0} → Call Gate → Type 0
@@ -97,19 +119,27 @@ AsksToGenerate call = (start steps : ℕ) × IsGenerate call.words start steps
 abbrev pub AsksToCheck : {Gate : Type 0} → Call Gate → Type 0
 AsksToCheck call = (entries : List NameEntry) × (policy : List Rule) × AsksPolicy IsCheck call entries policy
 
+-- what is such that a run is done
+abbrev pub CanBeDone : {Gate : Type 0} → Call Gate → Type 0
+CanBeDone call = (IsAcceptable call ⊎ IsAuditable call Holds) ⊎ (AsksToGenerate call ⊎ AsksToCheck call)
+
+-- the log can be audited, and violates the policy
+abbrev pub IsViolating : {Gate : Type 0} → Call Gate → Type 0
+IsViolating call = (rule : ℕ) × (position : ℕ) × IsAuditable call (Fails rule position)
+
 -- the accepted records of the bytes taken are followed by a refusal
 pub record MeetsRefusal {Gate : Type 0} (call : Call Gate) : Type 0 where
-  pub setting : Setting
-  pub asks : AsksTold call setting
+  pub reading : Reading
+  pub asks : AsksToRead call reading
   pub x : Exchange
   pub told : call.before.gate.told ≡ Some x
   pub y : Exchange
   pub told' : call.after.gate.told ≡ Some y
   pub read : List LogItem
   pub rest : List ℕ
-  pub accepts : Accepts setting.entries setting.mode setting.start.clock (taken_between x y) read rest
+  pub accepts : Accepts reading.entries reading.mode reading.clock (taken_between x y) read rest
   pub why : RecordRefusal
-  pub refused : IsRefusedAs (taken_of setting read (taken_between x y) rest) call.after.gate why
+  pub refused : IsRefusedAs (taken_in reading read (taken_between x y) rest) call.after.gate why
 
 -- a read of a file failed, or one of the gate
 abbrev pub MeetsReadFault : {Gate : Type 0} → Call Gate → Type 0
@@ -127,10 +157,12 @@ Comes status result = (result ≡ status) ⊎ BreaksOff result
 
 -- where each status must come; want of memory may come anywhere. Where a write to the report fails a run is not done
 pub record Dues {Gate : Type 0} (call : Call Gate) (result : Status) : Type 0 where
-  pub done : IsAcceptable call ⊎ (AsksToGenerate call ⊎ AsksToCheck call) → Comes statuses.Done result
+  pub done : CanBeDone call → Comes statuses.Done result
+  pub violated : IsViolating call → Comes statuses.Violated result
   pub words : MatchNoForm call.words → Comes statuses.Words result
   pub files : AsksRefused call → Comes statuses.Files result
   pub refused_record : MeetsRefusal call → Comes statuses.Record result
   pub read_fault : MeetsReadFault call → Comes statuses.ReadFault result
   pub write_fault : call.after.gate.write_faults ≢ call.before.gate.write_faults → Comes statuses.WriteFault result
-  pub report_fault : call.after.report.write_faults ≢ call.before.report.write_faults → result ≢ statuses.Done
+  pub report_fault : call.after.report.write_faults ≢ call.before.report.write_faults
+      → (result ≢ statuses.Done) × (result ≢ statuses.Violated)

@@ -1,5 +1,7 @@
 pub mod Accepted
 pub mod Actions
+pub mod AuditTurns
+pub mod Audits
 pub mod Calls
 pub mod Cases
 pub mod Checking
@@ -9,6 +11,7 @@ pub mod Exchanges
 pub mod Files
 pub mod Generating
 pub mod Headline
+pub mod Intakes
 pub mod Limits
 pub mod Lines
 pub mod Logs
@@ -16,6 +19,7 @@ pub mod Outcomes
 pub mod Owed
 pub mod Policies
 pub mod Progress
+pub mod Readings
 pub mod Refusals
 pub mod Reports
 pub mod Seen

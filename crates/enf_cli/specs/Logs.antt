@@ -1,77 +1,31 @@
 -- What a run of the log takes from the gate, gives to it and says on the report, by how it ends.
-use Rattle.std.specs.Prelude.{◌≡◌, ◌≢◌, ℕ, ◌+◌, ◌<◌, List, [], ◌∷◌, ◌++◌, length, ◌⊎◌, Result, Ok, Err}
+use Rattle.std.specs.Prelude.{◌≡◌, ◌≢◌, ℕ, ◌+◌, List, [], ◌∷◌, ◌++◌, length, ◌⊎◌, Result, Ok, Err}
 use Rattle.enf_io.specs.Counts.{one_more}
 use Rattle.enf_io.specs.Streams.{Stream}
 use Rattle.log_stream.specs.Lines.{line_of, text_of}
-use Rattle.log_stream.specs.Logs.{BeginsWith, IsPending, IsTruncated, Refuses, behind_blanks}
 use Rattle.log_stream.specs.declared.items.LogItem.{LogItem}
-use Rattle.log_stream.specs.declared.items.LogMode.{LogMode}
-use Rattle.log_stream.specs.declared.items.LogRefusal.TheVariants as log
 use Rattle.signature.specs.Grammar.{names as names_of}
-use Rattle.signature.specs.declared.entries.NameEntry.{NameEntry}
 use Rattle.trace_meaning.specs.Good.{GoodPrefix}
 use Rattle.choice_step.specs.Follows.{ActedStep, out_step, steps_of}
 use Rattle.enforcer_core.specs.Enforcers.{out_steps}
-use Rattle.trace_meaning.specs.Records.{clock_after, time_of}
-use Rattle.enf_cli.specs.Accepted.{Accepts, GivesInAll, UpToDate, record_of, records_of}
+use Rattle.enf_cli.specs.Accepted.{GivesInAll, UpToDate}
 use Rattle.enf_cli.specs.Actions.{FailsWithinActions, SaysActions, SaysActionsInPart}
-use Rattle.enf_cli.specs.Owed.{IsOwedInAll, IsOwedSoFar, Setting, policy_of}
+use Rattle.enf_cli.specs.Owed.{IsOwedInAll, IsOwedSoFar, Setting, policy_of, reading_of}
+use Rattle.enf_cli.specs.Readings.{Accepts, EndsAs, Taken, records_of, taken_in}
 use Rattle.enf_cli.specs.Endings.{IsPart}
 use Rattle.enf_cli.specs.Exchanges.{Exchanged, IsBegun}
 use Rattle.enf_cli.specs.declared.endings.Cut.{Cut}
 use Rattle.enf_cli.specs.declared.endings.Cut.TheVariants as cuts
-use Rattle.enf_cli.specs.Limits.{most_log_bytes}
-pub use Rattle.enf_cli.specs.Headline.{MetEnd}
 use Rattle.enf_cli.specs.Seen.{Seen}
-use Rattle.enf_cli.specs.declared.log.Judged.{Judged}
-use Rattle.enf_cli.specs.declared.log.Verdict.{Verdict}
-use Rattle.enf_cli.specs.declared.log.Verdict.TheVariants as verdicts
-use Rattle.enf_cli.specs.declared.refusals.RecordRefusal.{RecordRefusal}
-use Rattle.enf_cli.specs.declared.refusals.RecordRefusal.TheVariants as records
+use Rattle.enf_cli.specs.declared.intake.Judged.{Judged}
+use Rattle.enf_cli.specs.declared.intake.Verdict.{Verdict}
+use Rattle.enf_cli.specs.declared.intake.Verdict.TheVariants as verdicts
 use Rattle.enf_cli.specs.declared.refusals.Refusal.{Refusal}
 use Rattle.enf_cli.specs.declared.refusals.Refusal.TheVariants as refusals
 
--- a record stands at the front whose time is below the clock
-pub record IsFalling (entries : List NameEntry) (mode : LogMode) (clock : ℕ) (rest : List ℕ)
-    (given : ℕ) : Type 0 where
-  pub item : LogItem
-  pub more : List ℕ
-  pub begins : BeginsWith entries mode rest item more
-  pub time : given ≡ time_of (record_of item)
-  pub below : time_of (record_of item) < clock
-
--- what was taken of a log that is enforced in a setting: the records that were accepted of it, how many bytes in all,
--- and the rest of them behind these records
-pub record Taken : Type 0 where
-  pub setting : Setting
-  pub read : List LogItem
-  pub count : ℕ
-  pub rest : List ℕ
-
+-- what was taken of a log that is enforced in a setting
 abbrev pub taken_of : Setting → List LogItem → (taken rest : List ℕ) → Taken
-taken_of s read taken rest = record { setting = s; read = read; count = length taken; rest = rest }
-
--- the clock behind the accepted records
-abbrev pub clock_behind : Taken → ℕ
-clock_behind t = clock_after t.setting.start.clock (records_of t.read)
-
--- why the rest behind the accepted records is refused: by its reader, or at the end of the input, or since its time is
--- below the clock, or since no more bytes may be taken
-abbrev pub IsRefusedAs : Taken → Stream → RecordRefusal → Type 0
-IsRefusedAs t after (records.Log why) =
-    Refuses t.setting.entries t.setting.mode t.rest why
-    ⊎ ((why ≡ log.Truncated) × IsTruncated t.rest × MetEnd t.count after)
-IsRefusedAs t after (records.Falling given at) =
-    (at ≡ clock_behind t) × IsFalling t.setting.entries t.setting.mode (clock_behind t) t.rest given
-IsRefusedAs t after records.InputLimit = IsPending t.rest × (t.count ≡ most_log_bytes)
-
--- how the log ends behind the accepted records: nothing is left of it, a read failed, or a record is refused
-abbrev pub EndsAs : Taken → (before after : Stream) → Verdict → Type 0
-EndsAs t before after verdicts.Accepted =
-    (behind_blanks t.rest ≡ []) × MetEnd t.count after × (after.read_faults ≡ before.read_faults)
-EndsAs t before after verdicts.Fault = IsPending t.rest × (after.read_faults ≡ one_more before.read_faults)
-EndsAs t before after (verdicts.Refused why) =
-    IsRefusedAs t after why × (after.read_faults ≡ before.read_faults)
+taken_of s read taken rest = taken_in (reading_of s) read taken rest
 
 -- the log was begun and ended so, what was given is what is owed in all to its accepted records, and the report gained
 -- the lines of the actions of that
@@ -100,10 +54,10 @@ abbrev pub HasEnded : Taken → (before after : Stream) → Type 0
 HasEnded t before after = (verdict : Verdict) × EndsAs t before after verdict
 
 -- within the log no read failed, and the steps are owed so far; behind its end they may be owed in all
-abbrev pub IsOwedWhere : Taken → (before after : Stream) → List ActedStep → Type 0
-IsOwedWhere t before after out =
-    (IsOwedSoFar t.setting (records_of t.read) out × (after.read_faults ≡ before.read_faults))
-    ⊎ ((IsOwedSoFar t.setting (records_of t.read) out ⊎ IsOwedInAll t.setting (records_of t.read) out)
+abbrev pub IsOwedWhere : Setting → Taken → (before after : Stream) → List ActedStep → Type 0
+IsOwedWhere s t before after out =
+    (IsOwedSoFar s (records_of t.read) out × (after.read_faults ≡ before.read_faults))
+    ⊎ ((IsOwedSoFar s (records_of t.read) out ⊎ IsOwedInAll s (records_of t.read) out)
     × HasEnded t before after)
 
 -- some of the log was taken; of the steps that are owed to its first accepted records the first were given, in
@@ -116,7 +70,7 @@ pub record RunsShort (s : Setting) (before after : Stream) : Type 0 where
   pub rest : List ℕ
   pub accepts : Accepts s.entries s.mode s.start.clock taken read rest
   pub out : List ActedStep
-  pub owed : IsOwedWhere (taken_of s read taken rest) before after out
+  pub owed : IsOwedWhere s (taken_of s read taken rest) before after out
   pub whole : List ActedStep
   pub behind : List ActedStep
   pub split : out ≡ whole ++ behind

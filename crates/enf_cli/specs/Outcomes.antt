@@ -1,6 +1,6 @@
 -- What holds of a run at each status: of its work, which leaves the report in some state, and then of the line that
 -- says on the report why it ended early.
-use Rattle.std.specs.Prelude.{◌≡◌, ℕ, ◌+◌, List, length, ◌⊎◌, Option, Result, Ok, Err}
+use Rattle.std.specs.Prelude.{◌≡◌, ℕ, ◌+◌, List, [], length, ◌⊎◌, Option, Result, Ok, Err}
 use Rattle.enf_io.specs.Counts.{one_more}
 use Rattle.enf_io.specs.Exchange.{Exchange, Gave}
 use Rattle.enf_io.specs.Streams.{Stream}
@@ -9,22 +9,32 @@ use Rattle.enforce_types.specs.Typed.{Typed}
 use Rattle.formula_reader.specs.Resolution.{Rule}
 use Rattle.signature.specs.declared.entries.NameEntry.{NameEntry}
 use Rattle.log_gen.specs.Generated.{generated_text}
+use Rattle.trace_audit.specs.Verdicts.{IsVerdict}
+use Rattle.trace_audit.specs.declared.verdicts.Verdict.{Verdict as Found}
+use Rattle.trace_audit.specs.declared.verdicts.Verdict.TheVariants.{Holds, Fails}
+use Rattle.trace_meaning.specs.Records.{recorded}
+use Rattle.enf_cli.specs.Audits.{LosesLog, TakesWholeTrace, verdict_line}
 use Rattle.enf_cli.specs.Calls.{Call, LeavesFiles, LeavesGate}
 use Rattle.enf_cli.specs.Checking.{check_text}
+use Rattle.enf_cli.specs.Endings.{IsPart, faults_behind}
 use Rattle.enf_cli.specs.Files.{FailsToRead, HoldsPolicy, HoldsRefusedPolicy, HoldsRefusedSignature, HoldsSignature}
 use Rattle.enf_cli.specs.Generating.{AddsPartOrNothing}
 use Rattle.enf_cli.specs.Policies.{formulas}
 use Rattle.enf_cli.specs.Logs.{CutsRun, RunsLog}
 use Rattle.enf_cli.specs.Owed.{Setting, anew}
+use Rattle.enf_cli.specs.Readings.{records_of}
 use Rattle.enf_cli.specs.Refusals.{text_of_refusal}
 use Rattle.enf_cli.specs.Seen.{seen_of}
 use Rattle.enf_cli.specs.Reports.{AddsPart, IsReported, IsReportedInPart, SaysNoMemory}
-use Rattle.enf_cli.specs.Words.{IsCheck, IsEnforce, IsGenerate, MatchNoForm, NamesFiles}
+use Rattle.enf_cli.specs.Words.{IsAudit, IsCheck, IsEnforce, IsGenerate, MatchNoForm, NamesFiles}
 use Rattle.enf_cli.specs.declared.endings.Cut.{Cut}
 use Rattle.enf_cli.specs.declared.endings.Cut.TheVariants as cuts
 use Rattle.enf_cli.specs.declared.endings.Ending.{Ending}
 use Rattle.enf_cli.specs.declared.endings.Ending.TheVariants as endings
-use Rattle.enf_cli.specs.declared.log.Verdict.TheVariants as verdicts
+use Rattle.enf_cli.specs.declared.endings.Finish.{Finish}
+use Rattle.enf_cli.specs.declared.endings.Finish.TheVariants as finishes
+use Rattle.enf_cli.specs.declared.intake.Verdict.{Verdict}
+use Rattle.enf_cli.specs.declared.intake.Verdict.TheVariants as verdicts
 use Rattle.enf_cli.specs.declared.refusals.PolicyRefusal.{PolicyRefusal}
 use Rattle.enf_cli.specs.declared.refusals.RecordRefusal.{RecordRefusal}
 use Rattle.enf_cli.specs.declared.refusals.Refusal.{Refusal}
@@ -107,13 +117,68 @@ pub record BreaksOffLog {Gate : Type 0} (call : Call Gate) (report : Stream) : T
   pub failed : call.after.gate.read_faults ≡ one_more call.before.gate.read_faults
   pub files : LeavesFiles call
 
+-- the words ask to audit a log under an accepted policy; the log ended so, nothing was given while it was read, and
+-- the files and the report were not touched
+pub record AuditsLog {Gate : Type 0} (call : Call Gate) (report : Stream) (ended : Verdict) : Type 0 where
+  pub entries : List NameEntry
+  pub policy : List Rule
+  pub asks : Asks IsAudit call entries policy
+  pub whole : TakesWholeTrace entries ended call.before.gate call.after.gate
+  pub files : LeavesFiles call
+  pub silent : report ≡ call.before.report
+
+-- and nothing was given at its end
+pub record GivesNoVerdict {Gate : Type 0} (call : Call Gate) (report : Stream) (ended : Verdict) : Type 0 where
+  pub audit : AuditsLog call report ended
+  pub nothing : audit.whole.log.given ≡ []
+  pub writes : call.after.gate.write_faults ≡ call.before.gate.write_faults
+
+-- the record of this number is refused, behind those that were audited
+pub record RefusesAudited {Gate : Type 0} (call : Call Gate) (report : Stream) (number : ℕ) (why : RecordRefusal)
+    : Type 0 where
+  pub silence : GivesNoVerdict call report (verdicts.Refused why)
+  pub number_is : number ≡ length silence.audit.whole.log.read + 1
+
+-- a read of the log failed, behind the records that were audited
+abbrev pub BreaksOffAudit : {Gate : Type 0} → Call Gate → Stream → Type 0
+BreaksOffAudit call report = GivesNoVerdict call report verdicts.Fault
+
+-- the whole log was taken, and this is the verdict on the steps of its records
+pub record FindsVerdict {Gate : Type 0} (call : Call Gate) (report : Stream) (found : Found) : Type 0 where
+  pub audit : AuditsLog call report verdicts.Accepted
+  pub is_verdict : IsVerdict (formulas audit.policy) (recorded (records_of audit.whole.log.read)) found
+
+-- its line was given
+pub record SaysVerdict {Gate : Type 0} (call : Call Gate) (report : Stream) (found : Found) : Type 0 where
+  pub finds : FindsVerdict call report found
+  pub line : finds.audit.whole.log.given ≡ verdict_line finds.audit.policy found
+  pub writes : call.after.gate.write_faults ≡ call.before.gate.write_faults
+
+-- or a front of it, which is not the whole
+pub record SaysVerdictInPart {Gate : Type 0} (call : Call Gate) (report : Stream) (cut : Cut) : Type 0 where
+  pub found : Found
+  pub finds : FindsVerdict call report found
+  pub part : IsPart finds.audit.whole.log.given (verdict_line finds.audit.policy found)
+  pub writes : call.after.gate.write_faults ≡ faults_behind cut call.before.gate.write_faults
+
+-- memory ran out within the log, and nothing was given
+pub record RunsOutAuditing {Gate : Type 0} (call : Call Gate) (report : Stream) : Type 0 where
+  pub entries : List NameEntry
+  pub policy : List Rule
+  pub asks : Asks IsAudit call entries policy
+  pub lost : LosesLog entries call.before.gate call.after.gate
+  pub writes : call.after.gate.write_faults ≡ call.before.gate.write_faults
+  pub files : LeavesFiles call
+  pub silent : report ≡ call.before.report
+
 -- what holds where the work of a run ends with a refusal, and leaves the report so
 abbrev pub Meets : {Gate : Type 0} → Call Gate → Stream → Refusal → Type 0
 Meets call report refusals.Words = RefusesWords call report
 Meets call report (refusals.Signature why) = RefusesSignatureFile call report why
 Meets call report (refusals.Policy why) = RefusesPolicyFile call report why
-Meets call report (refusals.Record number why) = RefusesRecord call report number why
-Meets call report refusals.ReadFault = MissesFile call report ⊎ BreaksOffLog call report
+Meets call report (refusals.Record number why) =
+    RefusesRecord call report number why ⊎ RefusesAudited call report number why
+Meets call report refusals.ReadFault = MissesFile call report ⊎ (BreaksOffLog call report ⊎ BreaksOffAudit call report)
 
 -- the run is done: the whole log was taken, nothing is left behind its accepted records, and what was given is what is
 -- owed to them in all
@@ -205,21 +270,28 @@ pub record RunsOutChecking {Gate : Type 0} (call : Call Gate) (report : Stream) 
   pub policy : Checks call report AddsPart
   pub writes : call.after.gate.write_faults ≡ call.before.gate.write_faults
 
--- what holds where the work of a run is done
+-- what holds where the work of a run is done; and where it finds that a log violates the policy
 abbrev pub IsFinished : {Gate : Type 0} → Call Gate → Stream → Type 0
-IsFinished call report = (IsDone call report ⊎ GeneratesLog call report) ⊎ ChecksPolicy call report
+IsFinished call report =
+    (IsDone call report ⊎ GeneratesLog call report) ⊎ (ChecksPolicy call report ⊎ SaysVerdict call report Holds)
+
+abbrev pub FindsViolation : {Gate : Type 0} → Call Gate → Stream → Type 0
+FindsViolation call report = (rule : ℕ) × (position : ℕ) × SaysVerdict call report (Fails rule position)
 
 -- what holds where the work of a run is cut
 abbrev pub IsCut : {Gate : Type 0} → Call Gate → Stream → Cut → Type 0
 IsCut call report cuts.WriteFault =
-    (FailsToWrite call report ⊎ GeneratesInPart call report) ⊎ ChecksInPart call report
+    (FailsToWrite call report ⊎ GeneratesInPart call report)
+    ⊎ (ChecksInPart call report ⊎ SaysVerdictInPart call report cuts.WriteFault)
 IsCut call report cuts.NoMemory =
     (RunsOutBefore call report ⊎ RunsOutWithin call report)
-    ⊎ (RunsOutGenerating call report ⊎ RunsOutChecking call report)
+    ⊎ ((RunsOutGenerating call report ⊎ RunsOutChecking call report)
+    ⊎ (RunsOutAuditing call report ⊎ SaysVerdictInPart call report cuts.NoMemory))
 
 -- how the work of a run ends, and that it leaves the report so
-abbrev pub Performs : {Gate : Type 0} → Call Gate → Stream → Result (Unit {0}) Ending → Type 0
-Performs call report (Ok done) = IsFinished call report
+abbrev pub Performs : {Gate : Type 0} → Call Gate → Stream → Result Finish Ending → Type 0
+Performs call report (Ok finishes.Done) = IsFinished call report
+Performs call report (Ok finishes.Violated) = FindsViolation call report
 Performs call report (Err (endings.Refused why)) = Meets call report why
 Performs call report (Err (endings.Cut cut)) = IsCut call report cut
 
@@ -253,3 +325,4 @@ Outcome call statuses.Record = (number : ℕ) × (why : RecordRefusal) × Refuse
 Outcome call statuses.ReadFault = Refuses call refusals.ReadFault
 Outcome call statuses.WriteFault = IsCut call call.after.report cuts.WriteFault
 Outcome call statuses.NoMemory = RunsOut call ⊎ RunsOutInLine call
+Outcome call statuses.Violated = FindsViolation call call.after.report

@@ -20,6 +20,7 @@ use Rattle.trace_meaning.specs.Records.{Record, clock_after, recorded}
 use Rattle.trace_meaning.specs.Satisfies.{Satisfies}
 use Rattle.trace_meaning.specs.Start.{Start, from_nothing}
 use Rattle.enf_cli.specs.Policies.{formulas}
+use Rattle.enf_cli.specs.Readings.{Reading}
 pub use Rattle.enf_cli.specs.Headline.{IsMarked}
 
 -- under which names and which rules a log is enforced, as what it is read, and from where
@@ -28,6 +29,10 @@ pub record Setting : Type 0 where
   pub rules : List Rule
   pub mode : LogMode
   pub start : Start
+
+-- how it reads
+abbrev pub reading_of : Setting → Reading
+reading_of s = record { entries = s.entries; mode = s.mode; clock = s.start.clock }
 
 -- its policy
 abbrev pub policy_of : Setting → List Formula

@@ -1,9 +1,6 @@
 -- What one turn of the run of a log does.
-use Rattle.std.specs.Prelude.{◌≡◌, ℕ, ◌+◌, ◌-◌, ◌^◌, ◌<◌, ◌≤◌, List, [], ◌∷◌, ◌++◌, length}
+use Rattle.std.specs.Prelude.{◌≡◌, ℕ, ◌+◌, ◌-◌, ◌^◌, ◌<◌, ◌≤◌, List, [], ◌∷◌, length}
 use Rattle.std.specs.Prelude.{Option, None, Some, ◌⊎◌, Ok, false}
-use Rattle.enf_io.specs.Counts.{one_more}
-use Rattle.enf_io.specs.Exchange.{Exchange, IsAtEnd, Marked, Took}
-use Rattle.enf_io.specs.Streams.{Stream}
 use Rattle.enforcer_core.specs.Answered.{Answered, ChangesLawfully}
 use Rattle.enforcer_core.specs.Enforcers.{Enforcing, acted_steps, plans_of}
 use Rattle.enforcer_core.specs.Existing.{JustOneFollowsPolicy, JustOneFollowsToEnd}
@@ -16,45 +13,37 @@ use Rattle.enforcer_core.specs.Transparency.{CourseIsTransparent, CourseIsTransp
 use Rattle.enforce_types.specs.PolicyLaws.{OnePlans}
 use Rattle.enforcer_core.specs.declared.steps.StepOut.{StepOut}
 use Rattle.formula_reader.specs.Resolution.{Rule}
-use Rattle.log_stream.specs.Logs.{BeginsWith, IsPending, IsTruncated, Refuses, behind_blanks}
-use Rattle.log_stream.specs.Readers.{Reader, fed}
+use Rattle.log_stream.specs.Logs.{BeginsWith, IsPending, behind_blanks}
+use Rattle.log_stream.specs.Readers.{Reader}
 use Rattle.log_stream.specs.declared.items.LogItem.{LogItem}
 use Rattle.log_stream.specs.declared.items.LogMode.TheVariants.{Input}
-use Rattle.log_stream.specs.declared.items.LogRefusal.TheVariants as refusals
 use Rattle.signature.specs.declared.entries.NameEntry.{NameEntry}
 use Rattle.trace_meaning.specs.Laws.{FrontIsGood, SatisfyingIsGood}
 use Rattle.trace_meaning.specs.Records.{Record, most_time, time_of}
 use Rattle.trace_meaning.specs.declared.kinds.StepKind.TheVariants.{System}
-use Rattle.enf_cli.specs.Accepted.{record_of}
-use Rattle.enf_cli.specs.Limits.{most_log_bytes, most_read_bytes}
+use Rattle.enf_cli.specs.Intakes.{EndsTurn, IsNewIntake, LosesBytes, RefusesNext, TakesMore, reads_in}
 use Rattle.enf_cli.specs.Lines.{CutsSteps, GivesSteps}
-use Rattle.enf_cli.specs.Logs.{IsFalling}
+use Rattle.enf_cli.specs.Readings.{record_of}
 use Rattle.enf_cli.specs.Seen.{Seen}
 use Rattle.enf_cli.specs.declared.endings.Cut.{Cut}
 use Rattle.enf_cli.specs.declared.endings.Cut.TheVariants as cuts
 use Rattle.enf_cli.specs.declared.log.Enforcement.{Enforcement}
-use Rattle.enf_cli.specs.declared.log.Next.{Next}
-use Rattle.enf_cli.specs.declared.log.Next.TheVariants as nexts
-use Rattle.enf_cli.specs.declared.log.Piece.{Piece}
-use Rattle.enf_cli.specs.declared.log.Piece.TheVariants as pieces
-use Rattle.enf_cli.specs.declared.log.Verdict.{Verdict}
-use Rattle.enf_cli.specs.declared.log.Verdict.TheVariants as verdicts
+use Rattle.enf_cli.specs.declared.intake.Next.{Next}
+use Rattle.enf_cli.specs.declared.intake.Next.TheVariants as nexts
+use Rattle.enf_cli.specs.declared.intake.Verdict.{Verdict}
 use Rattle.enf_cli.specs.declared.refusals.RecordRefusal.{RecordRefusal}
 use Rattle.enf_cli.specs.declared.refusals.RecordRefusal.TheVariants as records
 
--- the reader of a log under these entries, which has refused nothing, with a rest
+-- the reader of a log that is enforced, which has refused nothing, with a rest
 abbrev pub reads_on : List NameEntry → List ℕ → Reader
-reads_on entries rest = record { entries = entries; mode = Input; rest = rest; refused = None }
+reads_on entries rest = reads_in entries Input rest
 
 -- a log of which nothing was taken yet, under these entries, and an enforcer within the limits of saved states
 pub record IsNew (entries : List NameEntry) (log : Enforcement) : Type 0 where
-  pub reader : log.reader ≡ reads_on entries []
+  pub intake : IsNewIntake entries Input log.intake
   pub going : log.enforcer.stopped ≡ false
   pub clock : log.enforcer.clock ≤ most_time System
   pub position : log.enforcer.position < 2 ^ 63
-  pub accepted : log.accepted ≡ 0
-  pub taken : log.taken ≡ 0
-  pub room : length log.piece.items ≡ most_read_bytes
 
 -- an enforcer, and what is seen of the gate and the report, before a call or after it
 pub record Moment : Type 0 where
@@ -150,17 +139,11 @@ pub record WaitsForMore (entries : List NameEntry) (from to : Front) : Type 0 wh
   pub reader_is : to.reader ≡ reads_on entries (behind_blanks from.reader.rest)
   pub now : to.now ≡ from.now
 
--- why the record at the front is refused: by its reader, or since its time is below the clock
-abbrev pub RefusesNext : List NameEntry → List ℕ → ℕ → RecordRefusal → Type 0
-RefusesNext entries rest clock (records.Log why) = Refuses entries Input rest why
-RefusesNext entries rest clock (records.Falling given at) = (at ≡ clock) × IsFalling entries Input clock rest given
-RefusesNext entries rest clock records.InputLimit = ⊥
-
 abbrev pub AnswersNext : List NameEntry → List Rule → Next → Front → Front → Type 0
 AnswersNext entries rules nexts.Taken from to = TakesNext entries rules from to
 AnswersNext entries rules nexts.Pending from to = WaitsForMore entries from to
 AnswersNext entries rules (nexts.Refused why) from to =
-    RefusesNext entries from.reader.rest from.now.enforcer.clock why × (to.now ≡ from.now)
+    RefusesNext entries Input from.reader.rest from.now.enforcer.clock why × (to.now ≡ from.now)
 
 -- the answer of the record at the front was cut
 pub record CutsTaken (entries : List NameEntry) (rules : List Rule) (rest : List ℕ) (cut : Cut) (from : Moment)
@@ -175,121 +158,45 @@ CutsNext entries rules rest from seen cuts.WriteFault = CutsTaken entries rules 
 CutsNext entries rules rest from seen cuts.NoMemory =
     (seen ≡ from.seen) ⊎ CutsTaken entries rules rest cuts.NoMemory from seen
 
--- a read took these bytes, no more than one read may take, and no more than may still be taken
-pub record TakesBytes (left : ℕ) (bytes : List ℕ) (told told' : Option Exchange) : Type 0 where
-  pub took : Took bytes told told'
-  pub piece : length bytes ≤ most_read_bytes
-  pub within : length bytes ≤ left
-
--- a piece was taken and fed
-pub record TakesPiece (count left : ℕ) (reader reader' : Reader) (before after : Stream) : Type 0 where
-  pub bytes : List ℕ
-  pub takes : TakesBytes left bytes before.told after.told
-  pub count_is : length bytes ≡ count
-  pub some : 0 < count
-  pub fed_is : reader' ≡ fed reader bytes
-  pub reads : after.read_faults ≡ before.read_faults
-
--- what a read did, where so many bytes may still be taken; with none left there is no read
-abbrev pub ReadsPiece : Piece → ℕ → Reader → Reader → Stream → Stream → Type 0
-ReadsPiece (pieces.More count) left reader reader' before after = TakesPiece count left reader reader' before after
-ReadsPiece pieces.Ended left reader reader' before after =
-    (0 < left) × (reader' ≡ reader) × Took [] before.told after.told × IsAtEnd after.told
-    × (after.read_faults ≡ before.read_faults)
-ReadsPiece pieces.Fault left reader reader' before after =
-    (reader' ≡ reader) × Marked before.told after.told × (after.read_faults ≡ one_more before.read_faults)
-ReadsPiece pieces.Limit left reader reader' before after = (left ≡ 0) × (reader' ≡ reader) × (after ≡ before)
-
--- memory ran out at a read, or behind one
-abbrev pub LosesPiece : ℕ → Stream → Stream → Type 0
-LosesPiece left before after =
-    ((after.told ≡ before.told) ⊎ ((bytes : List ℕ) × TakesBytes left bytes before.told after.told))
-    × (after.read_faults ≡ before.read_faults)
-
--- what the end of the log makes of a rest that has no whole record
-abbrev pub JudgesEnd : List ℕ → Verdict → Type 0
-JudgesEnd rest verdict =
-    ((verdict ≡ verdicts.Accepted) × (behind_blanks rest ≡ []))
-    ⊎ ((verdict ≡ verdicts.Refused (records.Log refusals.Truncated)) × IsTruncated rest)
-
 -- a record was enforced
 pub record EnforcesOne (entries : List NameEntry) (rules : List Rule) (log log' : Enforcement) (before after : Seen)
     : Type 0 where
-  pub takes : TakesNext entries rules (front log.reader log.enforcer before) (front log'.reader log'.enforcer after)
-  pub accepted : log'.accepted ≡ log.accepted + 1
-  pub taken : log'.taken ≡ log.taken
-
--- a piece was taken
-pub record TakesMore (entries : List NameEntry) (log log' : Enforcement) (before after : Stream) : Type 0 where
-  pub pending : IsPending log.reader.rest
-  pub bytes : List ℕ
-  pub takes : TakesBytes (most_log_bytes - log.taken) bytes before.told after.told
-  pub some : 0 < length bytes
-  pub reader : log'.reader ≡ reads_on entries (behind_blanks log.reader.rest ++ bytes)
-  pub enforcer : log'.enforcer ≡ log.enforcer
-  pub accepted : log'.accepted ≡ log.accepted
-  pub taken : log'.taken ≡ log.taken + length bytes
-  pub reads : after.read_faults ≡ before.read_faults
-
--- a read met the end of the input
-pub record MeetsEnd (log : Enforcement) (before after : Stream) : Type 0 where
-  pub pending : IsPending log.reader.rest
-  pub took : Took [] before.told after.told
-  pub at_end : IsAtEnd after.told
-  pub below : log.taken < most_log_bytes
-  pub reads : after.read_faults ≡ before.read_faults
-
--- the device is as it was
-abbrev pub IsLeft : Stream → Stream → Type 0
-IsLeft before after = (after.told ≡ before.told) × (after.read_faults ≡ before.read_faults)
-
--- a turn ended by this refusal: of the record at the front, of one that the input ends within, or of any more bytes
-abbrev pub EndsByRefusal : List NameEntry → Enforcement → Stream → Stream → RecordRefusal → Type 0
-EndsByRefusal entries log before after why =
-    (RefusesNext entries log.reader.rest log.enforcer.clock why × IsLeft before after)
-    ⊎ (((why ≡ records.Log refusals.Truncated) × IsTruncated log.reader.rest × MeetsEnd log before after)
-    ⊎ ((why ≡ records.InputLimit) × IsPending log.reader.rest × (log.taken ≡ most_log_bytes)
-    × IsLeft before after))
-
-abbrev pub EndsTurn : List NameEntry → Enforcement → Stream → Stream → Verdict → Type 0
-EndsTurn entries log before after verdicts.Accepted =
-    (behind_blanks log.reader.rest ≡ []) × MeetsEnd log before after
-EndsTurn entries log before after verdicts.Fault =
-    IsPending log.reader.rest × Marked before.told after.told × (after.read_faults ≡ one_more before.read_faults)
-EndsTurn entries log before after (verdicts.Refused why) = EndsByRefusal entries log before after why
+  pub takes : TakesNext entries rules (front log.intake.reader log.enforcer before)
+      (front log'.intake.reader log'.enforcer after)
+  pub accepted : log'.intake.accepted ≡ log.intake.accepted + 1
+  pub taken : log'.intake.taken ≡ log.intake.taken
 
 -- no write was made, to the gate or to the report
 pub record WritesNothing (before after : Seen) : Type 0 where
   pub gate : after.gate.write_faults ≡ before.gate.write_faults
   pub report : after.report ≡ before.report
 
+-- a piece was taken, and the enforcer was left
+pub record EnforcesLater (entries : List NameEntry) (log log' : Enforcement) (before after : Seen) : Type 0 where
+  pub piece : TakesMore entries Input log.intake log'.intake before.gate after.gate
+  pub enforcer : log'.enforcer ≡ log.enforcer
+  pub nothing : WritesNothing before after
+
 abbrev pub AnswersTurn : List NameEntry → List Rule → Option Verdict → Enforcement → Enforcement → Seen → Seen → Type 0
 AnswersTurn entries rules None log log' before after =
-    EnforcesOne entries rules log log' before after
-    ⊎ (TakesMore entries log log' before.gate after.gate × WritesNothing before after)
+    EnforcesOne entries rules log log' before after ⊎ EnforcesLater entries log log' before after
 AnswersTurn entries rules (Some verdict) log log' before after =
-    (log'.accepted ≡ log.accepted) × (log'.enforcer ≡ log.enforcer) × WritesNothing before after
-    × EndsTurn entries log before.gate after.gate verdict
-
--- a piece was taken, and lost for want of memory
-pub record LosesBytes (log : Enforcement) (told told' : Option Exchange) : Type 0 where
-  pub pending : IsPending log.reader.rest
-  pub bytes : List ℕ
-  pub takes : TakesBytes (most_log_bytes - log.taken) bytes told told'
+    (log'.intake.accepted ≡ log.intake.accepted) × (log'.enforcer ≡ log.enforcer) × WritesNothing before after
+    × EndsTurn entries Input log.enforcer.clock log.intake before.gate after.gate verdict
 
 -- nothing was done for want of memory, but for a piece that was lost
 pub record LosesTurn (log : Enforcement) (before after : Seen) : Type 0 where
-  pub told : (after.gate.told ≡ before.gate.told) ⊎ LosesBytes log before.gate.told after.gate.told
+  pub told : (after.gate.told ≡ before.gate.told) ⊎ LosesBytes log.intake before.gate.told after.gate.told
   pub reads : after.gate.read_faults ≡ before.gate.read_faults
   pub nothing : WritesNothing before after
 
 -- the turn was cut: the lines for the record at the front were not all given, or nothing was done
 abbrev pub CutsTurn : List NameEntry → List Rule → Enforcement → Seen → Seen → Cut → Type 0
 CutsTurn entries rules log before after cuts.WriteFault =
-    CutsTaken entries rules log.reader.rest cuts.WriteFault (moment log.enforcer before) after
+    CutsTaken entries rules log.intake.reader.rest cuts.WriteFault (moment log.enforcer before) after
 CutsTurn entries rules log before after cuts.NoMemory =
     LosesTurn log before after
-    ⊎ CutsTaken entries rules log.reader.rest cuts.NoMemory (moment log.enforcer before) after
+    ⊎ CutsTaken entries rules log.intake.reader.rest cuts.NoMemory (moment log.enforcer before) after
 
 -- what is still owed at the end of the log was given
 pub record GivesDrain (entries : List NameEntry) (rules : List Rule) (from to : Moment) : Type 0 where

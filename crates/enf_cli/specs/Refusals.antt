@@ -96,3 +96,4 @@ code_of statuses.Record = 3
 code_of statuses.ReadFault = 4
 code_of statuses.WriteFault = 5
 code_of statuses.NoMemory = 6
+code_of statuses.Violated = 7

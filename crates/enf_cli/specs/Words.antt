@@ -25,9 +25,14 @@ IsEnforce words signature policy = words ≡ codes "enforce" ∷ signature ∷ p
 abbrev pub IsCheck : List (List ℕ) → List ℕ → List ℕ → Type 0
 IsCheck words signature policy = words ≡ codes "check" ∷ signature ∷ policy ∷ []
 
+-- `audit SIG POLICY`
+abbrev pub IsAudit : List (List ℕ) → List ℕ → List ℕ → Type 0
+IsAudit words signature policy = words ≡ codes "audit" ∷ signature ∷ policy ∷ []
+
 -- a form that names a signature and a policy
 abbrev pub NamesFiles : List (List ℕ) → List ℕ → List ℕ → Type 0
-NamesFiles words signature policy = IsEnforce words signature policy ⊎ IsCheck words signature policy
+NamesFiles words signature policy =
+    IsEnforce words signature policy ⊎ (IsCheck words signature policy ⊎ IsAudit words signature policy)
 
 -- `gen START N`
 pub record IsGenerate (words : List (List ℕ)) (start steps : ℕ) : Type 0 where
@@ -41,10 +46,12 @@ pub record IsGenerate (words : List (List ℕ)) (start steps : ℕ) : Type 0 whe
 abbrev pub Matches : List (List ℕ) → Form → Type 0
 Matches words (forms.Enforce signature policy) = IsEnforce words signature.now policy.now
 Matches words (forms.Check signature policy) = IsCheck words signature.now policy.now
+Matches words (forms.Audit signature policy) = IsAudit words signature.now policy.now
 Matches words (forms.Generate start steps) = IsGenerate words start steps
 
 -- the words match no form
 pub record MatchNoForm (words : List (List ℕ)) : Type 0 where
   pub enforce : (signature policy : List ℕ) → IsEnforce words signature policy → ⊥
   pub check : (signature policy : List ℕ) → IsCheck words signature policy → ⊥
+  pub audit : (signature policy : List ℕ) → IsAudit words signature policy → ⊥
   pub generate : (start steps : ℕ) → IsGenerate words start steps → ⊥

@@ -74,6 +74,13 @@ impl<W> From<IoRefusal> for FileEnding<W> {
     }
 }
 
+/// How the work of a run ends that is done: an audit may find that the log violates the policy.
+#[derive(Clone, Copy, Debug)]
+pub enum Finish {
+    Done,
+    Violated,
+}
+
 /// Why a run ends before it is done.
 #[derive(Debug, Drop)]
 pub enum Ending {

@@ -1,6 +1,6 @@
 //! The log: it is taken from the gate piece by piece, and all records that a piece completes are
 //! enforced, and their lines and those of their actions given, before the next read.
-ghost use Rattle.std.specs.Prelude.{◌≡◌, ◌≢◌, ◌<◌, ◌≤◌, ◌^◌, IfOk, IfErr, List, [], OnOk, OnErr};
+ghost use Rattle.std.specs.Prelude.{◌≡◌, ◌<◌, ◌≤◌, ◌^◌, IfOk, IfErr, List, [], OnOk};
 ghost use Rattle.std.specs.Prelude.{None, length};
 ghost use Rattle.formula_reader.specs.Resolution.{rules_of};
 ghost use Rattle.enf_value.specs.declared.steps.Step.{Step};
@@ -10,86 +10,42 @@ ghost use Rattle.enforcer_core.specs.Remembering.{most_positions};
 ghost use Rattle.enforcer_core.specs.Stands.{Stands};
 ghost use Rattle.enf_cli.specs.Owed.{HasPlans, setting_of};
 ghost use Rattle.enf_cli.specs.Limits.{most_log_bytes, most_read_bytes};
-ghost use Rattle.enf_cli.specs.Accepted.{record_of};
+ghost use Rattle.enf_cli.specs.Readings.{record_of};
 ghost use Rattle.enforce_types.specs.Marks.{is_causable, is_suppressible};
 ghost use Rattle.enforce_types.specs.Typed.{WorkTogether, typed_of};
 ghost use Rattle.enf_cli.specs.Logs.{CutsRun, RanAsJudged};
 ghost use Rattle.enf_cli.specs.Seen.{seen_of};
 ghost use Rattle.enf_cli.specs.Progress.{AnswersItem, AnswersNext, AnswersTurn, CutsDrain, CutsItem, CutsNext};
-ghost use Rattle.enf_cli.specs.Progress.{CutsTurn, GivesDrain, IsNew, JudgesEnd, Laws, LosesPiece, ReadsPiece};
+ghost use Rattle.enf_cli.specs.Progress.{CutsTurn, GivesDrain, IsNew, Laws};
 ghost use Rattle.enf_cli.specs.Progress.{TakesRecord, front, moment, reads_on};
-ghost use Rattle.enf_cli.specs.declared.refusals.RecordRefusal.TheVariants.{Log};
-ghost use Rattle.log_stream.specs.Logs.{IsPending};
-ghost use Rattle.log_stream.specs.declared.items.LogRefusal.TheVariants.{NoMemory as OutOfMemory};
 ghost use Rattle.trace_meaning.specs.Records.{most_time, time_of};
 ghost use Rattle.trace_meaning.specs.declared.kinds.StepKind.TheVariants.{System};
 
 use crate::endings::Cut;
+use crate::intake::{Intake, Judged, Next, Verdict, refusal_of};
 use crate::lines::{Names, write_steps};
 use crate::refusals::RecordRefusal;
-use enf_io::devices::{Gate, IoRefusal, Sink};
-use enf_value::{Duplicate, NoMemory};
+use enf_io::devices::{Gate, Sink};
+use enf_value::NoMemory;
 use enforce_types::TypedPolicy;
 use enforce_types::laws::policy_has_one_answer;
 use enforcer_core::enforcer::Enforcer;
 use enforcer_core::steps::{OutSteps, StepOut, StepRefusal};
 use enforcer_core::{existing, laws};
-use log_stream::{Found, LogItem, LogMode, LogReader, LogRefusal};
+use log_stream::{Found, LogItem, LogMode, LogReader};
 use signature::Signature;
 use std::alloc::Global;
-
-/// The greatest number of bytes that are taken of a log.
-pub const MOST_LOG_BYTES: usize = 1_099_511_627_776;
-
-/// The greatest number of bytes that one read asks for.
-pub const MOST_READ_BYTES: usize = 65_536;
 
 // How many bytes there is room for before a line is made, so that a usual one takes no memory.
 const USUAL_LINE_BYTES: usize = 256;
 
-/// What becomes of a log.
-#[derive(Clone, Copy, Debug)]
-pub enum Verdict {
-    Accepted,
-    /// The log was cut short by a read fault.
-    Fault,
-    Refused(RecordRefusal),
-}
-
-/// What becomes of a log behind so many accepted records.
-#[derive(Clone, Copy, Debug)]
-pub struct Judged {
-    pub accepted: u64,
-    pub verdict: Verdict,
-}
-
-// What becomes of the record at the front.
-enum Next {
-    Taken,
-    Pending,
-    Refused(RecordRefusal),
-}
-
-// What a read gave.
-enum Piece {
-    More { count: usize },
-    Ended,
-    Fault,
-    // As many bytes were taken as may be.
-    Limit,
-}
-
-/// A log that is enforced: how many of its records were accepted, and how many bytes taken.
+/// A log that is enforced.
 #[derive(Drop)]
 pub struct Enforcement {
-    reader: LogReader,
+    intake: Intake,
     enforcer: Enforcer,
-    // Where a read puts what it takes.
-    piece: Vec<u8>,
     // Where a line is made.
     line: Vec<u8>,
-    accepted: u64,
-    taken: usize,
 }
 
 impl Enforcement {
@@ -105,12 +61,9 @@ impl Enforcement {
         ensures stands { IfOk result (λ log. Stands log.enforcer []) }
     {
         Ok(Enforcement {
-            reader: LogReader::new(alloc, signature.duplicate(alloc)?, LogMode::Input),
+            intake: Intake::new(alloc, signature, LogMode::Input)?,
             enforcer: Enforcer::new(alloc, policy)?,
-            piece: vec![in alloc; 0; MOST_READ_BYTES]?,
             line: Vec::with_capacity(alloc, USUAL_LINE_BYTES)?,
-            accepted: 0,
-            taken: 0,
         })
     }
 }
@@ -145,7 +98,7 @@ pub fn enforce_log<G: Gate, R: Sink>(
         if let Some(verdict) = go_on(alloc, names, &mut log, gate, report)? {
             drain(alloc, names, &mut log.enforcer, &mut log.line, gate, report)?;
             return Ok(Judged {
-                accepted: log.accepted,
+                accepted: log.intake.accepted,
                 verdict,
             });
         }
@@ -199,12 +152,12 @@ fn go_on<G: Gate, R: Sink>(
     gate: &mut G,
     report: &mut R,
 ) -> Result<Option<Verdict>, Cut>
-    requires going { log.old.reader ≡ reads_on names.now.signature.now log.old.reader.rest }
-    requires taken { log.old.taken ≤ most_log_bytes }
-    requires count { log.old.accepted < 2 ^ 63 }
+    requires going { log.old.intake.reader ≡ reads_on names.now.signature.now log.old.intake.reader.rest }
+    requires taken { log.old.intake.taken ≤ most_log_bytes }
+    requires count { log.old.intake.accepted < 2 ^ 63 }
     requires position { log.old.enforcer.position < most_positions }
-    requires room { length log.old.piece.items ≡ most_read_bytes }
-    ensures room { length log.new.piece.items ≡ most_read_bytes }
+    requires room { length log.old.intake.piece.items ≡ most_read_bytes }
+    ensures room { length log.new.intake.piece.items ≡ most_read_bytes }
     ensures turn { IfOk result (λ verdict. AnswersTurn names.now.signature.now (rules_of names.now.policy.now)
         verdict log.old log.new
         (seen_of (G.seen gate.old) (R.seen report.old)) (seen_of (G.seen gate.new) (R.seen report.new))) }
@@ -214,70 +167,18 @@ fn go_on<G: Gate, R: Sink>(
     match enforce_next(
         alloc,
         names,
-        &mut log.reader,
+        &mut log.intake.reader,
         &mut log.enforcer,
         &mut log.line,
         gate,
         report,
     )? {
         Next::Taken => {
-            log.accepted += 1;
+            log.intake.accepted += 1;
             Ok(None)
         }
         Next::Refused(why) => Ok(Some(Verdict::Refused(why))),
-        Next::Pending => {
-            let left = MOST_LOG_BYTES - log.taken;
-            match take_piece(gate, &mut log.piece, left, &mut log.reader)? {
-                Piece::More { count } => {
-                    log.taken += count;
-                    Ok(None)
-                }
-                Piece::Ended => Ok(Some(judge_end(&mut log.reader))),
-                Piece::Fault => Ok(Some(Verdict::Fault)),
-                Piece::Limit => Ok(Some(Verdict::Refused(RecordRefusal::InputLimit))),
-            }
-        }
-    }
-}
-
-// Takes the next piece of the log and feeds it, unless none may be taken any more.
-#[inline(never)]
-fn take_piece<G: Gate>(
-    gate: &mut G,
-    piece: &mut [u8],
-    left: usize,
-    reader: &mut LogReader,
-) -> Result<Piece, NoMemory>
-    requires { length piece.old ≡ most_read_bytes }
-    ensures turn { IfOk result
-        (λ read. ReadsPiece read left reader.old reader.new (G.seen gate.old) (G.seen gate.new)) }
-    ensures lost { OnErr result (LosesPiece left (G.seen gate.old) (G.seen gate.new)) }
-    ensures writes { (G.seen gate.new).write_faults ≡ (G.seen gate.old).write_faults }
-{
-    if left == 0 {
-        return Ok(Piece::Limit);
-    }
-    let most = piece.len().min(left);
-    match gate.read(&mut piece[..most]) {
-        Ok(0) => Ok(Piece::Ended),
-        Ok(count) => {
-            reader.feed(&piece[..count])?;
-            Ok(Piece::More { count })
-        }
-        Err(IoRefusal::Failed) => Ok(Piece::Fault),
-        Err(IoRefusal::NoMemory) => Err(NoMemory),
-    }
-}
-
-// What the end of the log makes of what was fed, where no whole record is left.
-fn judge_end(reader: &mut LogReader) -> Verdict
-    requires pending { IsPending reader.old.rest }
-    requires going { reader.old.refused ≡ None }
-    ensures { JudgesEnd reader.old.rest result }
-{
-    match reader.end() {
-        Ok(()) => Verdict::Accepted,
-        Err(refusal) => Verdict::Refused(RecordRefusal::Log(refusal)),
+        Next::Pending => Ok(log.intake.take_more(gate)?),
     }
 }
 
@@ -368,15 +269,5 @@ fn take_item(alloc: Global, enforcer: &mut Enforcer, item: LogItem) -> Result<St
     match item {
         LogItem::Step { time, events, .. } => enforcer.step(alloc, time, events),
         LogItem::Tick { time } => enforcer.tick(alloc, time),
-    }
-}
-
-// What a refusal of the log's reader says of a record; want of memory says nothing of it.
-fn refusal_of(refusal: LogRefusal) -> Result<RecordRefusal, NoMemory>
-    ensures { IfOk result (λ why. (why ≡ Log refusal) × (refusal ≢ OutOfMemory)) }
-{
-    match refusal {
-        LogRefusal::NoMemory => Err(NoMemory),
-        _ => Ok(RecordRefusal::Log(refusal)),
     }
 }

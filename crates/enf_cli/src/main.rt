@@ -3,10 +3,12 @@
 //! `main` makes the standard streams and the files and ends with the status that it answers.
 #![tactic(auto)]
 
+mod auditing;
 mod checking;
 mod endings;
 mod files;
 mod generating;
+mod intake;
 mod lines;
 mod log;
 mod refusals;

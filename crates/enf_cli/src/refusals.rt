@@ -20,7 +20,7 @@ const USAGE: &[u8] =
 const MORE_USAGE: &[u8] = b" | audit SIG POLICY | gen START N | drill START N\n";
 
 /// How a run ended: 0 done, 1 the words match no form, 2 the signature or the policy is refused,
-/// 3 a record is refused, 4 a read fault, 5 a write fault, 6 no memory.
+/// 3 a record is refused, 4 a read fault, 5 a write fault, 6 no memory, 7 an audited log violates the policy.
 #[derive(Clone, Copy, Debug, PartialEq, Eq)]
 pub enum Status {
     Done = 0,
@@ -30,6 +30,7 @@ pub enum Status {
     ReadFault = 4,
     WriteFault = 5,
     NoMemory = 6,
+    Violated = 7,
 }
 
 impl Status {

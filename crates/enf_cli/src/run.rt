@@ -6,23 +6,27 @@ ghost use Rattle.enf_cli.specs.Dues.{Dues};
 ghost use Rattle.enf_cli.specs.Headline.{Headline};
 ghost use Rattle.enf_cli.specs.Logs.{conclusion_of};
 ghost use Rattle.enf_cli.specs.Outcomes.{Outcome, Performs};
-ghost use Rattle.enf_cli.specs.Words.{IsCheck, IsEnforce};
+ghost use Rattle.enf_cli.specs.Words.{IsAudit, IsCheck, IsEnforce};
 
+use crate::auditing::{audit_log, finish_of, write_verdict};
 use crate::checking::give_check;
-use crate::endings::Ending;
+use crate::endings::{Ending, Finish};
 use crate::files::{read_policy, read_signature};
 use crate::generating::give_log;
+use crate::intake::{Judged, Verdict};
 use crate::lines::Names;
-use crate::log::{Enforcement, Judged, Verdict, enforce_log};
+use crate::log::{Enforcement, enforce_log};
 use crate::refusals::{Refusal, Status};
 use crate::reporting::report_ending;
 use crate::words::{Form, form_of};
 use enf_io::devices::{Files, Gate, Sink};
 use std::alloc::Global;
+use trace_audit::laws::{verdict_is_of_policy, verdict_is_one};
 
 /// Does what the words ask for: `enforce SIG POLICY` takes the log from the gate and gives the
-/// enforced log to it, `check SIG POLICY` gives what is to be said of the policy, `gen START N` gives
-/// a generated log. The report says each action that `enforce` takes, and why a run ends early.
+/// enforced log to it, `check SIG POLICY` gives what is to be said of the policy, `audit SIG POLICY`
+/// takes a whole log and gives the verdict on it, `gen START N` gives a generated log. The report says
+/// each action that `enforce` takes, and why a run ends early.
 pub fn run<G: Gate, F: Files, R: Sink>(
     alloc: Global,
     words: &[String],
@@ -48,8 +52,10 @@ pub fn run<G: Gate, F: Files, R: Sink>(
     formula_reader::laws::one_text_answer();
     log_stream::laws::one_answer();
     enforce_types::laws::accepted_is_not_refused();
+    verdict_is_one();
     match perform(alloc, words, gate, files, report) {
-        Ok(()) => Status::Done,
+        Ok(Finish::Done) => Status::Done,
+        Ok(Finish::Violated) => Status::Violated,
         Err(ending) => report_ending(&ending, report),
     }
 }
@@ -61,7 +67,7 @@ fn perform<G: Gate, F: Files, R: Sink>(
     gate: &mut G,
     files: &mut F,
     report: &mut R,
-) -> Result<(), Ending>
+) -> Result<Finish, Ending>
     ensures { (after : Stream) → Performs (call_of words.now
         (devices gate.old (G.seen gate.old) (F.seen files.old) (R.seen report.old))
         (devices gate.new (G.seen gate.new) (F.seen files.new) after)) (R.seen report.new) result }
@@ -71,7 +77,11 @@ fn perform<G: Gate, F: Files, R: Sink>(
             enforce(alloc, signature, policy, gate, files, report)
         }
         Some(Form::Check { signature, policy }) => check(alloc, signature, policy, gate, files),
-        Some(Form::Generate { start, steps }) => Ok(give_log(alloc, start, steps, gate)?),
+        Some(Form::Audit { signature, policy }) => audit(alloc, signature, policy, gate, files),
+        Some(Form::Generate { start, steps }) => {
+            give_log(alloc, start, steps, gate)?;
+            Ok(Finish::Done)
+        }
         None => Err(Ending::Refused(Refusal::Words)),
     }
 }
@@ -84,7 +94,7 @@ fn enforce<G: Gate, F: Files, R: Sink>(
     gate: &mut G,
     files: &mut F,
     report: &mut R,
-) -> Result<(), Ending>
+) -> Result<Finish, Ending>
     ensures { (words : List (List ℕ)) (after : Stream) →
         IsEnforce words signature_file.now policy_file.now →
         Performs (record {
@@ -102,7 +112,7 @@ fn enforce<G: Gate, F: Files, R: Sink>(
     };
     let judged = enforce_log(alloc, &names, log, gate, report)?;
     conclude(judged)?;
-    Ok(())
+    Ok(Finish::Done)
 }
 
 // Gives what is to be said of the policy.
@@ -112,7 +122,7 @@ fn check<G: Gate, F: Files>(
     policy_file: &str,
     gate: &mut G,
     files: &mut F,
-) -> Result<(), Ending>
+) -> Result<Finish, Ending>
     ensures { (words : List (List ℕ)) (report after : Stream) →
         IsCheck words signature_file.now policy_file.now →
         Performs (record {
@@ -124,7 +134,33 @@ fn check<G: Gate, F: Files>(
     let signature = read_signature(alloc, files, signature_file)?;
     let accepted = read_policy(alloc, files, policy_file, &signature)?;
     let rules = accepted.policy.rules.as_slice();
-    Ok(give_check(alloc, &signature, rules, &accepted.typed, gate)?)
+    give_check(alloc, &signature, rules, &accepted.typed, gate)?;
+    Ok(Finish::Done)
+}
+
+// Audits the log that the gate gives, and gives the verdict on it.
+fn audit<G: Gate, F: Files>(
+    alloc: Global,
+    signature_file: &str,
+    policy_file: &str,
+    gate: &mut G,
+    files: &mut F,
+) -> Result<Finish, Ending>
+    ensures { (words : List (List ℕ)) (report after : Stream) →
+        IsAudit words signature_file.now policy_file.now →
+        Performs (record {
+          words = words;
+          before = devices gate.old (G.seen gate.old) (F.seen files.old) report;
+          after = devices gate.new (G.seen gate.new) (F.seen files.new) after;
+        }) report result }
+{
+    verdict_is_of_policy();
+    let signature = read_signature(alloc, files, signature_file)?;
+    let accepted = read_policy(alloc, files, policy_file, &signature)?;
+    let audited = audit_log(alloc, &signature, &accepted.typed, gate)?;
+    conclude(audited.judged)?;
+    write_verdict(audited.found, &accepted.policy, gate)?;
+    Ok(finish_of(audited.found))
 }
 
 // What the judgement of the log makes of a run.

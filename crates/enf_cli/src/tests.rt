@@ -1,4 +1,5 @@
 //! Runs over devices in memory, and what they leave.
+mod audits;
 mod calm;
 mod checking;
 mod examples;

@@ -21,6 +21,8 @@ pub enum Form<'a> {
     Enforce { signature: &'a str, policy: &'a str },
     /// `check SIG POLICY`
     Check { signature: &'a str, policy: &'a str },
+    /// `audit SIG POLICY`
+    Audit { signature: &'a str, policy: &'a str },
     /// `gen START N`
     Generate { start: u32, steps: u32 },
 }
@@ -83,6 +85,10 @@ fn form_of_three<'a>(command: &str, first: &'a str, second: &'a str) -> Option<F
             policy: second,
         }),
         "check" => Some(Form::Check {
+            signature: first,
+            policy: second,
+        }),
+        "audit" => Some(Form::Audit {
             signature: first,
             policy: second,
         }),

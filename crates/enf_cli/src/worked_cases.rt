@@ -4,7 +4,7 @@ ghost use Rattle.enf_cli.specs.Actions.{IsFrontOf};
 ghost use Rattle.enf_cli.specs.Cases.{erase, erase_ranked, other_ranked};
 ghost use Rattle.enf_cli.specs.Checking.{check_text};
 ghost use Rattle.enf_cli.specs.Limits.{most_log_bytes, most_read_bytes};
-ghost use Rattle.enf_cli.specs.declared.log.TheConstants.{MOST_LOG_BYTES, MOST_READ_BYTES};
+ghost use Rattle.enf_cli.specs.declared.intake.TheConstants.{MOST_LOG_BYTES, MOST_READ_BYTES};
 ghost use Rattle.log_gen.specs.Samples.{sample_entries};
 ghost use Rattle.enf_value.specs.declared.limits.TheConstants.{MOST_COLUMNS, MOST_FILE_BYTES, MOST_NAME_BYTES};
 ghost use Rattle.enf_value.specs.declared.limits.TheConstants.{MOST_NAMES, MOST_TEXT_BYTES};

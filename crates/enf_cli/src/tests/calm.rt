@@ -79,6 +79,17 @@ pub fn check_words(alloc: Global) -> Result<[String; 3], NoMemory>
     ])
 }
 
+/// The words `audit sig pol`.
+pub fn audit_words(alloc: Global) -> Result<[String; 3], NoMemory>
+    ensures { IfOk result (λ words. NamesFiles (texts words) (codes "sig") (codes "pol")) }
+{
+    Ok([
+        String::from_str(alloc, "audit")?,
+        String::from_str(alloc, "sig")?,
+        String::from_str(alloc, "pol")?,
+    ])
+}
+
 /// The words of a line, with a blank between them.
 pub fn words_of(alloc: Global, line: &str) -> Result<Vec<String>, NoMemory> {
     let mut words = Vec::new(alloc);
@@ -125,6 +136,19 @@ pub fn enforced(
     pieces: Vec<usize>,
 ) -> Result<Outcome, NoMemory> {
     let words = enforce_words(alloc)?;
+    let gate = CalmGate::new(alloc, Vec::from_slice(alloc, log)?, pieces);
+    ran(alloc, &words, signature, policy, gate)
+}
+
+/// Audits the log, which comes in pieces of these sizes.
+pub fn audited(
+    alloc: Global,
+    signature: &[u8],
+    policy: &[u8],
+    log: &[u8],
+    pieces: Vec<usize>,
+) -> Result<Outcome, NoMemory> {
+    let words = audit_words(alloc)?;
     let gate = CalmGate::new(alloc, Vec::from_slice(alloc, log)?, pieces);
     ran(alloc, &words, signature, policy, gate)
 }

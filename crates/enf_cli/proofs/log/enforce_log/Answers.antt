@@ -17,11 +17,11 @@ loop-log-init g c =
     let new = c.requires.new in
     record {
       bytes = [];
-      count = new.taken;
-      most = omega (arith, new.taken);
-      left = omega (arith, new.accepted, ap (λ (r : Reader). length r.rest) new.reader);
-      reader = new.reader ∙ (λ i. reads_on c.args.names.now.signature.now (sym (ap (λ (r : Reader). r.rest) new.reader) i));
-      room = new.room;
+      count = new.intake.taken;
+      most = omega (arith, new.intake.taken);
+      left = omega (arith, new.intake.accepted, ap (λ (r : Reader). length r.rest) new.intake.reader);
+      reader = new.intake.reader ∙ (λ i. reads_on c.args.names.now.signature.now (sym (ap (λ (r : Reader). r.rest) new.intake.reader) i));
+      room = new.intake.room;
       limits = limits_none c.args.names.now.signature.now c.args.log new;
       done = done_none c.args.names.now.signature.now (rules_of c.args.names.now.policy.now) c.args.log laws (c.requires.permits, c.requires.together) (seen_of (g.G.Sink.seen c.args.gate.now) (g.R.Sink.seen c.args.report.now)) new;
     }
@@ -65,7 +65,7 @@ returns-in_err-drain-clause-cut g c trace built stands =
     let ended = ends_log c.args.names.now.signature.now (rules_of c.args.names.now.policy.now) c.args.log.enforcer trace laws (c.requires.permits, c.requires.together) built (seen_of (g.G.Sink.seen c.args.gate.now) (g.R.Sink.seen c.args.report.now)) old inv.bytes (seen_of (g.G.Sink.seen c.loop-log.gate) (g.R.Sink.seen c.loop-log.report)) between
     (inv.done trace built stands) inv.count inv.left turn.2 c.in-Some.verdict turn.3 in
     let drained = subst (λ (e : Enforcing). CutsDrain c.args.names.now.signature.now (rules_of c.args.names.now.policy.now) (moment e between) after cut) turn.1 c.in_err-drain.ensures.cut in
-    rw (p.1, p.2) (cut_drain c.args.names.now.signature.now (rules_of c.args.names.now.policy.now) c.args.log.enforcer trace laws (c.requires.permits, c.requires.together) built (seen_of (g.G.Sink.seen c.args.gate.now) (g.R.Sink.seen c.args.report.now)) inv.bytes old.reader.rest old.accepted old.enforcer c.in-Some.verdict between after
+    rw (p.1, p.2) (cut_drain c.args.names.now.signature.now (rules_of c.args.names.now.policy.now) c.args.log.enforcer trace laws (c.requires.permits, c.requires.together) built (seen_of (g.G.Sink.seen c.args.gate.now) (g.R.Sink.seen c.args.report.now)) inv.bytes old.intake.reader.rest old.intake.accepted old.enforcer c.in-Some.verdict between after
     ended cut drained)
 
 pub returns-in-Some-clause-ran : goal.returns-in-Some-clause-ran
@@ -80,6 +80,6 @@ returns-in-Some-clause-ran g c trace built stands =
     let ended = ends_log c.args.names.now.signature.now (rules_of c.args.names.now.policy.now) c.args.log.enforcer trace laws (c.requires.permits, c.requires.together) built (seen_of (g.G.Sink.seen c.args.gate.now) (g.R.Sink.seen c.args.report.now)) old inv.bytes (seen_of (g.G.Sink.seen c.loop-log.gate) (g.R.Sink.seen c.loop-log.report)) between
     (inv.done trace built stands) inv.count inv.left turn.2 verdict turn.3 in
     let drained = subst (λ (e : Enforcing). GivesDrain c.args.names.now.signature.now (rules_of c.args.names.now.policy.now) (moment e between) (moment c.drain.new.enforcer after)) turn.1 c.in_ok-drain.ensures.drained in
-    let judged = ran_judged c.args.names.now.signature.now (rules_of c.args.names.now.policy.now) c.args.log.enforcer trace laws (c.requires.permits, c.requires.together) built (seen_of (g.G.Sink.seen c.args.gate.now) (g.R.Sink.seen c.args.report.now)) inv.bytes old.reader.rest old.accepted old.enforcer verdict between after
+    let judged = ran_judged c.args.names.now.signature.now (rules_of c.args.names.now.policy.now) c.args.log.enforcer trace laws (c.requires.permits, c.requires.together) built (seen_of (g.G.Sink.seen c.args.gate.now) (g.R.Sink.seen c.args.report.now)) inv.bytes old.intake.reader.rest old.intake.accepted old.enforcer verdict between after
     ended c.drain.new.enforcer drained in
     subst (λ (n : ℕ). RanAsJudged (setting_of c.args.names.now.signature.now (rules_of c.args.names.now.policy.now) c.args.log.enforcer trace) (record { accepted = n; verdict = verdict }) (seen_of (g.G.Sink.seen c.args.gate.now) (g.R.Sink.seen c.args.report.now)) after) (sym turn.0) judged

@@ -12,14 +12,14 @@ invariant-loop-log g l =
     let report = g.R.Sink.seen in
     record {
       bytes : List ℕ;
-      count : l.log.taken ≡ length bytes;
-      most : l.log.taken ≤ most_log_bytes;
-      left : l.log.accepted + length l.log.reader.rest ≤ l.log.taken;
-      reader : l.log.reader ≡ reads_on l.names.signature.now l.log.reader.rest;
-      room : length l.log.piece.items ≡ most_read_bytes;
+      count : l.log.intake.taken ≡ length bytes;
+      most : l.log.intake.taken ≤ most_log_bytes;
+      left : l.log.intake.accepted + length l.log.intake.reader.rest ≤ l.log.intake.taken;
+      reader : l.log.intake.reader ≡ reads_on l.names.signature.now l.log.intake.reader.rest;
+      room : length l.log.intake.piece.items ≡ most_read_bytes;
       limits : IsWithinLimits l.log;
       done : Done l.names.signature.now (rules_of l.names.policy.now) l.fn.log.enforcer (seen_of (gate l.fn.gate) (report l.fn.report)) bytes l.log (seen_of (gate l.gate) (report l.report));
     }
 
 abbrev pub decreases-loop-log : goal.decreases-loop-log
-decreases-loop-log g l = 2 * (most_log_bytes - l.log.taken) + length l.log.reader.rest
+decreases-loop-log g l = 2 * (most_log_bytes - l.log.intake.taken) + length l.log.intake.reader.rest

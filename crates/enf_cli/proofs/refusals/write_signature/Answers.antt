@@ -1,12 +1,9 @@
-use Rattle.std.proofs.Common.{List, ℕ, ◌++◌, ◌∙◌, ap, append_assoc, codes, decimal, sym, subst, ◌≡◌}
+use Rattle.std.proofs.Common.{List, ℕ, ◌++◌, ◌∙◌, ap, codes, decimal, sym, subst}
 use Rattle.signature.specs.declared.refusals.SignatureRefusal.{SignatureRefusal as TextRefusal}
 use Rattle.enf_cli.specs.Refusals.{text_of_signature}
 use Rattle.enf_cli.specs.Reports.{WritesText}
+use Rattle.enf_cli.proofs.PieceLemmas.{five_pieces}
 use Rattle.enf_cli.proofs.refusals.write_signature.Goals as goal
-
--- five pieces, one after another
-five_pieces : (a b c d e : List ℕ) → a ++ (b ++ (c ++ (d ++ e))) ≡ (((a ++ b) ++ c) ++ d) ++ e
-five_pieces a b c d e = sym (simp append_assoc)
 
 pub returns-in-Repeated : goal.returns-in-Repeated
 returns-in-Repeated g c =

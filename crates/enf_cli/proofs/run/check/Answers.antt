@@ -1,4 +1,4 @@
-use Rattle.std.proofs.Common.{List, ◌∙◌, Err, Ok, inr, map, refl, subst}
+use Rattle.std.proofs.Common.{List, ◌∙◌, Err, Ok, inl, inr, map, refl, subst}
 use Rattle.std.proofs.lemmas.Result.{err_from_is_err_and}
 use Rattle.enf_io.specs.FileCalls.{FileView}
 use Rattle.enforce_types.specs.Typed.{typed_of}
@@ -13,7 +13,7 @@ use Rattle.enf_cli.proofs.run.check.Goals as goal
 pub returns-in_err-signature : goal.returns-in_err-signature
 returns-in_err-signature g c words report after form =
     let p = err_from_is_err_and c.from_residual.result c.from_residual.ensures.1 in
-    rw (p.1, p.2) (signature_ends _ report c.args.signature_file.now c.args.policy_file.now (inr form) refl c.in_err-signature.field-0.0 refl refl c.in_err-signature.ensures.ends)
+    rw (p.1, p.2) (signature_ends _ report c.args.signature_file.now c.args.policy_file.now (inr (inl form)) refl c.in_err-signature.field-0.0 refl refl c.in_err-signature.ensures.ends)
 
 pub returns-in_err-accepted : goal.returns-in_err-accepted
 returns-in_err-accepted g c words report after form =
@@ -21,7 +21,7 @@ returns-in_err-accepted g c words report after form =
     let entries = c.in_ok-signature.signature in
     let name = c.args.policy_file.now in
     let ends = subst (λ (v : FileView). EndsFile (HoldsRefusedPolicy v.contents name entries) name v (g.F.Files.seen c.read_policy.new.files) c.in_err-accepted.field-0.0) c.in_ok-signature.ensures.same c.in_err-accepted.ensures.ends in
-    rw (p.1, p.2) (policy_ends _ report c.args.signature_file.now name (inr form) refl entries c.in_err-accepted.field-0.0 refl refl c.in_ok-signature.ensures.held ends)
+    rw (p.1, p.2) (policy_ends _ report c.args.signature_file.now name (inr (inl form)) refl entries c.in_err-accepted.field-0.0 refl refl c.in_ok-signature.ensures.held ends)
 
 pub returns-in_err-give_check : goal.returns-in_err-give_check
 returns-in_err-give_check g c words report after form =
@@ -43,4 +43,4 @@ returns g c words report after form =
     let policy = rules_of accepted.policy in
     let holds = subst (λ (v : FileView). HoldsPolicy v.contents c.args.policy_file.now entries policy) first c.in_ok-accepted.ensures.held in
     let text = subst (λ (rules : List Rule). WritesText {T = Unit {0}} (check_text entries (map rule_of rules) accepted.typed.ranked) (Ok tt) (g.G.Sink.seen c.args.gate.now) (g.G.Sink.seen c.give_check.new.sink)) c.as_slice-rules.ensures c.in_ok-give_check.ensures in
-    inr (check_done _ report c.args.signature_file.now c.args.policy_file.now form entries policy c.in_ok-signature.ensures.held holds (typed_of accepted.typed) c.in_ok-accepted.ensures.typed (c.in_ok-accepted.ensures.same ∙ first) refl text)
+    inr (inl (check_done _ report c.args.signature_file.now c.args.policy_file.now form entries policy c.in_ok-signature.ensures.held holds (typed_of accepted.typed) c.in_ok-accepted.ensures.typed (c.in_ok-accepted.ensures.same ∙ first) refl text))
