@@ -1,7 +1,8 @@
 -- What is asked is met where its denial is false, and what two residuals ask for together.
-use Rattle.std.proofs.Common.{ℕ, ◌<◌, ◌≤◌, Bool, true, false, List, length, refl, sym, arith, ⊎_elim, true≢false}
+use Rattle.std.proofs.Common.{ℕ, ◌<◌, ◌≤◌, Bool, true, false, List, [], ◌∷◌, ◌++◌, length, refl, sym, arith, ⊎_elim, true≢false}
 use Rattle.std.specs.Prelude.{◌↔◌, IsTrue}
 use Rattle.std.proofs.lemmas.Bool.{cases_lt}
+use Rattle.enf_value.specs.ListLaws.{AllByRecursion-append, AllByRecursion-of_append}
 use Rattle.enf_value.specs.Valuations.{Valuation}
 use Rattle.enf_value.specs.declared.steps.Step.{Step}
 use Rattle.enf_formula.specs.Formulas.{Formula}
@@ -10,7 +11,7 @@ use Rattle.enf_formula.specs.Satisfaction.{Classically, Sat}
 use Rattle.plan_terms.specs.PlanFormula.{formula_for}
 use Rattle.plan_terms.specs.Plans.{Plan, Cause, Suppress, Both, Either, TestOr, Guarded, Eventually, Always}
 use Rattle.plan_terms.specs.Plans.{Until, Next, plan_of}
-use Rattle.trace_audit.specs.Residuals.{Asks, IsAllOf, IsAnyOf, Means, Or}
+use Rattle.trace_audit.specs.Residuals.{Asks, CanGoOn, IsAllOf, IsAllOfThem, IsAnyOf, Means, Or}
 use Rattle.trace_audit.specs.declared.residuals.Residual.{Residual}
 use Rattle.trace_audit.specs.declared.residuals.Residual.TheVariants as stored
 
@@ -63,6 +64,27 @@ all_with_met left = record { means = λ trace from. (λ m. (m, tt), λ m. m.0); 
 
 pub all_with_failed : (left : Residual) → IsAllOf left stored.Failed stored.Failed
 all_with_failed left = record { means = λ trace from. (λ m. absurd m, λ m. m.1); can = λ guards l r. tt }
+
+-- ---- all of some
+
+pub all_of_none : IsAllOfThem [] stored.Met
+all_of_none = record { means = λ trace from. (λ m. tt, λ m. tt); can = λ guards all. tt }
+
+pub all_of_one : (rest : Residual) → IsAllOfThem (rest ∷ []) rest
+all_of_one rest = record { means = λ trace from. (λ m. (m, tt), λ all. all.0); can = λ guards all. all.0 }
+
+pub all_of_both : (front back : List Residual) (left right rest : Residual) → IsAllOfThem front left
+    → IsAllOfThem back right → IsAllOf left right rest → IsAllOfThem (front ++ back) rest
+all_of_both front back left right rest on_left on_right both = record {
+  means = λ trace from. (
+    λ m. let parts = (both.means trace from).0 m in
+        AllByRecursion-append (λ r. Means trace from r) front back ((on_left.means trace from).0 parts.0) ((on_right.means trace from).0 parts.1),
+    λ all. let parts = AllByRecursion-of_append (λ r. Means trace from r) front back all in
+        (both.means trace from).1 ((on_left.means trace from).1 parts.0, (on_right.means trace from).1 parts.1),
+  );
+  can = λ guards all. let parts = AllByRecursion-of_append (λ r. CanGoOn guards r) front back all in
+      both.can guards (on_left.can guards parts.0) (on_right.can guards parts.1);
+}
 
 -- ---- one of two
 

@@ -15,8 +15,8 @@ use Rattle.plan_terms.specs.PlanFormula.{formula_for}
 use Rattle.plan_terms.specs.Plans.{Plan, Cause, Suppress, TestOr, Eventually, Always}
 use Rattle.plan_terms.specs.Plans.{Until, Next, plan_of}
 use Rattle.trace_audit.specs.Asking.{CanAsk}
-use Rattle.trace_audit.specs.Presents.{IsAt, IsBegun, Moment, Tells, guards_at}
-use Rattle.trace_audit.specs.Residuals.{Asks, AsksFor, HoldsFor, IsAllOf, IsAnyOf, IsSettled, Or}
+use Rattle.trace_audit.specs.Presents.{IsAt, IsBegun, Moment, Tells, TellsAll, guards_at}
+use Rattle.trace_audit.specs.Residuals.{Asks, AsksFor, CanGoOn, HoldsFor, IsAllOf, IsAllOfThem, IsAnyOf, IsSettled, Means, Or}
 use Rattle.trace_audit.specs.declared.residuals.Residual.{Residual}
 use Rattle.trace_audit.specs.declared.residuals.Residual.TheVariants as stored
 use Rattle.trace_audit.specs.declared.residuals.Waiting.{Waiting}
@@ -72,20 +72,57 @@ module _ (now : Moment) where
     can = one.can (guards_at now.tables) on_left.can on_right.can;
   }
 
-  -- what is asked under one row more
-  pub tells_row : (P : List Value → List Step → Type 0) (rows : List (List Value)) (k : ℕ) (row : List Value) → k < length rows
-      → row ≡ get_or rows k row → (before next rest : Residual)
-      → Tells now (λ trace. AllByRecursion (λ r. P r trace) (take k rows)) before → Tells now (P row) next
-      → IsAllOf before next rest → Tells now (λ trace. AllByRecursion (λ r. P r trace) (take (k + 1) rows)) rest
-  tells_row P rows k row within at before next rest first one both =
-      let more : take (k + 1) rows ≡ take k rows ++ row ∷ [] = take_more rows k row within ∙ ap (λ r. take k rows ++ r ∷ []) (sym at) in
-      tells_as (λ trace. AllByRecursion (λ r. P r trace) (take k rows) × P row trace) (λ trace. AllByRecursion (λ r. P r trace) (take (k + 1) rows)) rest
-      (λ trace is. (
-        λ all. let parts = AllByRecursion-of_append (λ r. P r trace) (take k rows) (row ∷ []) (subst (AllByRecursion (λ r. P r trace)) more all) in
-            (parts.0, parts.1.0),
-        λ all. subst (AllByRecursion (λ r. P r trace)) (sym more) (AllByRecursion-append (λ r. P r trace) (take k rows) (row ∷ []) all.0 (all.1, tt)),
-      ))
-      (tells_all (λ trace. AllByRecursion (λ r. P r trace) (take k rows)) (P row) before next rest first one both)
+  -- ---- under rows
+
+  pub tells_all_of : (P : List Step → Type 0) (parts : List Residual) (rest : Residual) → TellsAll now P parts
+      → IsAllOfThem parts rest → Tells now P rest
+  tells_all_of P parts rest tells all = record {
+    means = λ trace is. (
+      λ p. (all.means trace (now.position + 1)).1 ((tells.means trace is).0 p),
+      λ m. (tells.means trace is).1 ((all.means trace (now.position + 1)).0 m),
+    );
+    can = all.can (guards_at now.tables) tells.can;
+  }
+
+  module _ (P : List Value → List Step → Type 0) (rows : List (List Value)) (k : ℕ) (row : List Value) (within : k < length rows)
+      (at : row ≡ get_or rows k row) (parts : List Residual)
+      (before : TellsAll now (λ trace. AllByRecursion (λ r. P r trace) (take k rows)) parts) where
+    more : take (k + 1) rows ≡ take k rows ++ row ∷ []
+    more = take_more rows k row within ∙ ap (λ r. take k rows ++ r ∷ []) (sym at)
+
+    split : (trace : List Step) → AllByRecursion (λ r. P r trace) (take (k + 1) rows)
+        → AllByRecursion (λ r. P r trace) (take k rows) × P row trace
+    split trace all =
+        let both = AllByRecursion-of_append (λ r. P r trace) (take k rows) (row ∷ []) (subst (AllByRecursion (λ r. P r trace)) more all) in
+        (both.0, both.1.0)
+
+    join : (trace : List Step) → AllByRecursion (λ r. P r trace) (take k rows) → P row trace
+        → AllByRecursion (λ r. P r trace) (take (k + 1) rows)
+    join trace front last = subst (AllByRecursion (λ r. P r trace)) (sym more) (AllByRecursion-append (λ r. P r trace) (take k rows) (row ∷ []) front (last, tt))
+
+    -- what is asked under one row more
+    pub tells_row : (next : Residual) → Tells now (P row) next
+        → TellsAll now (λ trace. AllByRecursion (λ r. P r trace) (take (k + 1) rows)) (parts ++ next ∷ [])
+    tells_row next one = record {
+      means = λ trace is. (
+        λ all. let both = split trace all in
+            AllByRecursion-append (λ r. Means trace (now.position + 1) r) parts (next ∷ []) ((before.means trace is).0 both.0) ((one.means trace is).0 both.1, tt),
+        λ all. let both = AllByRecursion-of_append (λ r. Means trace (now.position + 1) r) parts (next ∷ []) all in
+            join trace ((before.means trace is).1 both.0) ((one.means trace is).1 both.1.0),
+      );
+      can = AllByRecursion-append (λ r. CanGoOn (guards_at now.tables) r) parts (next ∷ []) before.can (one.can, tt);
+    }
+
+    -- nothing, where it is met
+    pub tells_row_met : Tells now (P row) stored.Met
+        → TellsAll now (λ trace. AllByRecursion (λ r. P r trace) (take (k + 1) rows)) parts
+    tells_row_met one = record {
+      means = λ trace is. (
+        λ all. (before.means trace is).0 (split trace all).0,
+        λ all. join trace ((before.means trace is).1 all) ((one.means trace is).1 tt),
+      );
+      can = before.can;
+    }
 
   -- ---- plans
 

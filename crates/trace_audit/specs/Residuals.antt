@@ -1,5 +1,6 @@
 -- What is still asked of the positions of a trace from one on.
 use Rattle.std.specs.Prelude.{◌≡◌, ◌↔◌, ℕ, ◌<◌, ◌≤◌, Bool, true, false, List, length}
+use Rattle.std.specs.List.{AllByRecursion}
 use Rattle.enf_value.specs.Data.{step_at}
 use Rattle.enf_value.specs.Valuations.{Valuation}
 use Rattle.enf_value.specs.declared.steps.Step.{Step}
@@ -75,6 +76,13 @@ pub record IsAllOf (left right rest : Residual) : Type 0 where
   pub means : (trace : List Step) (from : ℕ)
       → Means trace from rest ↔ (Means trace from left × Means trace from right)
   pub can : (guards : List (Formula × List VarId)) → CanGoOn guards left → CanGoOn guards right → CanGoOn guards rest
+
+-- it asks for all of some
+pub record IsAllOfThem (parts : List Residual) (rest : Residual) : Type 0 where
+  pub means : (trace : List Step) (from : ℕ)
+      → Means trace from rest ↔ AllByRecursion (λ part. Means trace from part) parts
+  pub can : (guards : List (Formula × List VarId)) → AllByRecursion (λ part. CanGoOn guards part) parts
+      → CanGoOn guards rest
 
 -- it asks for one of two
 pub record IsAnyOf (left right rest : Residual) : Type 0 where

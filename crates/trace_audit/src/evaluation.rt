@@ -15,7 +15,7 @@ ghost use Rattle.trace_audit.specs.Presents.{IsBegun, Tells, guards_at, moment_o
 ghost use Rattle.trace_audit.specs.Residuals.{AsksFor, CanGoOn, HoldsFor, Means};
 
 use crate::present::Present;
-use crate::residuals::{Residual, Waiting, all, any, settled};
+use crate::residuals::{Residual, Waiting, all, all_of, any, settled};
 use enf_formula::laws::is_classical;
 use enf_value::memory::NoMemory;
 use plan_terms::Plan;
@@ -94,13 +94,15 @@ fn evaluate_under<'p, 'a>(
     ensures { IfOk result (Tells (moment_of now.now) (λ trace. AllByRecursion (λ row. HoldsFor trace
         (filled (bound_in v.now) rows.now.columns row) (plan_of body.now) now.now.position) rows.now.rows)) }
 {
-    let mut rest = Residual::Met;
+    let mut parts = Vec::new(alloc);
     for row in rows.rows() {
         let inner = Frame::Row(&*v, rows.columns().as_slice(), row.as_slice());
-        let next = evaluate(alloc, body, &inner, now)?;
-        rest = all(alloc, rest, next)?;
+        match evaluate(alloc, body, &inner, now)? {
+            Residual::Met => {}
+            rest => parts.push(rest)?,
+        }
     }
-    Ok(rest)
+    all_of(alloc, parts)
 }
 
 // What is still asked where an operator that waits comes to the step.
@@ -185,28 +187,33 @@ fn begin<'p>(
     })
 }
 
-// What is still asked where the steps up to the one that is looked at are over.
+// What is still asked where the steps up to the one that is looked at are over. What nests deeper than so many levels
+// finds no memory.
 pub fn progress<'p>(
     alloc: Global,
     rest: Residual<'p>,
+    levels: u32,
     now: &Present<'_>,
 ) -> Result<Residual<'p>, NoMemory>
     requires can { CanGoOn (guards_at now.now.tables.now) rest }
     requires in_time { now.now.time ≤ most_time Inserted }
     ensures { IfOk result (Tells (moment_of now.now) (λ trace. Means trace now.now.position rest.entry)) }
 {
+    if levels == 0 {
+        return Err(NoMemory);
+    }
     match rest {
         Residual::Met => Ok(Residual::Met),
         Residual::Failed => Ok(Residual::Failed),
         Residual::Waits(waiting) => wake(alloc, waiting, now),
         Residual::All(left, right) => {
-            let left = progress(alloc, Box::into_inner(left), now)?;
-            let right = progress(alloc, Box::into_inner(right), now)?;
+            let left = progress(alloc, Box::into_inner(left), levels - 1, now)?;
+            let right = progress(alloc, Box::into_inner(right), levels - 1, now)?;
             all(alloc, left, right)
         }
         Residual::Any(left, right) => {
-            let left = progress(alloc, Box::into_inner(left), now)?;
-            let right = progress(alloc, Box::into_inner(right), now)?;
+            let left = progress(alloc, Box::into_inner(left), levels - 1, now)?;
+            let right = progress(alloc, Box::into_inner(right), levels - 1, now)?;
             any(alloc, left, right)
         }
     }

@@ -1,7 +1,7 @@
 //! What is still asked of the steps to come.
 ghost use Rattle.std.specs.Prelude.{◌↔◌, IfOk, IsTrue, List, length};
 ghost use Rattle.enf_value.specs.declared.steps.Step.{Step};
-ghost use Rattle.trace_audit.specs.Residuals.{IsAllOf, IsAnyOf, IsSettled, Means};
+ghost use Rattle.trace_audit.specs.Residuals.{IsAllOf, IsAllOfThem, IsAnyOf, IsSettled, Means};
 
 use enf_formula::laws::is_classical;
 use enf_value::memory::NoMemory;
@@ -57,6 +57,22 @@ pub fn all<'p>(
             }
         },
     }
+}
+
+// What asks for all of some, in halves, so that many do not nest deep.
+pub fn all_of<'p>(alloc: Global, mut parts: Vec<Residual<'p>>) -> Result<Residual<'p>, NoMemory>
+    ensures { IfOk result (IsAllOfThem parts.entry.items) }
+{
+    if parts.len() < 2 {
+        return match parts.pop() {
+            Some(rest) => Ok(rest),
+            None => Ok(Residual::Met),
+        };
+    }
+    let back = parts.split_off(parts.len() / 2)?;
+    let left = all_of(alloc, parts)?;
+    let right = all_of(alloc, back)?;
+    all(alloc, left, right)
 }
 
 // What asks for one of both.
