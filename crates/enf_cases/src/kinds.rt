@@ -6,8 +6,9 @@ use crate::output::Output;
 use crate::parts::find;
 use crate::running::Way;
 use crate::{
-    arguments, audits, beginnings, enforcing, evaluations, event_sets, guards, holds, intervals,
-    logs, long_runs, past, policies, reports, signatures, tables, typing, values, window_runs,
+    arguments, audits, beginnings, cursor_lists, enforcing, evaluations, event_sets, guards, holds,
+    intervals, logs, long_runs, past, policies, reports, signatures, tables, typing, values,
+    window_runs,
 };
 use log_stream::LogMode;
 use std::alloc::Global;
@@ -20,6 +21,7 @@ pub enum Kind {
     Compare,
     Interval,
     Events,
+    CursorList,
     Signature,
     Policy,
     Check,
@@ -40,12 +42,13 @@ pub enum Kind {
     Long,
 }
 
-static KINDS: [(&[u8], Kind); 29] = [
+static KINDS: [(&[u8], Kind); 30] = [
     (b"text", Kind::Text),
     (b"value", Kind::Value),
     (b"compare", Kind::Compare),
     (b"interval", Kind::Interval),
     (b"events", Kind::Events),
+    (b"list", Kind::CursorList),
     (b"signature", Kind::Signature),
     (b"policy", Kind::Policy),
     (b"check", Kind::Check),
@@ -90,6 +93,7 @@ pub fn answer_kind(
         Kind::Compare => values::answer_compare(alloc, input, out),
         Kind::Interval => intervals::answer(input, out),
         Kind::Events => event_sets::answer(alloc, input, out),
+        Kind::CursorList => cursor_lists::answer(alloc, input, out),
         Kind::Signature => signatures::answer(alloc, input, out),
         Kind::Policy => policies::answer(alloc, input, out),
         Kind::Check => typing::answer(alloc, input, out),

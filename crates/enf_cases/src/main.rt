@@ -8,6 +8,7 @@ mod arguments;
 mod audits;
 mod beginnings;
 mod case;
+mod cursor_lists;
 mod enforcing;
 mod escapes;
 mod evaluations;
