@@ -145,10 +145,8 @@ module _ (policy : List Formula) (trace : List Step) (from : ℕ) where
         (claim_failed before.asked.items before.broken early first (rule, of_rule, λ holds. means.0 (sat.1 holds)) judged)
     claim_put rule (stored.Waits w) before after of_rule early first sat means puts judged =
         put_asked rule (stored.Waits w) before after of_rule early sat means puts judged
-    claim_put rule (stored.All' p left q right) before after of_rule early first sat means puts judged =
-        put_asked rule (stored.All' p left q right) before after of_rule early sat means puts judged
-    claim_put rule (stored.Any' p left q right) before after of_rule early first sat means puts judged =
-        put_asked rule (stored.Any' p left q right) before after of_rule early sat means puts judged
+    claim_put rule (stored.Chain' shape links) before after of_rule early first sat means puts judged =
+        put_asked rule (stored.Chain' shape links) before after of_rule early sat means puts judged
 
   -- where less else is known
   pub judged_weaker : (end : RuleAt) (Rest Others : RuleAt → Type 0) → ((at : RuleAt) → Others at → Rest at)
@@ -398,7 +396,5 @@ pub can_put : (guards : List (Formula × List VarId)) (at : RuleAt) (rest : Resi
 can_put guards at stored.Met before after can puts all = subst (λ (a : Followed). CanFollow guards a.asked.items) (sym puts) all
 can_put guards at stored.Failed before after can puts all = subst (λ (a : Followed). CanFollow guards a.asked.items) (sym puts) all
 can_put guards at (stored.Waits w) before after can puts all = can_more guards at (stored.Waits w) before after can puts.0 all
-can_put guards at (stored.All' p left q right) before after can puts all =
-    can_more guards at (stored.All' p left q right) before after can puts.0 all
-can_put guards at (stored.Any' p left q right) before after can puts all =
-    can_more guards at (stored.Any' p left q right) before after can puts.0 all
+can_put guards at (stored.Chain' shape links) before after can puts all =
+    can_more guards at (stored.Chain' shape links) before after can puts.0 all

@@ -1,18 +1,24 @@
 -- What is asked is met where its denial is false, and what two residuals ask for together.
-use Rattle.std.proofs.Common.{ℕ, ◌<◌, ◌≤◌, Bool, true, false, List, [], ◌∷◌, ◌++◌, length, refl, sym, arith, ⊎_elim, true≢false}
+use Rattle.std.proofs.Common.{◌≡◌, ℕ, ◌<◌, ◌≤◌, Bool, true, false, ◌+◌, List, [], ◌∷◌, ◌++◌, length, take, get_or, refl, sym, ap, ◌∙◌, subst, arith, ⊎_elim, true≢false, Vec, Global}
 use Rattle.std.specs.Prelude.{◌↔◌, IsTrue}
+use Rattle.std.specs.List.{AllByRecursion}
 use Rattle.std.proofs.lemmas.Bool.{cases_lt}
-use Rattle.enf_value.specs.ListLaws.{AllByRecursion-append, AllByRecursion-of_append}
+use Rattle.std.proofs.lemmas.List.{take_more}
+use Rattle.enf_value.specs.ListLaws.{AllByRecursion-append}
 use Rattle.enf_value.specs.Valuations.{Valuation}
 use Rattle.enf_value.specs.declared.steps.Step.{Step}
+use Rattle.enf_value.specs.declared.terms.VarId.{VarId}
 use Rattle.enf_formula.specs.Formulas.{Formula}
 use Rattle.enf_formula.specs.Laws.{IsStable}
 use Rattle.enf_formula.specs.Satisfaction.{Classically, Sat}
 use Rattle.plan_terms.specs.PlanFormula.{formula_for}
 use Rattle.plan_terms.specs.Plans.{Plan, Cause, Suppress, Both, Either, TestOr, Guarded, Eventually, Always}
 use Rattle.plan_terms.specs.Plans.{Until, Next, plan_of}
-use Rattle.trace_audit.specs.Residuals.{Asks, CanGoOn, IsAllOf, IsAllOfThem, IsAnyOf, Means, Or}
-use Rattle.trace_audit.specs.declared.residuals.Residual.{Residual}
+use Rattle.trace_audit.specs.Residuals.{Asks, CanGoOn, CanLinkGoOn, CanRowGoOn, IsAllOf, IsAnyOf, IsHung, LinkMeans, LinksMean, Means, Or, RowMeans}
+use Rattle.trace_audit.specs.declared.residuals.Link.{Link}
+use Rattle.trace_audit.specs.declared.residuals.Link.TheBlock.{hidden-the_row-Link-0}
+use Rattle.trace_audit.specs.declared.residuals.Link.TheVariants as link
+use Rattle.trace_audit.specs.declared.residuals.Residual.{Residual, Row_of-Link, end_of-Link, more_of-Link, items-the_row-Link, items_hidden-the_row-Link-0}
 use Rattle.trace_audit.specs.declared.residuals.Residual.TheVariants as stored
 
 stable_less : (a b : ℕ) → Classically (a < b) → a < b
@@ -23,6 +29,10 @@ stable_most a b twice = ⊎_elim (λ more. absurd (twice (λ most. omega (arith,
 
 abbrev pub IsClassical : Type 0
 IsClassical = (trace : List Step) (i : ℕ) (v : Valuation) (f : Formula) → IsStable (Sat trace i v f)
+
+abbrev rest_of : Link → Residual
+rest_of (link.Both rest) = rest
+rest_of (link.Either rest) = rest
 
 module _ (classical : IsClassical) (trace : List Step) (from : ℕ) where
   stable_asks : (plan : Plan) (v : Valuation) (low high : ℕ) → Classically (Asks trace from plan v low high)
@@ -43,13 +53,112 @@ module _ (classical : IsClassical) (trace : List Step) (from : ℕ) where
     classical trace from v (formula_for body) (λ fails. twice (λ met. fails met.2)),
   )
 
-  pub stable : (rest : Residual) → Classically (Means trace from rest) → Means trace from rest
-  stable stored.Met twice = tt
-  stable stored.Failed twice = twice (λ means. means)
-  stable (stored.Waits w) twice = stable_asks (plan_of w.node.now) w.valuation w.low w.high twice
-  stable (stored.All' p left q right) twice =
-      (stable left (λ no. twice (λ met. no met.0)), stable right (λ no. twice (λ met. no met.1)))
-  stable (stored.Any' p left q right) twice = λ not_left not_right. twice (λ met. met not_left not_right)
+  -- what two links or more ask for is met where its denial is false, if that is so for each of them
+  abbrev ArePartsStable : {n : _} → Row_of-Link n → Type 0
+  ArePartsStable end_of-Link = Unit {0}
+  ArePartsStable (more_of-Link one row) =
+      (Classically (Means trace from (rest_of one)) → Means trace from (rest_of one)) × ArePartsStable row
+
+  stable_link : (one : Link) → (Classically (Means trace from (rest_of one)) → Means trace from (rest_of one)) → (P : Type 0)
+      → (Classically P → P) → Classically (LinkMeans trace from P one) → LinkMeans trace from P one
+  stable_link (link.Both rest) of_rest P of_first twice =
+      (of_first (λ no. twice (λ met. no met.0)), of_rest (λ no. twice (λ met. no met.1)))
+  stable_link (link.Either rest) of_rest P of_first twice = λ not_first not_rest. twice (λ met. met not_first not_rest)
+
+  stable_row : {n : _} (row : Row_of-Link n) → ArePartsStable row → (P : Type 0) → (Classically P → P)
+      → Classically (RowMeans trace from P row) → RowMeans trace from P row
+  stable_row end_of-Link parts P of_first twice = of_first twice
+  stable_row (more_of-Link one row) parts P of_first twice =
+      stable_row row parts.1 (LinkMeans trace from P one) (stable_link one parts.0 P of_first) twice
+
+  mutual
+    pub stable : (rest : Residual) → Classically (Means trace from rest) → Means trace from rest
+    stable stored.Met twice = tt
+    stable stored.Failed twice = twice (λ means. means)
+    stable (stored.Waits w) twice = stable_asks (plan_of w.node.now) w.valuation w.low w.high twice
+    stable (stored.Chain' shape links) twice = stable_row links (stable_parts links) (Unit {0}) (λ never. tt) twice
+
+    stable_part : (one : Link) → Classically (Means trace from (rest_of one)) → Means trace from (rest_of one)
+    stable_part (link.Both rest) = stable rest
+    stable_part (link.Either rest) = stable rest
+
+    stable_parts : {n : _} (row : Row_of-Link n) → ArePartsStable row
+    stable_parts end_of-Link = tt
+    stable_parts (more_of-Link one row) = (stable_part one, stable_parts row)
+
+-- ---- links
+
+pub both_ways : (P Q R : Type 0) → P ↔ Q → Q ↔ R → P ↔ R
+both_ways P Q R first second = (λ p. second.0 (first.0 p), λ r. first.1 (second.1 r))
+
+module _ (trace : List Step) (from : ℕ) where
+  row_listed : {n : _} (P : Type 0) (row : Row_of-Link n)
+      → RowMeans trace from P row ↔ LinksMean trace from P (items-the_row-Link n row)
+  row_listed P end_of-Link = (λ met. met, λ met. met)
+  row_listed P (more_of-Link one row) = row_listed (LinkMeans trace from P one) row
+
+  -- a chain asks for what its links ask for
+  pub chain_means : (links : Vec Link Global)
+      → Means trace from (stored.Chain links) ↔ LinksMean trace from (Unit {0}) links.items
+  chain_means links = subst (λ items. Means trace from (stored.Chain links) ↔ LinksMean trace from (Unit {0}) items)
+      (items_hidden-the_row-Link-0 links) (row_listed (Unit {0}) (hidden-the_row-Link-0 links))
+
+  pub link_same : (P Q : Type 0) → P ↔ Q → (one : Link) → LinkMeans trace from P one ↔ LinkMeans trace from Q one
+  link_same P Q same (link.Both rest) = (λ met. (same.0 met.0, met.1), λ met. (same.1 met.0, met.1))
+  link_same P Q same (link.Either rest) = (
+    λ met no_first no_rest. met (λ p. no_first (same.0 p)) no_rest,
+    λ met no_first no_rest. met (λ q. no_first (same.1 q)) no_rest,
+  )
+
+  pub links_more : (P : Type 0) (links : List Link) (one : Link)
+      → LinksMean trace from P (links ++ one ∷ []) ↔ LinkMeans trace from (LinksMean trace from P links) one
+  links_more P [] one = (λ met. met, λ met. met)
+  links_more P (first ∷ links) one = links_more (LinkMeans trace from P first) links one
+
+  -- what is met so far, with one link more
+  pub link_more : (met : Bool) (links : List Link) (k : ℕ) (one : Link) → k < length links → one ≡ get_or links k one
+      → IsTrue met ↔ LinksMean trace from (Unit {0}) (take k links) → (more : Bool)
+      → IsTrue more ↔ LinkMeans trace from (IsTrue met) one
+      → IsTrue more ↔ LinksMean trace from (Unit {0}) (take (k + 1) links)
+  link_more met links k one within at so_far more told =
+      subst (λ taken. IsTrue more ↔ LinksMean trace from (Unit {0}) taken)
+      (sym (take_more links k one within ∙ ap (λ x. take k links ++ x ∷ []) (sym at)))
+      (both_ways _ _ _ told (both_ways _ _ _
+      (link_same (IsTrue met) (LinksMean trace from (Unit {0}) (take k links)) so_far one)
+      (let m = links_more (Unit {0}) (take k links) one in (m.1, m.0))))
+
+module _ (guards : List (Formula × List VarId)) where
+  row_can : {n : _} (row : Row_of-Link n)
+      → CanRowGoOn guards row ↔ AllByRecursion (CanLinkGoOn guards) (items-the_row-Link n row)
+  row_can end_of-Link = (λ can. tt, λ can. tt)
+  row_can (more_of-Link one row) =
+      let behind = row_can row in (λ can. (can.0, behind.0 can.1), λ can. (can.0, behind.1 can.1))
+
+  pub chain_can : (links : Vec Link Global)
+      → CanGoOn guards (stored.Chain links) ↔ AllByRecursion (CanLinkGoOn guards) links.items
+  chain_can links = subst (λ items. CanGoOn guards (stored.Chain links) ↔ AllByRecursion (CanLinkGoOn guards) items)
+      (items_hidden-the_row-Link-0 links) (row_can (hidden-the_row-Link-0 links))
+
+pub hung_on_chain : (links after : Vec Link Global) (one : Link) → after.items ≡ links.items ++ one ∷ []
+    → IsHung (stored.Chain links) one (stored.Chain after)
+hung_on_chain links after one more = record {
+  means = λ trace from. both_ways _ _ _ (chain_means trace from after)
+      (subst (λ items. LinksMean trace from (Unit {0}) items ↔ LinkMeans trace from (Means trace from (stored.Chain links)) one) (sym more)
+      (both_ways _ _ _ (links_more trace from (Unit {0}) links.items one)
+      (link_same trace from _ _ (let m = chain_means trace from links in (m.1, m.0)) one)));
+  can = λ guards can_links can_one. (chain_can guards after).1 (subst (AllByRecursion (CanLinkGoOn guards)) (sym more)
+      (AllByRecursion-append (CanLinkGoOn guards) links.items (one ∷ []) ((chain_can guards links).0 can_links) (can_one, tt)));
+}
+
+pub hung_on_one : (rest : Residual) (after : Vec Link Global) (one : Link) → after.items ≡ link.Both rest ∷ one ∷ []
+    → IsHung rest one (stored.Chain after)
+hung_on_one rest after one two = record {
+  means = λ trace from. both_ways _ _ _ (chain_means trace from after)
+      (subst (λ items. LinksMean trace from (Unit {0}) items ↔ LinkMeans trace from (Means trace from rest) one) (sym two)
+      (link_same trace from (Unit {0} × Means trace from rest) (Means trace from rest) (λ met. met.1, λ met. (tt, met)) one));
+  can = λ guards can_rest can_one. (chain_can guards after).1
+      (subst (AllByRecursion (CanLinkGoOn guards)) (sym two) (can_rest, (can_one, tt)));
+}
 
 -- ---- both of two
 
@@ -65,28 +174,21 @@ all_with_met left = record { means = λ trace from. (λ m. (m, tt), λ m. m.0); 
 pub all_with_failed : (left : Residual) → IsAllOf left stored.Failed stored.Failed
 all_with_failed left = record { means = λ trace from. (λ m. absurd m, λ m. m.1); can = λ guards l r. tt }
 
--- ---- all of some
-
-pub all_of_none : IsAllOfThem [] stored.Met
-all_of_none = record { means = λ trace from. (λ m. tt, λ m. tt); can = λ guards all. tt }
-
-pub all_of_one : (rest : Residual) → IsAllOfThem (rest ∷ []) rest
-all_of_one rest = record { means = λ trace from. (λ m. (m, tt), λ all. all.0); can = λ guards all. all.0 }
-
-pub all_of_both : (front back : List Residual) (left right rest : Residual) → IsAllOfThem front left
-    → IsAllOfThem back right → IsAllOf left right rest → IsAllOfThem (front ++ back) rest
-all_of_both front back left right rest on_left on_right both = record {
-  means = λ trace from. (
-    λ m. let parts = (both.means trace from).0 m in
-        AllByRecursion-append (λ r. Means trace from r) front back ((on_left.means trace from).0 parts.0) ((on_right.means trace from).0 parts.1),
-    λ all. let parts = AllByRecursion-of_append (λ r. Means trace from r) front back all in
-        (both.means trace from).1 ((on_left.means trace from).1 parts.0, (on_right.means trace from).1 parts.1),
-  );
-  can = λ guards all. let parts = AllByRecursion-of_append (λ r. CanGoOn guards r) front back all in
-      both.can guards (on_left.can guards parts.0) (on_right.can guards parts.1);
+pub all_turned : (left right rest : Residual) → IsAllOf left right rest → IsAllOf right left rest
+all_turned left right rest both = record {
+  means = λ trace from. let m = both.means trace from in
+      (λ met. let parts = m.0 met in (parts.1, parts.0), λ parts. m.1 (parts.1, parts.0));
+  can = λ guards l r. both.can guards r l;
 }
 
 -- ---- one of two
+
+pub any_turned : (left right rest : Residual) → IsAnyOf left right rest → IsAnyOf right left rest
+any_turned left right rest one = record {
+  means = λ trace from. let m = one.means trace from in
+      (λ met no_right no_left. m.0 met no_left no_right, λ met. m.1 (λ no_left no_right. met no_right no_left));
+  can = λ guards l r. one.can guards r l;
+}
 
 pub any_of_met : (right : Residual) → IsAnyOf stored.Met right stored.Met
 any_of_met right = record { means = λ trace from. (λ m not_left not_right. not_left tt, λ m. tt); can = λ guards l r. tt }
@@ -111,6 +213,8 @@ any_with_failed classical left = record {
   );
   can = λ guards l r. l;
 }
+
+-- ---- what is met or not
 
 -- where the first of two does not hold, the second decides
 pub second_decides : (b : Bool) (P Q : Type 0) → (P → ⊥) → IsTrue b ↔ Q → Or P Q → IsTrue b

@@ -15,12 +15,14 @@ use Rattle.plan_terms.specs.PlanFormula.{formula_for}
 use Rattle.plan_terms.specs.Plans.{Plan, Cause, Suppress, TestOr, Eventually, Always}
 use Rattle.plan_terms.specs.Plans.{Until, Next, plan_of}
 use Rattle.trace_audit.specs.Asking.{CanAsk}
-use Rattle.trace_audit.specs.Presents.{IsAt, IsBegun, Moment, Tells, TellsAll, guards_at}
-use Rattle.trace_audit.specs.Residuals.{Asks, AsksFor, CanGoOn, HoldsFor, IsAllOf, IsAllOfThem, IsAnyOf, IsSettled, Means, Or}
+use Rattle.trace_audit.specs.Presents.{IsAt, IsBegun, Moment, Tells, guards_at}
+use Rattle.trace_audit.specs.Residuals.{Asks, AsksFor, HoldsFor, IsAllOf, IsAnyOf, IsSettled, LinksMean, Means, Or}
+use Rattle.trace_audit.specs.declared.residuals.Link.{Link}
+use Rattle.trace_audit.specs.declared.residuals.Link.TheVariants as link
 use Rattle.trace_audit.specs.declared.residuals.Residual.{Residual}
 use Rattle.trace_audit.specs.declared.residuals.Residual.TheVariants as stored
 use Rattle.trace_audit.specs.declared.residuals.Waiting.{Waiting}
-use Rattle.trace_audit.proofs.ResidualLemmas.{IsClassical}
+use Rattle.trace_audit.proofs.ResidualLemmas.{IsClassical, all_turned, any_turned, links_more}
 use Rattle.trace_audit.proofs.WindowLemmas.{always_begun, always_early, always_now, always_over, eventually_begun, eventually_early, eventually_now, eventually_over}
 use Rattle.trace_audit.proofs.WindowLemmas.{next_begun, until_begun, until_early, until_now, until_over}
 
@@ -72,57 +74,43 @@ module _ (now : Moment) where
     can = one.can (guards_at now.tables) on_left.can on_right.can;
   }
 
-  -- ---- under rows
+  -- what a chain asks for with one link more
+  pub tells_both : (links : List Link) (next before told rest : Residual)
+      → Tells now (λ trace. LinksMean trace now.position (Unit {0}) links) before
+      → Tells now (λ trace. Means trace now.position next) told → IsAllOf before told rest
+      → Tells now (λ trace. LinksMean trace now.position (Unit {0}) (links ++ link.Both next ∷ [])) rest
+  tells_both links next before told rest first one both =
+      tells_as (λ trace. LinksMean trace now.position (Unit {0}) links × Means trace now.position next)
+      (λ trace. LinksMean trace now.position (Unit {0}) (links ++ link.Both next ∷ [])) rest
+      (λ trace is. links_more trace now.position (Unit {0}) links (link.Both next))
+      (tells_all (λ trace. LinksMean trace now.position (Unit {0}) links) (λ trace. Means trace now.position next)
+      before told rest first one both)
 
-  pub tells_all_of : (P : List Step → Type 0) (parts : List Residual) (rest : Residual) → TellsAll now P parts
-      → IsAllOfThem parts rest → Tells now P rest
-  tells_all_of P parts rest tells all = record {
-    means = λ trace is. (
-      λ p. (all.means trace (now.position + 1)).1 ((tells.means trace is).0 p),
-      λ m. (tells.means trace is).1 ((all.means trace (now.position + 1)).0 m),
-    );
-    can = all.can (guards_at now.tables) tells.can;
-  }
+  pub tells_either : (links : List Link) (next before told rest : Residual)
+      → Tells now (λ trace. LinksMean trace now.position (Unit {0}) links) before
+      → Tells now (λ trace. Means trace now.position next) told → IsAnyOf before told rest
+      → Tells now (λ trace. LinksMean trace now.position (Unit {0}) (links ++ link.Either next ∷ [])) rest
+  tells_either links next before told rest first one either =
+      tells_as (λ trace. Or (LinksMean trace now.position (Unit {0}) links) (Means trace now.position next))
+      (λ trace. LinksMean trace now.position (Unit {0}) (links ++ link.Either next ∷ [])) rest
+      (λ trace is. links_more trace now.position (Unit {0}) links (link.Either next))
+      (tells_any (λ trace. LinksMean trace now.position (Unit {0}) links) (λ trace. Means trace now.position next)
+      before told rest first one either)
 
-  module _ (P : List Value → List Step → Type 0) (rows : List (List Value)) (k : ℕ) (row : List Value) (within : k < length rows)
-      (at : row ≡ get_or rows k row) (parts : List Residual)
-      (before : TellsAll now (λ trace. AllByRecursion (λ r. P r trace) (take k rows)) parts) where
-    more : take (k + 1) rows ≡ take k rows ++ row ∷ []
-    more = take_more rows k row within ∙ ap (λ r. take k rows ++ r ∷ []) (sym at)
-
-    split : (trace : List Step) → AllByRecursion (λ r. P r trace) (take (k + 1) rows)
-        → AllByRecursion (λ r. P r trace) (take k rows) × P row trace
-    split trace all =
-        let both = AllByRecursion-of_append (λ r. P r trace) (take k rows) (row ∷ []) (subst (AllByRecursion (λ r. P r trace)) more all) in
-        (both.0, both.1.0)
-
-    join : (trace : List Step) → AllByRecursion (λ r. P r trace) (take k rows) → P row trace
-        → AllByRecursion (λ r. P r trace) (take (k + 1) rows)
-    join trace front last = subst (AllByRecursion (λ r. P r trace)) (sym more) (AllByRecursion-append (λ r. P r trace) (take k rows) (row ∷ []) front (last, tt))
-
-    -- what is asked under one row more
-    pub tells_row : (next : Residual) → Tells now (P row) next
-        → TellsAll now (λ trace. AllByRecursion (λ r. P r trace) (take (k + 1) rows)) (parts ++ next ∷ [])
-    tells_row next one = record {
-      means = λ trace is. (
-        λ all. let both = split trace all in
-            AllByRecursion-append (λ r. Means trace (now.position + 1) r) parts (next ∷ []) ((before.means trace is).0 both.0) ((one.means trace is).0 both.1, tt),
-        λ all. let both = AllByRecursion-of_append (λ r. Means trace (now.position + 1) r) parts (next ∷ []) all in
-            join trace ((before.means trace is).1 both.0) ((one.means trace is).1 both.1.0),
-      );
-      can = AllByRecursion-append (λ r. CanGoOn (guards_at now.tables) r) parts (next ∷ []) before.can (one.can, tt);
-    }
-
-    -- nothing, where it is met
-    pub tells_row_met : Tells now (P row) stored.Met
-        → TellsAll now (λ trace. AllByRecursion (λ r. P r trace) (take (k + 1) rows)) parts
-    tells_row_met one = record {
-      means = λ trace is. (
-        λ all. (before.means trace is).0 (split trace all).0,
-        λ all. join trace ((before.means trace is).1 all) ((one.means trace is).1 tt),
-      );
-      can = before.can;
-    }
+  -- what is asked under one row more
+  pub tells_row : (P : List Value → List Step → Type 0) (rows : List (List Value)) (k : ℕ) (row : List Value) → k < length rows
+      → row ≡ get_or rows k row → (before next rest : Residual)
+      → Tells now (λ trace. AllByRecursion (λ r. P r trace) (take k rows)) before → Tells now (P row) next
+      → IsAllOf before next rest → Tells now (λ trace. AllByRecursion (λ r. P r trace) (take (k + 1) rows)) rest
+  tells_row P rows k row within at before next rest first one both =
+      let more : take (k + 1) rows ≡ take k rows ++ row ∷ [] = take_more rows k row within ∙ ap (λ r. take k rows ++ r ∷ []) (sym at) in
+      tells_as (λ trace. AllByRecursion (λ r. P r trace) (take k rows) × P row trace) (λ trace. AllByRecursion (λ r. P r trace) (take (k + 1) rows)) rest
+      (λ trace is. (
+        λ all. let parts = AllByRecursion-of_append (λ r. P r trace) (take k rows) (row ∷ []) (subst (AllByRecursion (λ r. P r trace)) more all) in
+            (parts.0, parts.1.0),
+        λ all. subst (AllByRecursion (λ r. P r trace)) (sym more) (AllByRecursion-append (λ r. P r trace) (take k rows) (row ∷ []) all.0 (all.1, tt)),
+      ))
+      (tells_all (λ trace. AllByRecursion (λ r. P r trace) (take k rows)) (P row) before next rest first one both)
 
   -- ---- plans
 
@@ -248,12 +236,12 @@ module _ (now : Moment) where
           (waits w (Eventually node place a b body) is can)
 
       pub eventually_wakes : w.low ≤ now.time → now.time ≤ w.high → (present rest : Residual) → TellsOf v body present
-          → IsAnyOf present (stored.Waits w) rest → Wakes rest
+          → IsAnyOf (stored.Waits w) present rest → Wakes rest
       eventually_wakes lower upper present rest tells one =
           let plan = Eventually node place a b body in
           asks_of w plan is (λ trace. Or (Here body trace) (Behind plan trace)) rest
           (λ trace at. eventually_now classical now trace at w.low w.high v node place a b body lower upper)
-          (tells_any (Here body) (Behind plan) present (stored.Waits w) rest tells (waits w plan is can) one)
+          (tells_any (Here body) (Behind plan) present (stored.Waits w) rest tells (waits w plan is can) (any_turned (stored.Waits w) present rest one))
 
     -- ---- always
 
@@ -269,12 +257,12 @@ module _ (now : Moment) where
           (waits w (Always node place a b body) is can)
 
       pub always_wakes : w.low ≤ now.time → now.time ≤ w.high → (present rest : Residual) → TellsOf v body present
-          → IsAllOf present (stored.Waits w) rest → Wakes rest
+          → IsAllOf (stored.Waits w) present rest → Wakes rest
       always_wakes lower upper present rest tells both =
           let plan = Always node place a b body in
           asks_of w plan is (λ trace. Here body trace × Behind plan trace) rest
           (λ trace at. always_now classical now trace at w.low w.high v node place a b body lower upper)
-          (tells_all (Here body) (Behind plan) present (stored.Waits w) rest tells (waits w plan is can) both)
+          (tells_all (Here body) (Behind plan) present (stored.Waits w) rest tells (waits w plan is can) (all_turned (stored.Waits w) present rest both))
 
     -- ---- until
 
@@ -284,21 +272,23 @@ module _ (now : Moment) where
           (λ trace at. until_over classical now trace at w.low w.high v node place a b left right over)
 
       pub until_is_early : now.time < w.low → (before rest : Residual) → TellsOf v left before
-          → IsAllOf before (stored.Waits w) rest → Wakes rest
+          → IsAllOf (stored.Waits w) before rest → Wakes rest
       until_is_early early before rest tells both =
           let plan = Until node place a b left right in
           asks_of w plan is (λ trace. Here left trace × Behind plan trace) rest
           (λ trace at. until_early classical now trace at w.low w.high v node place a b left right early)
-          (tells_all (Here left) (Behind plan) before (stored.Waits w) rest tells (waits w plan is can) both)
+          (tells_all (Here left) (Behind plan) before (stored.Waits w) rest tells (waits w plan is can)
+          (all_turned (stored.Waits w) before rest both))
 
       pub until_wakes : w.low ≤ now.time → now.time ≤ w.high → (before present waiting rest : Residual) → TellsOf v left before
-          → TellsOf v right present → IsAllOf before (stored.Waits w) waiting → IsAnyOf present waiting rest → Wakes rest
+          → TellsOf v right present → IsAllOf (stored.Waits w) before waiting → IsAnyOf waiting present rest → Wakes rest
       until_wakes lower upper before present waiting rest on_left on_right both one =
           let plan = Until node place a b left right in
           asks_of w plan is (λ trace. Or (Here right trace) (Here left trace × Behind plan trace)) rest
           (λ trace at. until_now classical now trace at w.low w.high v node place a b left right lower upper)
           (tells_any (Here right) (λ trace. Here left trace × Behind plan trace) present waiting rest on_right
-          (tells_all (Here left) (Behind plan) before (stored.Waits w) waiting on_left (waits w plan is can) both) one)
+          (tells_all (Here left) (Behind plan) before (stored.Waits w) waiting on_left (waits w plan is can)
+          (all_turned (stored.Waits w) before waiting both)) (any_turned waiting present rest one))
 
     -- ---- next
 

@@ -1,6 +1,5 @@
 -- For which traces a step is looked at, and what is then told of what comes behind it.
 use Rattle.std.specs.Prelude.{◌≡◌, ◌↔◌, ℕ, ◌+◌, ◌<◌, List, length, map, IsSome}
-use Rattle.std.specs.List.{AllByRecursion}
 use Rattle.enf_value.specs.Data.{IsTrace, step_at}
 use Rattle.enf_value.specs.Valuations.{Valuation, value_at}
 use Rattle.enf_value.specs.declared.events.Event.{Event}
@@ -58,12 +57,6 @@ pub record IsAt (now : Moment) (trace : List Step) : Type 0 where
 pub record Tells (now : Moment) (P : List Step → Type 0) (rest : Residual) : Type 0 where
   pub means : (trace : List Step) → IsAt now trace → P trace ↔ Means trace (now.position + 1) rest
   pub can : CanGoOn (guards_at now.tables) rest
-
--- or all that is asked of them
-pub record TellsAll (now : Moment) (P : List Step → Type 0) (parts : List Residual) : Type 0 where
-  pub means : (trace : List Step) → IsAt now trace
-      → P trace ↔ AllByRecursion (λ part. Means trace (now.position + 1) part) parts
-  pub can : AllByRecursion (λ part. CanGoOn (guards_at now.tables) part) parts
 
 -- the node waits from the step on, with a window that begins and ends so much later
 pub record IsBegun (now : Moment) (node : Plan) (v : Valuation) (low high : ℕ) (waiting : Waiting) : Type 0 where

@@ -12,10 +12,10 @@ ghost use Rattle.trace_meaning.specs.declared.kinds.StepKind.TheVariants.{Insert
 ghost use Rattle.valuations.specs.Scopes.{bound_in, filled};
 ghost use Rattle.trace_audit.specs.Asking.{CanAsk};
 ghost use Rattle.trace_audit.specs.Presents.{IsBegun, Tells, guards_at, moment_of};
-ghost use Rattle.trace_audit.specs.Residuals.{AsksFor, CanGoOn, HoldsFor, Means};
+ghost use Rattle.trace_audit.specs.Residuals.{AsksFor, CanGoOn, CanLinkGoOn, HoldsFor, LinksMean, Means};
 
 use crate::present::Present;
-use crate::residuals::{Residual, Waiting, all, all_of, any, settled};
+use crate::residuals::{Link, Residual, Waiting, all, any, settled};
 use enf_formula::laws::is_classical;
 use enf_value::memory::NoMemory;
 use plan_terms::Plan;
@@ -94,15 +94,13 @@ fn evaluate_under<'p, 'a>(
     ensures { IfOk result (Tells (moment_of now.now) (λ trace. AllByRecursion (λ row. HoldsFor trace
         (filled (bound_in v.now) rows.now.columns row) (plan_of body.now) now.now.position) rows.now.rows)) }
 {
-    let mut parts = Vec::new(alloc);
+    let mut rest = Residual::Met;
     for row in rows.rows() {
         let inner = Frame::Row(&*v, rows.columns().as_slice(), row.as_slice());
-        match evaluate(alloc, body, &inner, now)? {
-            Residual::Met => {}
-            rest => parts.push(rest)?,
-        }
+        let next = evaluate(alloc, body, &inner, now)?;
+        rest = all(alloc, rest, next)?;
     }
-    all_of(alloc, parts)
+    Ok(rest)
 }
 
 // What is still asked where an operator that waits comes to the step.
@@ -127,7 +125,7 @@ pub fn wake<'p>(
                 return Ok(Residual::Waits(waiting));
             }
             let present = evaluate(alloc, body, &Frame::Whole(&waiting.valuation), now)?;
-            any(alloc, present, Residual::Waits(waiting))
+            any(alloc, Residual::Waits(waiting), present)
         }
         Plan::Always { body, .. } => {
             if now.time > waiting.high {
@@ -137,7 +135,7 @@ pub fn wake<'p>(
                 return Ok(Residual::Waits(waiting));
             }
             let present = evaluate(alloc, body, &Frame::Whole(&waiting.valuation), now)?;
-            all(alloc, present, Residual::Waits(waiting))
+            all(alloc, Residual::Waits(waiting), present)
         }
         Plan::Until { left, right, .. } => {
             if now.time > waiting.high {
@@ -145,11 +143,11 @@ pub fn wake<'p>(
             }
             let before = evaluate(alloc, left, &Frame::Whole(&waiting.valuation), now)?;
             if now.time < waiting.low {
-                return all(alloc, before, Residual::Waits(waiting));
+                return all(alloc, Residual::Waits(waiting), before);
             }
             let present = evaluate(alloc, right, &Frame::Whole(&waiting.valuation), now)?;
-            let waits = all(alloc, before, Residual::Waits(waiting))?;
-            any(alloc, present, waits)
+            let waits = all(alloc, Residual::Waits(waiting), before)?;
+            any(alloc, waits, present)
         }
         Plan::Next { body, .. } => {
             if now.time > waiting.high {
@@ -187,34 +185,48 @@ fn begin<'p>(
     })
 }
 
-// What is still asked where the steps up to the one that is looked at are over. What nests deeper than so many levels
-// finds no memory.
+// What is still asked where the steps up to the one that is looked at are over.
+#[cycle(progressing)]
 pub fn progress<'p>(
     alloc: Global,
     rest: Residual<'p>,
-    levels: u32,
     now: &Present<'_>,
 ) -> Result<Residual<'p>, NoMemory>
     requires can { CanGoOn (guards_at now.now.tables.now) rest }
     requires in_time { now.now.time ≤ most_time Inserted }
     ensures { IfOk result (Tells (moment_of now.now) (λ trace. Means trace now.now.position rest.entry)) }
 {
-    if levels == 0 {
-        return Err(NoMemory);
-    }
     match rest {
         Residual::Met => Ok(Residual::Met),
         Residual::Failed => Ok(Residual::Failed),
         Residual::Waits(waiting) => wake(alloc, waiting, now),
-        Residual::All(left, right) => {
-            let left = progress(alloc, Box::into_inner(left), levels - 1, now)?;
-            let right = progress(alloc, Box::into_inner(right), levels - 1, now)?;
-            all(alloc, left, right)
-        }
-        Residual::Any(left, right) => {
-            let left = progress(alloc, Box::into_inner(left), levels - 1, now)?;
-            let right = progress(alloc, Box::into_inner(right), levels - 1, now)?;
-            any(alloc, left, right)
-        }
+        Residual::Chain(links) => progress_chain(alloc, links, now),
     }
+}
+
+#[cycle(progressing)]
+fn progress_chain<'p>(
+    alloc: Global,
+    links: Vec<Link<'p>>,
+    now: &Present<'_>,
+) -> Result<Residual<'p>, NoMemory>
+    requires can { AllByRecursion (CanLinkGoOn (guards_at now.now.tables.now)) links.items }
+    requires in_time { now.now.time ≤ most_time Inserted }
+    ensures { IfOk result (Tells (moment_of now.now)
+        (λ trace. LinksMean trace now.now.position (Unit {0}) links.entry.items)) }
+{
+    let mut rest = Residual::Met;
+    for link in links {
+        rest = match link {
+            Link::Both(next) => {
+                let next = progress(alloc, next, now)?;
+                all(alloc, rest, next)?
+            }
+            Link::Either(next) => {
+                let next = progress(alloc, next, now)?;
+                any(alloc, rest, next)?
+            }
+        };
+    }
+    Ok(rest)
 }

@@ -26,10 +26,6 @@ use std::alloc::Global;
 use std::mem::replace;
 use valuations::{Frame, Valuation};
 
-// How deep what is asked may nest before it is given up for want of memory: each level takes about 600 bytes of the
-// stack, and there is one for each open obligation below an `always`, `eventually` or `until`.
-const MOST_LEVELS: u32 = 4_096;
-
 // What is still asked for a rule at a position.
 #[derive(Drop)]
 pub struct Asked<'p> {
@@ -89,7 +85,7 @@ fn follow<'p>(
     if !is_before(item.at, followed.broken) {
         return Ok(());
     }
-    let rest = progress(alloc, item.rest, MOST_LEVELS, now)?;
+    let rest = progress(alloc, item.rest, now)?;
     put_in(item.at, rest, followed)
 }
 

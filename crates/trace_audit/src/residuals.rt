@@ -1,7 +1,8 @@
-//! What is still asked of the steps to come.
+//! What is still asked of the steps to come. What an operator on the future asks for at one step after the other stands
+//! in one list, so that a residual is no deeper than the plan that it is of, however long the trace is.
 ghost use Rattle.std.specs.Prelude.{◌↔◌, IfOk, IsTrue, List, length};
 ghost use Rattle.enf_value.specs.declared.steps.Step.{Step};
-ghost use Rattle.trace_audit.specs.Residuals.{IsAllOf, IsAllOfThem, IsAnyOf, IsSettled, Means};
+ghost use Rattle.trace_audit.specs.Residuals.{IsAllOf, IsAnyOf, IsHung, IsSettled, LinkMeans, LinksMean, Means};
 
 use enf_formula::laws::is_classical;
 use enf_value::memory::NoMemory;
@@ -19,14 +20,22 @@ pub struct Waiting<'p> {
     pub high: u64,
 }
 
-// What the steps to come are still asked for.
+// What the steps to come are still asked for. A chain is read from its first link on.
+#[cycle(residual)]
 #[derive(Drop)]
 pub enum Residual<'p> {
     Met,
     Failed,
     Waits(Waiting<'p>),
-    All(Box<Residual<'p>>, Box<Residual<'p>>),
-    Any(Box<Residual<'p>>, Box<Residual<'p>>),
+    Chain(Vec<Link<'p>>),
+}
+
+// What is asked beside what the links before it ask for: both, or one of the two.
+#[cycle(residual)]
+#[derive(Drop)]
+pub enum Link<'p> {
+    Both(Residual<'p>),
+    Either(Residual<'p>),
 }
 
 // What is met or failed.
@@ -36,7 +45,7 @@ pub fn settled<'p>(met: bool) -> Residual<'p>
     if met { Residual::Met } else { Residual::Failed }
 }
 
-// What asks for both.
+// What asks for both. The left side is what grows: the right one is hung on it.
 pub fn all<'p>(
     alloc: Global,
     left: Residual<'p>,
@@ -50,32 +59,12 @@ pub fn all<'p>(
         left => match right {
             Residual::Met => Ok(left),
             Residual::Failed => Ok(Residual::Failed),
-            right => {
-                let left = Box::new(alloc, left)?;
-                let right = Box::new(alloc, right)?;
-                Ok(Residual::All(left, right))
-            }
+            right => hang(alloc, left, Link::Both(right)),
         },
     }
 }
 
-// What asks for all of some, in halves, so that many do not nest deep.
-pub fn all_of<'p>(alloc: Global, mut parts: Vec<Residual<'p>>) -> Result<Residual<'p>, NoMemory>
-    ensures { IfOk result (IsAllOfThem parts.entry.items) }
-{
-    if parts.len() < 2 {
-        return match parts.pop() {
-            Some(rest) => Ok(rest),
-            None => Ok(Residual::Met),
-        };
-    }
-    let back = parts.split_off(parts.len() / 2)?;
-    let left = all_of(alloc, parts)?;
-    let right = all_of(alloc, back)?;
-    all(alloc, left, right)
-}
-
-// What asks for one of both.
+// What asks for one of both. The left side is what grows: the right one is hung on it.
 pub fn any<'p>(
     alloc: Global,
     left: Residual<'p>,
@@ -90,16 +79,31 @@ pub fn any<'p>(
         left => match right {
             Residual::Met => Ok(Residual::Met),
             Residual::Failed => Ok(left),
-            right => {
-                let left = Box::new(alloc, left)?;
-                let right = Box::new(alloc, right)?;
-                Ok(Residual::Any(left, right))
-            }
+            right => hang(alloc, left, Link::Either(right)),
         },
     }
 }
 
+// A chain with the link at its end.
+fn hang<'p>(alloc: Global, rest: Residual<'p>, link: Link<'p>) -> Result<Residual<'p>, NoMemory>
+    ensures { IfOk result (IsHung rest.entry link.entry) }
+{
+    match rest {
+        Residual::Chain(mut links) => {
+            links.push(link)?;
+            Ok(Residual::Chain(links))
+        }
+        rest => {
+            let mut links = Vec::with_capacity(alloc, 2)?;
+            links.push(Link::Both(rest))?;
+            links.push(link)?;
+            Ok(Residual::Chain(links))
+        }
+    }
+}
+
 // Whether it is met where no step comes any more.
+#[cycle(meeting)]
 pub fn is_met_at_end(rest: &Residual<'_>) -> bool
     ensures { (trace : List Step) → IsTrue result ↔ Means trace (length trace) rest.now }
 {
@@ -107,7 +111,28 @@ pub fn is_met_at_end(rest: &Residual<'_>) -> bool
         Residual::Met => true,
         Residual::Failed => false,
         Residual::Waits(waiting) => matches!(waiting.node, Plan::Always { .. }),
-        Residual::All(left, right) => is_met_at_end(left) && is_met_at_end(right),
-        Residual::Any(left, right) => is_met_at_end(left) || is_met_at_end(right),
+        Residual::Chain(links) => is_chain_met(links),
+    }
+}
+
+#[cycle(meeting)]
+fn is_chain_met(links: &Vec<Link<'_>>) -> bool
+    ensures { (trace : List Step) → IsTrue result ↔ LinksMean trace (length trace) (Unit {0}) links.now.items }
+{
+    let mut met = true;
+    for link in links {
+        met = is_link_met(met, link);
+    }
+    met
+}
+
+// With a link behind what is met or not.
+#[cycle(meeting)]
+fn is_link_met(met: bool, link: &Link<'_>) -> bool
+    ensures { (trace : List Step) → IsTrue result ↔ LinkMeans trace (length trace) (IsTrue met) link.now }
+{
+    match link {
+        Link::Both(rest) => met && is_met_at_end(rest),
+        Link::Either(rest) => met || is_met_at_end(rest),
     }
 }

@@ -1,6 +1,5 @@
-use Rattle.std.proofs.Common.{rules, ◌≡◌, ◌<◌, ◌≤◌, ◌+◌, ◌∙◌, List, length, get_or, take, ap, sym, subst, ⊎_elim, true≢false}
+use Rattle.std.proofs.Common.{rules, ◌≡◌, ◌<◌, ◌∙◌, List, length, get_or, ap, sym, subst, ⊎_elim, true≢false}
 use Rattle.std.specs.List.{AllByRecursion}
-use Rattle.std.proofs.lemmas.List.{take_all}
 use Rattle.std.proofs.lemmas.Result.{IfOk-weaker}
 use Rattle.enf_value.specs.Valuations.{Valuation}
 use Rattle.enf_value.specs.declared.steps.Step.{Step}
@@ -10,13 +9,12 @@ use Rattle.plan_terms.specs.Plans.{plan_of}
 use Rattle.plan_terms.specs.Scopes.{AtEach}
 use Rattle.valuations.specs.Scopes.{bound_in, filled}
 use Rattle.trace_audit.specs.Asking.{CanAsk, IsAskable}
-use Rattle.trace_audit.specs.Presents.{IsBegun, Tells, TellsAll, guards_at, moment_of}
+use Rattle.trace_audit.specs.Presents.{IsBegun, Tells, guards_at, moment_of}
 use Rattle.trace_audit.specs.Residuals.{AsksFor, HoldsFor}
 use Rattle.trace_audit.specs.declared.residuals.Residual.TheVariants as stored
 use Rattle.trace_audit.proofs.AskLemmas.{binds_bound, body_can, is_test, rows_hold, test_is, within}
 use Rattle.trace_audit.proofs.TellLemmas.{TellsOf, always_begins, eventually_begins, eventually_is_early, eventually_wakes, tells_any}
-use Rattle.trace_audit.proofs.TellLemmas.{tells_all_of, tells_as, tells_row, tells_row_met, test_fails, test_met, until_begins, until_is_early, until_wakes}
-use Rattle.trace_audit.proofs.evaluation.+evaluating.Goals.{evaluate_under-in-Met, evaluate_under-in_default+in_ok-push-in_default}
+use Rattle.trace_audit.proofs.TellLemmas.{tells_as, tells_row, test_fails, test_met, until_begins, until_is_early, until_wakes}
 use Rattle.trace_audit.proofs.evaluation.+evaluating.Goals as goal
 
 pub evaluate-holds_under-requires-clause-test : goal.evaluate-holds_under-requires-clause-test
@@ -122,35 +120,12 @@ evaluate_under-loop-row-preserved t c =
     let m = moment_of c.args.now.now in
     let v = bound_in c.args.v.now in
     let row = c.row-item.result in
-    let rows = c.args.rows.now.rows in
-    let k = c.loop-row.row-index in
-    let P : List Value → List Step → Type 0 = λ r trace. HoldsFor trace (filled v c.args.rows.now.columns r) (plan_of c.args.body.now) m.position in
-    let all : c.rows-row-items.result.now ≡ rows = c.rows-row-items.ensures.rows in
+    let all : c.rows-row-items.result.now ≡ c.args.rows.now.rows = c.rows-row-items.ensures.rows in
     let inner : filled v c.as_slice.result.now c.as_slice-in-loop-row.result.now ≡ filled v c.args.rows.now.columns row = (λ i. filled v ((c.as_slice.ensures ∙ c.columns.ensures.columns) i) (c.as_slice-in-loop-row.ensures i)) in
-    let within : k < length rows = subst (λ (l : List (List Value)). k < length l) all c.loop-row-test.true in
-    let at : row ≡ get_or rows k row = subst (λ l. row ≡ get_or l k row) all c.row-item.is in
-    let one : Tells m (P row) c.in_ok-rest.rest = subst (λ (u : Valuation). TellsOf m u (plan_of c.args.body.now) c.in_ok-rest.rest) inner c.in_ok-rest.ensures in
-    let Q : List Step → Type 0 = λ trace. AllByRecursion (λ r. P r trace) (take (k + 1) rows) in
-    elim c.match-branch-2.branch [
-      | evaluate_under-in-Met w ↦ subst (λ p. TellsAll m Q p.items) (sym w.parts-is)
-          (tells_row_met m P rows k row within at c.loop-row.parts.items c.loop-row.invariant (subst (Tells m (P row)) w.in-Met.is one))
-      | evaluate_under-in_default+in_ok-push-in_default w ↦ subst (λ p. TellsAll m Q p.items) (sym w.parts-is)
-          (subst (TellsAll m Q) (sym w.in_ok-push-in_default.ensures.items)
-          (tells_row m P rows k row within at c.loop-row.parts.items c.loop-row.invariant c.in_ok-rest.rest one))
-    ]
-
-pub evaluate_under-returns : goal.evaluate_under-returns
-evaluate_under-returns t c =
-    let m = moment_of c.args.now.now in
-    let v = bound_in c.args.v.now in
-    let rows = c.args.rows.now.rows in
-    let P : List Value → List Step → Type 0 = λ r trace. HoldsFor trace (filled v c.args.rows.now.columns r) (plan_of c.args.body.now) m.position in
-    let all : c.rows-row-items.result.now ≡ rows = c.rows-row-items.ensures.rows in
-    let end : length rows ≤ c.loop-row.row-index = subst (λ (l : List (List Value)). length l ≤ c.loop-row.row-index) all c.loop-row-test.false in
-    let whole : TellsAll m (λ trace. AllByRecursion (λ r. P r trace) rows) c.loop-row.parts.items =
-    subst (λ l. TellsAll m (λ trace. AllByRecursion (λ r. P r trace) l) c.loop-row.parts.items) (take_all c.loop-row.row-index rows end) c.loop-row.invariant in
-    IfOk-weaker c.all_of.result _ (Tells m (λ trace. AllByRecursion (λ r. P r trace) rows)) (λ rest of.
-    tells_all_of m (λ trace. AllByRecursion (λ r. P r trace) rows) c.loop-row.parts.items rest whole of) c.all_of.ensures
+    tells_row m (λ (r : List Value) (trace : List Step). HoldsFor trace (filled v c.args.rows.now.columns r) (plan_of c.args.body.now) m.position) c.args.rows.now.rows c.loop-row.row-index row
+    (subst (λ (l : List (List Value)). c.loop-row.row-index < length l) all c.loop-row-test.true) (subst (λ l. row ≡ get_or l c.loop-row.row-index row) all c.row-item.is)
+    c.loop-row.rest c.in_ok-next.next c.in_ok-rest.rest c.loop-row.invariant
+    (subst (λ (u : Valuation). TellsOf m u (plan_of c.args.body.now) c.in_ok-next.next) inner c.in_ok-next.ensures) c.in_ok-rest.ensures
 
 pub wake-returns-then-now-waiting-2 : goal.wake-returns-then-now-waiting-2
 wake-returns-then-now-waiting-2 t c =
