@@ -313,6 +313,7 @@ fn act_from(
 
 // Acts for what was found, and goes on from its place, until something looks for a name that was acted on; it answers
 // whether nothing did, so that nothing is missing.
+#[inline(never)]
 fn go_on(
     alloc: Global,
     situation: &Situation<'_>,

@@ -57,6 +57,7 @@ impl Wakes {
     }
 
     /// Whether each rule has triggers, and none of the events is of one of them.
+    #[inline(always)]
     pub fn all_sleep(&self, events: &[Event]) -> bool
         ensures { IsTrue result → AllSleep self.now events.now }
     {

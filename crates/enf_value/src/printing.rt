@@ -10,6 +10,7 @@ use crate::values::Value;
 use itoa::Buffer;
 
 /// Appends bytes; for want of memory nothing is appended.
+#[inline(always)]
 pub fn print_bytes(bytes: &[u8], out: &mut Vec<u8>) -> Result<(), NoMemory>
     ensures ok { OnOk result (out.new.items ≡ out.old.items ++ bytes.now) }
     ensures err { OnErr result (out.new.items ≡ out.old.items) }
@@ -19,6 +20,7 @@ pub fn print_bytes(bytes: &[u8], out: &mut Vec<u8>) -> Result<(), NoMemory>
 }
 
 /// Appends a byte; for want of memory nothing is appended.
+#[inline(always)]
 pub fn print_byte(byte: u8, out: &mut Vec<u8>) -> Result<(), NoMemory>
     ensures ok { OnOk result (out.new.items ≡ out.old.items ++ byte ∷ []) }
     ensures err { OnErr result (out.new.items ≡ out.old.items) }
@@ -44,6 +46,7 @@ fn print_signed(number: i64, out: &mut Vec<u8>) -> Result<(), NoMemory>
     print_bytes(buffer.format(number).as_bytes(), out)
 }
 
+#[inline(always)]
 fn print_text(bytes: &[u8], out: &mut Vec<u8>) -> Result<(), NoMemory>
     ensures ok { OnOk result (out.new.items ≡ out.old.items ++ quoted bytes.now) }
     ensures err { OnErr result (AppendsPart (quoted bytes.now) out.old.items out.new.items) }
@@ -58,6 +61,7 @@ fn print_text(bytes: &[u8], out: &mut Vec<u8>) -> Result<(), NoMemory>
 }
 
 // Whether each byte stands for itself.
+#[inline(always)]
 fn is_plain(bytes: &[u8]) -> bool
     ensures { IsTrue result → flat_map escaped bytes.now ≡ bytes.now }
 {
@@ -69,6 +73,7 @@ fn is_plain(bytes: &[u8]) -> bool
     true
 }
 
+#[inline(never)]
 fn print_escaped(bytes: &[u8], out: &mut Vec<u8>) -> Result<(), NoMemory>
     ensures ok { OnOk result (out.new.items ≡ out.old.items ++ flat_map escaped bytes.now) }
     ensures err { OnErr result (AppendsPart (flat_map escaped bytes.now) out.old.items out.new.items) }
@@ -112,6 +117,7 @@ fn print_escaped_byte(byte: u8, out: &mut Vec<u8>) -> Result<(), NoMemory>
 
 /// Appends the value's text: a number in decimal, a text in quotes with its escapes. For want of memory a front
 /// of that text is appended.
+#[inline(always)]
 pub fn print_value(value: &Value, out: &mut Vec<u8>) -> Result<(), NoMemory>
     ensures ok { OnOk result (out.new.items ≡ out.old.items ++ spelled value.now) }
     ensures err { OnErr result (AppendsPart (spelled value.now) out.old.items out.new.items) }

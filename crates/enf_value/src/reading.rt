@@ -18,6 +18,7 @@ use std::alloc::Global;
 /// The value of the number or text token that begins at a place, and the place behind it; none where no token
 /// begins there or its value is refused. A number takes all digits that follow, so the token ends at another byte
 /// or at the end.
+#[inline(always)]
 pub fn read_value(
     alloc: Global,
     bytes: &[u8],
@@ -35,6 +36,7 @@ pub fn read_value(
     Ok(Some((value, at + length)))
 }
 
+#[inline(always)]
 fn read_front(alloc: Global, bytes: &[u8]) -> Result<Option<(Value, usize)>, NoMemory>
     ensures some { IfOk result (λ found. IfSome found (λ read. TokenAt bytes.now 0 read.1 read.0)) }
     ensures none { IfOk result
@@ -105,6 +107,7 @@ fn number_end(bytes: &[u8]) -> usize
     }
 }
 
+#[inline(always)]
 fn read_text(alloc: Global, bytes: &[u8]) -> Result<Option<(TextValue, usize)>, NoMemory>
     requires { slice_index bytes.now 0 ≡ 34 }
     ensures some { IfOk result (λ found. IfSome found (λ read. TokenAt bytes.now 0 read.1 (Text read.0))) }
@@ -122,6 +125,7 @@ fn read_text(alloc: Global, bytes: &[u8]) -> Result<Option<(TextValue, usize)>, 
 }
 
 // Where the last quote of a text stands that has no escape, in the bytes behind its first.
+#[inline(always)]
 fn plain_end(bytes: &[u8]) -> Option<usize>
     ensures written { IfSome result (λ quote. WrittenAt bytes.now quote (take quote bytes.now)) }
     ensures within { IfSome result (λ quote. quote < length bytes.now) }
@@ -137,6 +141,7 @@ fn plain_end(bytes: &[u8]) -> Option<usize>
 }
 
 // The text, where its bytes are one, and the place behind its last quote.
+#[inline(always)]
 fn text_token(
     alloc: Global,
     text: &[u8],
@@ -157,6 +162,7 @@ fn text_token(
 }
 
 // The bytes of a text behind its first quote, and where its last quote stands.
+#[inline(never)]
 fn read_written(alloc: Global, bytes: &[u8]) -> Result<Option<(Vec<u8>, usize)>, NoMemory>
     ensures some { IfOk result (λ found. IfSome found (λ read. WrittenAt bytes.now read.1 read.0.items)) }
     ensures within { IfOk result (λ found. IfSome found (λ read. read.1 < length bytes.now)) }

@@ -52,6 +52,7 @@ impl Model for TextValue {
 }
 
 // Whether the bytes are UTF-8, which needs no look at characters where all are ASCII.
+#[inline(always)]
 fn is_utf8(bytes: &[u8]) -> bool
     ensures { IsTrue result ↔ IsUtf8 bytes.now }
 {
@@ -60,6 +61,7 @@ fn is_utf8(bytes: &[u8]) -> bool
 
 impl TextValue {
     /// The text of these bytes. It is refused where they are over 1,024, and else where they are not UTF-8.
+    #[inline(always)]
     pub fn from_bytes(alloc: Global, bytes: &[u8]) -> Result<TextValue, TextRefusal>
         ensures value { IfOk result (λ text. text ≡ bytes.now) }
         ensures text { IfOk result (λ text. IsText bytes.now) }

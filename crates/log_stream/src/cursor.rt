@@ -1,6 +1,9 @@
 //! The tokens of a record, each read where it is wanted, with the blanks behind it.
-ghost use Rattle.std.specs.Prelude.{◌≡◌, ◌<◌, ◌≤◌, ◌∷◌, [], ℕ, List, IfNone, IfOk, IfSome, length};
+ghost use Rattle.std.specs.Prelude.{◌≡◌, ◌<◌, ◌≤◌, ◌∷◌, [], ℕ, List, IfNone, IfOk, IfSome, length, take_while};
+ghost use Rattle.std.specs.List.{prefix_len};
+ghost use Rattle.enf_value.specs.Kinds.{has};
 ghost use Rattle.enf_value.specs.Tokens.{is_blank};
+ghost use Rattle.enf_value.specs.declared.names.ByteKind.TheVariants.{Word};
 ghost use Rattle.enf_value.specs.declared.values.Value.{Value as AnyValue};
 ghost use Rattle.log_stream.specs.Tokens.{Argument, IsGap, Leads, Mark, Name, StandsAt, Time};
 
@@ -50,6 +53,31 @@ pub(crate) fn time_at(bytes: &[u8], at: usize) -> Option<(u64, usize)>
     Some((time, skip_blanks(bytes, end)))
 }
 
+// How many bytes of words stand at the front. Most of them are small letters.
+fn word_length(bytes: &[u8]) -> usize
+    ensures length { result ≡ prefix_len (has Word) bytes.now }
+    ensures within { result ≤ length bytes.now }
+{
+    let mut at = 0;
+    while at < bytes.len() {
+        let byte = bytes[at];
+        if !byte.is_ascii_lowercase() {
+            if !ByteKind::Word.has(byte) {
+                return at;
+            }
+        }
+        at += 1;
+    }
+    at
+}
+
+// The bytes of words at the front, as many as there are.
+fn word_front(bytes: &[u8]) -> &[u8]
+    ensures { result.now ≡ take_while (has Word) bytes.now }
+{
+    &bytes[..word_length(bytes)]
+}
+
 // The name that stands here, and the place of the next token.
 pub(crate) fn name_at(bytes: &[u8], at: usize) -> Option<(&[u8], usize)>
     requires { at ≤ length bytes.now }
@@ -57,7 +85,7 @@ pub(crate) fn name_at(bytes: &[u8], at: usize) -> Option<(&[u8], usize)>
     ensures within { IfSome result (λ read. (at < read.1) × (read.1 ≤ length bytes.now)) }
     ensures none { IfNone result ((place end : ℕ) (name : List ℕ) → StandsAt bytes.now at end (Name place name) → ⊥) }
 {
-    let name = ByteKind::Word.front(&bytes[at..]);
+    let name = word_front(&bytes[at..]);
     if name.is_empty() || name[0].is_ascii_digit() {
         return None;
     }
