@@ -1,5 +1,6 @@
 //! A list with a cursor.
-ghost use Rattle.std.specs.Prelude.{◌≡◌, ◌↔◌, ◌+◌, ◌^◌, ◌<◌, ◌++◌, ◌∷◌, [], drop, take, length, IfErr, IfSome, IsFalse, IsNone, IsSome, OnErr, OnOk};
+ghost use Rattle.std.specs.Prelude.{◌≡◌, ◌↔◌, ◌+◌, ◌^◌, ◌<◌, ◌++◌, ◌∷◌, [], drop, take, length};
+ghost use Rattle.std.specs.Prelude.{IfErr, IfSome, IsFalse, IsNone, IsSome, OnErr, OnOk};
 ghost use Rattle.std.specs.Option.{option_to_list};
 ghost use Rattle.cursor_list.specs.Split.{items};
 
@@ -29,9 +30,13 @@ impl<T> Model for CursorList<T> {
 
     ghost Value = { Split T };
 
-    ghost view = { λ list. record { before = take list.passed list.nodes.items; after = drop list.passed list.nodes.items } };
+    ghost view = { λ list. record {
+      before = take list.passed list.nodes.items;
+      after = drop list.passed list.nodes.items;
+    } };
 
-    ghost invariant = { λ list. (list.passed ≤ list.nodes.len) × IsLastOf list.passed (links_of list.nodes.blocks) list.last.ptr };
+    ghost invariant = { λ list.
+        (list.passed ≤ list.nodes.len) × IsLastOf list.passed (links_of list.nodes.blocks) list.last.ptr };
 }
 
 impl<T> CursorList<T> {

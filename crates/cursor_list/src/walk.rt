@@ -24,7 +24,9 @@ impl<'a, T> Model for Walk<'a, T> {
 
     ghost view = { λ walk. drop walk.passed walk.nodes.now.items };
 
-    ghost invariant = { λ walk. (walk.passed ≤ walk.nodes.now.len) × (walk.passed < walk.nodes.now.len → walk.at.ptr ≡ place_of (links_of walk.nodes.now.blocks) walk.passed) };
+    ghost invariant = { λ walk.
+        (walk.passed ≤ walk.nodes.now.len)
+        × (walk.passed < walk.nodes.now.len → walk.at.ptr ≡ place_of (links_of walk.nodes.now.blocks) walk.passed) };
 }
 
 impl<'a, T> Walk<'a, T> {

@@ -27,8 +27,8 @@ const MOST_STEPS: usize = 1_000;
 
 const MOST_TIME: u64 = 2_000_000_000_000_000;
 
-/// Whether an enforced log satisfies a policy: `holds`, or `fails` with the number of the rule and the position. Reads a
-/// signature, a policy and a log, with a byte 1 between them; ticks are passed over.
+/// Whether an enforced log satisfies a policy: `holds`, or `fails` with the number of the rule and the position. Reads
+/// a signature, a policy and a log, with a byte 1 between them; ticks are passed over.
 pub fn answer(alloc: Global, input: &[u8], out: &mut Output) -> Result<(), CaseError> {
     let (signature, policy, log) = three(input)?;
     let names = read_signature(alloc, signature)?;

@@ -4,8 +4,8 @@ use crate::output::Output;
 use cursor_list::CursorList;
 use std::alloc::Global;
 
-/// The answer to each step, and then the list: a step is `+` or `<` and a digit, for an item behind all others or in front
-/// of the cursor, or with a dot behind it `^` for a rewind, `>` for a move, `-` for a removal and `?` for a look.
+/// The answer to each step, and then the list: a step is `+` or `<` and a digit, for an item behind all others or in
+/// front of the cursor, or with a dot behind it `^` for a rewind, `>` for a move, `-` for a removal and `?` for a look.
 pub fn answer(alloc: Global, input: &[u8], out: &mut Output) -> Result<(), CaseError> {
     let mut list = CursorList::new(alloc);
     answer_list(input, &mut list, out)

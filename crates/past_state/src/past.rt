@@ -83,7 +83,7 @@ impl Model for Tables {
 impl PastState {
     ghost use Rattle.enf_value.specs.declared.steps.Step.{Step};
     ghost use Rattle.past_state.specs.Past.{AreOf, PastStands, TablesWillStand, CommittedWillStand};
-    ghost use Rattle.past_state.specs.Past.{GuardsWillHold, PastCommitted, guard_names, past_names};
+    ghost use Rattle.past_state.specs.Past.{GuardsWillHold, PastCommitted, guard_names};
     ghost use Rattle.past_state.specs.Guarded.{AreCopies, IsFreshGuard};
     ghost use Rattle.past_state.specs.Known.{AreKnown};
     ghost use Rattle.past_state.specs.LastTimes.{AreAtLast};

@@ -10,7 +10,8 @@ use std_alloc::room::Vacant;
 impl<T, A: Allocator> Nodes<T, A> {
     // Links the node in before the one at `at`, whose index `i` the proof alone needs.
     pub(crate) fn link_before(&mut self, at: Place, i: usize, room: Vacant<Node<T, A>, A>, elem: T)
-        requires { (0 < i) × (i < self.old.len) × (self.old.len + 1 < 2 ^ 63) × (at.ptr ≡ place_of (links_of self.old.blocks) i) }
+        requires { (0 < i) × (i < self.old.len) × (self.old.len + 1 < 2 ^ 63)
+            × (at.ptr ≡ place_of (links_of self.old.blocks) i) }
         ensures items { self.new.items ≡ take i self.old.items ++ elem ∷ drop i self.old.items }
         ensures places { KeepsPlaces i (links_of self.old.blocks) (links_of self.new.blocks) }
     {
