@@ -36,7 +36,7 @@ use Rattle.trace_audit.specs.Auditing.{Auditing, Audits, end_of, rules_of}
 use Rattle.trace_audit.specs.Judging.{Anything, AreJudged, IsBefore, IsJudged, rule_at}
 use Rattle.trace_audit.specs.Presents.{IsAt, Moment, moment, placed_guard}
 use Rattle.trace_audit.specs.Verdicts.{IsVerdict, formulas_for}
-use Rattle.trace_audit.specs.declared.following.Asked.{Asked}
+use Rattle.trace_audit.specs.declared.following.OpenRule.{OpenRule}
 use Rattle.trace_audit.specs.declared.verdicts.RuleAt.{RuleAt}
 use Rattle.trace_audit.specs.declared.verdicts.Verdict.TheVariants.{Holds, Fails}
 
@@ -220,7 +220,7 @@ judged_now auditor trace audits =
     subst (λ l. AreJudged (rules_of auditor) l (end_of trace) auditor.asked auditor.broken) (append-nil trace)
     (audits.judged [] (subst IsTrace (sym (append-nil trace)) audits.is_trace))
 
-module _ (auditor : Auditing) (first : Option RuleAt) (seen : List Asked) (is : seen ≡ auditor.asked)
+module _ (auditor : Auditing) (first : Option RuleAt) (seen : List OpenRule) (is : seen ≡ auditor.asked)
     (finds : (policy : List Formula) (trace : List Step) (end : RuleAt) → IsJudged policy trace (length trace) end Anything seen auditor.broken
     → IsJudged policy trace (length trace) end Anything [] first) where
   found : (trace : List Step) → Audits auditor trace → IsVerdictBy (rules_of auditor) trace first

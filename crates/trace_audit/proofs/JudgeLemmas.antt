@@ -21,7 +21,7 @@ use Rattle.trace_audit.specs.Presents.{IsAt, Moment, Tells}
 use Rattle.trace_audit.specs.Residuals.{CanGoOn, HoldsFor, Means}
 use Rattle.trace_audit.specs.Verdicts.{IsBroken, formulas_for}
 use Rattle.trace_audit.specs.declared.following.Followed.{Followed}
-use Rattle.trace_audit.specs.declared.following.Asked.{Asked}
+use Rattle.trace_audit.specs.declared.following.OpenRule.{OpenRule}
 use Rattle.trace_audit.specs.declared.residuals.Residual.{Residual}
 use Rattle.trace_audit.specs.declared.residuals.Residual.TheVariants as stored
 use Rattle.trace_audit.specs.declared.verdicts.RuleAt.{RuleAt}
@@ -76,11 +76,11 @@ module _ (policy : List Formula) (trace : List Step) (from : ℕ) where
     abbrev pub WithClaim : RuleAt → Type 0
     WithClaim other = Rest other × (at ≡ other → P)
 
-    abbrev Judged : (Others : RuleAt → Type 0) → List Asked → Option RuleAt → Type 0
+    abbrev Judged : (Others : RuleAt → Type 0) → List OpenRule → Option RuleAt → Type 0
     Judged Others asked broken = IsJudged policy trace from end Others asked broken
 
     -- it holds
-    pub claim_met : (asked : List Asked) (broken : Option RuleAt) → P → Judged WithClaim asked broken → Judged Rest asked broken
+    pub claim_met : (asked : List OpenRule) (broken : Option RuleAt) → P → Judged WithClaim asked broken → Judged Rest asked broken
     claim_met asked broken holds judged = record {
       items = judged.items;
       failed = judged.failed;
@@ -88,7 +88,7 @@ module _ (policy : List Formula) (trace : List Step) (from : ℕ) where
     }
 
     -- it comes behind what is broken
-    pub claim_behind : (asked : List Asked) (broken : Option RuleAt) → (IsBeforeAny at broken → ⊥)
+    pub claim_behind : (asked : List OpenRule) (broken : Option RuleAt) → (IsBeforeAny at broken → ⊥)
         → Judged WithClaim asked broken → Judged Rest asked broken
     claim_behind asked broken behind judged = record {
       items = judged.items;
@@ -98,7 +98,7 @@ module _ (policy : List Formula) (trace : List Step) (from : ℕ) where
     }
 
     -- it does not hold, and is the first that is broken
-    pub claim_failed : (asked : List Asked) (broken : Option RuleAt) → IsBefore at end → IsBeforeAny at broken
+    pub claim_failed : (asked : List OpenRule) (broken : Option RuleAt) → IsBefore at end → IsBeforeAny at broken
         → IsBroken policy trace at.rule at.position → Judged WithClaim asked broken → Judged Rest asked (Some at)
     claim_failed asked broken early first fails judged = record {
       items = judged.items;
@@ -110,7 +110,7 @@ module _ (policy : List Formula) (trace : List Step) (from : ℕ) where
     }
 
     -- it is asked
-    pub claim_asked : (asked : List Asked) (broken : Option RuleAt) (rest : Residual) → IsAskedFor policy trace from end (asked_at at rest)
+    pub claim_asked : (asked : List OpenRule) (broken : Option RuleAt) (rest : Residual) → IsAskedFor policy trace from end (asked_at at rest)
         → (Means trace from rest → P) → Judged WithClaim asked broken → Judged Rest (asked ++ asked_at at rest ∷ []) broken
     claim_asked asked broken rest is tells judged = record {
       items = AllByRecursion-append (IsAskedFor policy trace from end) asked (asked_at at rest ∷ []) judged.items (is, tt);
@@ -150,7 +150,7 @@ module _ (policy : List Formula) (trace : List Step) (from : ℕ) where
 
   -- where less else is known
   pub judged_weaker : (end : RuleAt) (Rest Others : RuleAt → Type 0) → ((at : RuleAt) → Others at → Rest at)
-      → (asked : List Asked) (broken : Option RuleAt) → IsJudged policy trace from end Rest asked broken
+      → (asked : List OpenRule) (broken : Option RuleAt) → IsJudged policy trace from end Rest asked broken
       → IsJudged policy trace from end Others asked broken
   judged_weaker end Rest Others weaker asked broken judged = record {
     items = judged.items;
@@ -159,7 +159,7 @@ module _ (policy : List Formula) (trace : List Step) (from : ℕ) where
   }
 
   -- up to a later end, where those between are known
-  pub judged_further : (end further : RuleAt) (Rest Others : RuleAt → Type 0) (asked : List Asked) (broken : Option RuleAt)
+  pub judged_further : (end further : RuleAt) (Rest Others : RuleAt → Type 0) (asked : List OpenRule) (broken : Option RuleAt)
       → ((at : RuleAt) → IsBefore at end → IsBefore at further)
       → ((at : RuleAt) → Others at → Rest at)
       → ((at : RuleAt) (rule : Formula) → slice_get policy at.rule ≡ Some rule → IsBefore at further → IsBeforeAny at broken
@@ -176,21 +176,21 @@ module _ (policy : List Formula) (trace : List Step) (from : ℕ) where
   }
 
 -- what is met of some is met of the first and of the others
-with_first : (policy : List Formula) (trace : List Step) (from at : ℕ) (end : RuleAt) (item : Asked) (left asked : List Asked)
+with_first : (policy : List Formula) (trace : List Step) (from at : ℕ) (end : RuleAt) (item : OpenRule) (left asked : List OpenRule)
     (broken : Option RuleAt) → IsJudged policy trace from end (AreMet trace at (item ∷ left)) asked broken
     → IsJudged policy trace from end (WithClaim policy trace from end (AreMet trace at left) item.at (Means trace at item.rest)) asked broken
 with_first policy trace from at end item left asked broken judged =
     judged_weaker policy trace from end (AreMet trace at (item ∷ left))
     (WithClaim policy trace from end (AreMet trace at left) item.at (Means trace at item.rest))
     (λ place claims other there same. ⊎_elim
-    (λ one. subst (λ (o : Asked). Means trace at o.rest) one (claims.1 (subst (λ (o : Asked). o.at ≡ place) (sym one) same)))
+    (λ one. subst (λ (o : OpenRule). Means trace at o.rest) one (claims.1 (subst (λ (o : OpenRule). o.at ≡ place) (sym one) same)))
     (λ later. claims.0 other later same)
     (first_or_later other item left there)) asked broken judged
 
 -- ---- what is asked is followed over a step, one after another
 
 module _ (now : Moment) where
-  pub follow_item : (item : Asked) (rest : Residual) (before after : Followed)
+  pub follow_item : (item : OpenRule) (rest : Residual) (before after : Followed)
       → Tells now (λ trace. Means trace now.position item.rest) rest → IsBeforeAny item.at before.broken
       → PutsIn item.at rest before after → FollowsOne now item before after
   follow_item item rest before after tells first puts = λ policy trace end left is of judged.
@@ -198,7 +198,7 @@ module _ (now : Moment) where
       of.rule rest before after of.of_rule of.before first of.means (tells.means trace is) puts
       (with_first policy trace (now.position + 1) now.position end item left before.asked.items before.broken judged)
 
-  pub follow_behind : (item : Asked) (followed : Followed) → (IsBeforeAny item.at followed.broken → ⊥)
+  pub follow_behind : (item : OpenRule) (followed : Followed) → (IsBeforeAny item.at followed.broken → ⊥)
       → FollowsOne now item followed followed
   follow_behind item followed behind = λ policy trace end left is of judged.
       claim_behind policy trace (now.position + 1) end (AreMet trace now.position left) item.at (Means trace now.position item.rest)
@@ -206,12 +206,12 @@ module _ (now : Moment) where
       (with_first policy trace (now.position + 1) now.position end item left followed.asked.items followed.broken judged)
 
   -- where these of what was asked are still to be followed
-  abbrev pub FollowsOn : (asked : List Asked) (broken : Option RuleAt) → (left : List Asked) → Followed → Type 0
+  abbrev pub FollowsOn : (asked : List OpenRule) (broken : Option RuleAt) → (left : List OpenRule) → Followed → Type 0
   FollowsOn asked broken left followed = (policy : List Formula) (trace : List Step) (end : RuleAt) → IsAt now trace
       → IsJudged policy trace now.position end Anything asked broken
       → IsJudged policy trace (now.position + 1) end (AreMet trace now.position left) followed.asked.items followed.broken
 
-  module _ (asked : List Asked) (broken : Option RuleAt) where
+  module _ (asked : List OpenRule) (broken : Option RuleAt) where
     pub follows_first : (followed : Followed) → followed.asked.items ≡ [] → followed.broken ≡ broken
         → FollowsOn asked broken asked followed
     follows_first followed none same = λ policy trace end is judged.
@@ -222,7 +222,7 @@ module _ (now : Moment) where
           others = λ at rule of_rule before any met rest. judged.others at rule of_rule before any rest tt;
         }))
 
-    pub follows_next : (done : List Asked) (item : Asked) (left : List Asked) (before after : Followed)
+    pub follows_next : (done : List OpenRule) (item : OpenRule) (left : List OpenRule) (before after : Followed)
         → asked ≡ done ++ item ∷ left → FollowsOn asked broken (item ∷ left) before → FollowsOne now item before after
         → FollowsOn asked broken left after
     follows_next done item left before after split on one = λ policy trace end is judged.
@@ -296,12 +296,12 @@ module _ (now : Moment) where
 -- ---- the first that is broken at the end
 
 -- where these of what was asked are still to be looked at
-abbrev pub FindsFirst : (asked : List Asked) (broken : Option RuleAt) → (left : List Asked) → Option RuleAt → Type 0
+abbrev pub FindsFirst : (asked : List OpenRule) (broken : Option RuleAt) → (left : List OpenRule) → Option RuleAt → Type 0
 FindsFirst asked broken left first = (policy : List Formula) (trace : List Step) (end : RuleAt)
     → IsJudged policy trace (length trace) end Anything asked broken
     → IsJudged policy trace (length trace) end (AreMet trace (length trace) left) [] first
 
-module _ (asked : List Asked) (broken : Option RuleAt) where
+module _ (asked : List OpenRule) (broken : Option RuleAt) where
   pub finds_none : FindsFirst asked broken asked broken
   finds_none = λ policy trace end judged. record {
     items = tt;
@@ -309,7 +309,7 @@ module _ (asked : List Asked) (broken : Option RuleAt) where
     others = λ at rule of_rule before any met rest. judged.others at rule of_rule before any rest tt;
   }
 
-  pub finds_it : (done : List Asked) (item : Asked) (left : List Asked) (first : Option RuleAt) → asked ≡ done ++ item ∷ left
+  pub finds_it : (done : List OpenRule) (item : OpenRule) (left : List OpenRule) (first : Option RuleAt) → asked ≡ done ++ item ∷ left
       → FindsFirst asked broken (item ∷ left) first → IsBeforeAny item.at first
       → ((trace : List Step) → Means trace (length trace) item.rest → ⊥)
       → FindsFirst asked broken left (Some item.at)
@@ -320,13 +320,13 @@ module _ (asked : List Asked) (broken : Option RuleAt) where
       [] first of.before before (of.rule, of.of_rule, λ holds. fails trace (of.means.1 holds))
       (with_first policy trace (length trace) (length trace) end item left [] first (finds policy trace end judged))
 
-  pub finds_met : (item : Asked) (left : List Asked) (first : Option RuleAt) → FindsFirst asked broken (item ∷ left) first
+  pub finds_met : (item : OpenRule) (left : List OpenRule) (first : Option RuleAt) → FindsFirst asked broken (item ∷ left) first
       → ((trace : List Step) → Means trace (length trace) item.rest) → FindsFirst asked broken left first
   finds_met item left first finds met = λ policy trace end judged.
       claim_met policy trace (length trace) end (AreMet trace (length trace) left) item.at (Means trace (length trace) item.rest)
       [] first (met trace) (with_first policy trace (length trace) (length trace) end item left [] first (finds policy trace end judged))
 
-  pub finds_behind : (item : Asked) (left : List Asked) (first : Option RuleAt) → FindsFirst asked broken (item ∷ left) first
+  pub finds_behind : (item : OpenRule) (left : List OpenRule) (first : Option RuleAt) → FindsFirst asked broken (item ∷ left) first
       → (IsBeforeAny item.at first → ⊥) → FindsFirst asked broken left first
   finds_behind item left first finds behind = λ policy trace end judged.
       claim_behind policy trace (length trace) end (AreMet trace (length trace) left) item.at (Means trace (length trace) item.rest)
@@ -388,7 +388,7 @@ can_more : (guards : List (Formula × List VarId)) (at : RuleAt) (rest : Residua
     → after.asked.items ≡ before.asked.items ++ asked_at at rest ∷ [] → CanFollow guards before.asked.items
     → CanFollow guards after.asked.items
 can_more guards at rest before after can grown all = subst (CanFollow guards) (sym grown)
-    (AllByRecursion-append (λ (item : Asked). CanGoOn guards item.rest) before.asked.items (asked_at at rest ∷ []) all (can, tt))
+    (AllByRecursion-append (λ (item : OpenRule). CanGoOn guards item.rest) before.asked.items (asked_at at rest ∷ []) all (can, tt))
 
 -- what was put in can be followed
 pub can_put : (guards : List (Formula × List VarId)) (at : RuleAt) (rest : Residual) (before after : Followed) → CanGoOn guards rest

@@ -14,7 +14,7 @@ use Rattle.plan_terms.specs.Plans.{Plan}
 use Rattle.trace_audit.specs.Presents.{placed_guard}
 use Rattle.trace_audit.specs.Judging.{AreJudged, CanFollow}
 use Rattle.trace_audit.specs.Verdicts.{formulas_for}
-use Rattle.trace_audit.specs.declared.following.Asked.{Asked}
+use Rattle.trace_audit.specs.declared.following.OpenRule.{OpenRule}
 use Rattle.trace_audit.specs.declared.verdicts.RuleAt.{RuleAt}
 
 -- a policy, what its guards remember of the steps that were taken, how many these are, the last time, what is still
@@ -24,7 +24,7 @@ pub record Auditing : Type 0 where
   pub past : Past
   pub position : ℕ
   pub last : ℕ
-  pub asked : List Asked
+  pub asked : List OpenRule
   pub broken : Option RuleAt
 
 abbrev pub plans_of : Auditing → List Plan

@@ -12,7 +12,7 @@ use Rattle.trace_audit.specs.Presents.{IsAt, Moment}
 use Rattle.trace_audit.specs.Residuals.{CanGoOn, Means}
 use Rattle.trace_audit.specs.Verdicts.{IsBroken, formulas_for}
 use Rattle.trace_audit.specs.declared.following.Followed.{Followed}
-use Rattle.trace_audit.specs.declared.following.Asked.{Asked}
+use Rattle.trace_audit.specs.declared.following.OpenRule.{OpenRule}
 use Rattle.trace_audit.specs.declared.residuals.Residual.{Residual}
 use Rattle.trace_audit.specs.declared.residuals.Residual.TheVariants as stored
 use Rattle.trace_audit.specs.declared.verdicts.RuleAt.{RuleAt}
@@ -28,20 +28,21 @@ IsBeforeAny at None = Unit {0}
 IsBeforeAny at (Some other) = IsBefore at other
 
 -- a rule at a position, before an end, holds where the positions from one on meet what is asked of them
-pub record IsAskedFor (policy : List Formula) (trace : List Step) (from : ℕ) (end : RuleAt) (item : Asked) : Type 0 where
+pub record IsAskedFor (policy : List Formula) (trace : List Step) (from : ℕ) (end : RuleAt)
+    (item : OpenRule) : Type 0 where
   pub rule : Formula
   pub of_rule : slice_get policy item.at.rule ≡ Some rule
   pub before : IsBefore item.at end
   pub means : Means trace from item.rest ↔ Sat trace item.at.position no_values rule
 
 -- each of them that is of this rule and position is met
-abbrev pub AreMet : List Step → (from : ℕ) → List Asked → RuleAt → Type 0
-AreMet trace from items at = (item : Asked) → Contains items item → item.at ≡ at → Means trace from item.rest
+abbrev pub AreMet : List Step → (from : ℕ) → List OpenRule → RuleAt → Type 0
+AreMet trace from items at = (item : OpenRule) → Contains items item → item.at ≡ at → Means trace from item.rest
 
 -- of the rules at positions before an end some are asked, and one may be broken. Each other one before that holds where
 -- this and what is asked for it are met
 pub record IsJudged (policy : List Formula) (trace : List Step) (from : ℕ) (end : RuleAt) (Rest : RuleAt → Type 0)
-    (asked : List Asked) (broken : Option RuleAt) : Type 0 where
+    (asked : List OpenRule) (broken : Option RuleAt) : Type 0 where
   pub items : AllByRecursion (IsAskedFor policy trace from end) asked
   pub failed : (at : RuleAt) → broken ≡ Some at → IsBefore at end × IsBroken policy trace at.rule at.position
   pub others : (at : RuleAt) (rule : Formula) → slice_get policy at.rule ≡ Some rule → IsBefore at end
@@ -52,14 +53,14 @@ abbrev pub Anything : RuleAt → Type 0
 Anything at = Unit {0}
 
 -- so far, from the position of the end on
-abbrev pub AreJudged : List Formula → List Step → RuleAt → List Asked → Option RuleAt → Type 0
+abbrev pub AreJudged : List Formula → List Step → RuleAt → List OpenRule → Option RuleAt → Type 0
 AreJudged policy trace end asked broken = IsJudged policy trace end.position end Anything asked broken
 
 -- each of them can be followed at a step with these guards
-abbrev pub CanFollow : List (Formula × List VarId) → List Asked → Type 0
+abbrev pub CanFollow : List (Formula × List VarId) → List OpenRule → Type 0
 CanFollow guards items = AllByRecursion (λ item. CanGoOn guards item.rest) items
 
-abbrev pub asked_at : RuleAt → Residual → Asked
+abbrev pub asked_at : RuleAt → Residual → OpenRule
 asked_at at rest = record { at = at; rest = rest }
 
 -- what is asked for a rule at a position was put in: nothing where it is met, that it is broken where it failed
@@ -78,8 +79,8 @@ Follows now before after = (policy : List Formula) (trace : List Step) (end : Ru
     → IsJudged policy trace (now.position + 1) end Anything after.asked.items after.broken
 
 -- the first of some is followed, and the others not yet
-abbrev pub FollowsOne : Moment → Asked → Followed → Followed → Type 0
-FollowsOne now item before after = (policy : List Formula) (trace : List Step) (end : RuleAt) (left : List Asked)
+abbrev pub FollowsOne : Moment → OpenRule → Followed → Followed → Type 0
+FollowsOne now item before after = (policy : List Formula) (trace : List Step) (end : RuleAt) (left : List OpenRule)
     → IsAt now trace → IsAskedFor policy trace now.position end item
     → IsJudged policy trace (now.position + 1) end (AreMet trace now.position (item ∷ left))
     before.asked.items before.broken

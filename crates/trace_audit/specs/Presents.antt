@@ -17,8 +17,8 @@ use Rattle.trace_audit.specs.declared.residuals.Residual.{Residual}
 use Rattle.trace_audit.specs.declared.residuals.Waiting.{Waiting}
 use Rattle.plan_terms.specs.Plans.{Plan, plan_of}
 
--- a step that is looked at: its time and its position in a trace, its events, and the tables of the guards' operators on
--- the past
+-- a step that is looked at: its time and its position in a trace, its events, and the tables of the guards' operators
+-- on the past
 pub record Moment : Type 0 where
   pub time : ℕ
   pub position : ℕ

@@ -1,5 +1,5 @@
--- What the verdict on a trace is: whether it satisfies the policy, and else the least position at which it does not, with
--- the first rule that does not hold there.
+-- What the verdict on a trace is: whether it satisfies the policy, and else the least position at which it does not,
+-- with the first rule that does not hold there.
 use Rattle.std.specs.Prelude.{◌≡◌, ℕ, ◌<◌, List, length, map, Some, slice_get}
 use Rattle.enf_value.specs.Valuations.{no_values}
 use Rattle.enf_value.specs.declared.steps.Step.{Step}

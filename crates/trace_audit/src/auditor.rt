@@ -44,7 +44,13 @@ impl<'p> Model for Auditor<'p> {
 
     ghost Value = { Auditing };
 
-    ghost coded = { Prim.hlevel (codes, typed.the_row.coded, past_code, plan.the_row.coded, (residual.the_row (record { mir = named 0; lft = [] })).coded) };
+    ghost coded = { Prim.hlevel (
+      codes,
+      typed.the_row.coded,
+      past_code,
+      plan.the_row.coded,
+      (residual.the_row (record { mir = named 0; lft = [] })).coded,
+    ) };
 
     ghost view = { λ a. record {
       policy = a.policy.now;

@@ -8,8 +8,8 @@ ghost use Rattle.plan_terms.specs.Plans.{plan_of};
 ghost use Rattle.trace_meaning.specs.Records.{most_time};
 ghost use Rattle.trace_meaning.specs.declared.kinds.StepKind.TheVariants.{Inserted};
 ghost use Rattle.trace_audit.specs.Asking.{CanAsk};
-ghost use Rattle.trace_audit.specs.Judging.{Anything, Begins, CanFollow, Follows, FollowsOne, IsBeforeAny, IsJudged, TakesStep};
-ghost use Rattle.trace_audit.specs.Judging.{PutsIn};
+ghost use Rattle.trace_audit.specs.Judging.{Anything, Begins, CanFollow, Follows, FollowsOne, IsBeforeAny};
+ghost use Rattle.trace_audit.specs.Judging.{IsJudged, PutsIn, TakesStep};
 ghost use Rattle.trace_audit.specs.Presents.{guards_at, moment, moment_of};
 ghost use Rattle.trace_audit.specs.Residuals.{CanGoOn};
 ghost use Rattle.trace_audit.specs.declared.verdicts.RuleAt.{RuleAt as AnyRuleAt};
@@ -28,7 +28,7 @@ use valuations::{Frame, Valuation};
 
 // What is still asked for a rule at a position.
 #[derive(Drop)]
-pub struct Asked<'p> {
+pub struct OpenRule<'p> {
     pub at: RuleAt,
     pub rest: Residual<'p>,
 }
@@ -36,7 +36,7 @@ pub struct Asked<'p> {
 // What is still asked, and the first rule that is known to be broken.
 #[derive(Drop)]
 pub struct Followed<'p> {
-    pub asked: Vec<Asked<'p>>,
+    pub asked: Vec<OpenRule<'p>>,
     pub broken: Option<RuleAt>,
 }
 
@@ -72,7 +72,7 @@ fn follow_each<'p>(
 
 fn follow<'p>(
     alloc: Global,
-    item: Asked<'p>,
+    item: OpenRule<'p>,
     now: &Present<'_>,
     followed: &mut Followed<'p>,
 ) -> Result<(), NoMemory>
@@ -96,7 +96,7 @@ fn put_in<'p>(at: RuleAt, rest: Residual<'p>, followed: &mut Followed<'p>) -> Re
     match rest {
         Residual::Met => {}
         Residual::Failed => followed.broken = Some(at),
-        rest => followed.asked.push(Asked { at, rest })?,
+        rest => followed.asked.push(OpenRule { at, rest })?,
     }
     Ok(())
 }
@@ -161,7 +161,7 @@ pub fn follow_step<'p>(
 }
 
 // The first broken rule where the trace ends.
-pub fn first_broken(asked: &[Asked<'_>], broken: Option<RuleAt>) -> Option<RuleAt>
+pub fn first_broken(asked: &[OpenRule<'_>], broken: Option<RuleAt>) -> Option<RuleAt>
     ensures { (policy : List Formula) (trace : List Step) (end : AnyRuleAt)
         → IsJudged policy trace (length trace) end Anything asked.now broken
         → IsJudged policy trace (length trace) end Anything [] result }

@@ -10,8 +10,8 @@ use plan_terms::Plan;
 use std::alloc::Global;
 use valuations::Valuation;
 
-// An operator on the future that waits: its node, the values of the variables in scope there, and the first and the last
-// time of its window.
+// An operator on the future that waits: its node, the values of the variables in scope there, and the first and the
+// last time of its window.
 #[derive(Drop)]
 pub struct Waiting<'p> {
     pub node: &'p Plan,

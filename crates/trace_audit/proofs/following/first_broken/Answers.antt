@@ -1,6 +1,6 @@
 use Rattle.std.proofs.Common.{◌≡◌, ◌++◌, ◌∷◌, ◌∙◌, ◌+◌, List, drop, take, ap, sym, subst, true≢false}
 use Rattle.std.proofs.lemmas.List.{drop_all, take-append-drop}
-use Rattle.trace_audit.specs.declared.following.Asked.{Asked}
+use Rattle.trace_audit.specs.declared.following.OpenRule.{OpenRule}
 use Rattle.trace_audit.proofs.JudgeLemmas.{FindsFirst, dropped, finds_all, finds_behind, finds_it, finds_met}
 use Rattle.trace_audit.proofs.following.first_broken.Goals as goal
 use Rattle.trace_audit.proofs.following.first_broken.Goals.{then-is_before+then-not-is_met_at_end, else-is_before, else-is_before-via-then-is_before+else-not-is_met_at_end, else-is_before-via-else-is_before}
@@ -14,7 +14,7 @@ loop-item-preserved c =
     let left = drop (k + 1) xs in
     let first = c.loop-item.first in
     let drops : drop k xs ≡ item ∷ left = dropped xs k item c.loop-item-test.true c.item-item.is in
-    let finds = subst (λ (l : List Asked). FindsFirst xs broken l first) drops c.loop-item.invariant in
+    let finds = subst (λ (l : List OpenRule). FindsFirst xs broken l first) drops c.loop-item.invariant in
     elim c.if-is_before.branch [
       | then-is_before+then-not-is_met_at_end w ↦
           subst (FindsFirst xs broken left) (sym w.first-is)
@@ -32,5 +32,5 @@ loop-item-preserved c =
 pub returns : goal.returns
 returns c =
     finds_all c.args.asked.now c.args.broken c.loop-item.first
-    (subst (λ (l : List Asked). FindsFirst c.args.asked.now c.args.broken l c.loop-item.first)
+    (subst (λ (l : List OpenRule). FindsFirst c.args.asked.now c.args.broken l c.loop-item.first)
     (drop_all c.loop-item.item-index c.args.asked.now c.loop-item-test.false) c.loop-item.invariant)
