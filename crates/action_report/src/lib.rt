@@ -13,6 +13,6 @@ pub mod refusals;
 mod scopes;
 pub mod worked_cases;
 
-pub use lines::write_action;
+pub use lines::{rule_name, write_action};
 pub use reading::read_action;
 pub use refusals::ReportRefusal;

@@ -31,7 +31,7 @@ pub fn write_action(
     print_bytes(kind_word(action.kind), out)?;
     print_event(signature, &action.event, out)?;
     print_when(action, out)?;
-    print_cause(name_of(policy, action.rule), action, out)?;
+    print_cause(rule_name(policy, action.rule), action, out)?;
     print_bindings(
         variables_of(policy, action.rule),
         action.valuation.bindings(),
@@ -49,7 +49,8 @@ fn kind_word(kind: LiteralKind) -> &'static [u8]
     }
 }
 
-fn name_of(policy: &Policy, rule: u32) -> &[u8]
+/// The name of the rule with this number; nothing, where there is none.
+pub fn rule_name(policy: &Policy, rule: u32) -> &[u8]
     ensures { result.now ≡ rule_name (slice_get (rules_of policy.now) rule) }
 {
     match policy.rules.get(rule as usize) {

@@ -1,6 +1,5 @@
 //! The audit of a log: its steps go to an auditor one by one, and nothing is given to the gate while they do.
-ghost use Rattle.std.specs.Prelude.{◌≡◌, ◌+◌, ◌<◌, ◌≤◌, ◌^◌, [], IfOk, OnErr, length, slice_get};
-ghost use Rattle.action_report.specs.Lines.{rule_name};
+ghost use Rattle.std.specs.Prelude.{◌≡◌, ◌+◌, ◌<◌, ◌≤◌, ◌^◌, [], IfOk, OnErr, length};
 ghost use Rattle.enforce_types.specs.Typed.{typed_of};
 ghost use Rattle.formula_reader.specs.Resolution.{rules_of};
 ghost use Rattle.log_stream.specs.declared.items.LogMode.TheVariants.{TraceLog};
@@ -18,6 +17,7 @@ use crate::endings::{Cut, Finish};
 use crate::intake::{Intake, Judged, Next, Verdict, refusal_of};
 use crate::refusals::RecordRefusal;
 use crate::reporting::write_pieces;
+use action_report::rule_name;
 use enf_io::devices::{Gate, Sink};
 use enf_value::NoMemory;
 use enforce_types::TypedPolicy;
@@ -188,21 +188,11 @@ pub fn write_verdict<S: Sink>(
     match found {
         trace_audit::Verdict::Holds => write_pieces(&[b"holds\n"], sink),
         trace_audit::Verdict::Fails { rule, position } => {
-            let name = name_of(policy, rule);
+            let name = rule_name(policy, rule);
             let mut digits = Buffer::new();
             let at = digits.format(position).as_bytes();
             write_pieces(&[b"violated ", name, b" at position ", at, b"\n"], sink)
         }
-    }
-}
-
-// The name of the rule with this number; nothing, where there is none.
-fn name_of(policy: &Policy, rule: u32) -> &[u8]
-    ensures { result.now ≡ rule_name (slice_get (rules_of policy.now) rule) }
-{
-    match policy.rules.get(rule as usize) {
-        Some(rule) => rule.name.bytes(),
-        None => &[],
     }
 }
 

@@ -43,7 +43,7 @@ returns-in_err-print_cause-clause-err c =
     (part_behind event (when_text c.args.action.now ++ (cause ++ (values ++ codes "\n"))) _ _ _ c.in_ok-print_event.ensures.ok
     (part_behind (when_text c.args.action.now) (cause ++ (values ++ codes "\n")) _ _ _ c.in_ok-print_when.ensures.ok
     (part_first cause (values ++ codes "\n") _ _
-    (subst (λ (n : List ℕ). AppendsPart (cause_text n c.args.action.now) c.print_when.new.out.items c.print_cause.new.out.items) c.name_of.ensures c.in_err-print_cause.ensures.err)))))
+    (subst (λ (n : List ℕ). AppendsPart (cause_text n c.args.action.now) c.print_when.new.out.items c.print_cause.new.out.items) c.rule_name.ensures c.in_err-print_cause.ensures.err)))))
 
 pub returns-in_err-print_bindings-clause-err : goal.returns-in_err-print_bindings-clause-err
 returns-in_err-print_bindings-clause-err c =
@@ -52,7 +52,7 @@ returns-in_err-print_bindings-clause-err c =
     let cause = cause_text (rule_name rule) c.args.action.now in
     let values = bindings_text (variables rule) (bindings c.args.action.now.valuation) in
     let kind = c.in_ok-print_bytes.ensures.ok ∙ ap (λ (t : List ℕ). c.args.out.now.items ++ t) c.kind_word.ensures in
-    let named = c.in_ok-print_cause.ensures.ok ∙ ap (λ (n : List ℕ). c.print_when.new.out.items ++ cause_text n c.args.action.now) c.name_of.ensures in
+    let named = c.in_ok-print_cause.ensures.ok ∙ ap (λ (n : List ℕ). c.print_when.new.out.items ++ cause_text n c.args.action.now) c.rule_name.ensures in
     on_err_from _ (part_behind (kind_text c.args.action.now.kind) (event ++ (when_text c.args.action.now ++ (cause ++ (values ++ codes "\n")))) _ _ _ kind
     (part_behind event (when_text c.args.action.now ++ (cause ++ (values ++ codes "\n"))) _ _ _ c.in_ok-print_event.ensures.ok
     (part_behind (when_text c.args.action.now) (cause ++ (values ++ codes "\n")) _ _ _ c.in_ok-print_when.ensures.ok
@@ -68,7 +68,7 @@ returns-clause-err c =
     let cause = cause_text (rule_name rule) c.args.action.now in
     let values = bindings_text (variables rule) (bindings c.args.action.now.valuation) in
     let kind = c.in_ok-print_bytes.ensures.ok ∙ ap (λ (t : List ℕ). c.args.out.now.items ++ t) c.kind_word.ensures in
-    let named = c.in_ok-print_cause.ensures.ok ∙ ap (λ (n : List ℕ). c.print_when.new.out.items ++ cause_text n c.args.action.now) c.name_of.ensures in
+    let named = c.in_ok-print_cause.ensures.ok ∙ ap (λ (n : List ℕ). c.print_when.new.out.items ++ cause_text n c.args.action.now) c.rule_name.ensures in
     let bound = c.in_ok-print_bindings.ensures.ok ∙ ap (λ (v : List (List ℕ)). c.print_cause.new.out.items ++ bindings_text v c.bindings.result.now) c.variables_of.ensures
     ∙ ap (λ (l : List (VarId × Value)). c.print_cause.new.out.items ++ bindings_text (variables rule) l) c.bindings.ensures in
     part_last _ (kind_text c.args.action.now.kind) (event ++ (when_text c.args.action.now ++ (cause ++ (values ++ codes "\n")))) _ _ _ kind

@@ -10,7 +10,7 @@ pub returns-in-Fails : goal.returns-in-Fails
 returns-in-Fails g c =
     let name = rule_name (slice_get (rules_of c.args.policy.now) c.in-Fails.rule) in
     let place = c.as_bytes-at.ensures.value ∙ c.format.ensures.text in
-    let text = ap (λ (xs : List ℕ). codes "violated " ++ (xs ++ (codes " at position " ++ (c.as_bytes-at.result.now ++ codes "\n")))) c.name_of-name.ensures
+    let text = ap (λ (xs : List ℕ). codes "violated " ++ (xs ++ (codes " at position " ++ (c.as_bytes-at.result.now ++ codes "\n")))) c.rule_name-name.ensures
     ∙ ap (λ (xs : List ℕ). codes "violated " ++ (name ++ (codes " at position " ++ (xs ++ codes "\n")))) place
     ∙ five_pieces (codes "violated ") name (codes " at position ") (decimal c.in-Fails.position) (codes "\n")
     ∙ sym (ap (verdict_line (rules_of c.args.policy.now)) c.in-Fails.is) in
