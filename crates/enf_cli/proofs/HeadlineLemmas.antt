@@ -20,7 +20,7 @@ use Rattle.enf_cli.specs.Accepted.{UpToDate}
 use Rattle.enf_cli.specs.Calls.{Call, LeavesGate}
 use Rattle.enf_cli.specs.Dues.{AsksPolicy, AsksTold, TellBytes}
 use Rattle.enf_cli.specs.Exchanges.{Exchanged, IsExchange}
-use Rattle.enf_cli.specs.Headline.{HasEnded, HasTakenLog, Headline, IsAsked, IsFront, IsKept, IsKeptSoFar, IsRefusedFor, action_lines, text_of_log_refusal}
+use Rattle.enf_cli.specs.Headline.{EndsWithStatus, HasTakenLog, Headline, IsAsked, IsFront, IsKept, IsKeptSoFar, IsRefusedFor, action_lines, text_of_log_refusal}
 use Rattle.enf_cli.specs.Logs.{CutsRun, RunsLog, taken_of}
 use Rattle.enf_cli.specs.Readings.{EndsAs, IsRefusedAs, Taken, clock_behind}
 use Rattle.enf_cli.specs.Outcomes.{AsksToEnforce, BreaksOffAudit, BreaksOffLog, IsCut, Meets, MissesFile, Outcome, RefusesAudited, RefusesRecord}
@@ -95,7 +95,7 @@ status_after verdicts.Fault = statuses.ReadFault
 status_after (verdicts.Refused why) = statuses.Record
 
 has_ended : (entries : List NameEntry) (rules : List Rule) (read : List LogItem) (taken rest last : List ℕ) (before after : Stream) (verdict : Verdict)
-    → EndsAs (taken_of (anew entries rules) read taken rest) before after verdict → IsLast verdict (length read) last → HasEnded entries read taken rest last before after (status_after verdict)
+    → EndsAs (taken_of (anew entries rules) read taken rest) before after verdict → IsLast verdict (length read) last → EndsWithStatus entries read taken rest last before after (status_after verdict)
 has_ended entries rules read taken rest last before after verdicts.Accepted (blank, met, reads) line = (blank, met, reads, line)
 has_ended entries rules read taken rest last before after verdicts.Fault (pending, reads) line = (pending, reads, line)
 has_ended entries rules read taken rest last before after (verdicts.Refused why) (refused, reads) line =

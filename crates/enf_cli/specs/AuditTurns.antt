@@ -45,7 +45,7 @@ pub record AuditsNext (entries : List NameEntry) (audit audit' : Audit) : Type 0
   pub reader_is : audit'.intake.reader ≡ reads_in entries TraceLog audit'.intake.reader.rest
   pub taken : AuditsRecord (record_of item) audit.clock audit'.clock audit.auditor audit'.auditor
 
--- the counts of the intake, its piece, and the auditor are as they were
+-- the piece of the intake and its counts are as they were
 pub record LeavesCounts (audit audit' : Audit) : Type 0 where
   pub piece : audit'.intake.piece ≡ audit.intake.piece
   pub accepted : audit'.intake.accepted ≡ audit.intake.accepted

@@ -137,17 +137,17 @@ IsFront line front = (missing : List ℕ) × (line ≡ front ++ missing)
 
 -- how the log ended, by the status: nothing of it is left, or its next record is refused, or a read failed; and the
 -- last line of the report
-abbrev pub HasEnded : List NameEntry → (read : List LogItem) → (taken rest last : List ℕ) → (gate gate' : Stream)
+abbrev pub EndsWithStatus : List NameEntry → (read : List LogItem) → (taken rest last : List ℕ) → (gate gate' : Stream)
     → Status → Type 0
-HasEnded entries read taken rest last gate gate' statuses.Done =
+EndsWithStatus entries read taken rest last gate gate' statuses.Done =
     (behind_blanks rest ≡ []) × MetEnd (length taken) gate' × (gate'.read_faults ≡ gate.read_faults) × (last ≡ [])
-HasEnded entries read taken rest last gate gate' statuses.Record =
+EndsWithStatus entries read taken rest last gate gate' statuses.Record =
     (words : List ℕ) × IsRefusedFor entries (clock_after 0 (records_of read)) (length taken) rest gate' words
     × (gate'.read_faults ≡ gate.read_faults)
     × IsFront (codes "record " ++ decimal (length read + 1) ++ codes ": " ++ words ++ codes "\n") last
-HasEnded entries read taken rest last gate gate' statuses.ReadFault =
+EndsWithStatus entries read taken rest last gate gate' statuses.ReadFault =
     IsPending rest × (gate'.read_faults ≡ one_more gate.read_faults) × IsFront (codes "read fault\n") last
-HasEnded entries read taken rest last gate gate' other = ⊥
+EndsWithStatus entries read taken rest last gate gate' other = ⊥
 
 -- the lines of the actions that made a step, in their order, and of all that made these steps
 abbrev pub lines_of_actions : List NameEntry → List Rule → ActedStep → List ℕ
@@ -162,7 +162,7 @@ pub record IsKept (entries : List NameEntry) (rules : List Rule) (gate gate' : S
     (taken given said : List ℕ) : Type 0 where
   pub answered : IsAnswered entries rules taken given
   pub last : List ℕ
-  pub ended : HasEnded entries answered.read taken answered.rest last gate gate' result
+  pub ended : EndsWithStatus entries answered.read taken answered.rest last gate gate' result
   pub satisfied : Satisfies (trace_of (out_steps answered.out)) (formulas rules)
   pub reported : said ≡ action_lines entries rules answered.out ++ last
   pub alone : IsMarked entries (formulas rules) → Satisfies (recorded (records_of answered.read)) (formulas rules)
