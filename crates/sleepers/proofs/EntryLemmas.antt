@@ -1,0 +1,144 @@
+-- Lists of entries in the order of their places.
+use Rattle.std.proofs.Common.{◌≡◌, List, [], ◌∷◌, ◌++◌, Contains, Option, None, Some, Result, Ok, Err, OnOk, OnErr, ◌⊎◌, inl, inr, ⊎_elim, refl, sym, ap, subst, ◌∙◌, arith, subst₂, append_assoc}
+use Rattle.std.specs.Borrow.{Bor}
+use Rattle.std.specs.Option.{option_to_list}
+use Rattle.cursor_list.specs.Split.{Split, items}
+use Rattle.std.specs.List.{AllByRecursion}
+use Rattle.enf_value.specs.ListLaws.{later, first_or_later, none_in_nil}
+use Rattle.enf_value.specs.Membership.{HasNoRepeats}
+use Rattle.sleepers.proofs.OrderLemmas.{before_else, before_on, not_itself}
+use Rattle.sleepers.specs.Entries.{AreJust, ArePlaced, HasOneMore, IsFree, Picks, places, shown}
+use Rattle.sleepers.specs.Order.{IsBefore, Place}
+use Rattle.sleepers.specs.Sleeping.{StartsBefore}
+use Rattle.sleepers.specs.declared.entries.Entry.{Entry}
+
+module _ {T : Type 0} where
+  -- ---- one entry more
+
+  in_fewer : (front back : List (Entry T)) (entry : Entry T) (q : Place) → Contains (places (front ++ entry ∷ back)) q
+      → (entry.place ≡ q) ⊎ Contains (places (front ++ back)) q
+  in_fewer [] back entry q there = first_or_later q entry.place (places back) there
+  in_fewer (f ∷ front) back entry q there =
+      ⊎_elim (λ same. inr (0, omega arith, same)) (λ on. ⊎_elim (λ same. inl same) (λ more. inr (later q f.place (places (front ++ back)) more)) (in_fewer front back entry q on))
+      (first_or_later q f.place (places (front ++ entry ∷ back)) there)
+
+  in_more : (front back : List (Entry T)) (entry : Entry T) (q : Place) → Contains (places (front ++ back)) q
+      → Contains (places (front ++ entry ∷ back)) q
+  in_more [] back entry q there = later q entry.place (places back) there
+  in_more (f ∷ front) back entry q there =
+      ⊎_elim (λ same. (0, omega arith, same)) (λ on. later q f.place (places (front ++ entry ∷ back)) (in_more front back entry q on))
+      (first_or_later q f.place (places (front ++ back)) there)
+
+  pub without_placed : (front back : List (Entry T)) (entry : Entry T) → ArePlaced (front ++ entry ∷ back) → ArePlaced (front ++ back)
+  without_placed [] back entry order = order.1
+  without_placed (f ∷ front) back entry order =
+      ((λ q there. order.0 q (in_more front back entry q there)), without_placed front back entry order.1)
+
+  -- behind those that stand before its place, and in front of the others
+  pub put_placed : (front back : List (Entry T)) (entry : Entry T) → ArePlaced (front ++ back)
+      → AllByRecursion (λ (f : Entry T). IsBefore f.place entry.place) front → (StartsBefore back entry.place → ⊥) → IsFree entry.place (front ++ back)
+      → ArePlaced (front ++ entry ∷ back)
+  put_placed [] [] entry order before not free = ((λ q there. absurd (none_in_nil q there)), tt)
+  put_placed [] (b ∷ back) entry order before not free =
+      let first : IsBefore entry.place b.place = before_else b.place entry.place not (λ same. free (0, omega arith, same)) in
+      ((λ q there. ⊎_elim (λ same. subst (λ (z : Place). IsBefore entry.place z) same first) (λ on. before_on entry.place b.place q first (order.0 q on)) (first_or_later q b.place (places back) there)), order)
+  put_placed (f ∷ front) back entry order before not free = (
+    (λ q there. ⊎_elim (λ same. subst (λ (z : Place). IsBefore f.place z) same before.0) (λ on. order.0 q on) (in_fewer front back entry q there)),
+    put_placed front back entry order.1 before.1 not (λ there. free (later entry.place f.place (places (front ++ back)) there)),
+  )
+
+  inserted_items : (list new : Split (Entry T)) (entry : Entry T) → new.after ≡ list.after → new.before ≡ list.before ++ entry ∷ []
+      → items new ≡ list.before ++ entry ∷ list.after
+  inserted_items list new entry after before = (λ i. before i ++ after i) ∙ append_assoc list.before (entry ∷ []) list.after
+
+  -- at a cursor behind the entries that stand before it, where there was memory for it
+  pub inserted_placed : {A B : Type 0} (result : Result A B) (list new : Split (Entry T)) (entry : Entry T) → new.after ≡ list.after
+      → OnOk result (new.before ≡ list.before ++ entry ∷ []) → OnErr result (new.before ≡ list.before) → ArePlaced (items list)
+      → AllByRecursion (λ (f : Entry T). IsBefore f.place entry.place) list.before → (StartsBefore list.after entry.place → ⊥)
+      → IsFree entry.place (items list) → ArePlaced (items new)
+  inserted_placed (Ok a) list new entry after ok err order before not free =
+      subst ArePlaced (sym (inserted_items list new entry after ok)) (put_placed list.before list.after entry order before not free)
+  inserted_placed (Err b) list new entry after ok err order before not free = subst ArePlaced (λ i. sym err i ++ sym after i) order
+
+  pub inserted_more : (list new : Split (Entry T)) (entry : Entry T) → new.after ≡ list.after → new.before ≡ list.before ++ entry ∷ []
+      → ArePlaced (items new) → HasOneMore entry (items list) (items new)
+  inserted_more list new entry after before placed =
+      record { front = list.before; back = list.after; fewer_is = refl; more_is = inserted_items list new entry after before; placed = placed }
+
+  -- what was taken out, if anything was
+  pub removed_placed : (before after rest : List (Entry T)) (taken : Option (Entry T)) → ArePlaced (before ++ after)
+      → after ≡ option_to_list taken ++ rest → ArePlaced (before ++ rest)
+  removed_placed before after rest None order is = subst (λ (l : List (Entry T)). ArePlaced (before ++ l)) is order
+  removed_placed before after rest (Some entry) order is =
+      without_placed before rest entry (subst (λ (l : List (Entry T)). ArePlaced (before ++ l)) is order)
+
+  -- ---- in order none stands twice
+
+  in_places : (entries : List (Entry T)) (entry : Entry T) → Contains entries entry → Contains (places entries) entry.place
+  in_places [] entry there = absurd (none_in_nil entry there)
+  in_places (e ∷ entries) entry there =
+      ⊎_elim (λ same. (0, omega arith, ap (λ (z : Entry T). z.place) same)) (λ on. later entry.place e.place (places entries) (in_places entries entry on)) (first_or_later entry e entries there)
+
+  placed_once : (entries : List (Entry T)) → ArePlaced entries → HasNoRepeats entries
+  placed_once [] order = tt
+  placed_once (e ∷ entries) order = ((λ there. not_itself e.place (order.0 e.place (in_places entries e there))), placed_once entries order.1)
+
+-- ---- those of a list of which something holds
+
+module _ {X : Type 0} where
+  pub shown_put : (references : List (Bor X)) (r : Bor X) → shown (references ++ r ∷ []) ≡ shown references ++ r.now ∷ []
+  shown_put [] r = refl
+  shown_put (q ∷ references) r = ap (λ (l : List X). q.now ∷ l) (shown_put references r)
+
+  pub shown_on : (references : List (Bor X)) (r : Bor X) (all left rest : List X) → all ≡ shown references ++ left → left ≡ r.now ∷ rest
+      → all ≡ shown (references ++ r ∷ []) ++ rest
+  shown_on references r all left rest is first =
+      is ∙ ap (λ (l : List X). shown references ++ l) first ∙ sym (append_assoc (shown references) (r.now ∷ []) rest) ∙ ap (λ (l : List X). l ++ rest) (sym (shown_put references r))
+
+module _ {X : Type 0} (P : X → Type 0) where
+  pub picks_more : (xs ys : List X) (x : X) → Picks P xs ys → P x → Picks P (xs ++ x ∷ []) (ys ++ x ∷ [])
+  picks_more [] ys x picks holds = inl ([], holds, refl, ap (λ (l : List X). l ++ x ∷ []) picks)
+  picks_more (z ∷ xs) ys x picks holds =
+      ⊎_elim (λ c. inl (c.0 ++ x ∷ [], c.1, picks_more xs c.0 x c.2 holds, ap (λ (l : List X). l ++ x ∷ []) c.3)) (λ c. inr (c.0, picks_more xs ys x c.1 holds)) picks
+
+  pub picks_on : (xs ys : List X) (x : X) → Picks P xs ys → (P x → ⊥) → Picks P (xs ++ x ∷ []) ys
+  picks_on [] ys x picks not = inr (not, picks)
+  picks_on (z ∷ xs) ys x picks not = ⊎_elim (λ c. inl (c.0, c.1, picks_on xs c.0 x c.2 not, c.3)) (λ c. inr (c.0, picks_on xs ys x c.1 not)) picks
+
+  pub shown_picks_more : (references picked after : List (Bor X)) (r : Bor X) → Picks P (shown references) (shown picked) → P r.now
+      → after ≡ picked ++ r ∷ [] → Picks P (shown (references ++ r ∷ [])) (shown after)
+  shown_picks_more references picked after r picks holds is =
+      subst₂ (Picks P) (sym (shown_put references r)) (sym (ap shown is ∙ shown_put picked r)) (picks_more (shown references) (shown picked) r.now picks holds)
+
+  pub shown_picks_on : (references : List (Bor X)) (picked : List X) (r : Bor X) → Picks P (shown references) picked → (P r.now → ⊥)
+      → Picks P (shown (references ++ r ∷ [])) picked
+  shown_picks_on references picked r picks not =
+      subst (λ (l : List X). Picks P l picked) (sym (shown_put references r)) (picks_on (shown references) picked r.now picks not)
+
+  picks_are : (xs ys : List X) (x : X) → Picks P xs ys → Contains ys x → Contains xs x × P x
+  picks_are [] ys x picks there = absurd (none_in_nil x (subst (λ (l : List X). Contains l x) picks there))
+  picks_are (z ∷ xs) ys x picks there =
+      ⊎_elim
+      (λ c. ⊎_elim (λ same. ((0, omega arith, same), subst P same c.1)) (λ on. let more = picks_are xs c.0 x c.2 on in (later x z xs more.0, more.1)) (first_or_later x z c.0 (subst (λ (l : List X). Contains l x) c.3 there)))
+      (λ c. let more = picks_are xs ys x c.1 there in (later x z xs more.0, more.1)) picks
+
+  picks_have : (xs ys : List X) (x : X) → Picks P xs ys → Contains xs x → P x → Contains ys x
+  picks_have [] ys x picks there holds = absurd (none_in_nil x there)
+  picks_have (z ∷ xs) ys x picks there holds =
+      ⊎_elim
+      (λ c. subst (λ (l : List X). Contains l x) (sym c.3) (⊎_elim (λ same. (0, omega arith, same)) (λ on. later x z c.0 (picks_have xs c.0 x c.2 on holds)) (first_or_later x z xs there)))
+      (λ c. ⊎_elim (λ same. absurd (c.0 (subst P (sym same) holds))) (λ on. picks_have xs ys x c.1 on holds) (first_or_later x z xs there)) picks
+
+  picks_once : (xs ys : List X) → Picks P xs ys → HasNoRepeats xs → HasNoRepeats ys
+  picks_once [] ys picks once = subst HasNoRepeats (sym picks) tt
+  picks_once (z ∷ xs) ys picks once =
+      ⊎_elim (λ c. subst HasNoRepeats (sym c.3) ((λ there. once.0 (picks_are xs c.0 z c.2 there).0), picks_once xs c.0 c.2 once.1)) (λ c. picks_once xs ys c.1 once.1) picks
+
+  pub picks_just : (xs ys : List X) → Picks P xs ys → HasNoRepeats xs → AreJust P xs ys
+  picks_just xs ys picks once = record {
+    once = picks_once xs ys picks once;
+    are = λ x. ((λ there. picks_are xs ys x picks there), (λ both. picks_have xs ys x picks both.0 both.1));
+  }
+
+pub placed_just : {T : Type 0} (P : Entry T → Type 0) (xs ys : List (Entry T)) → ArePlaced xs → Picks P xs ys → AreJust P xs ys
+placed_just P xs ys order picks = picks_just P xs ys picks (placed_once xs order)

@@ -1,0 +1,5 @@
+-- Words on entries that are found by events.
+pub mod Entries
+pub mod Order
+pub mod Patterns
+pub mod Sleeping

@@ -1,0 +1,62 @@
+-- Places, and lists in their order. A place is made once: what is begun at one goes on from it with a later turn, and of
+-- those that go on from one place the later come first.
+use Rattle.std.specs.Prelude.{◌≡◌, ◌↔◌, ℕ, zero, suc, ◌<◌, Bool, cond, ◌⊎◌, List, [], ◌∷◌, ◌++◌, Contains, map}
+use Rattle.std.specs.List.{AllByRecursion}
+use Rattle.sleepers.specs.declared.places.Turn.{Turn}
+
+abbrev pub turn : (number among : ℕ) → Turn
+turn number among = record { number = number; among = among }
+
+abbrev pub Place : Type 0
+Place = List Turn
+
+abbrev pub IsTurnBefore : Turn → Turn → Type 0
+IsTurnBefore s t = (s.number < t.number) ⊎ ((s.number ≡ t.number) × (s.among < t.among))
+
+-- by the first turn that differs; a front stands before what goes on with it
+abbrev pub IsBefore : Place → Place → Type 0
+IsBefore p [] = ⊥
+IsBefore [] (t ∷ q) = Unit {0}
+IsBefore (s ∷ p) (t ∷ q) = IsTurnBefore s t ⊎ ((s ≡ t) × IsBefore p q)
+
+-- each stands before all that come later
+abbrev pub AreInOrder : List Place → Type 0
+AreInOrder [] = Unit {0}
+AreInOrder (p ∷ ps) = ((q : Place) → Contains ps q → IsBefore p q) × AreInOrder ps
+
+-- ---- what comes at a step
+
+-- a place that was made before: its first turn is below one number, and each later one above another
+abbrev pub WasMade : (first later : ℕ) → Place → Type 0
+WasMade first later [] = ⊥
+WasMade first later (t ∷ place) = (t.number < first) × AllByRecursion (λ u. later < u.number) place
+
+-- the places of so many that are begun at one turn, counted from k on
+abbrev pub places_from : Place → (number k count : ℕ) → List Place
+places_from place number k zero = []
+places_from place number k (suc count) = (place ++ turn number k ∷ []) ∷ places_from place number (suc k) count
+
+-- what becomes of an entry: whether it stays, and how many are begun for it
+pub record Change : Type 0 where
+  pub place : Place
+  pub stays : Bool
+  pub begun : ℕ
+
+abbrev pub places_of : (later : ℕ) → Change → List Place
+places_of later c = cond c.stays (c.place ∷ []) [] ++ places_from c.place later 0 c.begun
+
+abbrev pub places_behind : (later : ℕ) → List Change → List Place
+places_behind later [] = []
+places_behind later (c ∷ changes) = places_of later c ++ places_behind later changes
+
+-- ---- laws
+
+-- lists in order with the same places are the same
+abbrev pub OneOrder : Type 0
+OneOrder = (ps qs : List Place) → AreInOrder ps → AreInOrder qs → ((p : Place) → Contains ps p ↔ Contains qs p) → ps ≡ qs
+
+-- what becomes of each, and behind it so many that are begun anew, is in order where the entries were
+abbrev pub StepsKeepOrder : Type 0
+StepsKeepOrder = (first later count : ℕ) (changes : List Change) → AreInOrder (map (λ c. c.place) changes)
+    → AllByRecursion (λ c. WasMade first later c.place) changes
+    → AreInOrder (places_behind later changes ++ places_from [] first 0 count)

@@ -1,0 +1,29 @@
+//! Entries that sleep until an event or a time wakes them.
+ghost use Rattle.std.specs.Prelude.{◌↔◌, IsTrue};
+ghost use Rattle.sleepers.specs.Entries.{IsAsleep};
+
+use crate::patterns::{Patterns, has_none};
+use crate::places::Place;
+use enf_value::Event;
+
+/// An item with its place, the patterns of the events that wake it, or none where each step does, and the time from which
+/// on it is awake.
+#[derive(Debug, Drop)]
+pub struct Entry<T> {
+    pub place: Place,
+    pub patterns: Option<Patterns>,
+    pub end: u64,
+    pub item: T,
+}
+
+impl<T> Entry<T> {
+    /// Whether the entry sleeps at a step of this time with these events.
+    pub fn is_asleep(&self, events: &[Event], time: u64) -> bool
+        ensures { IsTrue result ↔ IsAsleep events.now time self.now }
+    {
+        match &self.patterns {
+            Some(patterns) => time < self.end && has_none(patterns.as_slice(), events),
+            None => false,
+        }
+    }
+}
