@@ -1,7 +1,6 @@
 pub mod Sample
 pub mod SamplePolicy
 pub mod Puts
-pub mod Bounds
 pub mod Texts
 pub mod Limits
 pub mod Lines

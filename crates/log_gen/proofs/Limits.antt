@@ -25,7 +25,7 @@ use Rattle.log_stream.specs.Lines.{spelled_event}
 use Rattle.trace_meaning.specs.declared.kinds.StepKind.TheVariants.{System}
 use Rattle.enf_value.specs.declared.steps.Step.{Step}
 use Rattle.log_stream.specs.RoundTrip.{FitColumns, IsDeclared, IsWithinLimits}
-use Rattle.log_gen.proofs.Bounds.{early}
+use Rattle.log_gen.specs.StepLaws.{early}
 use Rattle.log_gen.specs.Draws.{draw}
 use Rattle.log_gen.specs.Generated.{drawn_event, drawn_events, drawn_names, drawn_number, event_count, first_draw, generated, generated_step}
 use Rattle.log_gen.specs.Samples.{sample_entries}

@@ -1,6 +1,5 @@
 -- The sample policy is read under the sample signature.
-use Rattle.std.proofs.Common.{◌≡◌, ℕ, List, [], ◌∷◌, None, Some, Ok, codes, refl, lit≤}
-use Rattle.enf_value.specs.Membership.{HasNoRepeats}
+use Rattle.std.proofs.Common.{List, [], ◌∷◌, None, Some, Ok, codes, refl, lit≤}
 use Rattle.policy_syntax.specs.Grammar.{Before, Between, Event, Implication, LastTerm, LastVariable, Negation, OneCase, OneOperand, OnePart, OneSide, Parenthesis, PolicyFits, Primary, Quantified, RulePhrase, Variable}
 use Rattle.policy_syntax.specs.Grammar.{policy_tree}
 use Rattle.policy_syntax.specs.Limits.{IsPolicy}

@@ -1,12 +1,13 @@
 -- The generated log: its steps by the draws.
-use Rattle.std.specs.Prelude.{◌≡◌, ◌≤◌, ℕ, zero, suc, ◌+◌, ◌*◌, ◌%◌, List, [], ◌∷◌, ◌++◌}
-use Rattle.std.specs.Prelude.{codes, decimal, map, slice_index_or, unwrap_or, None}
+use Rattle.std.specs.Prelude.{◌≡◌, ◌<◌, ◌≤◌, ℕ, zero, suc, ◌+◌, ◌*◌, ◌%◌, List, [], ◌∷◌, ◌++◌}
+use Rattle.std.specs.Prelude.{Option, None, Some, codes, decimal, map, slice_index_or, unwrap_or}
 use Rattle.enf_value.specs.declared.events.Event.{Event}
 use Rattle.enf_value.specs.declared.steps.Step.{Step}
 use Rattle.enf_value.specs.declared.values.Value.TheVariants.{Text}
 use Rattle.std.specs.List.{flat_map}
 use Rattle.signature.specs.Grammar.{names, number_of}
 use Rattle.signature.specs.declared.entries.NameEntry.{NameEntry}
+use Rattle.trace_meaning.specs.Records.{Record, StepRecord}
 use Rattle.trace_meaning.specs.declared.kinds.StepKind.TheVariants.{System}
 use Rattle.log_stream.specs.Lines.{step_line}
 use Rattle.log_stream.specs.declared.items.LogItem.{LogItem}
@@ -62,6 +63,10 @@ abbrev pub generated : ℕ → ℕ → List Step
 generated start zero = []
 generated start (suc steps) = generated start steps ++ generated_step start steps ∷ []
 
+-- the same steps as records of a log
+abbrev pub generated_records : ℕ → ℕ → List Record
+generated_records start steps = map (λ step. StepRecord step) (generated start steps)
+
 -- the line of a step, under the sample signature
 abbrev pub sample_line : Step → List ℕ
 sample_line step = step_line (names sample_entries) System step.time step.events
@@ -83,6 +88,17 @@ pub record Progress : Type 0 where
   pub start : ℕ
   pub made : ℕ
   pub steps : ℕ
+
+-- one step more was made, and this is it
+pub record MakesStep (before : Progress) (step : Step) (after : Progress) : Type 0 where
+  pub more : before.made < before.steps
+  pub step_is : step ≡ generated_step before.start before.made
+  pub after_is : after ≡ record { start = before.start; made = before.made + 1; steps = before.steps }
+
+-- the step that was made; none where all were made before
+abbrev pub AnswersStep : Progress → Option Step → Progress → Type 0
+AnswersStep before None after = (before.made ≡ before.steps) × (after ≡ before)
+AnswersStep before (Some step) after = MakesStep before step after
 
 -- what a generator keeps: the draws and the time stand before the next step
 pub record IsUnderWay (start made steps time : ℕ) (draws : Drawn) (signature : List NameEntry) : Type 0 where

@@ -1,4 +1,5 @@
 pub mod Draws
 pub mod Samples
 pub mod Generated
+pub mod StepLaws
 pub mod TextLaws

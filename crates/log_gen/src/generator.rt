@@ -1,13 +1,14 @@
-//! A generated log, line by line.
+//! A generated log, step by step.
 ghost use Rattle.std.specs.Prelude.{◌≡◌, ◌++◌, ◌+◌, ◌<◌, ◌≤◌, IfOk, OnOk, OnErr, Ok, true, false};
 ghost use Rattle.enf_value.specs.Spelling.{AppendsPart};
-ghost use Rattle.log_gen.specs.Generated.{Progress, generated_line, generated_text};
+ghost use Rattle.log_gen.specs.Generated.{AnswersStep, Progress, first_draw, generated_line, generated_step};
+ghost use Rattle.log_gen.specs.Generated.{generated_text, time_before};
 ghost use Rattle.log_gen.specs.Samples.{sample_entries};
 
 use crate::draws::Draws;
 use crate::events::draw_events;
 use crate::samples::sample_signature;
-use enf_value::NoMemory;
+use enf_value::{NoMemory, Step};
 use log_stream::write_step;
 use signature::Signature;
 use std::alloc::Global;
@@ -19,6 +20,13 @@ pub const MOST_START: u32 = 2_147_483_647;
 
 /// The greatest number of steps.
 pub const MOST_STEPS: u32 = 1_000_000;
+
+// A step that was drawn, and the draws that come behind it.
+#[derive(Drop)]
+struct Ahead {
+    step: Step,
+    draws: Draws,
+}
 
 /// A log that is being generated, step by step.
 #[derive(Drop)]
@@ -60,8 +68,29 @@ impl Generator {
         })
     }
 
-    /// Appends the line of the next step, and answers whether there was one. For want of memory a front of the line
-    /// is appended, and the step is still the next.
+    /// The sample signature, which gives the names of the events their numbers.
+    pub fn signature(&self) -> &Signature
+        ensures { result.now ≡ sample_entries }
+    {
+        &self.signature
+    }
+
+    /// Makes the next step, where there is one. For want of memory it is still the next.
+    pub fn next_step(&mut self) -> Result<Option<Step>, NoMemory>
+        ensures answer { IfOk result (λ step. AnswersStep self.old step self.new) }
+        ensures left { OnErr result (self.old.made < self.old.steps) }
+        ensures no_memory { OnErr result (self.new ≡ self.old) }
+    {
+        if self.made == self.steps {
+            return Ok(None);
+        }
+        let Ahead { step, draws } = self.look_ahead()?;
+        self.go_on(step.time, draws);
+        Ok(Some(step))
+    }
+
+    /// Makes the next step and appends its line, and answers whether there was one. For want of memory a front of the
+    /// line is appended, and the step is still the next.
     pub fn append_line(&mut self, out: &mut Vec<u8>) -> Result<bool, NoMemory>
         ensures line { result ≡ Ok true
             → out.new.items ≡ out.old.items ++ generated_line self.old.start self.old.made }
@@ -78,14 +107,45 @@ impl Generator {
         if self.made == self.steps {
             return Ok(false);
         }
+        let Ahead { step, draws } = self.look_ahead()?;
+        write_step(
+            &self.signature,
+            StepKind::System,
+            step.time,
+            &step.events,
+            out,
+        )?;
+        self.go_on(step.time, draws);
+        Ok(true)
+    }
+
+    // The step that comes next.
+    fn look_ahead(&self) -> Result<Ahead, NoMemory>
+        requires { self.now.made < self.now.steps }
+        ensures step { IfOk result (λ ahead. ahead.step ≡ generated_step self.now.start self.now.made) }
+        ensures draws { IfOk result (λ ahead. ahead.draws
+            ≡ record { start = self.now.start; made = first_draw self.now.start (self.now.made + 1) }) }
+    {
         let mut draws = self.draws.again();
         let time = self.time + draws.next() % 8;
         let events = draw_events(self.alloc, &mut draws)?;
-        write_step(&self.signature, StepKind::System, time, &events, out)?;
+        Ok(Ahead {
+            step: Step { time, events },
+            draws,
+        })
+    }
+
+    // One step more was made, at this time, and these draws come behind it.
+    fn go_on(&mut self, time: u64, draws: Draws)
+        requires more { self.old.made < self.old.steps }
+        requires time { time ≡ time_before self.old.start (self.old.made + 1) }
+        requires draws { draws
+            ≡ record { start = self.old.start; made = first_draw self.old.start (self.old.made + 1) } }
+        ensures { self.new ≡ record self.old { made = self.old.made + 1 } }
+    {
         self.draws = draws;
         self.time = time;
         self.made += 1;
-        Ok(true)
     }
 }
 
