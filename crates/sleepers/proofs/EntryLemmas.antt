@@ -7,7 +7,7 @@ use Rattle.std.specs.List.{AllByRecursion}
 use Rattle.enf_value.specs.ListLaws.{later, first_or_later, none_in_nil}
 use Rattle.enf_value.specs.Membership.{HasNoRepeats}
 use Rattle.sleepers.proofs.OrderLemmas.{before_else, before_on, not_itself}
-use Rattle.sleepers.specs.Entries.{AreJust, ArePlaced, HasOneMore, IsFree, Picks, places, shown}
+use Rattle.sleepers.specs.Entries.{AllBut, ArePlaced, HasOneMore, IsAllBut, IsFree, places, shown}
 use Rattle.sleepers.specs.Order.{IsBefore, Place}
 use Rattle.sleepers.specs.Sleeping.{StartsBefore}
 use Rattle.sleepers.specs.declared.entries.Entry.{Entry}
@@ -95,50 +95,51 @@ module _ {X : Type 0} where
   shown_on references r all left rest is first =
       is ∙ ap (λ (l : List X). shown references ++ l) first ∙ sym (append_assoc (shown references) (r.now ∷ []) rest) ∙ ap (λ (l : List X). l ++ rest) (sym (shown_put references r))
 
-module _ {X : Type 0} (P : X → Type 0) where
-  pub picks_more : (xs ys : List X) (x : X) → Picks P xs ys → P x → Picks P (xs ++ x ∷ []) (ys ++ x ∷ [])
-  picks_more [] ys x picks holds = inl ([], holds, refl, ap (λ (l : List X). l ++ x ∷ []) picks)
-  picks_more (z ∷ xs) ys x picks holds =
-      ⊎_elim (λ c. inl (c.0 ++ x ∷ [], c.1, picks_more xs c.0 x c.2 holds, ap (λ (l : List X). l ++ x ∷ []) c.3)) (λ c. inr (c.0, picks_more xs ys x c.1 holds)) picks
+module _ {X : Type 0} (Q : X → Type 0) where
+  rest_more : (xs ys : List X) (x : X) → AllBut Q xs ys → (Q x → ⊥) → AllBut Q (xs ++ x ∷ []) (ys ++ x ∷ [])
+  rest_more [] ys x rest not = inl ([], not, refl, ap (λ (l : List X). l ++ x ∷ []) rest)
+  rest_more (z ∷ xs) ys x rest not =
+      ⊎_elim (λ c. inl (c.0 ++ x ∷ [], c.1, rest_more xs c.0 x c.2 not, ap (λ (l : List X). l ++ x ∷ []) c.3)) (λ c. inr (c.0, rest_more xs ys x c.1 not)) rest
 
-  pub picks_on : (xs ys : List X) (x : X) → Picks P xs ys → (P x → ⊥) → Picks P (xs ++ x ∷ []) ys
-  picks_on [] ys x picks not = inr (not, picks)
-  picks_on (z ∷ xs) ys x picks not = ⊎_elim (λ c. inl (c.0, c.1, picks_on xs c.0 x c.2 not, c.3)) (λ c. inr (c.0, picks_on xs ys x c.1 not)) picks
+  rest_on : (xs ys : List X) (x : X) → AllBut Q xs ys → Q x → AllBut Q (xs ++ x ∷ []) ys
+  rest_on [] ys x rest holds = inr (holds, rest)
+  rest_on (z ∷ xs) ys x rest holds = ⊎_elim (λ c. inl (c.0, c.1, rest_on xs c.0 x c.2 holds, c.3)) (λ c. inr (c.0, rest_on xs ys x c.1 holds)) rest
 
-  pub shown_picks_more : (references picked after : List (Bor X)) (r : Bor X) → Picks P (shown references) (shown picked) → P r.now
-      → after ≡ picked ++ r ∷ [] → Picks P (shown (references ++ r ∷ [])) (shown after)
-  shown_picks_more references picked after r picks holds is =
-      subst₂ (Picks P) (sym (shown_put references r)) (sym (ap shown is ∙ shown_put picked r)) (picks_more (shown references) (shown picked) r.now picks holds)
+  pub shown_rest_more : (references rest after : List (Bor X)) (r : Bor X) → AllBut Q (shown references) (shown rest) → (Q r.now → ⊥)
+      → after ≡ rest ++ r ∷ [] → AllBut Q (shown (references ++ r ∷ [])) (shown after)
+  shown_rest_more references rest after r all not is =
+      subst₂ (AllBut Q) (sym (shown_put references r)) (sym (ap shown is ∙ shown_put rest r)) (rest_more (shown references) (shown rest) r.now all not)
 
-  pub shown_picks_on : (references : List (Bor X)) (picked : List X) (r : Bor X) → Picks P (shown references) picked → (P r.now → ⊥)
-      → Picks P (shown (references ++ r ∷ [])) picked
-  shown_picks_on references picked r picks not =
-      subst (λ (l : List X). Picks P l picked) (sym (shown_put references r)) (picks_on (shown references) picked r.now picks not)
+  pub shown_rest_on : (references : List (Bor X)) (rest : List X) (r : Bor X) → AllBut Q (shown references) rest → Q r.now
+      → AllBut Q (shown (references ++ r ∷ [])) rest
+  shown_rest_on references rest r all holds =
+      subst (λ (l : List X). AllBut Q l rest) (sym (shown_put references r)) (rest_on (shown references) rest r.now all holds)
 
-  picks_are : (xs ys : List X) (x : X) → Picks P xs ys → Contains ys x → Contains xs x × P x
-  picks_are [] ys x picks there = absurd (none_in_nil x (subst (λ (l : List X). Contains l x) picks there))
-  picks_are (z ∷ xs) ys x picks there =
+  rest_without : (xs ys : List X) (x : X) → AllBut Q xs ys → Contains ys x → Contains xs x × (Q x → ⊥)
+  rest_without [] ys x rest there = absurd (none_in_nil x (subst (λ (l : List X). Contains l x) rest there))
+  rest_without (z ∷ xs) ys x rest there =
       ⊎_elim
-      (λ c. ⊎_elim (λ same. ((0, omega arith, same), subst P same c.1)) (λ on. let more = picks_are xs c.0 x c.2 on in (later x z xs more.0, more.1)) (first_or_later x z c.0 (subst (λ (l : List X). Contains l x) c.3 there)))
-      (λ c. let more = picks_are xs ys x c.1 there in (later x z xs more.0, more.1)) picks
+      (λ c. ⊎_elim (λ same. ((0, omega arith, same), subst (λ (w : X). Q w → ⊥) same c.1)) (λ on. let more = rest_without xs c.0 x c.2 on in (later x z xs more.0, more.1)) (first_or_later x z c.0 (subst (λ (l : List X). Contains l x) c.3 there)))
+      (λ c. let more = rest_without xs ys x c.1 there in (later x z xs more.0, more.1)) rest
 
-  picks_have : (xs ys : List X) (x : X) → Picks P xs ys → Contains xs x → P x → Contains ys x
-  picks_have [] ys x picks there holds = absurd (none_in_nil x there)
-  picks_have (z ∷ xs) ys x picks there holds =
+  rest_others : (xs ys : List X) (x : X) → AllBut Q xs ys → Contains xs x → Contains ys x ⊎ Q x
+  rest_others [] ys x rest there = absurd (none_in_nil x there)
+  rest_others (z ∷ xs) ys x rest there =
       ⊎_elim
-      (λ c. subst (λ (l : List X). Contains l x) (sym c.3) (⊎_elim (λ same. (0, omega arith, same)) (λ on. later x z c.0 (picks_have xs c.0 x c.2 on holds)) (first_or_later x z xs there)))
-      (λ c. ⊎_elim (λ same. absurd (c.0 (subst P (sym same) holds))) (λ on. picks_have xs ys x c.1 on holds) (first_or_later x z xs there)) picks
+      (λ c. ⊎_elim (λ same. inl (subst (λ (l : List X). Contains l x) (sym c.3) (0, omega arith, same))) (λ on. ⊎_elim (λ more. inl (subst (λ (l : List X). Contains l x) (sym c.3) (later x z c.0 more))) (λ holds. inr holds) (rest_others xs c.0 x c.2 on)) (first_or_later x z xs there))
+      (λ c. ⊎_elim (λ same. inr (subst Q same c.0)) (λ on. rest_others xs ys x c.1 on) (first_or_later x z xs there)) rest
 
-  picks_once : (xs ys : List X) → Picks P xs ys → HasNoRepeats xs → HasNoRepeats ys
-  picks_once [] ys picks once = subst HasNoRepeats (sym picks) tt
-  picks_once (z ∷ xs) ys picks once =
-      ⊎_elim (λ c. subst HasNoRepeats (sym c.3) ((λ there. once.0 (picks_are xs c.0 z c.2 there).0), picks_once xs c.0 c.2 once.1)) (λ c. picks_once xs ys c.1 once.1) picks
+  rest_once : (xs ys : List X) → AllBut Q xs ys → HasNoRepeats xs → HasNoRepeats ys
+  rest_once [] ys rest once = subst HasNoRepeats (sym rest) tt
+  rest_once (z ∷ xs) ys rest once =
+      ⊎_elim (λ c. subst HasNoRepeats (sym c.3) ((λ there. once.0 (rest_without xs c.0 z c.2 there).0), rest_once xs c.0 c.2 once.1)) (λ c. rest_once xs ys c.1 once.1) rest
 
-  pub picks_just : (xs ys : List X) → Picks P xs ys → HasNoRepeats xs → AreJust P xs ys
-  picks_just xs ys picks once = record {
-    once = picks_once xs ys picks once;
-    are = λ x. ((λ there. picks_are xs ys x picks there), (λ both. picks_have xs ys x picks both.0 both.1));
+  pub rest_any_order : (xs ys : List X) → AllBut Q xs ys → HasNoRepeats xs → IsAllBut Q xs ys
+  rest_any_order xs ys rest once = record {
+    once = rest_once xs ys rest once;
+    without = λ x there. rest_without xs ys x rest there;
+    others = λ x there. rest_others xs ys x rest there;
   }
 
-pub placed_just : {T : Type 0} (P : Entry T → Type 0) (xs ys : List (Entry T)) → ArePlaced xs → Picks P xs ys → AreJust P xs ys
-placed_just P xs ys order picks = picks_just P xs ys picks (placed_once xs order)
+pub placed_rest : {T : Type 0} (Q : Entry T → Type 0) (xs ys : List (Entry T)) → ArePlaced xs → AllBut Q xs ys → IsAllBut Q xs ys
+placed_rest Q xs ys order rest = rest_any_order Q xs ys rest (placed_once xs order)

@@ -2,7 +2,7 @@
 use Rattle.std.proofs.Common.{◌≡◌, ◌↔◌, suc, Bool, true, false, true≢false, not, cond, List, [], ◌∷◌, ◌++◌, inl, inr, refl, sym, ap, subst, ◌∙◌, arith, length, take, drop, get_or, append_assoc, subst₂}
 use Rattle.std.specs.Borrow.{Bor}
 use Rattle.sleepers.proofs.EntryLemmas.{shown_put}
-use Rattle.sleepers.specs.Entries.{Picks, shown}
+use Rattle.sleepers.specs.Entries.{AllBut, shown}
 use Rattle.sleepers.specs.Sleeping.{AreMarks, AreMarksOf, StartsUnmarked, marked}
 
 -- a cursor that moves on
@@ -40,33 +40,33 @@ module _ {X : Type 0} where
   marked_some (m ∷ marks) (x ∷ xs) are none =
       absurd (omega (arith, ap length (ap (λ b. cond b (x ∷ marked marks xs) (marked marks xs)) (sym are.first) ∙ none)))
 
-  pub marks_more : (P : X → Type 0) (xs : List X) (marks : List Bool) (x : X) (m : Bool) → AreMarks P xs marks → ((m ≡ true) ↔ P x)
-      → AreMarks P (xs ++ x ∷ []) (marks ++ m ∷ [])
-  marks_more P [] marks x m are tells = (m, [], tells, refl, ap (λ (l : List Bool). l ++ m ∷ []) are)
-  marks_more P (y ∷ xs) marks x m are tells =
-      (are.0, are.1 ++ m ∷ [], are.2, marks_more P xs are.1 x m are.3 tells, ap (λ (l : List Bool). l ++ m ∷ []) are.4)
+  marks_more : (Q : X → Type 0) (xs : List X) (marks : List Bool) (x : X) (m : Bool) → AreMarks Q xs marks → ((m ≡ false) ↔ Q x)
+      → AreMarks Q (xs ++ x ∷ []) (marks ++ m ∷ [])
+  marks_more Q [] marks x m are tells = (m, [], tells, refl, ap (λ (l : List Bool). l ++ m ∷ []) are)
+  marks_more Q (y ∷ xs) marks x m are tells =
+      (are.0, are.1 ++ m ∷ [], are.2, marks_more Q xs are.1 x m are.3 tells, ap (λ (l : List Bool). l ++ m ∷ []) are.4)
 
-  pub marks_pick : (P : X → Type 0) (xs : List X) (marks : List Bool) → AreMarks P xs marks → Picks P xs (marked marks xs)
-  marks_pick P [] marks are = marked_nil marks
-  marks_pick P (x ∷ xs) marks are =
-      subst (λ (ms : List Bool). Picks P (x ∷ xs) (marked ms (x ∷ xs))) (sym are.4) (by are.0 are.1 are.2 (marks_pick P xs are.1 are.3))
+  pub marks_pick : (Q : X → Type 0) (xs : List X) (marks : List Bool) → AreMarks Q xs marks → AllBut Q xs (marked marks xs)
+  marks_pick Q [] marks are = marked_nil marks
+  marks_pick Q (x ∷ xs) marks are =
+      subst (λ (ms : List Bool). AllBut Q (x ∷ xs) (marked ms (x ∷ xs))) (sym are.4) (by are.0 are.1 are.2 (marks_pick Q xs are.1 are.3))
     where
-      by : (m : Bool) (rest : List Bool) → ((m ≡ true) ↔ P x) → Picks P xs (marked rest xs) → Picks P (x ∷ xs) (marked (m ∷ rest) (x ∷ xs))
-      by true rest tells on = inl (marked rest xs, tells.0 refl, on, refl)
-      by false rest tells on = inr ((λ holds. true≢false (sym (tells.1 holds))), on)
+      by : (m : Bool) (rest : List Bool) → ((m ≡ false) ↔ Q x) → AllBut Q xs (marked rest xs) → AllBut Q (x ∷ xs) (marked (m ∷ rest) (x ∷ xs))
+      by true rest tells on = inl (marked rest xs, (λ holds. true≢false (tells.1 holds)), on, refl)
+      by false rest tells on = inr (tells.0 refl, on)
 
-  pub marks_length : (P : X → Type 0) (xs : List X) (marks : List Bool) → AreMarks P xs marks → length marks ≡ length xs
-  marks_length P [] marks are = ap length are
-  marks_length P (x ∷ xs) marks are = let on = marks_length P xs are.1 are.3 in ap length are.4 ∙ ap suc on
+  pub marks_length : (Q : X → Type 0) (xs : List X) (marks : List Bool) → AreMarks Q xs marks → length marks ≡ length xs
+  marks_length Q [] marks are = ap length are
+  marks_length Q (x ∷ xs) marks are = let on = marks_length Q xs are.1 are.3 in ap length are.4 ∙ ap suc on
 
 -- a mark is the answer turned round
-pub not_tells : (b : Bool) (Q : Type 0) → ((b ≡ true) ↔ Q) → ((not b ≡ true) ↔ (Q → ⊥))
-not_tells true Q tells = ((λ e. absurd (true≢false (sym e))), (λ no. absurd (no (tells.0 refl))))
-not_tells false Q tells = ((λ e q. true≢false (sym (tells.1 q))), (λ no. refl))
+not_tells : (b : Bool) (Q : Type 0) → ((b ≡ true) ↔ Q) → ((not b ≡ false) ↔ Q)
+not_tells true Q tells = ((λ e. tells.0 refl), (λ q. refl))
+not_tells false Q tells = ((λ e. absurd (true≢false e)), (λ q. absurd (true≢false (sym (tells.1 q)))))
 
 -- of one more
 pub shown_marks_more : {X : Type 0} (Q : X → Type 0) (references : List (Bor X)) (r : Bor X) (marks after : List Bool) (b : Bool)
-    → AreMarks (λ x. Q x → ⊥) (shown references) marks → ((b ≡ true) ↔ Q r.now) → after ≡ marks ++ not b ∷ []
-    → AreMarks (λ x. Q x → ⊥) (shown (references ++ r ∷ [])) after
+    → AreMarks Q (shown references) marks → ((b ≡ true) ↔ Q r.now) → after ≡ marks ++ not b ∷ []
+    → AreMarks Q (shown (references ++ r ∷ [])) after
 shown_marks_more Q references r marks after b are tells is =
-    subst₂ (AreMarks (λ x. Q x → ⊥)) (sym (shown_put references r)) (sym is) (marks_more (λ x. Q x → ⊥) (shown references) marks r.now (not b) are (not_tells b (Q r.now) tells))
+    subst₂ (AreMarks Q) (sym (shown_put references r)) (sym is) (marks_more Q (shown references) marks r.now (not b) are (not_tells b (Q r.now) tells))

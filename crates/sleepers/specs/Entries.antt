@@ -1,5 +1,5 @@
 -- Entries that sleep, and lists of entries in the order of their places.
-use Rattle.std.specs.Prelude.{◌≡◌, ◌↔◌, ℕ, ◌<◌, ◌⊎◌, List, [], ◌∷◌, ◌++◌, Some, Contains, map}
+use Rattle.std.specs.Prelude.{◌≡◌, ℕ, ◌<◌, ◌⊎◌, List, [], ◌∷◌, ◌++◌, Some, Contains, map}
 use Rattle.std.specs.Borrow.{Bor}
 use Rattle.enf_value.specs.Membership.{HasNoRepeats}
 use Rattle.enf_value.specs.declared.events.Event.{Event}
@@ -15,9 +15,6 @@ module _ {T : Type 0} where
     pub waits : entry.patterns ≡ Some patterns
     pub none : HasNone patterns events
     pub in_time : time < entry.end
-
-  abbrev pub IsAwake : List Event → ℕ → Entry T → Type 0
-  IsAwake events time entry = IsAsleep events time entry → ⊥
 
   abbrev pub places : List (Entry T) → List Place
   places entries = map (λ entry. entry.place) entries
@@ -43,13 +40,14 @@ module _ {X : Type 0} where
   abbrev pub shown : List (Bor X) → List X
   shown references = map (λ x. x.now) references
 
-  -- those of a list of which something holds, in their order
-  abbrev pub Picks : (X → Type 0) → (all picked : List X) → Type 0
-  Picks P [] picked = picked ≡ []
-  Picks P (x ∷ xs) picked =
-      ((rest : List X) × P x × Picks P xs rest × (picked ≡ x ∷ rest)) ⊎ ((P x → ⊥) × Picks P xs picked)
+  -- all of a list but those of which something holds, in their order
+  abbrev pub AllBut : (X → Type 0) → (all rest : List X) → Type 0
+  AllBut Q [] rest = rest ≡ []
+  AllBut Q (x ∷ xs) rest =
+      ((others : List X) × (Q x → ⊥) × AllBut Q xs others × (rest ≡ x ∷ others)) ⊎ (Q x × AllBut Q xs rest)
 
-  -- each of which something holds once, in any order
-  pub record AreJust (P : X → Type 0) (all picked : List X) : Type 0 where
-    pub once : HasNoRepeats picked
-    pub are : (x : X) → Contains picked x ↔ (Contains all x × P x)
+  -- the same in any order, each once
+  pub record IsAllBut (Q : X → Type 0) (all rest : List X) : Type 0 where
+    pub once : HasNoRepeats rest
+    pub without : (x : X) → Contains rest x → Contains all x × (Q x → ⊥)
+    pub others : (x : X) → Contains all x → Contains rest x ⊎ Q x

@@ -1,5 +1,5 @@
--- Places, and lists in their order. A place is made once: what is begun at one goes on from it with a later turn, and of
--- those that go on from one place the later come first.
+-- Places, and lists in their order. A place is made once: what is begun at one goes on from it with a later turn, and
+-- of those that go on from one place the later come first.
 use Rattle.std.specs.Prelude.{◌≡◌, ◌↔◌, ℕ, zero, suc, ◌<◌, Bool, cond, ◌⊎◌, List, [], ◌∷◌, ◌++◌, Contains, map}
 use Rattle.std.specs.List.{AllByRecursion}
 use Rattle.sleepers.specs.declared.places.Turn.{Turn}
@@ -53,7 +53,8 @@ places_behind later (c ∷ changes) = places_of later c ++ places_behind later c
 
 -- lists in order with the same places are the same
 abbrev pub OneOrder : Type 0
-OneOrder = (ps qs : List Place) → AreInOrder ps → AreInOrder qs → ((p : Place) → Contains ps p ↔ Contains qs p) → ps ≡ qs
+OneOrder = (ps qs : List Place) → AreInOrder ps → AreInOrder qs
+    → ((p : Place) → Contains ps p ↔ Contains qs p) → ps ≡ qs
 
 -- what becomes of each, and behind it so many that are begun anew, is in order where the entries were
 abbrev pub StepsKeepOrder : Type 0

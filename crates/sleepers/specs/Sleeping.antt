@@ -16,10 +16,11 @@ module _ {X : Type 0} where
   marked (m ∷ ms) [] = []
   marked (m ∷ ms) (x ∷ xs) = cond m (x ∷ marked ms xs) (marked ms xs)
 
-  -- each of a list is marked where something holds of it
+  -- those of a list are marked of which something does not hold
   abbrev pub AreMarks : (X → Type 0) → List X → List Bool → Type 0
-  AreMarks P [] marks = marks ≡ []
-  AreMarks P (x ∷ xs) marks = (m : Bool) × (rest : List Bool) × ((m ≡ true) ↔ P x) × AreMarks P xs rest × (marks ≡ m ∷ rest)
+  AreMarks Q [] marks = marks ≡ []
+  AreMarks Q (x ∷ xs) marks =
+      (m : Bool) × (rest : List Bool) × ((m ≡ false) ↔ Q x) × AreMarks Q xs rest × (marks ≡ m ∷ rest)
 
 abbrev pub StartsMarked : List Bool → Type 0
 StartsMarked [] = Unit {0}

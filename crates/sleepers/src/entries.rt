@@ -6,8 +6,8 @@ use crate::patterns::{Patterns, has_none};
 use crate::places::Place;
 use enf_value::Event;
 
-/// An item with its place, the patterns of the events that wake it, or none where each step does, and the time from which
-/// on it is awake.
+/// An item with its place, the patterns of the events that wake it, or none where each step does, and the time from
+/// which on it is awake.
 #[derive(Debug, Drop)]
 pub struct Entry<T> {
     pub place: Place,

@@ -1,9 +1,10 @@
 //! Entries in the order of their places, and a walk over those that are awake.
-ghost use Rattle.std.specs.Prelude.{◌≡◌, ◌↔◌, ◌≤◌, ◌++◌, [], ◌∷◌, drop, length, IfNone, IfOk, IfSome, IsNone, IsTrue, OnErr, OnOk};
+ghost use Rattle.std.specs.Prelude.{◌≡◌, ◌↔◌, ◌≤◌, ◌++◌, [], ◌∷◌, IsNone, IsTrue, drop, length};
+ghost use Rattle.std.specs.Prelude.{IfNone, IfOk, IfSome, OnErr, OnOk};
 ghost use Rattle.std.specs.List.{AllByRecursion};
 ghost use Rattle.std.specs.Option.{option_to_list};
 ghost use Rattle.cursor_list.specs.Split.{items};
-ghost use Rattle.sleepers.specs.Entries.{AreJust, ArePlaced, HasOneMore, IsAwake, IsFree, Picks, shown};
+ghost use Rattle.sleepers.specs.Entries.{AllBut, HasOneMore, IsAllBut, IsAsleep, IsFree, shown};
 ghost use Rattle.sleepers.specs.Order.{IsBefore};
 ghost use Rattle.sleepers.specs.Sleeping.{AreMarks, StartsBefore, StartsMarked, StartsUnmarked, marked};
 
@@ -73,7 +74,7 @@ impl<T: Drop> Sleepers<T> {
         events: &[Event],
         time: u64,
     ) -> Result<Vec<&Entry<T>>, NoMemory>
-        ensures { IfOk result (λ woken. Picks (IsAwake events.now time) self.now.entries (shown woken.items)) }
+        ensures { IfOk result (λ woken. AllBut (IsAsleep events.now time) self.now.entries (shown woken.items)) }
     {
         let mut woken = Vec::new(alloc);
         for entry in self.list.walk() {
@@ -99,10 +100,9 @@ impl<T: Drop> Sleepers<T> {
         }
     }
 
-    /// Begins a walk over those that are awake at a step of this time with these events. It goes by lists, and not in the
-    /// order of the places.
+    /// Begins a walk over those that are awake at a step of this time with these events, in any order.
     pub fn wake(&mut self, alloc: Global, events: &[Event], time: u64) -> Result<(), NoMemory>
-        ensures ok { OnOk result (AreJust (IsAwake events.now time) self.old.entries self.new.ahead) }
+        ensures ok { OnOk result (IsAllBut (IsAsleep events.now time) self.old.entries self.new.ahead) }
         ensures err { OnErr result (self.new.ahead ≡ self.old.ahead) }
         ensures entries { self.new.entries ≡ self.old.entries }
     {
@@ -177,7 +177,7 @@ fn marks_of<T>(
     events: &[Event],
     time: u64,
 ) -> Result<VecDeque<bool>, NoMemory>
-    ensures { IfOk result (λ marks. AreMarks (IsAwake events.now time) (items list.now) marks.items) }
+    ensures { IfOk result (λ marks. AreMarks (IsAsleep events.now time) (items list.now) marks.items) }
 {
     let mut marks = VecDeque::new(alloc);
     for entry in list.walk() {

@@ -1,6 +1,6 @@
 //! Worked cases of the definitions, each a clause of a function with an empty body.
 ghost use Rattle.std.specs.Prelude.{◌≡◌, ℕ, [], ◌∷◌, true, false};
-ghost use Rattle.sleepers.specs.Entries.{AreJust, Picks};
+ghost use Rattle.sleepers.specs.Entries.{AllBut, IsAllBut};
 ghost use Rattle.sleepers.specs.Order.{AreInOrder, IsBefore, turn};
 ghost use Rattle.sleepers.specs.Sleeping.{marked};
 
@@ -16,13 +16,13 @@ pub fn places()
     ensures repeated { AreInOrder ((turn 2 0 ∷ []) ∷ (turn 2 0 ∷ []) ∷ []) → ⊥ }
 {}
 
-/// Those of a list that are three.
-pub fn picks()
-    ensures picked { Picks (λ (n : ℕ). n ≡ 3) (3 ∷ 1 ∷ 3 ∷ []) (3 ∷ 3 ∷ []) }
-    ensures left_out { Picks (λ (n : ℕ). n ≡ 3) (3 ∷ 1 ∷ []) [] → ⊥ }
-    ensures too_many { Picks (λ (n : ℕ). n ≡ 3) (3 ∷ 1 ∷ []) (3 ∷ 1 ∷ []) → ⊥ }
-    ensures just { AreJust (λ (n : ℕ). n ≡ 3) (1 ∷ 3 ∷ []) (3 ∷ []) }
-    ensures twice { AreJust (λ (n : ℕ). n ≡ 3) (1 ∷ 3 ∷ []) (3 ∷ 3 ∷ []) → ⊥ }
-    ensures none { AreJust (λ (n : ℕ). n ≡ 3) (1 ∷ 3 ∷ []) [] → ⊥ }
+/// All of a list but the ones.
+pub fn all_but_ones()
+    ensures others { AllBut (λ (n : ℕ). n ≡ 1) (3 ∷ 1 ∷ 3 ∷ []) (3 ∷ 3 ∷ []) }
+    ensures left_out { AllBut (λ (n : ℕ). n ≡ 1) (3 ∷ 1 ∷ []) [] → ⊥ }
+    ensures too_many { AllBut (λ (n : ℕ). n ≡ 1) (3 ∷ 1 ∷ []) (3 ∷ 1 ∷ []) → ⊥ }
+    ensures any_order { IsAllBut (λ (n : ℕ). n ≡ 1) (3 ∷ 1 ∷ 2 ∷ []) (2 ∷ 3 ∷ []) }
+    ensures twice { IsAllBut (λ (n : ℕ). n ≡ 1) (1 ∷ 3 ∷ []) (3 ∷ 3 ∷ []) → ⊥ }
+    ensures none { IsAllBut (λ (n : ℕ). n ≡ 1) (1 ∷ 3 ∷ []) [] → ⊥ }
     ensures marked { marked {X = ℕ} (true ∷ false ∷ []) (5 ∷ 6 ∷ 7 ∷ []) ≡ 5 ∷ [] }
 {}
