@@ -6,6 +6,7 @@
 set -u
 cd "$(dirname "$0")/.." || exit 1
 . scripts/enf.sh
+. scripts/twelve.sh
 if ! is_proved; then
     echo "bin/enf is not there or was built from other sources; 'make build' makes it" >&2
     exit 1
@@ -119,35 +120,6 @@ each_record erase records
 each_record sample records
 
 # Twelve rules of all kinds, over a log of as many records.
-cat > "$work/personal" << 'SIGNATURE'
-consent(text); revoke(text); request(text); collect(text,text); use(text,text) -; share(text,text) -; delete(text) +;
-notify(text,text) +; lock(text); unlock(text) +; breach(int); alarm() +; report(int) +; login(text);
-SIGNATURE
-cat > "$work/twelve" << 'POLICY'
-rule consent: forall u, p. use(u,p) -> (not revoke(u)) since[0,*] consent(u);
-rule purpose: forall u, p. use(u,p) -> once[0,365] collect(u,p);
-rule share: forall u, q. share(u,q) -> once[0,*] notify(u,q);
-rule erase: forall u. request(u) -> eventually[0,30] delete(u);
-rule erased: forall u, p. use(u,p) -> not once[0,*] delete(u);
-rule welcome: forall u. consent(u) -> next[0,5] notify(u,"terms");
-rule hold: forall u. lock(u) -> (forall p. not use(u,p)) until[0,10] unlock(u);
-rule quiet: forall u. request(u) -> always[1,30] forall q. not share(u,q);
-rule breach: forall n. breach(n) -> alarm();
-rule authority: forall n. breach(n) and 100 < n -> eventually[0,3] report(n);
-rule answer: forall u. request(u) -> (eventually[0,5] notify(u,"received")) or delete(u);
-rule silence: forall u, q. share(u,q) -> not prev[0,1] share(u,q);
-POLICY
-/usr/bin/env python3 - > "$work/twelve.log" << 'PYTHON'
-state, time = 1, 0
-kinds = ['consent("u%d")', 'use("u%d","mail")', 'use("u%d","post")', 'share("u%d","acme")', 'collect("u%d","mail")',
-         'login("u%d")', 'request("u%d")', 'lock("u%d")', 'revoke("u%d")', 'breach(%d)']
-def draw():
-    global state
-    state = (state * 1103515245 + 12345) % 2147483648
-    return state // 65536
-for _ in range(20000):
-    time += draw() % 8
-    print('@%d%s;' % (time, ''.join(' ' + kinds[draw() % 10] % (draw() % 200) for _ in range(draw() % 4))))
-PYTHON
+write_twelve "$work" 20000
 each_record twelve twelve personal
 exit 0
