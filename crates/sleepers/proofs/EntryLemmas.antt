@@ -15,7 +15,7 @@ use Rattle.sleepers.specs.declared.entries.Entry.{Entry}
 module _ {T : Type 0} where
   -- ---- one entry more
 
-  in_fewer : (front back : List (Entry T)) (entry : Entry T) (q : Place) → Contains (places (front ++ entry ∷ back)) q
+  pub in_fewer : (front back : List (Entry T)) (entry : Entry T) (q : Place) → Contains (places (front ++ entry ∷ back)) q
       → (entry.place ≡ q) ⊎ Contains (places (front ++ back)) q
   in_fewer [] back entry q there = first_or_later q entry.place (places back) there
   in_fewer (f ∷ front) back entry q there =
@@ -74,7 +74,7 @@ module _ {T : Type 0} where
 
   -- ---- in order none stands twice
 
-  in_places : (entries : List (Entry T)) (entry : Entry T) → Contains entries entry → Contains (places entries) entry.place
+  pub in_places : (entries : List (Entry T)) (entry : Entry T) → Contains entries entry → Contains (places entries) entry.place
   in_places [] entry there = absurd (none_in_nil entry there)
   in_places (e ∷ entries) entry there =
       ⊎_elim (λ same. (0, omega arith, ap (λ (z : Entry T). z.place) same)) (λ on. later entry.place e.place (places entries) (in_places entries entry on)) (first_or_later entry e entries there)

@@ -29,7 +29,7 @@ before_on (s ∷ p) (u ∷ q) (t ∷ r) a b =
     (λ x. ⊎_elim (λ y. inl (turn_on s u t x y)) (λ y. inl (subst (λ (w : Turn). IsTurnBefore s w) y.0 x)) b)
     (λ x. ⊎_elim (λ y. inl (subst (λ (w : Turn). IsTurnBefore w t) (sym x.0) y)) (λ y. inr (x.0 ∙ y.0, before_on p q r x.1 y.1)) b) a
 
-not_back : (p q : Place) → IsBefore p q → IsBefore q p → ⊥
+pub not_back : (p q : Place) → IsBefore p q → IsBefore q p → ⊥
 not_back p q a b = not_itself p (before_on p q p a b)
 
 same_turn : (s t : Turn) → s.number ≡ t.number → s.among ≡ t.among → s ≡ t
@@ -105,13 +105,13 @@ next_before [] m j k less = inl (inr (refl, less))
 next_before (s ∷ p) m j k less = inr (refl, next_before p m j k less)
 
 -- those that are begun at one place
-from_is : (place : Place) (m k count : ℕ) (q : Place) → Contains (places_from place m k count) q → (j : ℕ) × (k ≤ j) × (place ++ turn m j ∷ [] ≡ q)
+pub from_is : (place : Place) (m k count : ℕ) (q : Place) → Contains (places_from place m k count) q → (j : ℕ) × (k ≤ j) × (place ++ turn m j ∷ [] ≡ q)
 from_is place m k zero q there = absurd (none_in_nil q there)
 from_is place m k (suc count) q there =
     ⊎_elim (λ e. (k, omega arith, e)) (λ on. let more = from_is place m (suc k) count q on in let least = more.1 in (more.0, omega (arith, least), more.2))
     (first_or_later q (place ++ turn m k ∷ []) (places_from place m (suc k) count) there)
 
-from_in_order : (place : Place) (m k count : ℕ) → AreInOrder (places_from place m k count)
+pub from_in_order : (place : Place) (m k count : ℕ) → AreInOrder (places_from place m k count)
 from_in_order place m k zero = tt
 from_in_order place m k (suc count) = (
   (λ q there.

@@ -3,3 +3,4 @@ pub mod Entries
 pub mod Order
 pub mod Patterns
 pub mod Sleeping
+pub mod Steps
