@@ -1,0 +1,7 @@
+use Rattle.std.proofs.Common.{[], refl}
+use Rattle.enf_value.specs.ListLaws.{here}
+use Rattle.obligations.specs.Cases.{q_of_1}
+use Rattle.pending.proofs.worked_cases.patterns.Goals as goal
+
+pub returns-clause-one_there : goal.returns-clause-one_there
+returns-clause-one_there c none = none.1.0 q_of_1 (here q_of_1 []) (record { name = refl; args = (refl, tt) })

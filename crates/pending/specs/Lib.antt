@@ -1,0 +1,3 @@
+-- Words on what wakes pending instances.
+pub mod Cases
+pub mod Waking

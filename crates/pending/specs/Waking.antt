@@ -1,0 +1,104 @@
+-- Which events can change what is pending, and what sleeps while no event of a step is one.
+use Rattle.std.specs.Prelude.{◌≡◌, zero, suc, ◌≤◌, false, List, [], ◌∷◌, ◌++◌, Option, None, Some, map}
+use Rattle.enf_value.specs.Data.{step_at}
+use Rattle.enf_value.specs.Valuations.{Valuation, value_of}
+use Rattle.enf_value.specs.declared.events.NameId.{NameId}
+use Rattle.enf_value.specs.declared.steps.Step.{Step}
+use Rattle.enf_value.specs.declared.terms.Term.{Term}
+use Rattle.enf_value.specs.declared.terms.VarId.{VarId}
+use Rattle.enf_formula.specs.Formulas.{Formula, And, Atom}
+use Rattle.plan_terms.specs.Plans.{Plan, Cause, Suppress, Both, Either, TestOr, Guarded, Eventually, Always}
+use Rattle.plan_terms.specs.Plans.{Until}
+use Rattle.sleepers.specs.Patterns.{HasNone}
+use Rattle.sleepers.specs.declared.patterns.Pattern.{Pattern}
+use Rattle.obligations.specs.Begun.{time_now}
+use Rattle.obligations.specs.Pending.{After, MissingOf, node_of}
+use Rattle.obligations.specs.Rows.{last_position}
+use Rattle.obligations.specs.Waiting.{CanAskOf}
+use Rattle.obligations.specs.declared.instances.Instance.{Instance}
+use Rattle.obligations.specs.declared.literals.Literal.{Literal}
+
+-- ---- patterns
+
+-- constants and what v binds are fixed
+abbrev pub pattern_of : Valuation → NameId → List Term → Pattern
+pattern_of v name terms = record { name = name; args = map (value_of v) terms }
+
+-- that pattern alone
+abbrev pub of_one : Valuation → NameId → List Term → Option (List Pattern)
+of_one v name terms = Some (pattern_of v name terms ∷ [])
+
+-- of both, where both have some
+abbrev pub of_both : Option (List Pattern) → Option (List Pattern) → Option (List Pattern)
+of_both None others = None
+of_both (Some patterns) None = None
+of_both (Some patterns) (Some others) = Some (patterns ++ others)
+
+-- of the first that has some
+abbrev pub of_either : Option (List Pattern) → Option (List Pattern) → Option (List Pattern)
+of_either None others = others
+of_either (Some patterns) others = Some patterns
+
+-- that of the first atom of a conjunction, which holds nowhere without an event of it
+abbrev pub of_leading : Valuation → Formula → Option (List Pattern)
+of_leading v (Atom place name terms) = of_one v name terms
+of_leading v (And place g h) = of_leading v g
+of_leading v f = None
+
+-- ---- what plans and pending instances wait for
+
+-- without an event of these a plan misses something
+abbrev pub met_by : Valuation → Plan → Option (List Pattern)
+met_by v (Cause node place name terms) = of_one v name terms
+met_by v (Both node left right) = of_either (met_by v left) (met_by v right)
+met_by v (Either node left right) = of_both (met_by v left) (met_by v right)
+met_by v (TestOr node guard test body) = of_both (of_leading v test) (met_by v body)
+met_by v (Always node place zero high body) = met_by v body
+met_by v (Until node place zero high left right) = of_both (met_by v right) (met_by v left)
+met_by v (Until node place (suc low) high left right) = met_by v left
+met_by v plan = None
+
+-- without an event of these a plan misses nothing and begins nothing
+abbrev pub missed_by : Valuation → Plan → Option (List Pattern)
+missed_by v (Suppress node place name terms) = of_one v name terms
+missed_by v (Both node left right) = of_both (missed_by v left) (missed_by v right)
+missed_by v (Either node left right) = of_both (missed_by v left) (missed_by v right)
+missed_by v (TestOr node guard test body) = missed_by v body
+missed_by v (Guarded node xs guard test body) = of_either (of_leading v test) (missed_by v body)
+missed_by v plan = None
+
+-- without an event of these an instance of the node that is not forced misses nothing, and within its time it becomes
+-- itself; none where it can always change
+abbrev pub waking : Valuation → Plan → Option (List Pattern)
+waking v (Eventually node place low high body) = met_by v body
+waking v (Always node place low high body) = missed_by v body
+waking v (Until node place low high left right) = of_both (met_by v right) (missed_by v left)
+waking v plan = None
+
+-- the patterns of an instance, where it has a node
+abbrev pub waking_at : Option Plan → Instance → Option (List Pattern)
+waking_at None i = None
+waking_at (Some node) i = waking i.valuation node
+
+abbrev pub waking_of : List Plan → Instance → Option (List Pattern)
+waking_of plans i = waking_at (node_of plans i) i
+
+-- ---- laws
+
+-- an instance that can be asked sleeps at the last step of a trace
+pub record Sleeps (plans : List Plan) (trace : List Step) (i : Instance) : Type 0 where
+  pub patterns : List Pattern
+  pub wakes : waking_of plans i ≡ Some patterns
+  pub none : HasNone patterns (step_at trace (last_position trace)).events
+
+-- where it is not forced, it misses nothing
+abbrev pub SleepersMissNothing : Type 0
+SleepersMissNothing = (guards : List (Formula × List VarId)) (plans : List Plan) (trace : List Step) (i : Instance)
+    → CanAskOf guards plans i → Sleeps plans trace i
+    → (literals : List Literal) → MissingOf plans trace i false literals → literals ≡ []
+
+-- up to the end of its window it becomes itself
+abbrev pub SleepersStay : Type 0
+SleepersStay = (guards : List (Formula × List VarId)) (plans : List Plan) (trace : List Step) (i : Instance)
+    → CanAskOf guards plans i → Sleeps plans trace i → time_now trace ≤ i.high
+    → (after : List Instance) → After plans trace i after → after ≡ i ∷ []

@@ -1,0 +1,145 @@
+//! The events that can change what is pending.
+ghost use Rattle.std.specs.Prelude.{◌≡◌, IfOk, map};
+ghost use Rattle.enf_value.specs.Valuations.{value_of};
+ghost use Rattle.enf_formula.specs.Formulas.{tree_of};
+ghost use Rattle.plan_terms.specs.Plans.{plan_of};
+ghost use Rattle.valuations.specs.Scopes.{bound_in};
+ghost use Rattle.pending.specs.Waking as waking;
+
+use enf_formula::Formula;
+use enf_value::events::NameId;
+use enf_value::items::{Duplicate, Items};
+use enf_value::memory::NoMemory;
+use enf_value::terms::{Term, Terms};
+use enf_value::values::Value;
+use plan_terms::Plan;
+use sleepers::{Pattern, Patterns};
+use std::alloc::Global;
+use valuations::Frame;
+use valuations::arguments::value_in;
+
+/// The patterns of the events that can change an instance of the node with these values, where it is not forced and up
+/// to the end of its window; or none where it can always change.
+pub fn patterns_of(alloc: Global, node: &Plan, v: &Frame<'_>) -> Result<Option<Patterns>, NoMemory>
+    ensures { IfOk result (λ found. found ≡ waking.waking (bound_in v.now) (plan_of node.now)) }
+{
+    match node {
+        Plan::Eventually { body, .. } => met_by(alloc, body, v),
+        Plan::Always { body, .. } => missed_by(alloc, body, v),
+        Plan::Until { left, right, .. } => {
+            of_both(met_by(alloc, right, v)?, missed_by(alloc, left, v)?)
+        }
+        _ => Ok(None),
+    }
+}
+
+// Without an event of these the plan misses something.
+fn met_by(alloc: Global, plan: &Plan, v: &Frame<'_>) -> Result<Option<Patterns>, NoMemory>
+    ensures { IfOk result (λ found. found ≡ waking.met_by (bound_in v.now) (plan_of plan.now)) }
+{
+    match plan {
+        Plan::Cause { name, terms, .. } => one_pattern(alloc, *name, terms, v),
+        Plan::Both { left, right, .. } => match met_by(alloc, left, v)? {
+            Some(patterns) => Ok(Some(patterns)),
+            None => met_by(alloc, right, v),
+        },
+        Plan::Either { left, right, .. } => {
+            of_both(met_by(alloc, left, v)?, met_by(alloc, right, v)?)
+        }
+        Plan::TestOr { test, body, .. } => {
+            of_both(of_leading(alloc, test, v)?, met_by(alloc, body, v)?)
+        }
+        Plan::Always { low, body, .. } if *low == 0 => met_by(alloc, body, v),
+        Plan::Until {
+            low,
+            left,
+            right,
+            ..
+        } => {
+            if *low > 0 {
+                return met_by(alloc, left, v);
+            }
+            of_both(met_by(alloc, right, v)?, met_by(alloc, left, v)?)
+        }
+        _ => Ok(None),
+    }
+}
+
+// Without an event of these the plan misses nothing and begins nothing.
+fn missed_by(alloc: Global, plan: &Plan, v: &Frame<'_>) -> Result<Option<Patterns>, NoMemory>
+    ensures { IfOk result (λ found. found ≡ waking.missed_by (bound_in v.now) (plan_of plan.now)) }
+{
+    match plan {
+        Plan::Suppress { name, terms, .. } => one_pattern(alloc, *name, terms, v),
+        Plan::Both { left, right, .. } | Plan::Either { left, right, .. } => {
+            of_both(missed_by(alloc, left, v)?, missed_by(alloc, right, v)?)
+        }
+        Plan::TestOr { body, .. } => missed_by(alloc, body, v),
+        Plan::Guarded { test, body, .. } => match of_leading(alloc, test, v)? {
+            Some(patterns) => Ok(Some(patterns)),
+            None => missed_by(alloc, body, v),
+        },
+        _ => Ok(None),
+    }
+}
+
+// That of the first atom of a conjunction, if it begins with one.
+fn of_leading(alloc: Global, formula: &Formula, v: &Frame<'_>) -> Result<Option<Patterns>, NoMemory>
+    ensures { IfOk result (λ found. found ≡ waking.of_leading (bound_in v.now) (tree_of formula.now)) }
+{
+    match formula {
+        Formula::Atom(_, name, terms) => one_pattern(alloc, *name, terms, v),
+        Formula::And(_, g, _) => of_leading(alloc, g, v),
+        _ => Ok(None),
+    }
+}
+
+// Of both, where both have some.
+fn of_both(
+    patterns: Option<Patterns>,
+    others: Option<Patterns>,
+) -> Result<Option<Patterns>, NoMemory>
+    ensures { IfOk result (λ found. found ≡ waking.of_both patterns others) }
+{
+    let (Some(patterns), Some(others)) = (patterns, others) else {
+        return Ok(None);
+    };
+    let mut all = patterns.into_vec();
+    let mut others = others.into_vec();
+    all.append(&mut others)?;
+    Ok(Some(Items::from_vec(all)))
+}
+
+// The pattern of an atom, alone.
+fn one_pattern(
+    alloc: Global,
+    name: NameId,
+    terms: &Terms,
+    v: &Frame<'_>,
+) -> Result<Option<Patterns>, NoMemory>
+    ensures { IfOk result (λ found. found ≡ waking.of_one (bound_in v.now) name terms.now) }
+{
+    let args = fixed_in(alloc, terms.as_slice(), v)?;
+    let pattern = Pattern { name, args };
+    Ok(Some(Items::from_vec(vec![in alloc; pattern]?)))
+}
+
+// The value of each term that has one.
+fn fixed_in(alloc: Global, terms: &[Term], v: &Frame<'_>) -> Result<Items<Option<Value>>, NoMemory>
+    ensures { IfOk result (λ args. args ≡ map (value_of (bound_in v.now)) terms.now) }
+{
+    let mut args = Vec::new(alloc);
+    for term in terms {
+        args.push(fixed_at(alloc, term, v)?)?;
+    }
+    Ok(Items::from_vec(args))
+}
+
+fn fixed_at(alloc: Global, term: &Term, v: &Frame<'_>) -> Result<Option<Value>, NoMemory>
+    ensures { IfOk result (λ fixed. fixed ≡ value_of (bound_in v.now) term.now) }
+{
+    match value_in(term, v) {
+        Some(value) => Ok(Some(value.duplicate(alloc)?)),
+        None => Ok(None),
+    }
+}
