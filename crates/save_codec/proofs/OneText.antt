@@ -108,11 +108,11 @@ one_of_kind printed one (Due r n o p q vs) (Due r' n' o' p' q' ws) a b is also s
 one_of_kind printed one End End a b is also same e = (refl, cancel (codes "end\n") a b e)
 one_of_kind printed one l m a b is also same e = absurd (omega (arith, same))
 
-one_line : PrintedIsToken → OneTokenAtPlace → (l m : Line) (a b : List ℕ) → IsLine l → IsLine m → line_text l ++ a ≡ line_text m ++ b → (l ≡ m) × (a ≡ b)
+pub one_line : PrintedIsToken → OneTokenAtPlace → (l m : Line) (a b : List ℕ) → IsLine l → IsLine m → line_text l ++ a ≡ line_text m ++ b → (l ≡ m) × (a ≡ b)
 one_line printed one l m a b is also e =
     one_of_kind printed one l m a b is also (sym (first_is l a) ∙ ap (λ t. slice_index t 0) e ∙ first_is m b) e
 
-none_before : (line : Line) (rest : List ℕ) → [] ≡ line_text line ++ rest → ⊥
+pub none_before : (line : Line) (rest : List ℕ) → [] ≡ line_text line ++ rest → ⊥
 none_before line rest e = by line (ap length e)
   where
     by : (line : Line) → 0 ≡ length (line_text line ++ rest) → ⊥
@@ -161,7 +161,7 @@ follow_lines : (before : Option Line) (lines : List Line) → Follow before line
 follow_lines before [] form = tt
 follow_lines before (line ∷ lines) form = (form.1, follow_lines (Some line) lines form.2)
 
-head_small : (s p text bytes : List ℕ) → length bytes < 2 ^ 63 → bytes ≡ head_text s p ++ text → IsSmall (length s) × IsSmall (length p)
+pub head_small : (s p text bytes : List ℕ) → length bytes < 2 ^ 63 → bytes ≡ head_text s p ++ text → IsSmall (length s) × IsSmall (length p)
 head_small s p text bytes small e =
     let all = ap length e ∙ length-append (head_text s p) text in
     let whole : length (head_text s p) ≡ 11 + length (sized (codes "signature") s ++ sized (codes "policy") p) = length-append (codes "enfstate 1\n") (sized (codes "signature") s ++ sized (codes "policy") p) in

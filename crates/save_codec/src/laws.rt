@@ -1,7 +1,8 @@
 //! Laws of saved texts, each the contract of a function.
-ghost use Rattle.save_codec.specs.Laws.{OneText};
+ghost use Rattle.save_codec.specs.Laws.{FrontKeeps, OneAnswer, OneState, OneText, SavedIsText};
 
 use enf_value::laws::{one_token_at_place, printed_is_token};
+use plan_terms::laws::nodes_have_scopes;
 
 /// Bytes are a saved text in one way at most.
 pub fn one_text()
@@ -9,4 +10,28 @@ pub fn one_text()
 {
     printed_is_token();
     one_token_at_place();
+}
+
+/// What is saved is a text of the grammar, where the numbers are below 2^63 and the values are those of the program.
+pub fn saved_is_text()
+    ensures { SavedIsText }
+{}
+
+/// A text is that of one state at most, where what is pending can be so.
+pub fn one_state()
+    ensures { OneState }
+{
+    printed_is_token();
+    one_token_at_place();
+    nodes_have_scopes();
+}
+
+/// Bytes have one answer at most, a state or a refusal; a front of lines that keep the bounds keeps them.
+pub fn one_answer()
+    ensures front { FrontKeeps }
+    ensures answer { OneAnswer }
+{
+    printed_is_token();
+    one_token_at_place();
+    nodes_have_scopes();
 }

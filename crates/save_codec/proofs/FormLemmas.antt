@@ -1,0 +1,45 @@
+-- Lines that follow one another.
+use Rattle.std.proofs.Common.{◌≡◌, ◌++◌, ◌∷◌, ◌-◌, [], suc, ℕ, Result, Err, IfErr, List, Option, Some, None, IsTrue, length, slice_get, refl, sym, ap, subst, ◌∙◌, arith, append_assoc}
+use Rattle.std.proofs.lemmas.List.{append-nil}
+use Rattle.std.proofs.lemmas.List.Concat.{flat_map-append}
+use Rattle.save_codec.specs.Forms.{Follow, follows, last_line}
+use Rattle.save_codec.specs.Lines.{IsLine, head_text, line_text, lines_text}
+use Rattle.save_codec.specs.Reading.{IsFault, IsStop, IsSyntax}
+use Rattle.save_codec.specs.declared.refusals.StateRefusal.{StateRefusal}
+use Rattle.save_codec.specs.declared.refusals.StateRefusal.TheVariants.{Syntax, OtherPolicy, Inconsistent, NoMemory}
+use Rattle.save_codec.specs.declared.lines.Line.{Line}
+
+pub last_line_of : (before : Line) (lines : List Line) → last_line (Some before) lines ≡ slice_get (before ∷ lines) (length lines)
+last_line_of before [] = refl
+last_line_of before (line ∷ lines) = last_line_of line lines
+
+pub last_line_is : (lines : List Line) → slice_get lines (length lines - 1) ≡ last_line None lines
+last_line_is [] = refl
+last_line_is (line ∷ lines) =
+    ap (slice_get (line ∷ lines)) (omega arith) ∙ sym (last_line_of line lines)
+
+pub last_line_behind : (before : Option Line) (lines : List Line) (line : Line) → last_line before (lines ++ line ∷ []) ≡ Some line
+last_line_behind before [] line = refl
+last_line_behind before (first ∷ lines) line = last_line_behind (Some first) lines line
+
+pub follow_on : (before : Option Line) (lines : List Line) (line : Line) → Follow before lines → IsTrue (follows (last_line before lines) line) → IsLine line → Follow before (lines ++ line ∷ [])
+follow_on before [] line form next is = (next, is, tt)
+follow_on before (first ∷ lines) line form next is = (form.0, form.1, follow_on (Some first) lines line form.2 next is)
+
+-- one more line was read
+pub text_on : (text left after : List ℕ) (lines : List Line) (line : Line) → text ≡ lines_text lines ++ left → left ≡ line_text line ++ after → text ≡ lines_text (lines ++ line ∷ []) ++ after
+text_on text left after lines line begins read =
+    begins ∙ ap (λ l. lines_text lines ++ l) read ∙ sym (append_assoc (lines_text lines) (line_text line) after)
+    ∙ ap (λ l. l ++ after) (ap (λ l. lines_text lines ++ l) (sym (append-nil (line_text line))) ∙ sym (flat_map-append line_text lines (line ∷ [])))
+
+-- behind a head, the lines that were read are those of the text
+stop_is_syntax : (bytes signature policy text : List ℕ) (why : StateRefusal) → bytes ≡ head_text signature policy ++ text → IsStop text why → IsSyntax bytes why
+stop_is_syntax bytes signature policy text (Syntax line) is (count, stops, numbered) =
+    subst (IsFault bytes) {x = suc count} {y = line} (omega (arith, numbered)) (signature, policy, text, is, stops)
+stop_is_syntax bytes signature policy text OtherPolicy is stop = stop
+stop_is_syntax bytes signature policy text (Inconsistent line) is stop = stop
+stop_is_syntax bytes signature policy text NoMemory is stop = tt
+
+pub refused_behind : {T : Type 0} (bytes signature policy text : List ℕ) (result : Result T StateRefusal) (why given : StateRefusal) → result ≡ Err why → why ≡ given → bytes ≡ head_text signature policy ++ text → IsStop text given → IfErr result (IsSyntax bytes)
+refused_behind {T = T} bytes signature policy text result why given is same begins stop =
+    subst (λ (r : Result T StateRefusal). IfErr r (IsSyntax bytes)) (sym is) (subst (IsSyntax bytes) (sym same) (stop_is_syntax bytes signature policy text given begins stop))

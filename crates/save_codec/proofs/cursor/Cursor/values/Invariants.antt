@@ -1,0 +1,14 @@
+use Rattle.std.proofs.Common.{length}
+use Rattle.std.specs.List.{AllByRecursion}
+use Rattle.enf_value.specs.ValueTokens.{IsValue}
+use Rattle.save_codec.proofs.ValueLists.{AreLeft}
+use Rattle.save_codec.proofs.cursor.Cursor.values.Given as goal
+
+abbrev pub invariant-loop-alloc : goal.invariant-loop-alloc
+invariant-loop-alloc l = record {
+  are_values : AllByRecursion IsValue l.row;
+  left : AreLeft l.fn.self.rest.now l.row l.self.rest.now;
+}
+
+abbrev pub decreases-loop-alloc : goal.decreases-loop-alloc
+decreases-loop-alloc l = length l.self.rest.now

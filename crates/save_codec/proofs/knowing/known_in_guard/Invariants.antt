@@ -1,0 +1,8 @@
+use Rattle.std.proofs.Common.{map, take}
+use Rattle.plan_terms.specs.Plans.{plan_of}
+use Rattle.save_codec.specs.Judged.{KnowsJust}
+use Rattle.save_codec.specs.Sorts.{GuardTells}
+use Rattle.save_codec.proofs.knowing.known_in_guard.Given as goal
+
+abbrev pub invariant-loop-plan : goal.invariant-loop-plan
+invariant-loop-plan l = KnowsJust (GuardTells l.signature (map plan_of (take l.plan-index l.plans)) l.guard) l.known

@@ -1,0 +1,5 @@
+use Rattle.std.proofs.Common.{length}
+use Rattle.save_codec.proofs.sorts.Known.+note_columns.Given as goal
+
+abbrev pub decreases-note_columns : goal.decreases-note_columns
+decreases-note_columns l = length l.terms.now

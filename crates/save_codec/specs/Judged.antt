@@ -1,0 +1,153 @@
+-- What is known of the variables of rules and of windows, and what rows and instances are taken.
+use Rattle.std.specs.Prelude.{◌≡◌, ◌↔◌, ◌⊎◌, ℕ, ◌+◌, ◌<◌, ◌≤◌, ◌^◌, Bool, true, false, List, [], ◌∷◌, ◌++◌, Option}
+use Rattle.std.specs.Prelude.{None, Some, All, map, length, take}
+use Rattle.std.specs.List.{AllByRecursion}
+use Rattle.enf_value.specs.declared.terms.VarId.{VarId}
+use Rattle.enf_formula.specs.Formulas.{Formula}
+use Rattle.signature.specs.declared.entries.NameEntry.{NameEntry}
+use Rattle.signature.specs.declared.entries.Sort.{Sort}
+use Rattle.plan_terms.specs.Plans.{Plan, plan_of}
+use Rattle.plan_terms.specs.Scopes.{IsScoped}
+use Rattle.past_state.specs.Bounds.{AreWithinBounds}
+use Rattle.past_state.specs.LastTimes.{IsFrom}
+use Rattle.past_state.specs.Operators.{all_operators}
+use Rattle.past_state.specs.Shapes.{HasItsColumns, numbered, numbered_operators, operator_of}
+use Rattle.obligations.specs.Bounds.{CanBePending}
+use Rattle.obligations.specs.declared.instances.Instance.{Instance}
+use Rattle.save_codec.specs.Bounds.{DueFits, IsFirstUnfit, IsWithin, RowFits, Setting, kept_of}
+use Rattle.save_codec.specs.Known.{Knows}
+use Rattle.save_codec.specs.LineParts.{line_of_due}
+use Rattle.save_codec.specs.Saved.{due_line, lines_of}
+use Rattle.save_codec.specs.Sorts.{GuardTells, PlanTells}
+use Rattle.save_codec.specs.declared.judging.Fitting.{Fitting}
+use Rattle.save_codec.specs.declared.judging.Judge.{Judge}
+use Rattle.save_codec.specs.declared.judging.Unfit.{Unfit}
+use Rattle.save_codec.specs.declared.judging.Unfit.TheVariants.{At, NoMemory}
+use Rattle.save_codec.specs.declared.limits.TheConstants.{MOST_STATE_TIME}
+use Rattle.save_codec.specs.declared.lines.Line.{Line}
+use Rattle.save_codec.specs.declared.parts.DueLine.{DueLine}
+use Rattle.save_codec.specs.declared.parts.RowLine.{RowLine}
+use Rattle.save_codec.specs.declared.refusals.StateRefusal.{StateRefusal}
+use Rattle.save_codec.specs.declared.refusals.StateRefusal.TheVariants as refusals
+use Rattle.save_codec.specs.declared.refusals.StateRefusal.TheVariants.{Inconsistent}
+use Rattle.save_codec.specs.declared.snapshots.Snapshot.{Snapshot}
+use Rattle.save_codec.specs.declared.sorts.Known.{Known}
+
+-- just this is known
+abbrev pub KnowsJust : (VarId → Sort → Type 0) → Known → Type 0
+KnowsJust tells known = (x : VarId) (sort : Sort) → Knows known x sort ↔ tells x sort
+
+-- of each rule just what its plan tells
+abbrev pub KnowRules : List NameEntry → List Plan → List Known → Type 0
+KnowRules entries [] [] = Unit {0}
+KnowRules entries [] (known ∷ more) = ⊥
+KnowRules entries (plan ∷ plans) [] = ⊥
+KnowRules entries (plan ∷ plans) (known ∷ more) =
+    KnowsJust (PlanTells entries plan) known × KnowRules entries plans more
+
+-- of each window just what the plans that have its guard tell
+abbrev pub KnowWindows : List NameEntry → List Plan → List (ℕ × Formula) → List Known → Type 0
+KnowWindows entries plans [] [] = Unit {0}
+KnowWindows entries plans [] (known ∷ more) = ⊥
+KnowWindows entries plans (window ∷ windows) [] = ⊥
+KnowWindows entries plans (window ∷ windows) (known ∷ more) =
+    KnowsJust (GuardTells entries plans window.0) known × KnowWindows entries plans windows more
+
+-- what rows and instances are judged by stands for the setting
+pub record IsJudge (s : Setting) (judge : Judge) : Type 0 where
+  pub plans : s.plans ≡ map plan_of judge.plans.now
+  pub scoped : AllByRecursion (λ plan. IsScoped plan []) s.plans
+  pub rules : KnowRules s.entries s.plans judge.rules.items
+  pub listed : map numbered judge.shapes.items ≡ numbered_operators 0 s.guards
+  pub operators : map operator_of judge.shapes.items ≡ all_operators s.guards
+  pub columns : All HasItsColumns judge.shapes.items
+  pub windows : KnowWindows s.entries s.plans (map numbered judge.shapes.items) judge.windows.items
+
+-- nothing is left, or the first that is left does not fit
+abbrev pub EndsFitting : Setting → (rest : List RowLine) → (all : Bool) → Type 0
+EndsFitting s rest true = rest ≡ []
+EndsFitting s [] false = ⊥
+EndsFitting s (row ∷ rest) false = RowFits s row → ⊥
+
+-- the rows up to the first that does not fit, or all of them
+pub record IsFitting (s : Setting) (rows : List RowLine) (fitting : Fitting) : Type 0 where
+  pub front : List RowLine
+  pub rest : List RowLine
+  pub splits : rows ≡ front ++ rest
+  pub kept : fitting.kept.items ≡ map kept_of front
+  pub fit : AllByRecursion (RowFits s) front
+  pub ends : EndsFitting s rest fitting.all
+
+-- rows keep the bounds
+abbrev pub RowsFit : Setting → (last : Option ℕ) → List RowLine → Type 0
+RowsFit s last rows = AllByRecursion (RowFits s) rows × AreWithinBounds (all_operators s.guards) last (map kept_of rows)
+
+-- so do instances
+abbrev pub DuesFit : Setting → (clock position : ℕ) → List DueLine → Type 0
+DuesFit s clock position dues = AllByRecursion (DueFits s clock position) dues
+
+-- of these the ones in front of a place keep the bounds, and those up to it do not
+abbrev pub BreaksAt : {X : Type 0} → (List X → Type 0) → List X → (place : ℕ) → Type 0
+BreaksAt Fit xs place = (place < length xs) × Fit (take place xs) × (Fit (take (place + 1) xs) → ⊥)
+
+abbrev pub IsUnfit : {X : Type 0} → (List X → Type 0) → List X → Unfit → Type 0
+IsUnfit Fit xs (At place) = BreaksAt Fit xs place
+IsUnfit Fit xs NoMemory = Unit {0}
+
+-- the instance of a line
+pub record IsInstanceOf (s : Setting) (clock position : ℕ) (d : DueLine) (i : Instance) : Type 0 where
+  pub told : due_line i ≡ line_of_due d
+  pub fits : DueFits s clock position d
+  pub can : CanBePending s.plans clock position i
+
+-- a line is judged: its instance, or it breaks the bounds
+abbrev pub JudgesLine : Setting → (clock position : ℕ) → DueLine → Option Instance → Type 0
+JudgesLine s clock position d (Some i) = IsInstanceOf s clock position d i
+JudgesLine s clock position d None = DueFits s clock position d → ⊥
+
+-- clock, last time and position keep the bounds
+pub record AreNumbers (c : ℕ) (l : Option ℕ) (p : ℕ) : Type 0 where
+  pub clock : c ≤ MOST_STATE_TIME
+  pub last : IsFrom l c
+  pub position : (l ≡ None) ↔ (p ≡ 0)
+
+-- this is the first of their lines that does not
+abbrev pub IsUnfitNumber : (c : ℕ) → Option ℕ → (p : ℕ) → (line : ℕ) → Type 0
+IsUnfitNumber c l p line =
+    ((line ≡ 1) × (c ≤ MOST_STATE_TIME → ⊥))
+    ⊎ ((line ≡ 2) × (c ≤ MOST_STATE_TIME) × (IsFrom l c → ⊥))
+    ⊎ ((line ≡ 3) × (c ≤ MOST_STATE_TIME) × IsFrom l c × (((l ≡ None) ↔ (p ≡ 0)) → ⊥))
+
+-- the refusal for a place, where the first line has this number
+abbrev pub refusal_at : (first : ℕ) → Unfit → StateRefusal
+refusal_at first (At place) = Inconsistent (first + place)
+refusal_at first NoMemory = refusals.NoMemory
+
+-- such a number is one of 64 bits
+abbrev pub FitsBehind : (first : ℕ) → Unfit → Type 0
+FitsBehind first (At place) = first + place < 2 ^ 64
+FitsBehind first NoMemory = Unit {0}
+
+-- the state that lines tell keeps the bounds of its parts
+pub record IsStateOf (s : Setting) (lines : List Line) (state : Snapshot) : Type 0 where
+  pub told : lines_of state ≡ lines
+  pub clock : state.clock ≤ MOST_STATE_TIME
+  pub last : IsFrom state.last state.clock
+  pub position : (state.last ≡ None) ↔ (state.position ≡ 0)
+  pub kept : AreWithinBounds (all_operators s.guards) state.last state.kept
+  pub pending : All (CanBePending s.plans state.clock state.position) state.pending
+  pub within : IsWithin s lines
+
+-- this is the first line that breaks the bounds
+abbrev pub IsUnfitLine : Setting → List Line → StateRefusal → Type 0
+IsUnfitLine s lines (refusals.Syntax line) = ⊥
+IsUnfitLine s lines refusals.OtherPolicy = ⊥
+IsUnfitLine s lines (Inconsistent line) = IsFirstUnfit s lines line
+IsUnfitLine s lines refusals.NoMemory = Unit {0}
+
+-- the instances of lines
+pub record AreInstancesOf (s : Setting) (clock position : ℕ) (dues : List DueLine) (pending : List Instance)
+    : Type 0 where
+  pub told : map due_line pending ≡ map line_of_due dues
+  pub fit : DuesFit s clock position dues
+  pub can : AllByRecursion (CanBePending s.plans clock position) pending
