@@ -9,6 +9,7 @@ pub mod LineTexts
 pub mod OneAnswer
 pub mod OneText
 pub mod PartLemmas
+pub mod PrintLemmas
 pub mod ResumeLemmas
 pub mod SavedParts
 pub mod SavedTexts

@@ -1,11 +1,11 @@
 -- What is saved is a text of the grammar, and that of one state.
-use Rattle.std.proofs.Common.{◌≡◌, ◌++◌, ◌∷◌, [], ℕ, List, Option, Some, None, IsSome, IsTrue, Contains, length, map, refl, sym, ap, ◌∙◌, arith, append_assoc, ⊎_elim}
+use Rattle.std.proofs.Common.{◌≡◌, ◌++◌, ◌∷◌, [], ℕ, List, Option, Some, None, IsSome, IsTrue, All, Contains, length, map, refl, sym, ap, ◌∙◌, arith, append_assoc, ⊎_elim}
 use Rattle.std.specs.List.{AllByRecursion}
 use Rattle.std.specs.List.Sorted.{IsStrictlySortedBy}
-use Rattle.std.proofs.lemmas.List.Elements.{recursion_from_All}
+use Rattle.std.proofs.lemmas.List.Elements.{All-head, All-tail, recursion_from_All}
 use Rattle.std.proofs.lemmas.Option.{same_Some}
-use Rattle.enf_value.specs.Valuations.{Valuation, no_values, same_valuation, value_at, variable_cmp}
-use Rattle.enf_value.specs.ValueTokens.{OneTokenAtPlace, PrintedIsToken}
+use Rattle.enf_value.specs.Valuations.{Valuation, bindings, no_values, same_valuation, value_at, variable_cmp}
+use Rattle.enf_value.specs.ValueTokens.{IsValue, OneTokenAtPlace, PrintedIsToken}
 use Rattle.enf_value.specs.declared.terms.VarId.{VarId}
 use Rattle.enf_value.specs.declared.values.Value.{Value}
 use Rattle.valuations.specs.Columns.{among_or_not, first_or_later, here, later, none_in_nil}
@@ -24,10 +24,11 @@ use Rattle.obligations.specs.Scopes.{future_in}
 use Rattle.obligations.specs.declared.instances.Instance.{Instance}
 use Rattle.save_codec.specs.Forms.{Follow, is_end, last_line}
 use Rattle.save_codec.specs.Laws.{OneState, SavedIsText}
-use Rattle.save_codec.specs.Lines.{IsLine}
-use Rattle.save_codec.specs.Saved.{due_line, lines_of, row_line, values_in}
+use Rattle.save_codec.specs.Lines.{IsLine, IsSmall}
+use Rattle.save_codec.specs.Saved.{HasSmallNumbers, IsInstance, IsRow, due_line, lines_of, row_line, values_in}
 use Rattle.save_codec.specs.declared.lines.Line.{Line}
 use Rattle.save_codec.specs.declared.lines.Line.TheVariants.{Position, End}
+use Rattle.save_codec.specs.declared.snapshots.Snapshot.{Snapshot}
 use Rattle.save_codec.proofs.BoundLemmas.{bound_values, nothing_at}
 use Rattle.save_codec.proofs.FormLemmas.{last_line_behind}
 use Rattle.save_codec.proofs.InstanceLemmas.{scope_rises}
@@ -65,6 +66,32 @@ saved_is_text signature policy s lines = record {
   );
   text = refl;
 }
+
+-- ---- so are those of a state in memory
+
+values_are : (values : List (VarId × Value)) → All (λ b. IsValue b.1) values → AllByRecursion IsValue (map (λ b. b.1) values)
+values_are [] all = tt
+values_are (b ∷ values) all = (All-head (λ b. IsValue b.1) b values all, values_are values (All-tail (λ b. IsValue b.1) b values all))
+
+dues_are : (pending : List Instance) → All (λ i. IsSmall i.origin × IsSmall i.low × IsSmall i.high) pending → All IsInstance pending → AllByRecursion IsLine (due_end pending)
+dues_are [] small are = (tt, tt)
+dues_are (i ∷ pending) small are =
+    let n = All-head (λ i. IsSmall i.origin × IsSmall i.low × IsSmall i.high) i pending small in
+    let a = All-head IsInstance i pending are in (
+      (omega (arith, a.0), omega (arith, a.1), n.0, n.1, n.2, values_are (bindings i.valuation) a.2),
+      dues_are pending (All-tail (λ i. IsSmall i.origin × IsSmall i.low × IsSmall i.high) i pending small) (All-tail IsInstance i pending are),
+    )
+
+rows_are : (rows : List KeptRow) (pending : List Instance) → All (λ r. IsSmall r.time) rows → All IsRow rows → AllByRecursion IsLine (due_end pending) → AllByRecursion IsLine (map row_line rows ++ due_end pending)
+rows_are [] pending small are dues = dues
+rows_are (r ∷ rows) pending small are dues =
+    let a = All-head IsRow r rows are in (
+      (omega (arith, a.0), All-head (λ r. IsSmall r.time) r rows small, recursion_from_All IsValue r.row a.1),
+      rows_are rows pending (All-tail (λ r. IsSmall r.time) r rows small) (All-tail IsRow r rows are) dues,
+    )
+
+pub lines_are : (s : Snapshot) → HasSmallNumbers s → All IsRow s.kept → All IsInstance s.pending → AllByRecursion IsLine (lines_of s)
+lines_are s small rows dues = (small.clock, (small.last, (small.position, rows_are s.kept s.pending small.times rows (dues_are s.pending small.windows dues))))
 
 -- ---- what is bound is bound to its values
 

@@ -1,6 +1,7 @@
 -- The saved text of a state, and of a trace.
-use Rattle.std.specs.Prelude.{◌≡◌, ℕ, List, [], ◌∷◌, ◌++◌, length, map}
+use Rattle.std.specs.Prelude.{◌≡◌, ℕ, ◌<◌, ◌^◌, List, [], ◌∷◌, ◌++◌, All, length, map}
 use Rattle.enf_value.specs.Valuations.{Valuation, bindings}
+use Rattle.enf_value.specs.ValueTokens.{IsValue}
 use Rattle.enf_value.specs.declared.steps.Step.{Step}
 use Rattle.enf_value.specs.declared.values.Value.{Value}
 use Rattle.enf_formula.specs.Formulas.{Formula}
@@ -10,7 +11,7 @@ use Rattle.past_state.specs.Saved.{AreKeptOf, AreRowsRising}
 use Rattle.past_state.specs.declared.kept.KeptRow.{KeptRow}
 use Rattle.obligations.specs.Pending.{Pend}
 use Rattle.obligations.specs.declared.instances.Instance.{Instance}
-use Rattle.save_codec.specs.Lines.{head_text, lines_text}
+use Rattle.save_codec.specs.Lines.{IsSmall, IsSmallTime, head_text, lines_text}
 use Rattle.save_codec.specs.declared.lines.Line.{Line}
 use Rattle.save_codec.specs.declared.lines.Line.TheVariants.{Clock, Last, Position, Row, Due, End}
 use Rattle.save_codec.specs.declared.snapshots.Snapshot.{Snapshot}
@@ -33,6 +34,21 @@ lines_of s =
 -- what is saved under the bytes of a signature and of a policy
 abbrev pub saved_text : (signature policy : List ℕ) → Snapshot → List ℕ
 saved_text signature policy s = head_text signature policy ++ lines_text (lines_of s)
+
+-- a row and an instance in memory: numbers of 32 bits, and values of the program
+abbrev pub IsRow : KeptRow → Type 0
+IsRow r = (r.window < 2 ^ 32) × All IsValue r.row
+
+abbrev pub IsInstance : Instance → Type 0
+IsInstance i = (i.rule < 2 ^ 32) × (i.node < 2 ^ 32) × All (λ binding. IsValue binding.1) (bindings i.valuation)
+
+-- the numbers that have 64 bits in memory are below 2^63, as the lines have them
+pub record HasSmallNumbers (s : Snapshot) : Type 0 where
+  pub clock : IsSmall s.clock
+  pub last : IsSmallTime s.last
+  pub position : IsSmall s.position
+  pub times : All (λ r. IsSmall r.time) s.kept
+  pub windows : All (λ i. IsSmall i.origin × IsSmall i.low × IsSmall i.high) s.pending
 
 -- what is kept behind a trace, under the plans of a policy and the operators on the past in its guards: its last time
 -- and its length, the rows that have to be kept of it, in order, and what is pending behind it

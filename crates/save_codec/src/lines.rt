@@ -1,5 +1,7 @@
 //! The lines of a saved text, and how they are printed.
-ghost use Rattle.std.specs.Prelude.{◌≡◌, ◌++◌, OnOk, codes};
+ghost use Rattle.std.specs.Prelude.{◌≡◌, ◌∷◌, ◌++◌, All, OnOk, codes};
+ghost use Rattle.enf_value.specs.Spelling.{spelled};
+ghost use Rattle.enf_value.specs.ValueTokens.{IsValue};
 ghost use Rattle.save_codec.specs.Lines.{due_text, last_text, line_text, spaced, values_text};
 
 use enf_value::{NoMemory, Row, Value, print_byte, print_bytes, print_number, print_value};
@@ -52,13 +54,37 @@ pub(crate) fn print_last(last: Option<u64>, out: &mut Vec<u8>) -> Result<(), NoM
     }
 }
 
+// A number in memory has 64 bits, and a text is one of the program.
+fn is_value(value: &Value)
+    ensures { IsValue value.now }
+{
+    match value {
+        Value::Num(number) => {
+            let _number = *number;
+        }
+        Value::Text(text) => {
+            let _bytes = text.bytes();
+        }
+    }
+}
+
+// Appends a value behind a space.
+pub(crate) fn print_spaced_value(value: &Value, out: &mut Vec<u8>) -> Result<(), NoMemory>
+    ensures text { OnOk result (out.new.items ≡ out.old.items ++ 32 ∷ spelled value.now) }
+    ensures value { IsValue value.now }
+{
+    is_value(value);
+    print_byte(b' ', out)?;
+    print_value(value, out)
+}
+
 // Appends values, each behind a space.
 fn print_values(values: &[Value], out: &mut Vec<u8>) -> Result<(), NoMemory>
-    ensures { OnOk result (out.new.items ≡ out.old.items ++ values_text values.now) }
+    ensures text { OnOk result (out.new.items ≡ out.old.items ++ values_text values.now) }
+    ensures values { OnOk result (All IsValue values.now) }
 {
     for value in values {
-        print_byte(b' ', out)?;
-        print_value(value, out)?;
+        print_spaced_value(value, out)?;
     }
     Ok(())
 }
@@ -69,8 +95,9 @@ pub(crate) fn print_row(
     values: &[Value],
     out: &mut Vec<u8>,
 ) -> Result<(), NoMemory>
-    ensures { OnOk result (out.new.items ≡ out.old.items
+    ensures text { OnOk result (out.new.items ≡ out.old.items
         ++ (codes "row" ++ (spaced window ++ (spaced time ++ (values_text values.now ++ codes "\n"))))) }
+    ensures values { OnOk result (All IsValue values.now) }
 {
     print_bytes(b"row", out)?;
     print_spaced(window, out)?;

@@ -1,23 +1,30 @@
 //! The text of a state.
-ghost use Rattle.std.specs.Prelude.{◌≡◌, ◌++◌, IfOk, OnOk, map};
+ghost use Rattle.std.specs.Prelude.{◌≡◌, ◌∷◌, ◌++◌, All, IfOk, OnOk, map};
+ghost use Rattle.enf_value.specs.ValueTokens.{IsValue};
+ghost use Rattle.save_codec.specs.Forms.{IsText};
 ghost use Rattle.save_codec.specs.Lines.{head_text, line_text, lines_text, sized, values_text};
-ghost use Rattle.save_codec.specs.Saved.{due_line, row_line, saved_text};
+ghost use Rattle.save_codec.specs.Saved.{HasSmallNumbers, IsInstance, IsRow, due_line, lines_of, row_line, saved_text};
 
-use crate::lines::{print_due, print_last, print_numbered, print_row, print_spaced};
+use crate::lines::{
+    print_due, print_last, print_numbered, print_row, print_spaced, print_spaced_value,
+};
 use crate::snapshots::Snapshot;
-use enf_value::{NoMemory, Value, VarId, print_byte, print_bytes, print_value};
+use enf_value::{NoMemory, Value, VarId, print_byte, print_bytes};
 use obligations::Instance;
 use past_state::KeptRow;
 use std::alloc::Global;
 
-/// The saved text of a state, with the bytes of the signature and of the policy under which it came about.
+/// The saved text of a state, with the bytes of the signature and of the policy under which it came about. It has the
+/// form of such texts where the numbers are small enough for that.
 pub fn save(
     alloc: Global,
     signature: &[u8],
     policy: &[u8],
     snapshot: &Snapshot,
 ) -> Result<Vec<u8>, NoMemory>
-    ensures { IfOk result (λ text. text.items ≡ saved_text signature.now policy.now snapshot.now) }
+    ensures text { IfOk result (λ text. text.items ≡ saved_text signature.now policy.now snapshot.now) }
+    ensures form { IfOk result (λ text. HasSmallNumbers snapshot.now
+        → IsText text.items signature.now policy.now (lines_of snapshot.now)) }
 {
     let mut text = Vec::new(alloc);
     print_head(signature, policy, &mut text)?;
@@ -50,7 +57,8 @@ fn print_sized(word: &[u8], bytes: &[u8], out: &mut Vec<u8>) -> Result<(), NoMem
 }
 
 fn print_rows(rows: &[KeptRow], out: &mut Vec<u8>) -> Result<(), NoMemory>
-    ensures { OnOk result (out.new.items ≡ out.old.items ++ lines_text (map row_line rows.now)) }
+    ensures text { OnOk result (out.new.items ≡ out.old.items ++ lines_text (map row_line rows.now)) }
+    ensures rows { OnOk result (All IsRow rows.now) }
 {
     for row in rows {
         print_row(u64::from(row.window), row.time, row.row.as_slice(), out)?;
@@ -59,7 +67,8 @@ fn print_rows(rows: &[KeptRow], out: &mut Vec<u8>) -> Result<(), NoMemory>
 }
 
 fn print_instances(instances: &[Instance], out: &mut Vec<u8>) -> Result<(), NoMemory>
-    ensures { OnOk result (out.new.items ≡ out.old.items ++ lines_text (map due_line instances.now)) }
+    ensures text { OnOk result (out.new.items ≡ out.old.items ++ lines_text (map due_line instances.now)) }
+    ensures instances { OnOk result (All IsInstance instances.now) }
 {
     for instance in instances {
         print_instance(instance, out)?;
@@ -68,7 +77,8 @@ fn print_instances(instances: &[Instance], out: &mut Vec<u8>) -> Result<(), NoMe
 }
 
 fn print_instance(instance: &Instance, out: &mut Vec<u8>) -> Result<(), NoMemory>
-    ensures { OnOk result (out.new.items ≡ out.old.items ++ line_text (due_line instance.now)) }
+    ensures text { OnOk result (out.new.items ≡ out.old.items ++ line_text (due_line instance.now)) }
+    ensures instance { OnOk result (IsInstance instance.now) }
 {
     print_due(
         u64::from(instance.rule),
@@ -84,11 +94,12 @@ fn print_instance(instance: &Instance, out: &mut Vec<u8>) -> Result<(), NoMemory
 
 // Appends the values of variables, each behind a space.
 fn print_bound(bindings: &[(VarId, Value)], out: &mut Vec<u8>) -> Result<(), NoMemory>
-    ensures { OnOk result (out.new.items ≡ out.old.items ++ values_text (map (λ binding. binding.1) bindings.now)) }
+    ensures text { OnOk result (out.new.items
+        ≡ out.old.items ++ values_text (map (λ binding. binding.1) bindings.now)) }
+    ensures values { OnOk result (All (λ binding. IsValue binding.1) bindings.now) }
 {
     for binding in bindings {
-        print_byte(b' ', out)?;
-        print_value(&binding.1, out)?;
+        print_spaced_value(&binding.1, out)?;
     }
     Ok(())
 }

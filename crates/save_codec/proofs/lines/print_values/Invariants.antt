@@ -1,6 +1,10 @@
-use Rattle.std.proofs.Common.{◌≡◌, ◌++◌, take}
+use Rattle.std.proofs.Common.{◌≡◌, ◌++◌, All, take}
+use Rattle.enf_value.specs.ValueTokens.{IsValue}
 use Rattle.save_codec.specs.Lines.{values_text}
 use Rattle.save_codec.proofs.lines.print_values.Given as goal
 
 abbrev pub invariant-loop-value : goal.invariant-loop-value
-invariant-loop-value l = l.out.items ≡ l.fn.out.items ++ values_text (take l.value-index l.values)
+invariant-loop-value l = record {
+  text : l.out.items ≡ l.fn.out.items ++ values_text (take l.value-index l.values);
+  values : All IsValue (take l.value-index l.values);
+}

@@ -1,6 +1,10 @@
-use Rattle.std.proofs.Common.{◌≡◌, ◌++◌, map, take}
+use Rattle.std.proofs.Common.{◌≡◌, ◌++◌, All, map, take}
+use Rattle.enf_value.specs.ValueTokens.{IsValue}
 use Rattle.save_codec.specs.Lines.{values_text}
 use Rattle.save_codec.proofs.saving.print_bound.Given as goal
 
 abbrev pub invariant-loop-binding : goal.invariant-loop-binding
-invariant-loop-binding l = l.out.items ≡ l.fn.out.items ++ values_text (map (λ b. b.1) (take l.binding-index l.bindings))
+invariant-loop-binding l = record {
+  text : l.out.items ≡ l.fn.out.items ++ values_text (map (λ b. b.1) (take l.binding-index l.bindings));
+  values : All (λ b. IsValue b.1) (take l.binding-index l.bindings);
+}
