@@ -6,6 +6,7 @@ use Rattle.cursor_list.specs.Split.{Split, items}
 use Rattle.std.specs.List.{AllByRecursion}
 use Rattle.enf_value.specs.ListLaws.{later, first_or_later, none_in_nil}
 use Rattle.enf_value.specs.Membership.{HasNoRepeats}
+use Rattle.sleepers.specs.EntryLaws.{without_placed}
 use Rattle.sleepers.proofs.OrderLemmas.{before_else, before_on, not_itself}
 use Rattle.sleepers.specs.Entries.{AllBut, ArePlaced, HasOneMore, IsAllBut, IsFree, places, shown}
 use Rattle.sleepers.specs.Order.{IsBefore, Place}
@@ -21,18 +22,6 @@ module _ {T : Type 0} where
   in_fewer (f ∷ front) back entry q there =
       ⊎_elim (λ same. inr (0, omega arith, same)) (λ on. ⊎_elim (λ same. inl same) (λ more. inr (later q f.place (places (front ++ back)) more)) (in_fewer front back entry q on))
       (first_or_later q f.place (places (front ++ entry ∷ back)) there)
-
-  in_more : (front back : List (Entry T)) (entry : Entry T) (q : Place) → Contains (places (front ++ back)) q
-      → Contains (places (front ++ entry ∷ back)) q
-  in_more [] back entry q there = later q entry.place (places back) there
-  in_more (f ∷ front) back entry q there =
-      ⊎_elim (λ same. (0, omega arith, same)) (λ on. later q f.place (places (front ++ entry ∷ back)) (in_more front back entry q on))
-      (first_or_later q f.place (places (front ++ back)) there)
-
-  pub without_placed : (front back : List (Entry T)) (entry : Entry T) → ArePlaced (front ++ entry ∷ back) → ArePlaced (front ++ back)
-  without_placed [] back entry order = order.1
-  without_placed (f ∷ front) back entry order =
-      ((λ q there. order.0 q (in_more front back entry q there)), without_placed front back entry order.1)
 
   -- behind those that stand before its place, and in front of the others
   pub put_placed : (front back : List (Entry T)) (entry : Entry T) → ArePlaced (front ++ back)

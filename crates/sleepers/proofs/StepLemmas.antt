@@ -3,7 +3,8 @@ use Rattle.std.proofs.Common.{◌≡◌, ◌↔◌, ℕ, ◌<◌, Bool, true, fa
 use Rattle.std.specs.List.{AllByRecursion}
 use Rattle.enf_value.specs.ListLaws.{here, later, first_or_later, none_in_nil, Contains-append, AllByRecursion-contains}
 use Rattle.enf_value.specs.Membership.{HasNoRepeats}
-use Rattle.sleepers.proofs.EntryLemmas.{in_fewer, in_places, without_placed}
+use Rattle.sleepers.proofs.EntryLemmas.{in_fewer, in_places}
+use Rattle.sleepers.specs.EntryLaws.{fewer_placed}
 use Rattle.sleepers.proofs.OrderLemmas.{from_in_order, from_is, not_back, not_itself, steps_keep_order}
 use Rattle.sleepers.specs.Entries.{ArePlaced, HasOneMore, IsFree, places}
 use Rattle.sleepers.specs.Order.{AreInOrder, Change, IsBefore, Place, WasMade, places_behind, places_from, turn}
@@ -83,9 +84,6 @@ module _ {T : Type 0} where
   more_keeps : (x : Entry T) (fewer more : List (Entry T)) (y : Entry T) → HasOneMore x fewer more → Contains fewer y → Contains more y
   more_keeps x fewer more y one there =
       subst (λ (l : List (Entry T)). Contains l y) (sym one.more_is) (round_middle one.front one.back x y (subst (λ (l : List (Entry T)). Contains l y) one.fewer_is there))
-
-  fewer_placed : (x : Entry T) (fewer more : List (Entry T)) → HasOneMore x fewer more → ArePlaced fewer
-  fewer_placed x fewer more one = subst ArePlaced (sym one.fewer_is) (without_placed one.front one.back x (subst ArePlaced one.more_is one.placed))
 
   apart : (front back : List (Entry T)) (x : Entry T) → ArePlaced (front ++ x ∷ back) → IsFree x.place (front ++ back)
   apart [] back x order there = not_itself x.place (order.0 x.place there)
