@@ -332,6 +332,7 @@ module _ (plans : List Plan) (pending : List Instance) (past : Past) (inserted :
       let by : IsWantedFrom plans pending past given events (action_at time position (Root rule plan) literal) = record {
         leaf = literal_is.leaf;
         there = literal_is.there;
+        asked = inl literal_is.root;
         is = literal_is.is;
         changes = changes;
         known = literal_is.known;

@@ -18,3 +18,4 @@ pub mod IdleLemmas
 pub mod ActingLemmas
 pub mod JustifyLemmas
 pub mod AsleepLemmas
+pub mod AskedLemmas

@@ -267,15 +267,24 @@ pub wanted_waiting : (plans : List Plan) (pending : List Instance) (now : Now) (
     → Contains pending i → IsWantedOf now plans i literal → action ≡ action_at now.time now.position (Waiting i) literal
     → IsWantedAt plans pending now.events.now now.ordered.now now.tables.now action
 wanted_waiting plans pending now i literal action there wanted is =
-    let all : (leaf : Plan) → Contains (nodes wanted.node) leaf → Contains (flat_map nodes plans) leaf =
-    λ leaf below. node_below plans i wanted.node leaf wanted.found below
+    let all : (leaf : Plan) → Contains (nodes wanted.part) leaf → Contains (flat_map nodes plans) leaf =
+    λ leaf below. node_below plans i wanted.node leaf wanted.found (wanted.inside leaf below)
     in
     let by : IsWantedAt plans pending now.events.now now.ordered.now now.tables.now (action_at now.time now.position (Waiting i) literal) = record {
       leaf = wanted.wanted.leaf;
       there = all wanted.wanted.leaf wanted.wanted.there;
+      asked = inr (record {
+        instance = i;
+        waits = there;
+        node = wanted.node;
+        found = wanted.found;
+        part = wanted.part;
+        has = wanted.has;
+        reached = wanted.wanted.reached;
+      });
       is = wanted.wanted.is;
       changes = wanted.wanted.changes;
-      known = λ value arg. known_for plans pending now wanted.node i value there all (wanted.wanted.known value arg);
+      known = λ value arg. known_for plans pending now wanted.part i value there all (wanted.wanted.known value arg);
     } in
     subst (IsWantedAt plans pending now.events.now now.ordered.now now.tables.now) (sym is) by
 
@@ -308,6 +317,7 @@ wanted_root plans pending now rule plan literal action there wanted is =
     let by : IsWantedAt plans pending now.events.now now.ordered.now now.tables.now (action_at now.time now.position (Root rule plan) literal) = record {
       leaf = wanted.leaf;
       there = all wanted.leaf wanted.there;
+      asked = inl (record { plan = plan; among = there; reached = wanted.reached });
       is = wanted.is;
       changes = wanted.changes;
       known = λ value arg. known value (wanted.known value arg);
@@ -321,7 +331,13 @@ literal_root plans pending now plan literal there wanted =
     let by =
     wanted_root plans pending now 0 plan literal (action_at now.time now.position (Root 0 plan) literal) there wanted refl
     in
-    record { leaf = by.leaf; there = by.there; is = by.is; known = by.known }
+    record {
+      leaf = wanted.leaf;
+      there = Contains-flat_map nodes plans plan wanted.leaf there wanted.there;
+      root = record { plan = plan; among = there; reached = wanted.reached };
+      is = wanted.is;
+      known = by.known;
+    }
 
 -- the first of all that is missed
 pub first_of_all : (P : List Literal → Type 0) (literals : List Literal) → P literals → FirstOf P (slice_get literals 0)

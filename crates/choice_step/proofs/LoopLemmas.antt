@@ -20,9 +20,11 @@ use Rattle.obligations.specs.declared.literals.Literal.{Literal}
 use Rattle.obligations.specs.declared.literals.LiteralKind.{LiteralKind}
 use Rattle.obligations.specs.declared.literals.LiteralKind.TheVariants as kind
 use Rattle.choice_step.specs.Choice.{Applies, Candidate, Decides, Root, Waiting, action_at}
-use Rattle.choice_step.specs.Choosing.{Acts, ActsFrom, HasRole, WillDecide}
+use Rattle.choice_step.specs.AskedLaws.{IsAmongAll}
+use Rattle.choice_step.specs.Choosing.{Acts, ActsFrom, AreAsked, HasRole, WillDecide, all_events}
 use Rattle.choice_step.specs.Looking.{GoesOn, IsWantedFrom, WillFind}
 use Rattle.choice_step.proofs.ActionLemmas.{once}
+use Rattle.choice_step.proofs.AskedLemmas.{all_more, asked_more, asked_none, leaf_wider}
 use Rattle.choice_step.proofs.FiniteLemmas.{Contains-flat_map, few_among}
 use Rattle.choice_step.proofs.PossibleLemmas.{AreGiven, AreOfValues, ArePossible, is_possible, more_possible, more_values, possible_over, still_given}
 use Rattle.choice_step.proofs.UniverseLemmas.{given_values, in_universe, possible, universe}
@@ -117,6 +119,7 @@ module _ (plans : List Plan) (pending : List Instance) (past : Past) where
     pub values : AreOfValues (values_at given) events
     pub suppressed : AreGiven plans given events
     pub possible : ArePossible plans (values_at given) given actions
+    pub asked : AreAsked plans pending given actions
     pub decides : (trace : List Step) → PastStands trace past → length trace ≡ position → last_time trace ≤ time
         → (more : List Action) (after : List Event) → Decides plans trace pending inserted time events more after
         → Decides plans trace pending inserted time given (actions ++ more) after
@@ -129,16 +132,17 @@ module _ (plans : List Plan) (pending : List Instance) (past : Past) where
     values = given_values plans pending past given;
     suppressed = λ event there suppressed. there;
     possible = λ event there. absurd (none_in_nil event there);
+    asked = asked_none plans pending given;
     decides = λ trace stands long later more after decided. decided;
   }
 
   keeps_more : NothingClashes plans → (inserted : Bool) (time position : ℕ) (given : List Event) (actions : List Action)
       (action : Action) (base events after : List Event) → AreOfValues (values_at given) base
-      → Keeps inserted time position given actions events
+      → IsAmongAll base (all_events given actions) → Keeps inserted time position given actions events
       → WillFind plans pending past inserted time position events (Some action)
       → IsWantedFrom plans pending past base events action → Applies action.kind action.event events after
       → Keeps inserted time position given (actions ++ action ∷ []) after
-  keeps_more nothing inserted time position given actions action base events after base_values keeps finds wanted applies =
+  keeps_more nothing inserted time position given actions action base events after base_values base_among keeps finds wanted applies =
       let role = role_of_leaf plans wanted.leaf action.kind action.leaf action.event wanted.there wanted.is in
       let known : (value : Value) → Contains action.event.args value → Contains (values_at given) value =
       λ value arg. in_universe plans pending past base value (wanted.known value arg) given base_values
@@ -152,6 +156,8 @@ module _ (plans : List Plan) (pending : List Instance) (past : Past) where
         values = more_values (values_at given) action.kind action.event events after keeps.values known applies;
         suppressed = still_given plans nothing action.kind action.event given events after keeps.suppressed role applies;
         possible = more_possible plans (values_at given) given actions action keeps.possible this;
+        asked = asked_more plans pending given actions action keeps.asked
+            (record { leaf = wanted.leaf; is = wanted.is; asked = leaf_wider plans pending base (all_events given actions) base_among wanted.leaf wanted.asked });
         decides = λ trace stands long later more rest decided.
             let found = finds trace stands long later in
             let of_kind : action.kind ≡ found.1.kind = ap (λ (a : Action). a.kind) found.3 ∙ kind_is _ _ found.0 found.1 in
@@ -166,16 +172,17 @@ module _ (plans : List Plan) (pending : List Instance) (past : Past) where
   -- so do actions that go on from there
   pub keeps_on : NothingClashes plans → (inserted : Bool) (time position : ℕ) (given : List Event) (actions : List Action)
       (base events : List Event) (more : List Action) (after : List Event) → AreOfValues (values_at given) base
-      → Keeps inserted time position given actions events
+      → IsAmongAll base (all_events given actions) → Keeps inserted time position given actions events
       → GoesOn plans pending past inserted time position base events more after
       → Keeps inserted time position given (actions ++ more) after
-  keeps_on nothing inserted time position given actions base events [] after base_values keeps is =
+  keeps_on nothing inserted time position given actions base events [] after base_values base_among keeps is =
       subst (λ l. Keeps inserted time position given l after) (sym (append-nil actions))
       (subst (Keeps inserted time position given actions) (sym is) keeps)
-  keeps_on nothing inserted time position given actions base events (action ∷ more) after base_values keeps (between, finds, wanted, applies, goes) =
+  keeps_on nothing inserted time position given actions base events (action ∷ more) after base_values base_among keeps (between, finds, wanted, applies, goes) =
       subst (λ l. Keeps inserted time position given l after) (append_assoc actions (action ∷ []) more)
       (keeps_on nothing inserted time position given (actions ++ action ∷ []) base between more after base_values
-      (keeps_more nothing inserted time position given actions action base events between base_values keeps finds wanted applies) goes)
+      (λ event there. all_more given actions action event (base_among event there))
+      (keeps_more nothing inserted time position given actions action base events between base_values base_among keeps finds wanted applies) goes)
 
   pub few : NothingClashes plans → (inserted : Bool) (time position : ℕ) (given : List Event) (actions : List Action) (events : List Event)
       → Keeps inserted time position given actions events → length actions ≤ length (possible plans pending past given)

@@ -3,6 +3,7 @@ use Rattle.std.proofs.Common.{◌≡◌, ℕ, ◌+◌, ◌<◌, ◌≤◌, Bool,
 use Rattle.std.specs.Prelude.{slice_get}
 use Rattle.std.proofs.lemmas.Bool.{cases_lt}
 use Rattle.std.proofs.lemmas.List.{length-map}
+use Rattle.std.proofs.lemmas.List.Elements.{Contains-append_left}
 use Rattle.enf_value.specs.Membership.{HasNoRepeats}
 use Rattle.enf_value.specs.declared.events.Event.{Event}
 use Rattle.enf_value.specs.declared.steps.Step.{Step}
@@ -25,6 +26,7 @@ use Rattle.choice_step.proofs.ActingLemmas.{goes_behind, names_stay, spared_thos
 use Rattle.choice_step.proofs.AsleepLemmas.{all_asleep}
 use Rattle.choice_step.proofs.ChoiceLemmas.{last_step}
 use Rattle.choice_step.proofs.LookingLemmas.{found_behind, no_root, none_waiting}
+use Rattle.choice_step.specs.AskedLaws.{acted_among}
 use Rattle.choice_step.proofs.LoopLemmas.{Keeps, few, keeps_first, keeps_on}
 use Rattle.choice_step.proofs.UniverseLemmas.{given_values, possible}
 
@@ -83,7 +85,7 @@ module _ (situation : Situation) (can : CanDecide situation) (given : List Event
       let past = situation.past.now in
       let most : length led.0 ≤ length (possible plans pending past given) =
       few plans pending past can.roles situation.inserted situation.time situation.position given led.0 events
-      (keeps_on plans pending past can.roles situation.inserted situation.time situation.position given [] given given led.0 events (given_values plans pending past given)
+      (keeps_on plans pending past can.roles situation.inserted situation.time situation.position given [] given given led.0 events (given_values plans pending past given) (λ event there. Contains-append_left given [] event there)
       (keeps_first plans pending past situation.inserted situation.time situation.position given distinct) led.2)
       in
       let grown : length actions ≡ length (start ++ led.0) = ap length led.1 in
@@ -146,4 +148,4 @@ pub keeps_led : (plans : List Plan) (pending : List Instance) (past : Past) (ins
     → Keeps plans pending past inserted time position first all after
 keeps_led plans pending past inserted time position given nothing first actions after all keeps led =
     subst (λ a. Keeps plans pending past inserted time position first a after) (sym led.1)
-    (keeps_on plans pending past nothing inserted time position first actions given given led.0 after keeps.values keeps led.2)
+    (keeps_on plans pending past nothing inserted time position first actions given given led.0 after keeps.values (acted_among plans first actions given keeps.acts) keeps led.2)

@@ -89,6 +89,7 @@ wanted_from_at : (plans : List Plan) (pending : List Instance) (past : Past) (ti
 wanted_from_at plans pending past time given events tables action are known wanted = record {
   leaf = wanted.leaf;
   there = wanted.there;
+  asked = wanted.asked;
   is = wanted.is;
   changes = wanted.changes;
   known = λ value arg. known_behind plans pending past time given tables are known value (wanted.known value arg);
@@ -100,6 +101,7 @@ literal_behind : (plans : List Plan) (pending : List Instance) (past : Past) (ti
 literal_behind plans pending past time events tables literal are known at = record {
   leaf = at.leaf;
   there = at.there;
+  root = at.root;
   is = at.is;
   known = λ value arg. known_behind plans pending past time events tables are known value (at.known value arg);
 }

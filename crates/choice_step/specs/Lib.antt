@@ -5,6 +5,7 @@ pub mod Justifying
 pub mod Waking
 pub mod Looking
 pub mod Choosing
+pub mod AskedLaws
 pub mod Acting
 pub mod Situations
 pub mod Laws

@@ -16,7 +16,10 @@ use Rattle.plan_terms.specs.Nodes.{nodes}
 use Rattle.plan_terms.specs.Plans.{Plan}
 use Rattle.obligations.specs.Asked.{Changes, IsBound, IsLeaf, terms_of}
 use Rattle.obligations.specs.Missing.{Missing}
+use Rattle.obligations.specs.Pending.{node_of}
+use Rattle.obligations.specs.Reaching.{IsReachedBy}
 use Rattle.obligations.specs.Unread.{AreThose, IsPlain, IsStillWanted}
+use Rattle.obligations.specs.Waiting.{HasPart}
 use Rattle.obligations.specs.declared.actions.Action.{Action}
 use Rattle.obligations.specs.declared.instances.Instance.{Instance}
 use Rattle.obligations.specs.declared.literals.Literal.{Literal}
@@ -48,12 +51,32 @@ IsKnownFor plans pending ordered tables value = ((i : Instance) × Contains pend
     ⊎ (IsArgument ordered value ⊎ (IsTabled tables.stack value ⊎ (IsConstantOf (formulas tables.guards) value
     ⊎ ((leaf : Plan) × Contains (flat_map nodes plans) leaf × Contains (terms_of leaf) (Const value)))))
 
--- an action is for a leaf of one of the plans, it changes the events, and its values are known, whatever the step
--- stands for
+-- the leaf is reached at a step with these events from the root of a rule,
+pub record IsRootLeaf (plans : List Plan) (events : List Event) (leaf : Plan) : Type 0 where
+  pub plan : Plan
+  pub among : Contains plans plan
+  pub reached : IsReachedBy events plan leaf
+
+-- or from a part of the node of a pending instance
+pub record IsWaitingLeaf (plans : List Plan) (pending : List Instance) (events : List Event) (leaf : Plan) : Type 0 where
+  pub instance : Instance
+  pub waits : Contains pending instance
+  pub node : Plan
+  pub found : node_of plans instance ≡ Some node
+  pub part : Plan
+  pub has : HasPart node part
+  pub reached : IsReachedBy events part leaf
+
+abbrev pub IsAskedLeaf : List Plan → List Instance → List Event → Plan → Type 0
+IsAskedLeaf plans pending events leaf = IsRootLeaf plans events leaf ⊎ IsWaitingLeaf plans pending events leaf
+
+-- an action is for a leaf of one of the plans that is asked for, it changes the events, and its values are known,
+-- whatever the step stands for
 pub record IsWantedAt (plans : List Plan) (pending : List Instance) (events ordered : List Event) (tables : PastTables)
     (action : Action) : Type 0 where
   pub leaf : Plan
   pub there : Contains (flat_map nodes plans) leaf
+  pub asked : IsAskedLeaf plans pending ordered leaf
   pub is : IsLeaf leaf action.kind action.leaf action.event
   pub changes : Changes action.kind action.event events
   pub known : (value : Value) → Contains action.event.args value → IsKnownFor plans pending ordered tables value
@@ -94,6 +117,7 @@ pub record IsLiteralAt (plans : List Plan) (pending : List Instance) (ordered : 
     (literal : Literal) : Type 0 where
   pub leaf : Plan
   pub there : Contains (flat_map nodes plans) leaf
+  pub root : IsRootLeaf plans ordered leaf
   pub is : IsLeaf leaf literal.kind literal.leaf literal.event
   pub known : (value : Value) → Contains literal.event.args value → IsKnownFor plans pending ordered tables value
 
@@ -102,6 +126,7 @@ pub record IsLiteralBehind (plans : List Plan) (pending : List Instance) (past :
     (literal : Literal) : Type 0 where
   pub leaf : Plan
   pub there : Contains (flat_map nodes plans) leaf
+  pub root : IsRootLeaf plans events leaf
   pub is : IsLeaf leaf literal.kind literal.leaf literal.event
   pub known : (value : Value) → Contains literal.event.args value → IsKnownBehind plans pending past events value
 
@@ -145,6 +170,7 @@ pub record IsWantedFrom (plans : List Plan) (pending : List Instance) (past : Pa
     (action : Action) : Type 0 where
   pub leaf : Plan
   pub there : Contains (flat_map nodes plans) leaf
+  pub asked : IsAskedLeaf plans pending given leaf
   pub is : IsLeaf leaf action.kind action.leaf action.event
   pub changes : Changes action.kind action.event events
   pub known : (value : Value) → Contains action.event.args value → IsKnownBehind plans pending past given value

@@ -2,7 +2,7 @@
 ghost use Rattle.std.specs.Prelude.{◌≡◌, ◌<◌, ◌≤◌, ◌^◌, false, IfNone, IfOk, IfSome, IsTrue, None, OnOk, length, map};
 ghost use Rattle.std.specs.List.{AllByRecursion};
 ghost use Rattle.choice_step.specs.Situations.{CanDecide, Finds, IsFound, IsMetBefore, Leads, NoneIsWoken};
-ghost use Rattle.choice_step.specs.Choosing.{ActsFrom, WillDecide};
+ghost use Rattle.choice_step.specs.Choosing.{ActsFrom, AreAsked, WillDecide};
 ghost use Rattle.choice_step.specs.Justifying.{WillBeJustified};
 ghost use Rattle.enf_formula.specs.Names.{HaveSameOf};
 ghost use Rattle.obligations.specs.Asked.{placed_guard};
@@ -86,6 +86,8 @@ pub fn choose(
     // Whatever it stands for.
     ensures acted { IfOk result
         (λ choice. ActsFrom (map plan_of plans.now) events choice.actions choice.events) }
+    ensures asked { IfOk result
+        (λ choice. AreAsked (map plan_of plans.now) pending.now.instances events choice.actions) }
     ensures tables { IfOk result (λ choice. AreOf past.now time choice.events choice.tables) }
     ensures hold { IfOk result (λ choice. GuardsWillHold past.now time choice.events choice.tables) }
 {
@@ -122,6 +124,8 @@ pub fn choose_with(
     // Whatever it stands for.
     ensures acted { IfOk result
         (λ choice. ActsFrom (map plan_of plans.now) events choice.actions choice.events) }
+    ensures asked { IfOk result
+        (λ choice. AreAsked (map plan_of plans.now) pending.now.instances events choice.actions) }
     ensures tables { IfOk result (λ choice. AreOf past.now time choice.events choice.tables) }
     ensures hold { IfOk result (λ choice. GuardsWillHold past.now time choice.events choice.tables) }
 {

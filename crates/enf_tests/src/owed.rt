@@ -170,7 +170,7 @@ fn find_pending(alloc: Global, plans: &[Plan], now: &Now<'_>, found: &mut Found)
     requires in_time { now.now.time ≤ MOST_TIME }
 {
     let mut pending = Pending::new(alloc);
-    pending.progress(alloc, plans, now)?;
+    pending.progress(alloc, plans, now, false)?;
     found.number(pending.to_list(alloc)?.len() as u64);
     let Some(instance) = pending.as_slice().first() else {
         return Err("an instance".into());

@@ -13,8 +13,11 @@ use Rattle.enf_value.specs.ListLaws.{AllByRecursion-contains, AllByRecursion-fro
 use Rattle.enf_value.specs.Valuations.{Valuation, no_values}
 use Rattle.enf_value.specs.declared.events.Event.{Event}
 use Rattle.enf_value.specs.declared.events.NameId.{NameId}
+use Rattle.enf_value.specs.declared.limits.TheConstants.{MOST_INTERVAL_END}
 use Rattle.enf_value.specs.declared.steps.Step.{Step}
 use Rattle.trace_meaning.specs.Continuation.{last_time}
+use Rattle.trace_meaning.specs.Records.{most_time}
+use Rattle.trace_meaning.specs.declared.kinds.StepKind.TheVariants.{Inserted}
 use Rattle.trace_meaning.specs.Laws.{LastIsAtTheEnd}
 use Rattle.valuations.specs.Columns.{Contains-filter}
 use Rattle.valuations.specs.SearchLaws.{Contains-from_map, Contains-map}
@@ -30,24 +33,25 @@ use Rattle.rank_check.specs.Laws.{EdgesRise}
 use Rattle.rank_check.specs.Paths.{Edge, begun_by, below, needs_trigger}
 use Rattle.rank_check.specs.Ranked.{AreRanked}
 use Rattle.rank_check.specs.Refusals.{AreAccepted}
-use Rattle.enforce_types.specs.Typed.{Typed}
+use Rattle.enforce_types.specs.Typed.{Typed, WorkTogether}
 use Rattle.obligations.specs.Begun.{Begun, LacksNothing, LacksSome, time_now}
 use Rattle.obligations.specs.Missing.{MissingIsOne}
 use Rattle.obligations.specs.Founding.{WellFormedStand}
 use Rattle.obligations.specs.Pending.{After, AtNode, BecomesAt, BegunByRoots, Goes, HasDeadline, IsNowIn, MissesAt, MissingOf, NoneIsOver, Pend, PendIsOne, node_of}
-use Rattle.obligations.specs.Reached.{BegunByRoots-contains, BegunIsNamed, BegunIsReached, Gathers-contains, IsBegunBy, IsBegunIn, IsReached, MissedIsReached, PendCame, PendingWasBegun, ReachedIsInside}
+use Rattle.obligations.specs.Reached.{BegunByRoots-contains, BegunIsNamed, BegunIsReached, Gathers-contains, IsBegunBy, IsBegunIn, IsReached, MissedIsReached, PendCame, PendingWasBegun, ReachedIsInside, last_events}
+use Rattle.obligations.specs.Reaching.{IsBegunAt}
 use Rattle.obligations.specs.Rows.{last_position}
 use Rattle.obligations.specs.declared.actions.Action.{Action}
 use Rattle.obligations.specs.declared.instances.Instance.{Instance}
 use Rattle.choice_step.specs.Choice.{Decides, MissesNothing, Waiting, all_asked, is_forced, roots_from, with_step}
 use Rattle.choice_step.specs.Laws.{DecidedMissesNothing}
-use Rattle.enforcer_core.specs.Ending.{AnyDeadlinesFall, WindowsAreOrdered, DeadlinesAreWithinReach, NoneGoesOver, ReachIsWithinHorizon, ServedDeadlinesFall, WindowsAreInOrder, reach_at, reach_of, widest}
+use Rattle.enforcer_core.specs.Ending.{AnyDeadlinesFall, WindowsAreOrdered, DeadlinesAreWithinReach, HighsAreNear, NoneGoesOver, ReachIsWithinHorizon, ServedDeadlinesFall, WindowsAreInOrder, reach_at, reach_of, widest}
 use Rattle.enforcer_core.proofs.ClassLemmas.{class_below, class_higher, greatest_is, greatest_within, in_flat, least, least_behind, nodes_in}
 use Rattle.enforcer_core.proofs.TriggerLemmas.{AreOwed, Ends, IsAsked, IsDue, anew_asked, behind_event, decided_owed, due_asked, ends_now, has_node, last_step, root_asked}
 
 -- ---- reach
 
-reach_is : (ranks : List ℕ) (plans : List Plan) (i : Instance) (node : Plan) → node_of plans i ≡ Some node
+pub reach_is : (ranks : List ℕ) (plans : List Plan) (i : Instance) (node : Plan) → node_of plans i ≡ Some node
     → has_deadline node ≡ true
     → reach_at ranks plans i.high (node_of plans i) ≡ i.high + class_of ranks plans node * widest plans
 reach_is ranks plans i node found has =
@@ -55,7 +59,7 @@ reach_is ranks plans i node found has =
     ∙ ap (λ (b : Bool). cond b (i.high + class_of ranks plans node * widest plans) 0) has
 
 -- it is within a bound where it is so for an instance of a node with a deadline
-reach_within : (ranks : List ℕ) (plans : List Plan) (i : Instance) (node : Plan) (most : ℕ) → node_of plans i ≡ Some node
+pub reach_within : (ranks : List ℕ) (plans : List Plan) (i : Instance) (node : Plan) (most : ℕ) → node_of plans i ≡ Some node
     → (has_deadline node ≡ true → i.high + class_of ranks plans node * widest plans ≤ most)
     → reach_at ranks plans i.high (node_of plans i) ≤ most
 reach_within ranks plans i node most found each =
@@ -67,13 +71,13 @@ reach_within ranks plans i node most found each =
     by false each = omega arith
 
 -- each of what is pending is within what all of it can be owed
-in_reach : (ranks : List ℕ) (plans : List Plan) (pending : List Instance) (i : Instance) → Contains pending i
+pub in_reach : (ranks : List ℕ) (plans : List Plan) (pending : List Instance) (i : Instance) → Contains pending i
     → reach_at ranks plans i.high (node_of plans i) ≤ reach_of ranks plans pending
 in_reach ranks plans pending i there =
     greatest_is (map (λ (j : Instance). reach_at ranks plans j.high (node_of plans j)) pending) (reach_at ranks plans i.high (node_of plans i))
     (Contains-map (λ (j : Instance). reach_at ranks plans j.high (node_of plans j)) pending i there)
 
-reach_of_within : (ranks : List ℕ) (plans : List Plan) (pending : List Instance) (most : ℕ)
+pub reach_of_within : (ranks : List ℕ) (plans : List Plan) (pending : List Instance) (most : ℕ)
     → ((i : Instance) → Contains pending i → reach_at ranks plans i.high (node_of plans i) ≤ most)
     → reach_of ranks plans pending ≤ most
 reach_of_within ranks plans pending most each =
@@ -91,7 +95,7 @@ due_at plans i deadline due = by (node_of plans i) refl due
     by None is due = absurd due
     by (Some node) is due = (node, is, due.0, due.1)
 
-deadline_of : (plans : List Plan) (i : Instance) (node : Plan) → node_of plans i ≡ Some node → has_deadline node ≡ true
+pub deadline_of : (plans : List Plan) (i : Instance) (node : Plan) → node_of plans i ≡ Some node → has_deadline node ≡ true
     → HasDeadline plans i i.high
 deadline_of plans i node found has =
     subst (λ (o : Option Plan). AtNode o (λ n. (has_deadline n ≡ true) × (i.high ≡ i.high))) (sym found) (has, refl)
@@ -104,7 +108,7 @@ deadlines_are_within_reach ranks plans pending i deadline there due =
     omega (arith, reach, is, d.3)
 
 -- a lower class has one window less
-below_reach : (time window most class other high last reach : ℕ) → high ≡ time + window → window ≤ most → class < other
+pub below_reach : (time window most class other high last reach : ℕ) → high ≡ time + window → window ≤ most → class < other
     → time ≤ last → last + other * most ≤ reach → high + class * most ≤ reach
 below_reach time window most class other high last reach is within less later reached =
     let one : suc class * most ≤ other * most = mul-le (suc class) most other most (omega (arith, less)) (omega arith) in
@@ -113,20 +117,20 @@ below_reach time window most class other high last reach is within less later re
 -- ---- windows
 
 -- the end of the window of what is begun, and that it does not end at once
-begun_high : (trace : List Step) (rule : ℕ) (node : Plan) (i : Instance) → IsBegunBy trace rule node i
-    → has_deadline node ≡ true → i.high ≡ time_now trace + window_end node
-begun_high trace rule (Eventually n place low high body) i (v, same) has = sym (ap (λ (j : Instance). j.high) same)
-begun_high trace rule (Until n place low high l r) i (v, same) has = sym (ap (λ (j : Instance). j.high) same)
-begun_high trace rule (Next n place high body) i (v, same) has = sym (ap (λ (j : Instance). j.high) same)
-begun_high trace rule (Always n place low high body) i begins has = absurd (false≢true has)
-begun_high trace rule (Cause n place name terms) i begins has = absurd begins
-begun_high trace rule (Suppress n place name terms) i begins has = absurd begins
-begun_high trace rule (Both n l r) i begins has = absurd begins
-begun_high trace rule (Either n l r) i begins has = absurd begins
-begun_high trace rule (TestOr n guard test body) i begins has = absurd begins
-begun_high trace rule (Guarded n xs guard test body) i begins has = absurd begins
+pub begun_high : (time position rule : ℕ) (node : Plan) (i : Instance) → IsBegunAt time position rule node i
+    → has_deadline node ≡ true → i.high ≡ time + window_end node
+begun_high time position rule (Eventually n place low high body) i (v, same) has = sym (ap (λ (j : Instance). j.high) same)
+begun_high time position rule (Until n place low high l r) i (v, same) has = sym (ap (λ (j : Instance). j.high) same)
+begun_high time position rule (Next n place high body) i (v, same) has = sym (ap (λ (j : Instance). j.high) same)
+begun_high time position rule (Always n place low high body) i begins has = absurd (false≢true has)
+begun_high time position rule (Cause n place name terms) i begins has = absurd begins
+begun_high time position rule (Suppress n place name terms) i begins has = absurd begins
+begun_high time position rule (Both n l r) i begins has = absurd begins
+begun_high time position rule (Either n l r) i begins has = absurd begins
+begun_high time position rule (TestOr n guard test body) i begins has = absurd begins
+begun_high time position rule (Guarded n xs guard test body) i begins has = absurd begins
 
-later_end : (node : Plan) → EndsLater node → has_deadline node ≡ true → 0 < window_end node
+pub later_end : (node : Plan) → EndsLater node → has_deadline node ≡ true → 0 < window_end node
 later_end (Eventually n place low high body) later has = later
 later_end (Until n place low high l r) later has = later
 later_end (Next n place high body) later has = later
@@ -138,7 +142,7 @@ later_end (Either n l r) later has = absurd (false≢true has)
 later_end (TestOr n guard test body) later has = absurd (false≢true has)
 later_end (Guarded n xs guard test body) later has = absurd (false≢true has)
 
-needs : (node : Plan) → has_deadline node ≡ true → needs_trigger node ≡ true
+pub needs : (node : Plan) → has_deadline node ≡ true → needs_trigger node ≡ true
 needs (Eventually n place low high body) has = refl
 needs (Until n place low high l r) has = refl
 needs (Next n place high body) has = refl
@@ -150,7 +154,7 @@ needs (Either n l r) has = absurd (false≢true has)
 needs (TestOr n guard test body) has = absurd (false≢true has)
 needs (Guarded n xs guard test body) has = absurd (false≢true has)
 
-ordered_window : (trace : List Step) (rule : ℕ) (node : Plan) (i : Instance) → IsBegunBy trace rule node i → EndsInTime node
+pub ordered_window : (trace : List Step) (rule : ℕ) (node : Plan) (i : Instance) → IsBegunBy trace rule node i → EndsInTime node
     → i.low ≤ i.high
 ordered_window trace rule (Eventually n place low high body) i (v, same) ends =
     omega (arith, ap (λ (j : Instance). j.low) same, ap (λ (j : Instance). j.high) same, ends.0)
@@ -166,6 +170,63 @@ ordered_window trace rule (Both n l r) i begins ends = absurd begins
 ordered_window trace rule (Either n l r) i begins ends = absurd begins
 ordered_window trace rule (TestOr n guard test body) i begins ends = absurd begins
 ordered_window trace rule (Guarded n xs guard test body) i begins ends = absurd begins
+
+-- a front of a trace does not end behind it
+front_not_later : LastIsAtTheEnd → (trace front more : List Step) → IsTrace trace → front ++ more ≡ trace → 0 < length front
+    → time_now front ≤ last_time trace
+front_not_later last trace front more is_trace splits some =
+    let long : length front ≤ length trace = omega (arith, ap length splits, length-append front more) in
+    let at : step_at trace (last_position front) ≡ step_at front (last_position front) =
+    ap (λ (l : List Step). step_at l (last_position front)) (sym splits)
+    ∙ get_or_append_left front more no_step (last_position front) (omega (arith, some)) in
+    let end : last_time trace ≡ (step_at trace (last_position trace)).time = last trace (last_position trace) (omega (arith, some, long)) in
+    let rises = is_trace.ordered (last_position front) (last_position trace) (omega (arith, long)) (omega (arith, some, long)) in
+    omega (arith, rises, end, ap (λ (s : Step). s.time) at)
+
+-- ---- deadlines
+
+module _ (plans : List Plan) where
+  pub in_deadlines : (plan node : Plan) → Contains plans plan → Contains (nodes plan) node → has_deadline node ≡ true
+      → Contains (with_deadlines plans) node
+  in_deadlines plan node among there has =
+      Contains-filter has_deadline (flat_map nodes plans) node (in_flat nodes plans plan node among there) has
+
+  pub window_within : (node : Plan) → Contains (with_deadlines plans) node → window_end node ≤ widest plans
+  window_within node there =
+      greatest_is (map window_end (with_deadlines plans)) (window_end node) (Contains-map window_end (with_deadlines plans) node there)
+
+  pub over_from : (time : ℕ) (after : List Instance)
+      → ((i : Instance) → Contains after i → (deadline : ℕ) → HasDeadline plans i deadline → time ≤ deadline)
+      → NoneIsOver plans after time
+  over_from time after each =
+      All-from_recursion (λ (i : Instance). (deadline : ℕ) → HasDeadline plans i deadline → time ≤ deadline) after
+      (AllByRecursion-from_contains (λ (i : Instance). (deadline : ℕ) → HasDeadline plans i deadline → time ≤ deadline) after each)
+
+  pub over_at : (time : ℕ) (pending : List Instance) → NoneIsOver plans pending time → (i : Instance) → Contains pending i
+      → (deadline : ℕ) → HasDeadline plans i deadline → time ≤ deadline
+  over_at time pending over i there =
+      All-contains (λ (j : Instance). (deadline : ℕ) → HasDeadline plans j deadline → time ≤ deadline) pending i over there
+
+-- where no deadline is later, nothing is owed behind the horizon of that time
+pub reach_later : (typed : Typed) → WorkTogether typed → (pending : List Instance) (last : ℕ)
+    → ((i : Instance) → Contains pending i → (deadline : ℕ) → HasDeadline typed.plans i deadline → deadline ≤ last)
+    → reach_of typed.ranked.ranks typed.plans pending ≤ last + typed.ranked.horizon
+reach_later typed works pending last until =
+    reach_of_within typed.ranked.ranks typed.plans pending (last + typed.ranked.horizon) (λ i there. by i there (node_of typed.plans i) refl)
+  where
+    by : (i : Instance) → Contains pending i → (at : Option Plan) → node_of typed.plans i ≡ at
+        → reach_at typed.ranked.ranks typed.plans i.high (node_of typed.plans i) ≤ last + typed.ranked.horizon
+    by i there None found =
+        subst (λ (o : Option Plan). reach_at typed.ranked.ranks typed.plans i.high o ≤ last + typed.ranked.horizon) (sym found) (omega arith)
+    by i there (Some node) found = reach_within typed.ranked.ranks typed.plans i node (last + typed.ranked.horizon) found (λ has.
+        let h = has_node typed.plans i node found in
+        let there' = in_deadlines typed.plans h.plan node (there_from_get typed.plans i.rule h.plan h.plan_is) h.inside has in
+        let class = greatest_is (map (class_of typed.ranked.ranks typed.plans) (with_deadlines typed.plans)) (class_of typed.ranked.ranks typed.plans node)
+        (Contains-map (class_of typed.ranked.ranks typed.plans) (with_deadlines typed.plans) node there') in
+        let due = until i there i.high (deadline_of typed.plans i node found has) in
+        let most = mul-le (class_of typed.ranked.ranks typed.plans node) (widest typed.plans)
+        (greatest (map (class_of typed.ranked.ranks typed.plans) (with_deadlines typed.plans)) + 1) (widest typed.plans) (omega (arith, class)) (omega arith) in
+        omega (arith, due, most, works.ranked.horizon))
 
 -- ---- what becomes of what is pending
 
@@ -229,7 +290,7 @@ module _ (one : MissingIsOne) (trace : List Step) (i : Instance) (after : List I
 
 -- where nothing is missed, what has to be met is met
 module _ (trace : List Step) (i : Instance) (ordered : i.low ≤ i.high) where
-  at_end : is_forced true (time_now trace) i ≡ true → IsNowIn trace i
+  pub at_end : is_forced true (time_now trace) i ≡ true → IsNowIn trace i
   at_end forced =
       let now : time_now trace ≡ i.high = (unsigned_Decides (time_now trace) i.high).0 forced in
       (omega (arith, now, ordered), omega (arith, now))
@@ -295,9 +356,9 @@ module _ (stand : NodesStandIn) (inside : ReachedIsInside) (named : BegunIsNamed
         node = is.0;
         reached = is.1;
         begins = is.2;
-        found = (named plans trace rule start is.0 i
+        found = (named plans (last_events trace) (time_now trace) (last_position trace) rule start is.0 i
             (stand typed.guards plans rule asked.plan start formed.each asked.plan_is asked.inside) is.1 is.2).1;
-        within = nodes_in asked.plan start is.0 asked.inside (inside trace start is.0 is.1);
+        within = nodes_in asked.plan start is.0 asked.inside (inside (last_events trace) start is.0 is.1);
       }
 
   module _ (trace : List Step) (before : List Instance) (i : Instance) (node : Plan) (after : List Instance)
@@ -365,15 +426,6 @@ module _ (stand : NodesStandIn) (inside : ReachedIsInside) (named : BegunIsNamed
   plan_among : (rule : ℕ) (plan : Plan) → slice_get plans rule ≡ Some plan → Contains plans plan
   plan_among rule plan at = there_from_get plans rule plan at
 
-  in_deadlines : (plan node : Plan) → Contains plans plan → Contains (nodes plan) node → has_deadline node ≡ true
-      → Contains (with_deadlines plans) node
-  in_deadlines plan node among there has =
-      Contains-filter has_deadline (flat_map nodes plans) node (in_flat nodes plans plan node among there) has
-
-  window_within : (node : Plan) → Contains (with_deadlines plans) node → window_end node ≤ widest plans
-  window_within node there =
-      greatest_is (map window_end (with_deadlines plans)) (window_end node) (Contains-map window_end (with_deadlines plans) node there)
-
   -- the node of a new instance with a deadline
   new_has : (trace : List Step) (before : List Instance) (i : Instance) (deadline : ℕ) (new : IsNew trace before i)
       → HasDeadline plans i deadline → (has_deadline new.node ≡ true) × (i.high ≡ deadline)
@@ -381,27 +433,15 @@ module _ (stand : NodesStandIn) (inside : ReachedIsInside) (named : BegunIsNamed
       let d = due_at plans i deadline due in
       (subst (λ (n : Plan). has_deadline n ≡ true) (same_Some d.0 new.node (sym d.1 ∙ new.found)) d.2, d.3)
 
-  over_from : (time : ℕ) (after : List Instance)
-      → ((i : Instance) → Contains after i → (deadline : ℕ) → HasDeadline plans i deadline → time ≤ deadline)
-      → NoneIsOver plans after time
-  over_from time after each =
-      All-from_recursion (λ (i : Instance). (deadline : ℕ) → HasDeadline plans i deadline → time ≤ deadline) after
-      (AllByRecursion-from_contains (λ (i : Instance). (deadline : ℕ) → HasDeadline plans i deadline → time ≤ deadline) after each)
-
-  over_at : (time : ℕ) (pending : List Instance) → NoneIsOver plans pending time → (i : Instance) → Contains pending i
-      → (deadline : ℕ) → HasDeadline plans i deadline → time ≤ deadline
-  over_at time pending over i there =
-      All-contains (λ (j : Instance). (deadline : ℕ) → HasDeadline plans j deadline → time ≤ deadline) pending i over there
-
   none_goes_over : (trace : List Step) (step : Step) (before after : List Instance)
       → Goes plans (trace ++ step ∷ []) before after → NoneIsOver plans before step.time → NoneIsOver plans after step.time
-  none_goes_over trace step before after goes over = over_from step.time after (λ j there deadline due.
+  none_goes_over trace step before after goes over = over_from plans step.time after (λ j there deadline due.
       let now : time_now (trace ++ step ∷ []) ≡ step.time = ap (λ (s : Step). s.time) (last_step trace step) in
       ⊎_elim
-      (λ waited. over_at step.time before over j waited.0 deadline due)
+      (λ waited. over_at plans step.time before over j waited.0 deadline due)
       (λ new.
       let has = new_has (trace ++ step ∷ []) before j deadline new due in
-      let high = begun_high (trace ++ step ∷ []) new.rule new.node j new.begins has.0 in
+      let high = begun_high (time_now (trace ++ step ∷ [])) (last_position (trace ++ step ∷ [])) new.rule new.node j new.begins has.0 in
       omega (arith, high, now, has.1))
       (gone (trace ++ step ∷ []) before after j goes there))
 
@@ -432,7 +472,7 @@ module _ (stand : NodesStandIn) (inside : ReachedIsInside) (named : BegunIsNamed
         × class_of ranks plans new.node < class_of ranks plans node
     new_lower i new has = ⊎_elim
         (λ starts.
-        let e = behind_event plans accepted.triggered inside trace new.rule new.asked.plan new.start new.node new.asked.plan_is starts new.asked.inside new.reached (needs new.node has) in
+        let e = behind_event plans accepted.triggered inside (last_events trace) new.rule new.asked.plan new.start new.node new.asked.plan_is starts new.asked.inside new.reached (needs new.node has) in
         let owes = (owed e.0 e.1).owes in
         let behind = least_behind ranks plans rise are e.0.name new.node e.2 in (
           owes.instance,
@@ -441,7 +481,7 @@ module _ (stand : NodesStandIn) (inside : ReachedIsInside) (named : BegunIsNamed
           ending_met owes.instance owes.node owes.due owes.ends,
           class_higher ranks plans owes.node new.node new.asked.plan (omega (arith, owes.low, behind)) (plan_among new.rule new.asked.plan new.asked.plan_is) new.within,
         ))
-        (λ due. (due.0, due.1, due.2, due.3, class_below ranks plans due.1 new.start new.node due.4 (inside trace new.start new.node new.reached)))
+        (λ due. (due.0, due.1, due.2, due.3, class_below ranks plans due.1 new.start new.node due.4 (inside (last_events trace) new.start new.node new.reached)))
         new.asked.from
 
     module _ (over : NoneIsOver plans pending (time_now trace)) where
@@ -450,9 +490,9 @@ module _ (stand : NodesStandIn) (inside : ReachedIsInside) (named : BegunIsNamed
       new_reach i new = reach_within ranks plans i new.node (reach_of ranks plans pending) new.found (λ has.
           let low = new_lower i new has in
           let due = low.2 in
-          let high = begun_high trace new.rule new.node i new.begins has in
-          let window = window_within new.node (in_deadlines new.asked.plan new.node (plan_among new.rule new.asked.plan new.asked.plan_is) new.within has) in
-          let later = over_at (time_now trace) pending over low.0 due.there low.0.high (deadline_of plans low.0 low.1 due.found due.has) in
+          let high = begun_high (time_now trace) (last_position trace) new.rule new.node i new.begins has in
+          let window = window_within plans new.node (in_deadlines plans new.asked.plan new.node (plan_among new.rule new.asked.plan new.asked.plan_is) new.within has) in
+          let later = over_at plans (time_now trace) pending over low.0 due.there low.0.high (deadline_of plans low.0 low.1 due.found due.has) in
           let reach = in_reach ranks plans pending low.0 due.there in
           let reach_as = reach_is ranks plans low.0 low.1 due.found due.has in
           below_reach (time_now trace) (window_end new.node) (widest plans) (class_of ranks plans new.node) (class_of ranks plans low.1) i.high low.0.high (reach_of ranks plans pending)
@@ -465,7 +505,7 @@ module _ (stand : NodesStandIn) (inside : ReachedIsInside) (named : BegunIsNamed
           (λ g.
           let d = due_at plans j deadline due in
           let has : has_deadline node ≡ true = subst (λ (n : Plan). has_deadline n ≡ true) (same_Some d.0 node (sym d.1 ∙ found)) d.2 in
-          let least = over_at (time_now trace) pending over j there deadline due in
+          let least = over_at plans (time_now trace) pending over j there deadline due in
           let now : time_now trace ≡ j.high = omega (arith, g, least, d.3) in
           absurd (unmet (ending_met j node (record { there = there; found = found; has = has }) (due_ends (time_now trace) j node has now))))
           (cases_lt (time_now trace) deadline)
@@ -481,7 +521,7 @@ module _ (stand : NodesStandIn) (inside : ReachedIsInside) (named : BegunIsNamed
           (λ waited. waited_later j waited deadline due)
           (λ new.
           let has = new_has trace pending j deadline new due in
-          let high = begun_high trace new.rule new.node j new.begins has.0 in
+          let high = begun_high (time_now trace) (last_position trace) new.rule new.node j new.begins has.0 in
           let ends = later_end new.node (AllByRecursion-contains EndsLater (flat_map nodes plans) new.node later
           (in_flat nodes plans new.asked.plan new.node (plan_among new.rule new.asked.plan new.asked.plan_is) new.within)) has.0 in
           omega (arith, high, ends, has.1))
@@ -491,31 +531,45 @@ module _ (stand : NodesStandIn) (inside : ReachedIsInside) (named : BegunIsNamed
 
   module _ (standing : WellFormedStand) (was_begun : PendingWasBegun) (last : LastIsAtTheEnd) (trace : List Step)
       (is_trace : IsTrace trace) (is_horizon : typed.ranked.horizon ≡ horizon_of ranks plans) where
-    -- a front does not end behind the trace
-    front_time : (front more : List Step) → front ++ more ≡ trace → 0 < length front → time_now front ≤ last_time trace
-    front_time front more splits some =
-        let long : length front ≤ length trace = omega (arith, ap length splits, length-append front more) in
-        let at : step_at trace (last_position front) ≡ step_at front (last_position front) =
-        ap (λ (l : List Step). step_at l (last_position front)) (sym splits)
-        ∙ get_or_append_left front more no_step (last_position front) (omega (arith, some)) in
-        let end : last_time trace ≡ (step_at trace (last_position trace)).time = last trace (last_position trace) (omega (arith, some, long)) in
-        let rises = is_trace.ordered (last_position front) (last_position trace) (omega (arith, long)) (omega (arith, some, long)) in
-        omega (arith, rises, end, ap (λ (s : Step). s.time) at)
-
     within_horizon : (pending : List Instance) (clock : ℕ) → Pend plans trace pending → last_time trace ≤ clock
         → reach_of ranks plans pending ≤ clock + typed.ranked.horizon
     within_horizon pending clock pend not_later = reach_of_within ranks plans pending (clock + typed.ranked.horizon) (λ i there.
         let was = was_begun plans trace pending i (standing plans typed.guards formed) pend there in
         let h = has_node plans i was.0 was.1 in
         reach_within ranks plans i was.0 (clock + typed.ranked.horizon) was.1 (λ has.
-        let there' = in_deadlines h.plan was.0 (plan_among i.rule h.plan h.plan_is) h.inside has in
-        let high = begun_high was.2 i.rule was.0 i was.6 has in
-        let time = front_time was.2 was.3 was.4 was.5 in
+        let there' = in_deadlines plans h.plan was.0 (plan_among i.rule h.plan h.plan_is) h.inside has in
+        let high = begun_high (time_now was.2) (last_position was.2) i.rule was.0 i was.6 has in
+        let time = front_not_later last trace was.2 was.3 is_trace was.4 was.5 in
         let class = greatest_is (map (class_of ranks plans) (with_deadlines plans)) (class_of ranks plans was.0) (Contains-map (class_of ranks plans) (with_deadlines plans) was.0 there') in
-        let window = window_within was.0 there' in
+        let window = window_within plans was.0 there' in
         below_reach (time_now was.2) (window_end was.0) (widest plans) (class_of ranks plans was.0)
         (greatest (map (class_of ranks plans) (with_deadlines plans)) + 1) i.high clock (clock + typed.ranked.horizon)
         high window (omega (arith, class)) (omega (arith, time, not_later)) (omega (arith, is_horizon))))
+
+-- no window ends later than the widest interval behind its begin
+near_window : (trace : List Step) (rule : ℕ) (node : Plan) (i : Instance) → IsBegunBy trace rule node i → EndsInTime node
+    → i.high ≤ time_now trace + MOST_INTERVAL_END
+near_window trace rule (Eventually n place low high body) i (v, same) ends = omega (arith, ap (λ (j : Instance). j.high) same, ends.1)
+near_window trace rule (Always n place low high body) i (v, same) ends = omega (arith, ap (λ (j : Instance). j.high) same, ends.1)
+near_window trace rule (Until n place low high l r) i (v, same) ends = omega (arith, ap (λ (j : Instance). j.high) same, ends.1)
+near_window trace rule (Next n place high body) i (v, same) ends = omega (arith, ap (λ (j : Instance). j.high) same, ends)
+near_window trace rule (Cause n place name terms) i begins ends = absurd begins
+near_window trace rule (Suppress n place name terms) i begins ends = absurd begins
+near_window trace rule (Both n l r) i begins ends = absurd begins
+near_window trace rule (Either n l r) i begins ends = absurd begins
+near_window trace rule (TestOr n guard test body) i begins ends = absurd begins
+near_window trace rule (Guarded n xs guard test body) i begins ends = absurd begins
+
+pub highs_are_near : WellFormedStand → PendingWasBegun → LastIsAtTheEnd → HighsAreNear
+highs_are_near standing was_begun last typed trace pending clock works is_trace pend not_later early =
+    All-from_recursion (λ (i : Instance). i.high ≤ most_time Inserted) pending
+    (AllByRecursion-from_contains (λ (i : Instance). i.high ≤ most_time Inserted) pending (λ i there.
+    let was = was_begun typed.plans trace pending i (standing typed.plans typed.guards works.formed) pend there in
+    let h = has_node typed.plans i was.0 was.1 in
+    let plan = AllByRecursion-contains (IsWellFormed typed.guards) typed.plans h.plan works.formed.each (there_from_get typed.plans i.rule h.plan h.plan_is) in
+    let near = near_window was.2 i.rule was.0 i was.6 (AllByRecursion-contains EndsInTime (nodes h.plan) was.0 plan.ends h.inside) in
+    let time = front_not_later last trace was.2 was.3 is_trace was.4 was.5 in
+    omega (arith, near, time, not_later, early)))
 
 pub goes_over : NodesStandIn → ReachedIsInside → BegunIsNamed → BegunIsReached → MissingIsOne → NoneGoesOver
 goes_over stand inside named begun one typed trace step before gone works goes over =
@@ -570,7 +624,7 @@ module _ (stand : NodesStandIn) (inside : ReachedIsInside) (named : BegunIsNamed
   any_deadlines_fall typed trace pending after deadline actions events works ordered least decided goes =
       let s = is_served typed trace pending after deadline actions events works.accepted works.ranked ordered decided goes in
       let over = subst (NoneIsOver typed.plans pending) (sym s.now) least.least in (
-        over_from stand inside named begun_reached missing_one typed works.formed (deadline + 1) after (λ j there due is.
+        over_from typed.plans (deadline + 1) after (λ j there due is.
             let l = served_later stand inside named begun_reached missing_one typed works.formed works.accepted rise works.ranked.ranks (with_step trace deadline events) pending s.ordered s.quiet s.owed over works.later after s.goes j there due is in
             let now = s.now in
             omega (arith, l, now)),

@@ -1,9 +1,13 @@
 -- An enforcer as what it remembers at its clock, and what its answers say of it.
-use Rattle.std.proofs.Common.{◌≡◌, ℕ, ◌+◌, ◌≤◌, Bool, false, List, [], ◌∷◌, ◌++◌, map, refl, sym, ap, subst, ◌∙◌, arith, None, Contains}
+use Rattle.std.proofs.Common.{◌≡◌, ℕ, ◌+◌, ◌≤◌, Bool, false, List, [], ◌∷◌, ◌++◌, map, refl, sym, ap, subst, ◌∙◌, arith, All, None, Contains}
+use Rattle.std.proofs.lemmas.List.Elements.{All-weaker}
 use Rattle.enf_value.specs.ListLaws.{here}
+use Rattle.enf_value.specs.declared.steps.Step.{Step}
 use Rattle.obligations.specs.Asked.{placed_guard}
 use Rattle.obligations.specs.DeadlineLaws.{deadline_is_listed}
 use Rattle.obligations.specs.Traces.{PendingIsEnough}
+use Rattle.obligations.specs.Waiting.{KeepsDeadlines}
+use Rattle.obligations.specs.declared.now.TheConstants.{MOST_TIME}
 use Rattle.enforce_types.specs.Typed.{StoredTyped, WorkTogether, typed_of}
 use Rattle.trace_meaning.specs.Records.{Record, time_of}
 use Rattle.choice_step.specs.Follows.{ActedStep, steps_of}
@@ -11,12 +15,13 @@ use Rattle.choice_step.specs.Laws.{AreDistinct}
 use Rattle.enforcer_core.specs.Enforcers.{Enforcing, plans_in}
 use Rattle.enforcer_core.specs.Follows.{FollowsDrainFrom, FollowsFrom}
 use Rattle.enforcer_core.specs.Justifying.{DrainIsJustified, FollowsIsJustified, IsJustifiedFrom}
-use Rattle.enforcer_core.specs.Keeping.{Serves, enforcing_at}
+use Rattle.enforcer_core.specs.Keeping.{Serves, enforcing_at, reach_in}
 use Rattle.enforcer_core.specs.Passing.{NoneIsLeft, Passes}
 use Rattle.enforcer_core.specs.Stands.{SatisfiesBehind, Stands}
 use Rattle.enforcer_core.specs.StepLaws.{StepLaws}
 use Rattle.enforcer_core.specs.declared.remembered.Remembered.{Remembered}
 use Rattle.enforcer_core.proofs.DrainLemmas.{drained_satisfies}
+use Rattle.enforcer_core.proofs.EndingLemmas.{reach_later}
 use Rattle.enforcer_core.proofs.PassLemmas.{passes_all}
 
 -- ---- one that goes on
@@ -73,9 +78,24 @@ module _ (policy : StoredTyped) (r r' : Remembered) (clock later : ℕ) (out : L
       (λ i deadline there has. none deadline (deadline_is_listed (plans_in policy) r'.pending i deadline then.deadlines there has) tt)
 
   -- it is over within the horizon
-  pub drain_ends : StepLaws → WorkTogether (typed_of policy) → Serves (enforcing_at policy r clock)
+  pub drain_ends : StepLaws → WorkTogether (typed_of policy) → (trace : List Step) → Stands (enforcing_at policy r clock) trace
       → later ≤ clock + (typed_of policy).ranked.horizon + 1
-  drain_ends laws together serves =
-      let stands = serves.stands in
-      let reach = laws.horizon (typed_of policy) serves.trace r.pending.instances clock together stands.is_trace stands.pending stands.ready.not_later in
+  drain_ends laws together trace stands =
+      let reach = laws.horizon (typed_of policy) trace r.pending.instances clock together stands.is_trace stands.pending stands.ready.not_later in
       passes.within.in_reach (clock + (typed_of policy).ranked.horizon + 1) (omega arith) (omega (arith, reach))
+
+  -- whatever it stands for, within the horizon of what is pending
+  pub drain_within : WorkTogether (typed_of policy) → KeepsDeadlines (plans_in policy) r.pending → (last : ℕ)
+      → ((deadline : ℕ) → Contains r.pending.deadlines deadline → deadline ≤ last)
+      → All (λ (o : ActedStep). o.step.time ≤ last + (typed_of policy).ranked.horizon) out
+  drain_within together keeps last until =
+      let reach = reach_later (typed_of policy) together r.pending.instances last
+      (λ i there deadline has. until deadline (deadline_is_listed (plans_in policy) r.pending i deadline keeps there has)) in
+      All-weaker (λ (o : ActedStep). o.step.time ≤ reach_in (enforcing_at policy r clock)) (λ (o : ActedStep). o.step.time ≤ last + (typed_of policy).ranked.horizon)
+      (λ o le. omega (arith, le, reach)) out passes.bounded
+
+  pub drain_bounded : Serves (enforcing_at policy r clock) → All (λ (o : ActedStep). o.step.time ≤ MOST_TIME) out
+  drain_bounded serves =
+      let bound = serves.in_reach in
+      All-weaker (λ (o : ActedStep). o.step.time ≤ reach_in (enforcing_at policy r clock)) (λ (o : ActedStep). o.step.time ≤ MOST_TIME)
+      (λ o le. omega (arith, le, bound)) out passes.bounded

@@ -1,17 +1,18 @@
 -- What goes out for a record: steps at the deadlines that it passes, and its own step.
-use Rattle.std.proofs.Common.{ℕ, ◌+◌, ◌-◌, ◌<◌, ◌≤◌, List, [], ◌∷◌, ◌++◌, length, length-append, refl, sym, subst, ◌∙◌, arith, Some}
+use Rattle.std.proofs.Common.{false, ℕ, ◌+◌, ◌-◌, ◌<◌, ◌≤◌, List, [], ◌∷◌, ◌++◌, length, length-append, refl, sym, subst, ◌∙◌, arith, Some}
 use Rattle.std.proofs.lemmas.List.{append-nil, length-map}
 use Rattle.enf_value.specs.Membership.{HasNoRepeats}
 use Rattle.enf_value.specs.declared.events.Event.{Event}
 use Rattle.enf_value.specs.declared.steps.Step.{Step}
 use Rattle.trace_meaning.specs.Records.{Record, StepRecord, Tick, most_time, time_of}
 use Rattle.trace_meaning.specs.declared.kinds.StepKind.{StepKind}
-use Rattle.trace_meaning.specs.declared.kinds.StepKind.TheVariants.{Inserted, System}
+use Rattle.trace_meaning.specs.declared.kinds.StepKind.TheVariants.{System}
 use Rattle.past_state.specs.Guarded.{AreCopies}
 use Rattle.plan_terms.specs.Plans.{Plan}
 use Rattle.rank_check.specs.declared.horizon.TheConstants.{MOST_HORIZON}
 use Rattle.enforce_types.specs.Typed.{StoredTyped, WorkTogether, typed_of}
 use Rattle.obligations.specs.Pending.{NoneIsOver}
+use Rattle.obligations.specs.declared.now.TheConstants.{MOST_TIME}
 use Rattle.choice_step.specs.Follows.{ActedStep, GoesOut, steps_of}
 use Rattle.enforcer_core.specs.Answered.{ChangesLawfully, GoesOn, RiseWithin, RisesBy}
 use Rattle.enforcer_core.specs.Enforcers.{Enforcing, acted_step, acted_steps, plans_in}
@@ -39,7 +40,7 @@ module _ (laws : StepLaws) (policy : StoredTyped) (r r' : Remembered) (from midd
   in_time = passes.within.in_time time le (λ deadline passed. passed)
 
   none_over : NoneIsOver plans r'.pending.instances time
-  none_over = none_earlier plans r'.pending time passes.serves.stands.deadlines
+  none_over = none_earlier plans r'.pending time (passes.serves.can middle (omega arith)).asked.deadlines
       (λ deadline there. let not_passed : deadline < time → ⊥ = none deadline there in omega (arith, not_passed))
 
   later : (trace : List Step) → Stands (enforcing_at policy r' middle) trace → Stands (enforcing_at policy r' time) trace
@@ -52,8 +53,7 @@ module _ (laws : StepLaws) (policy : StoredTyped) (r r' : Remembered) (from midd
         serves = record {
           guards = passes.serves.guards;
           can = λ at then. passes.serves.can at (omega (arith, within, then));
-          trace = passes.serves.trace;
-          stands = later passes.serves.trace passes.serves.stands;
+          over = none_over;
           in_reach = passes.serves.in_reach;
         };
         goes_on = record { policy = refl; clock_is = refl; position = passes.goes_on.position; goes_on = refl };
@@ -83,29 +83,15 @@ module _ (laws : StepLaws) (policy : StoredTyped) (r r' : Remembered) (from midd
     remembers : (trace : List Step) → Stands (enforcing_at policy r' time) trace → Remembers plans r'' (trace ++ (acted_step o).step ∷ [])
     remembers trace stands = decided.remembers trace (of_trace trace stands) stands.ready.not_later
 
-    some : Stands (enforcing_at policy r' time) passes.serves.trace
-    some = later passes.serves.trace passes.serves.stands
-
-    none_after : NoneIsOver plans r''.pending.instances time
-    none_after = subst (NoneIsOver plans r''.pending.instances) decided.time_is
-        (laws.none_over (typed_of policy) passes.serves.trace (acted_step o).step r'.pending.instances r''.pending.instances together
-        (decided.goes passes.serves.trace (of_trace passes.serves.trace some) some.ready.not_later)
-        (subst (NoneIsOver plans r'.pending.instances) (sym decided.time_is) none_over))
+    stays : NoneIsOver plans r''.pending.instances time
+        × ((most : ℕ) → reach_in (enforcing_at policy r' time) ≤ most → time + (typed_of policy).ranked.horizon ≤ most → reach_in after ≤ most)
+    stays = laws.stays (typed_of policy) r'.pending.instances r''.pending.instances time r'.position o.events false together none_over decided.leads
 
     stands_step : (trace : List Step) → Stands (enforcing_at policy r' time) trace → Stands after (trace ++ (acted_step o).step ∷ [])
     stands_step trace stands =
         stands_behind laws policy r' r'' time time time (omega arith) (omega arith) System events (acted_step o) trace stands
         (laws.windows (typed_of policy) trace r'.pending.instances together stands.pending) none_over (goes trace stands) decided.distinct
-        (remembers trace stands) decided.deadlines none_after
-
-    stood : Stands after (passes.serves.trace ++ (acted_step o).step ∷ [])
-    stood = stands_step passes.serves.trace some
-
-    in_reach : reach_in after ≤ most_time Inserted
-    in_reach =
-        let reach = laws.horizon (typed_of policy) (passes.serves.trace ++ (acted_step o).step ∷ []) r''.pending.instances time together
-        stood.is_trace stood.pending stood.ready.not_later in
-        omega (arith, reach, bounded, in_bound)
+        (remembers trace stands) decided.deadlines stays.0
 
     pub step_out : LetsOut before (StepRecord (record { time = time; events = events })) (out ++ acted_step o ∷ []) after
     step_out =
@@ -114,9 +100,8 @@ module _ (laws : StepLaws) (policy : StoredTyped) (r r' : Remembered) (from midd
           serves = record {
             guards = subst (AreCopies policy.guards) (sym decided.guards) passes.serves.guards;
             can = can;
-            trace = passes.serves.trace ++ (acted_step o).step ∷ [];
-            stands = stood;
-            in_reach = in_reach;
+            over = stays.0;
+            in_reach = stays.1 MOST_TIME passes.serves.in_reach (omega (arith, bounded, in_bound));
           };
           goes_on = record {
             policy = refl;

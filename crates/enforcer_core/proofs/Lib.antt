@@ -14,3 +14,5 @@ pub mod StepLemmas
 pub mod TransparentLemmas
 pub mod TriggerLemmas
 pub mod SnapshotLemmas
+pub mod LeadLemmas
+pub mod ServedLemmas

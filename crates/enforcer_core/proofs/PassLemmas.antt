@@ -1,12 +1,12 @@
 -- What goes out at deadlines that are passed: one step, steps behind one another, and none.
 use Rattle.std.proofs.Common.{◌≡◌, ℕ, ◌+◌, ◌≤◌, List, [], ◌∷◌, ◌++◌, length-append, refl, sym, ap, subst, ◌∙◌, append_assoc, arith, Option, Some, Result, Ok, Err, OnErr}
 use Rattle.std.proofs.lemmas.List.{append-nil, map-append}
-use Rattle.std.proofs.lemmas.List.Elements.{All-append, All-cons, All-contains, All-nil}
+use Rattle.std.proofs.lemmas.List.Elements.{All-append, All-cons, All-contains, All-nil, All-weaker}
 use Rattle.enf_value.specs.declared.steps.Step.{Step}
 use Rattle.trace_meaning.specs.Continuation.{last_time}
-use Rattle.trace_meaning.specs.Records.{most_time}
 use Rattle.trace_meaning.specs.declared.kinds.StepKind.{StepKind}
 use Rattle.trace_meaning.specs.declared.kinds.StepKind.TheVariants.{Inserted, System}
+use Rattle.obligations.specs.declared.now.TheConstants.{MOST_TIME}
 use Rattle.past_state.specs.Guarded.{AreCopies}
 use Rattle.plan_terms.specs.Plans.{Plan}
 use Rattle.enforce_types.specs.Typed.{StoredTyped, WorkTogether, typed_of}
@@ -25,7 +25,7 @@ use Rattle.enforcer_core.specs.StepLaws.{StepLaws}
 use Rattle.enforcer_core.specs.declared.remembered.Remembered.{Remembered}
 use Rattle.enforcer_core.specs.declared.steps.OutStep as made
 use Rattle.enforcer_core.proofs.ChangeLemmas.{changes_join, inserted_changes, none_changes}
-use Rattle.enforcer_core.proofs.StepLemmas.{least_is, none_below, stands_behind}
+use Rattle.enforcer_core.proofs.StepLemmas.{least_is, stands_behind}
 
 -- ---- steps behind steps
 
@@ -99,7 +99,9 @@ module _ (laws : StepLaws) (policy : StoredTyped) (a b c : Remembered) (from mid
     };
     few = let le = one.few in let then = two.few in omega (arith, le, then, length-append out more);
     rising = rise_join from middle to out more one.within.rises two.within.rises one.rising two.rising;
-    bounded = All-append (λ (o : ActedStep). o.step.time ≤ most_time Inserted) out more one.bounded two.bounded;
+    bounded = All-append (λ (o : ActedStep). o.step.time ≤ reach_in first) out more one.bounded
+        (All-weaker (λ (o : ActedStep). o.step.time ≤ reach_in second) (λ (o : ActedStep). o.step.time ≤ reach_in first)
+        (λ o le. let less = one.within.reach in omega (arith, le, less)) more two.bounded);
     stands = λ trace stands. subst (Stands third) (behind trace out more) (two.stands (trace ++ steps_of out) (one.stands trace stands));
     changed = changes_join laws.within laws.lawful (plans_in policy) from middle to [] [] out more one.within.rises two.within.rises one.changed two.changed;
     inserts = λ trace stands rest inserts.
@@ -122,7 +124,7 @@ passes_none policy r clock until serves = record {
   };
   few = omega arith;
   rising = tt;
-  bounded = All-nil (λ (o : ActedStep). o.step.time ≤ most_time Inserted);
+  bounded = All-nil (λ (o : ActedStep). o.step.time ≤ reach_in (enforcing_at policy r clock));
   stands = λ trace stands. subst (Stands (enforcing_at policy r clock)) (sym (append-nil trace)) stands;
   changed = none_changes (plans_in policy) clock clock [] refl;
   inserts = λ trace stands rest inserts. subst (λ (steps : List Step). Inserts (plans_in policy) steps until rest) (append-nil trace) inserts;
@@ -133,17 +135,17 @@ passes_none policy r clock until serves = record {
 module _ (laws : StepLaws) (policy : StoredTyped) (r : Remembered) (clock deadline : ℕ) (serves : Serves (enforcing_at policy r clock))
     (least : IsLeastOf r.pending.deadlines (Some deadline)) where
   is_least : IsLeastDeadline (plans_in policy) r.pending.instances deadline
-  is_least = least_is (plans_in policy) r.pending deadline serves.stands.deadlines least
+  is_least = least_is (plans_in policy) r.pending deadline (serves.can clock (omega arith)).asked.deadlines least
 
   pub not_before : clock ≤ deadline
   not_before =
       All-contains (λ (i : Instance). (d : ℕ) → HasDeadline (plans_in policy) i d → clock ≤ d) r.pending.instances is_least.instance
-      (none_below laws (enforcing_at policy r clock) serves.trace serves.stands) is_least.there deadline is_least.is
+      serves.over is_least.there deadline is_least.is
 
   reached : deadline ≤ reach_in (enforcing_at policy r clock)
   reached = laws.reached (typed_of policy).ranked.ranks (plans_in policy) r.pending.instances is_least.instance deadline is_least.there is_least.is
 
-  pub within_most : deadline ≤ most_time Inserted
+  pub within_most : deadline ≤ MOST_TIME
   within_most = let le = reached in let bound = serves.in_reach in omega (arith, le, bound)
 
 module _ (laws : StepLaws) (policy : StoredTyped) (together : WorkTogether (typed_of policy)) (r r' : Remembered) (clock deadline : ℕ)
@@ -178,8 +180,8 @@ module _ (laws : StepLaws) (policy : StoredTyped) (together : WorkTogether (type
   remembers trace stands = decided.remembers trace (of_trace trace stands) (not_later trace stands)
 
   falls : NoneIsOver plans r'.pending.instances (deadline + 1) × (reach_in after ≤ reach_in before)
-  falls = laws.falls (typed_of policy) serves.trace r.pending.instances r'.pending.instances deadline (acted_step o) together serves.stands.pending least_one
-      (goes serves.trace serves.stands) (remembers serves.trace serves.stands).pending
+  falls = laws.led (typed_of policy) r.pending.instances r'.pending.instances deadline r.position o.actions o.events together least_one.least
+      decided.acts decided.asked decided.leads
 
   stands_one : (trace : List Step) → Stands before trace → Stands after (trace ++ (acted_step o).step ∷ [])
   stands_one trace stands =
@@ -189,13 +191,12 @@ module _ (laws : StepLaws) (policy : StoredTyped) (together : WorkTogether (type
 
   pub passes_one : Passes until before (acted_step o ∷ []) after
   passes_one =
-      let le = from_clock in let reach = reached laws policy r clock deadline serves least in let most = within_most laws policy r clock deadline serves least in let less = falls.1 in let at = decided.time_is in let position = decided.position in let bound = serves.in_reach in
+      let le = from_clock in let reach = reached laws policy r clock deadline serves least in let less = falls.1 in let at = decided.time_is in let position = decided.position in let bound = serves.in_reach in
       record {
         serves = record {
           guards = subst (AreCopies policy.guards) (sym decided.guards) serves.guards;
           can = λ time later. can time (omega (arith, later));
-          trace = serves.trace ++ (acted_step o).step ∷ [];
-          stands = stands_one serves.trace serves.stands;
+          over = falls.0;
           in_reach = omega (arith, less, bound);
         };
         goes_on = record { policy = refl; clock_is = omega (arith, at); position = omega (arith, position); goes_on = refl };
@@ -208,8 +209,8 @@ module _ (laws : StepLaws) (policy : StoredTyped) (together : WorkTogether (type
         few = omega (arith, le);
         rising = subst (λ (kind : StepKind). RisesBy kind clock (deadline + 1) o.time (λ next. RiseWithin next (deadline + 1) [])) (sym decided.kind_is)
             (omega (arith, le, at), omega (arith, at), tt);
-        bounded = All-cons (λ (p : ActedStep). p.step.time ≤ most_time Inserted) (acted_step o) [] (omega (arith, most, at))
-            (All-nil (λ (p : ActedStep). p.step.time ≤ most_time Inserted));
+        bounded = All-cons (λ (p : ActedStep). p.step.time ≤ reach_in before) (acted_step o) [] (omega (arith, reach, at))
+            (All-nil (λ (p : ActedStep). p.step.time ≤ reach_in before));
         stands = stands_one;
         changed = inserted_changes laws.leads laws.once laws.causes plans together.formed.roles clock deadline le (acted_step o) decided.kind_is at decided.acts;
         inserts = λ trace stands more inserts.

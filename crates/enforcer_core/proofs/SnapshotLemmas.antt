@@ -1,6 +1,39 @@
 -- The guards of a policy and their copies have the same operators, which can be numbered.
-use Rattle.std.proofs.Common.{◌≡◌, ◌∙◌, ◌<◌, ◌≤◌, ◌^◌, List, [], ◌∷◌, length, map, sum, refl, ap, arith}
-use Rattle.std.specs.List.{sum_by}
+use Rattle.std.proofs.Common.{◌≡◌, ◌==◌, ◌∙◌, ℕ, ◌<◌, ◌≤◌, ◌^◌, Bool, true, false, cond, List, [], ◌∷◌, All, Option, None, Some, length, map, sum, refl, sym, ap, subst, arith}
+use Rattle.std.specs.Prelude.{IsSome, slice_get}
+use Rattle.std.specs.FinMap as finite
+use Rattle.std.specs.List.{AllByRecursion, count_by, find, sum_by}
+use Rattle.std.specs.Option.{option_map}
+use Rattle.std.proofs.lemmas.Bool.{false≢true}
+use Rattle.std.proofs.lemmas.List.Elements.{All-contains}
+use Rattle.std.proofs.lemmas.Option.{none-some, same_Some}
+use Rattle.enf_value.specs.ListLaws.{AllByRecursion-contains, AllByRecursion-from_contains, here, there_from_get}
+use Rattle.enf_value.specs.Valuations.{no_values, value_at, variable_cmp}
+use Rattle.enf_value.specs.declared.values.Value.{Value}
+use Rattle.plan_terms.specs.Nodes.{has_deadline, has_number, is_future}
+use Rattle.plan_terms.specs.Plans.{Plan}
+use Rattle.plan_terms.specs.ScopeLaws.{AtEach-found, FoundEndsInTime, FoundIsFirst}
+use Rattle.plan_terms.specs.Scopes.{scoped_at}
+use Rattle.plan_terms.specs.Standing.{nodes_of}
+use Rattle.past_state.specs.LastTimes.{IsFrom, IsLastTime}
+use Rattle.past_state.specs.Restoring.{KeptAreWithinBounds}
+use Rattle.enf_value.specs.declared.steps.Step.{Step}
+use Rattle.trace_meaning.specs.Continuation.{last_time}
+use Rattle.trace_meaning.specs.Records.{most_time}
+use Rattle.trace_meaning.specs.declared.kinds.StepKind.TheVariants.{Inserted}
+use Rattle.enforce_types.specs.Typed.{Typed, WorkTogether, typed_of}
+use Rattle.enforcer_core.specs.Enforcers.{plans_in}
+use Rattle.enforcer_core.specs.Snapshots.{KeptCanBeTakenUp, operators_in}
+use Rattle.obligations.specs.Asked.{CanAskIn, CanAskNode, FitsScope}
+use Rattle.obligations.specs.Bounds.{CanBePending, PendCanBePending}
+use Rattle.obligations.specs.Pending.{NoneIsOver, PendIsOne, node_of}
+use Rattle.obligations.specs.declared.now.TheConstants.{MOST_TIME}
+use Rattle.rank_check.specs.declared.horizon.TheConstants.{MOST_HORIZON}
+use Rattle.enforcer_core.specs.Ending.{HighsAreNear, reach_of}
+use Rattle.enforcer_core.proofs.EndingLemmas.{due_at, over_from, reach_later}
+use Rattle.obligations.specs.Scopes.{ahead, scoped_in_plan}
+use Rattle.obligations.specs.Waiting.{CanAskOf, CanAskRoot, CanAskRoots, KeepsDeadlines, PendingList, count_due}
+use Rattle.obligations.specs.declared.instances.Instance.{Instance}
 use Rattle.std.proofs.lemmas.List.Sums.{sum-map}
 use Rattle.enf_formula.specs.Formulas.{Formula}
 use Rattle.enf_formula.specs.Shape.{size_of}
@@ -33,3 +66,109 @@ few_operators most guards placed copies small =
     let sizes = same_sum guards in
     let same : length (all_operators (formulas placed)) ≡ length (all_operators (map tree_in guards)) = ap (λ fs. length (all_operators fs)) (same_formulas guards placed copies) in
     omega (arith, count, sizes, same, small)
+
+-- ---- what can be pending can be asked
+
+no_binding : (scope : List VarId) → FitsScope scope no_values → scope ≡ []
+no_binding [] fits = refl
+no_binding (x ∷ scope) fits = absurd (none (value_at no_values x) (finite.get-empty variable_cmp x) (fits.binds x (here x scope)))
+  where
+    none : (o : Option Value) → o ≡ None → IsSome o → ⊥
+    none None is some = false≢true some
+    none (Some value) is some = none-some value (sym is)
+
+future_found : (found : Option (Plan × List VarId)) (node : Plan × List VarId) → ahead found ≡ Some node → (found ≡ Some node) × (is_future node.0 ≡ true)
+future_found None node is = absurd (none-some node is)
+future_found (Some other) node is = by (is_future other.0) refl is
+  where
+    by : (b : Bool) → is_future other.0 ≡ b → cond b (Some other) None ≡ Some node → (Some other ≡ Some node) × (is_future node.0 ≡ true)
+    by true future same = (same, subst (λ (n : Plan × List VarId). is_future n.0 ≡ true) (same_Some other node same) future)
+    by false future none = absurd (none-some node none)
+
+kept_at : FoundIsFirst → (plans : List Plan) (clock position : ℕ) (i : Instance) (b : CanBePending plans clock position i)
+    → (plan : Plan) × (slice_get plans i.rule ≡ Some plan) × (scoped_at i.node plan [] ≡ Some (b.node, b.scope))
+    × (node_of plans i ≡ Some b.node) × (is_future b.node ≡ true)
+kept_at is_first plans clock position i b = by (slice_get plans i.rule) refl b.named
+  where
+    by : (at : Option Plan) → slice_get plans i.rule ≡ at → ahead (scoped_in_plan i.node at) ≡ Some (b.node, b.scope)
+        → (plan : Plan) × (slice_get plans i.rule ≡ Some plan) × (scoped_at i.node plan [] ≡ Some (b.node, b.scope))
+        × (node_of plans i ≡ Some b.node) × (is_future b.node ≡ true)
+    by None is named = absurd (none-some (b.node, b.scope) named)
+    by (Some plan) is named =
+        let found = future_found (scoped_at i.node plan []) (b.node, b.scope) named in (
+          plan,
+          is,
+          found.0,
+          ap (λ at. find (has_number i.node) (nodes_of at)) is ∙ sym (is_first plan [] i.node) ∙ ap (option_map (λ (n : Plan × List VarId). n.0)) found.0,
+          found.1,
+        )
+
+kept_found : FoundIsFirst → (plans : List Plan) (clock position : ℕ) (i : Instance) (b : CanBePending plans clock position i)
+    → node_of plans i ≡ Some b.node
+kept_found is_first plans clock position i b = (kept_at is_first plans clock position i b).3
+
+can_asked : FoundIsFirst → FoundEndsInTime → (guards : List (Formula × List VarId)) (plans : List Plan) (clock position : ℕ) (i : Instance)
+    → CanAskRoots guards plans → CanBePending plans clock position i → CanAskOf guards plans i
+can_asked is_first end guards plans clock position i roots b =
+    let at = kept_at is_first plans clock position i b in
+    let root : CanAskRoot guards at.0 = AllByRecursion-contains (CanAskRoot guards) plans at.0 roots (there_from_get plans i.rule at.0 at.1) in
+    let asked : CanAskIn guards at.0 [] = subst (CanAskIn guards at.0) (no_binding root.0.scope root.0.fits) root.0.can in
+    record {
+      node = b.node;
+      found = at.3;
+      future = at.4;
+      can = record { scope = b.scope; can = AtEach-found (CanAskNode guards) at.0 b.node [] b.scope i.node at.2 asked; fits = b.binds };
+      ends = end at.0 b.node [] b.scope i.node at.2 root.1;
+    }
+
+pub all_asked : FoundIsFirst → FoundEndsInTime → (guards : List (Formula × List VarId)) (plans : List Plan) (clock position : ℕ) (pending : List Instance) → CanAskRoots guards plans
+    → All (CanBePending plans clock position) pending → AllByRecursion (CanAskOf guards plans) pending
+all_asked is_first end guards plans clock position pending roots can = AllByRecursion-from_contains (CanAskOf guards plans) pending
+    (λ i there. can_asked is_first end guards plans clock position i roots (All-contains (CanBePending plans clock position) pending i can there))
+
+-- no deadline of what can be pending is below the clock
+pub none_over_kept : FoundIsFirst → (plans : List Plan) (clock position : ℕ) (pending : List Instance) → All (CanBePending plans clock position) pending
+    → NoneIsOver plans pending clock
+none_over_kept is_first plans clock position pending can = over_from plans clock pending (λ i there deadline due.
+    let b = All-contains (CanBePending plans clock position) pending i can there in
+    let d = due_at plans i deadline due in
+    let same : b.node ≡ d.0 = same_Some b.node d.0 (sym (kept_found is_first plans clock position i b) ∙ d.1) in
+    let late = b.waits.in_time.0 (subst (λ (n : Plan). has_deadline n ≡ true) (sym same) d.2) in
+    omega (arith, late, d.3))
+
+-- nor is anything owed for longer than inserted steps can go out
+pub kept_in_reach : (typed : Typed) → WorkTogether typed → typed.ranked.horizon ≤ MOST_HORIZON → (pending : List Instance)
+    → All (λ i. i.high ≤ most_time Inserted) pending → reach_of typed.ranked.ranks typed.plans pending ≤ MOST_TIME
+kept_in_reach typed works bounded pending due =
+    let reach = reach_later typed works pending (most_time Inserted) (λ i there deadline has.
+    let late = All-contains (λ (j : Instance). j.high ≤ most_time Inserted) pending i due there in
+    let d = due_at typed.plans i deadline has in omega (arith, late, d.3)) in
+    omega (arith, reach, bounded)
+
+-- no time from the clock on is before the last one
+pub from_clock : (last : Option ℕ) (clock time : ℕ) → IsFrom last clock → clock ≤ time → IsFrom last time
+from_clock None clock time from later = tt
+from_clock (Some last) clock time from later = omega (arith, from, later)
+
+-- ---- what is kept of a trace can be taken up
+
+last_from : (trace : List Step) (last : Option ℕ) (clock : ℕ) → IsLastTime trace last → last_time trace ≤ clock → IsFrom last clock
+last_from trace None clock is later = tt
+last_from trace (Some last) clock is later = omega (arith, is.1, later)
+
+pub kept_taken_up : PendCanBePending → KeptAreWithinBounds → PendIsOne → HighsAreNear → KeptCanBeTakenUp
+kept_taken_up pends within one near policy trace clock s together is_trace ready early is = record {
+  in_time = subst (λ c. c ≤ most_time Inserted) (sym is.clocked) (omega (arith, early));
+  due = near (typed_of policy) trace s.pending clock together is_trace is.pending ready.not_later early;
+  not_later = subst (IsFrom s.last) (sym is.clocked) (last_from trace s.last clock is.last ready.not_later);
+  kept = within trace s.last (operators_in policy) s.kept is_trace is.last is.rising is.kept;
+  pending = subst (λ n. All (CanBePending (plans_in policy) s.clock n) s.pending) (sym is.position)
+      (subst (λ c. All (CanBePending (plans_in policy) c (length trace)) s.pending) (sym is.clocked)
+      (pends (plans_in policy) (typed_of policy).guards trace clock s.pending together.formed is.pending
+      (subst (λ (l : List Instance). NoneIsOver (plans_in policy) l clock) (one (plans_in policy) trace ready.pending s.pending ready.pend is.pending) ready.in_time)));
+}
+
+-- where nothing is pending, no deadline is
+pub keeps_none : (plans : List Plan) (none : PendingList) → none.instances ≡ [] → none.deadlines ≡ [] → KeepsDeadlines plans none
+keeps_none plans none instances deadlines deadline =
+    ap (count_by (λ entry. entry == deadline)) deadlines ∙ sym (ap (λ (l : List Instance). count_due plans l deadline) instances)

@@ -23,9 +23,10 @@ use Rattle.rank_check.specs.Paths.{Edge, IsPath, IsStart, begun_by, below, needs
 use Rattle.rank_check.specs.Refusals.{AllIsTriggered, AreAccepted}
 use Rattle.obligations.specs.Asked.{Changes, IsLeaf}
 use Rattle.obligations.specs.Begun.{time_now}
-use Rattle.obligations.specs.Missing.{IsPresent, Missing}
+use Rattle.obligations.specs.Missing.{Missing}
 use Rattle.obligations.specs.Pending.{AtNode, MissesAt, MissingOf, node_of}
-use Rattle.obligations.specs.Reached.{AreMet, IsMissedIn, IsReached, MissedIsReached, ReachedIsInside}
+use Rattle.obligations.specs.Reached.{IsMissedIn, IsReached, MissedIsReached, ReachedIsInside, last_events}
+use Rattle.obligations.specs.Reaching.{AreMetBy, IsReachedBy}
 use Rattle.obligations.specs.Rows.{last_position}
 use Rattle.obligations.specs.declared.actions.Action.{Action}
 use Rattle.obligations.specs.declared.instances.Instance.{Instance}
@@ -38,37 +39,37 @@ use Rattle.enforcer_core.proofs.ClassLemmas.{IsBehind, below_in, caused_in, in_f
 -- ---- paths that are met
 
 -- a path down to the node, the first triggers on which are met
-abbrev Way : List Step → (start end : Plan) → Type 0
-Way trace start end = (path : List Plan) × IsPath start path end
-    × ((names : List NameId) → path_triggers path ≡ Some names → AreMet trace (Some names))
+abbrev Way : List Event → (start end : Plan) → Type 0
+Way events start end = (path : List Plan) × IsPath start path end
+    × ((names : List NameId) → path_triggers path ≡ Some names → AreMetBy events (Some names))
 
-module _ (trace : List Step) where
-  arrived : (plan end : Plan) → plan ≡ end → Way trace plan end
+module _ (events : List Event) where
+  arrived : (plan end : Plan) → plan ≡ end → Way events plan end
   arrived plan end same = ([], same, λ names is. absurd (none-some names is))
 
-  through : (plan next end : Plan) → Contains (below plan) next → AreMet trace (guard_triggers plan) → Way trace next end
-      → Way trace plan end
+  through : (plan next end : Plan) → Contains (below plan) next → AreMetBy events (guard_triggers plan) → Way events next end
+      → Way events plan end
   through plan next end at met (path, leads, first) =
       (plan ∷ path, (refl, next, at, leads), λ names is. by (guard_triggers plan) met names is)
     where
-      by : (g : Option (List NameId)) → AreMet trace g → (names : List NameId) → option_or g (path_triggers path) ≡ Some names
-          → AreMet trace (Some names)
+      by : (g : Option (List NameId)) → AreMetBy events g → (names : List NameId) → option_or g (path_triggers path) ≡ Some names
+          → AreMetBy events (Some names)
       by None met names is = first names is
-      by (Some own) met names is = subst (λ (g : Option (List NameId)). AreMet trace g) is met
+      by (Some own) met names is = subst (λ (g : Option (List NameId)). AreMetBy events g) is met
 
   sides : (plan left right end : Plan) → Contains (below plan) left → Contains (below plan) right
-      → AreMet trace (guard_triggers plan) → (plan ≡ end) ⊎ (IsReached trace left end ⊎ IsReached trace right end)
-      → (IsReached trace left end → Way trace left end) → (IsReached trace right end → Way trace right end) → Way trace plan end
+      → AreMetBy events (guard_triggers plan) → (plan ≡ end) ⊎ (IsReachedBy events left end ⊎ IsReachedBy events right end)
+      → (IsReachedBy events left end → Way events left end) → (IsReachedBy events right end → Way events right end) → Way events plan end
   sides plan left right end l r met reached on_left on_right =
       ⊎_elim (arrived plan end) (λ deep.
       ⊎_elim (λ is. through plan left end l met (on_left is)) (λ is. through plan right end r met (on_right is)) deep) reached
 
-  one : (plan body end : Plan) → Contains (below plan) body → AreMet trace (guard_triggers plan)
-      → (plan ≡ end) ⊎ IsReached trace body end → (IsReached trace body end → Way trace body end) → Way trace plan end
+  one : (plan body end : Plan) → Contains (below plan) body → AreMetBy events (guard_triggers plan)
+      → (plan ≡ end) ⊎ IsReachedBy events body end → (IsReachedBy events body end → Way events body end) → Way events plan end
   one plan body end at met reached on_body =
       ⊎_elim (arrived plan end) (λ deep. through plan body end at met (on_body deep)) reached
 
-  way : (start end : Plan) → IsReached trace start end → Way trace start end
+  way : (start end : Plan) → IsReachedBy events start end → Way events start end
   way (Cause n place name terms) end reached = arrived (Cause n place name terms) end reached
   way (Suppress n place name terms) end reached = arrived (Suppress n place name terms) end reached
   way (Both n l r) end reached = sides (Both n l r) l r end (here l (r ∷ [])) (later r l (r ∷ []) (here r [])) tt reached (way l end) (way r end)
@@ -82,26 +83,26 @@ module _ (trace : List Step) where
   way (Until n place low high l r) end reached = sides (Until n place low high l r) l r end (here l (r ∷ [])) (later r l (r ∷ []) (here r [])) tt reached (way l end) (way r end)
   way (Next n place high body) end reached = one (Next n place high body) body end (here body []) tt reached (way body end)
 
-at_place : {X : Type 0} (xs : List X) (x : X) → Contains xs x → (k : ℕ) × (slice_get xs k ≡ Some x)
+pub at_place : {X : Type 0} (xs : List X) (x : X) → Contains xs x → (k : ℕ) × (slice_get xs k ≡ Some x)
 at_place [] x there = absurd (none_in_nil x there)
 at_place (y ∷ ys) x there =
     ⊎_elim (λ (same : y ≡ x). (0, ap Some same)) (λ more. let rest = at_place ys x more in (suc rest.0, rest.1)) (first_or_later x y ys there)
 
-module _ (plans : List Plan) (triggered : AllIsTriggered plans) (inside : ReachedIsInside) (trace : List Step) (rule : ℕ)
+module _ (plans : List Plan) (triggered : AllIsTriggered plans) (inside : ReachedIsInside) (events : List Event) (rule : ℕ)
     (plan start node : Plan) where
   -- what causes or owes something, and is reached from a start, is behind an event of the step
   pub behind_event : slice_get plans rule ≡ Some plan → IsStart plan start → Contains (nodes plan) start
-      → IsReached trace start node → needs_trigger node ≡ true
-      → (event : Event) × IsPresent trace event × IsBehind plans event.name node
+      → IsReachedBy events start node → needs_trigger node ≡ true
+      → (event : Event) × Contains events event × IsBehind plans event.name node
   behind_event at starts there reached needs = by (path_triggers w.0) refl
     where
-      w : Way trace start node
-      w = way trace start node reached
+      w : Way events start node
+      w = way events start node reached
 
       by : (first : Option (List NameId)) → path_triggers w.0 ≡ first
-          → (event : Event) × IsPresent trace event × IsBehind plans event.name node
+          → (event : Event) × Contains events event × IsBehind plans event.name node
       by None none =
-          let number = at_place (nodes plan) node (nodes_in plan start node there (inside trace start node reached)) in
+          let number = at_place (nodes plan) node (nodes_in plan start node there (inside events start node reached)) in
           absurd (triggered rule number.0 node (record {
             plan = plan;
             plan_is = at;
@@ -109,7 +110,7 @@ module _ (plans : List Plan) (triggered : AllIsTriggered plans) (inside : Reache
             untriggered = (needs, start, starts, w.0, w.1, none);
           }))
       by (Some names) first =
-          let met : AreMet trace (Some names) = w.2 names first in (
+          let met : AreMetBy events (Some names) = w.2 names first in (
             met.0,
             met.1,
             record {
@@ -244,7 +245,7 @@ module _ (missed : MissedIsReached) (trace : List Step) (i : Instance) (l : Lite
 
 -- ---- what is caused
 
-cause_leaf : (leaf : Plan) (number : ℕ) (event : Event) → IsLeaf leaf kind.Cause number event
+pub cause_leaf : (leaf : Plan) (number : ℕ) (event : Event) → IsLeaf leaf kind.Cause number event
     → Contains (cause_of leaf) event.name × (needs_trigger leaf ≡ true)
 cause_leaf (Cause n place name terms) number event is = (subst (λ (x : NameId). Contains (name ∷ []) x) (sym is.2) (here name []), refl)
 cause_leaf (Suppress n place name terms) number event is = absurd (cc)
@@ -364,7 +365,7 @@ module _ (plans : List Plan) (ranks : List ℕ) (accepted : AreAccepted plans) (
           → Contains (caused_below node) name → Owes plans ranks pending time name
       behind_owed name node reached needs caused = ⊎_elim
           (λ starts.
-          let e = behind_event plans accepted.triggered inside trace rule asked.plan start node asked.plan_is starts asked.inside reached needs in
+          let e = behind_event plans accepted.triggered inside (last_events trace) rule asked.plan start node asked.plan_is starts asked.inside reached needs in
           let owes = (owed e.0 (subst (λ (l : List Event). Contains l e.0) is e.1)).owes in
           let less = least_behind ranks plans rise are e.0.name node e.2 in
           let most = least_caused ranks plans node name caused in
@@ -374,7 +375,7 @@ module _ (plans : List Plan) (ranks : List ℕ) (accepted : AreAccepted plans) (
             node = due.1;
             due = due.2;
             ends = due.3;
-            low = least_caused ranks plans due.1 name (caused_in due.1 node name (below_in due.1 start node due.4 (inside trace start node reached)) caused);
+            low = least_caused ranks plans due.1 name (caused_in due.1 node name (below_in due.1 start node due.4 (inside (last_events trace) start node reached)) caused);
           }) asked.from
 
       cause_owed : (leaf : Plan) (number : ℕ) (event : Event) → IsReached trace start leaf → IsLeaf leaf kind.Cause number event
@@ -382,7 +383,7 @@ module _ (plans : List Plan) (ranks : List ℕ) (accepted : AreAccepted plans) (
       cause_owed leaf number event reached is =
           let cause = cause_leaf leaf number event is in
           let below_it = in_flat cause_of (nodes leaf) leaf event.name (self_in leaf) cause.0 in
-          let there = nodes_in asked.plan start leaf asked.inside (inside trace start leaf reached) in
+          let there = nodes_in asked.plan start leaf asked.inside (inside (last_events trace) start leaf reached) in
           record {
             caused = in_flat caused_below plans asked.plan event.name (there_from_get plans rule asked.plan asked.plan_is)
                 (in_flat cause_of (nodes asked.plan) leaf event.name there cause.0);
@@ -392,7 +393,7 @@ module _ (plans : List Plan) (ranks : List ℕ) (accepted : AreAccepted plans) (
       suppress_clashes : (leaf : Plan) (number : ℕ) (event : Event) → IsReached trace start leaf
           → IsLeaf leaf kind.Suppress number event → Contains events event → ⊥
       suppress_clashes leaf number event reached is present =
-          let there = nodes_in asked.plan start leaf asked.inside (inside trace start leaf reached) in
+          let there = nodes_in asked.plan start leaf asked.inside (inside (last_events trace) start leaf reached) in
           accepted.roles event.name (
             (owed event present).caused,
             in_flat suppressed_below plans asked.plan event.name (there_from_get plans rule asked.plan asked.plan_is)

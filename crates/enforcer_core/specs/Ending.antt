@@ -1,12 +1,13 @@
 -- Why inserted steps end: up to when something can be owed, which never grows at the steps that serve it.
 use Rattle.std.specs.Prelude.{◌≡◌, ◌&&◌, ℕ, ◌+◌, ◌*◌, ◌<◌, ◌≤◌, Bool, false, true, cond, count_by, nat_eq}
-use Rattle.std.specs.Prelude.{List, [], ◌∷◌, ◌++◌, map, Option, None, Some, Contains}
+use Rattle.std.specs.Prelude.{List, [], ◌∷◌, ◌++◌, map, All, Option, None, Some, Contains}
 use Rattle.std.specs.List.{AllByRecursion}
 use Rattle.enf_value.specs.Data.{IsTrace}
 use Rattle.enf_value.specs.declared.events.Event.{Event}
 use Rattle.enf_value.specs.declared.steps.Step.{Step}
 use Rattle.trace_meaning.specs.Continuation.{last_time}
-use Rattle.trace_meaning.specs.declared.kinds.StepKind.TheVariants.{Inserted}
+use Rattle.trace_meaning.specs.Records.{most_time}
+use Rattle.trace_meaning.specs.declared.kinds.StepKind.TheVariants.{Inserted, System}
 use Rattle.plan_terms.specs.Nodes.{has_deadline}
 use Rattle.plan_terms.specs.Plans.{Plan}
 use Rattle.plan_terms.specs.WellFormed.{AreWellFormed}
@@ -17,7 +18,9 @@ use Rattle.enforce_types.specs.Typed.{Typed, WorkTogether}
 use Rattle.obligations.specs.Pending.{Goes, HasDeadline, NoneIsOver, Pend, node_of}
 use Rattle.obligations.specs.declared.actions.Action.{Action}
 use Rattle.obligations.specs.declared.instances.Instance.{Instance}
+use Rattle.obligations.specs.Carrying.{LeadsAt}
 use Rattle.choice_step.specs.Choice.{Decides, with_step}
+use Rattle.choice_step.specs.Choosing.{ActsFrom, AreAsked}
 use Rattle.choice_step.specs.Follows.{ActedStep, GoesOut, IsLeastDeadline}
 
 -- the greatest end of the intervals of nodes with a deadline
@@ -100,6 +103,12 @@ ReachIsWithinHorizon = (typed : Typed) (trace : List Step) (pending : List Insta
     → IsTrace trace → Pend typed.plans trace pending → last_time trace ≤ clock
     → reach_of typed.ranked.ranks typed.plans pending ≤ clock + typed.ranked.horizon
 
+-- and no window of it ends too late
+abbrev pub HighsAreNear : Type 0
+HighsAreNear = (typed : Typed) (trace : List Step) (pending : List Instance) (clock : ℕ) → WorkTogether typed
+    → IsTrace trace → Pend typed.plans trace pending → last_time trace ≤ clock → clock ≤ most_time System
+    → All (λ i. i.high ≤ most_time Inserted) pending
+
 -- a step that no deadline is earlier than leaves none that is
 abbrev pub NoneGoesOver : Type 0
 NoneGoesOver = (typed : Typed) (trace : List Step) (step : Step) (before after : List Instance) → WorkTogether typed
@@ -110,3 +119,25 @@ NoneGoesOver = (typed : Typed) (trace : List Step) (step : Step) (before after :
 abbrev pub WindowsAreInOrder : Type 0
 WindowsAreInOrder = (typed : Typed) (trace : List Step) (pending : List Instance) → WorkTogether typed
     → Pend typed.plans trace pending → WindowsAreOrdered pending
+
+-- ---- whatever the guards say
+
+-- where actions from no events serve the least deadline, each deadline of what the step leads on to is later, and
+-- nothing is owed for longer than it was
+abbrev pub LedDeadlinesFall : Type 0
+LedDeadlinesFall = (typed : Typed) (pending after : List Instance) (deadline position : ℕ) (actions : List Action)
+    (events : List Event) → WorkTogether typed → NoneIsOver typed.plans pending deadline
+    → ActsFrom typed.plans [] actions events → AreAsked typed.plans pending [] actions
+    → LeadsAt events deadline position typed.plans true pending after
+    → NoneIsOver typed.plans after (deadline + 1)
+    × (reach_of typed.ranked.ranks typed.plans after ≤ reach_of typed.ranked.ranks typed.plans pending)
+
+-- a step that no deadline is earlier than leads on to none that is, and nothing is owed for longer than it was and than
+-- the horizon of the step
+abbrev pub LedStaysInReach : Type 0
+LedStaysInReach = (typed : Typed) (pending after : List Instance) (time position : ℕ) (events : List Event)
+    (inserted : Bool) → WorkTogether typed → NoneIsOver typed.plans pending time
+    → LeadsAt events time position typed.plans inserted pending after
+    → NoneIsOver typed.plans after time
+    × ((most : ℕ) → reach_of typed.ranked.ranks typed.plans pending ≤ most → time + typed.ranked.horizon ≤ most
+    → reach_of typed.ranked.ranks typed.plans after ≤ most)

@@ -1,14 +1,13 @@
 -- What an enforcer is, whatever it stands for.
-use Rattle.std.specs.Prelude.{◌≡◌, ℕ, ◌≤◌, false, List}
-use Rattle.enf_value.specs.declared.steps.Step.{Step}
-use Rattle.trace_meaning.specs.Records.{most_time}
-use Rattle.trace_meaning.specs.declared.kinds.StepKind.TheVariants.{Inserted}
+use Rattle.std.specs.Prelude.{◌≡◌, ℕ, ◌≤◌, false}
 use Rattle.enforce_types.specs.Typed.{StoredTyped, WorkTogether, typed_of}
+use Rattle.rank_check.specs.declared.horizon.TheConstants.{MOST_HORIZON}
 use Rattle.past_state.specs.Guarded.{AreCopies}
+use Rattle.obligations.specs.Pending.{NoneIsOver}
+use Rattle.obligations.specs.declared.now.TheConstants.{MOST_TIME}
 use Rattle.enforcer_core.specs.Ending.{reach_of}
 use Rattle.enforcer_core.specs.Enforcers.{Enforcing, plans_of}
 use Rattle.enforcer_core.specs.Remembering.{CanGoOn}
-use Rattle.enforcer_core.specs.Stands.{Stands}
 use Rattle.enforcer_core.specs.declared.remembered.Remembered.{Remembered}
 
 -- what it remembers
@@ -33,16 +32,16 @@ abbrev pub reach_in : Enforcing → ℕ
 reach_in enforcer =
     reach_of (typed_of enforcer.policy).ranked.ranks (plans_of enforcer) enforcer.pending.instances
 
--- it remembers for the guards of its policy, its plans can be asked at its clock and later, it stands for some trace,
--- and what it has pending is owed for no longer than inserted steps can go out
+-- whatever it stands for, it remembers for the guards of its policy, its plans can be asked at its clock and later, no
+-- deadline is below its clock, and what it has pending is owed for no longer than inserted steps can go out
 pub record Serves (enforcer : Enforcing) : Type 0 where
   pub guards : AreCopies enforcer.policy.guards enforcer.past.guards
   pub can : (time : ℕ) → enforcer.clock ≤ time → CanGoOn (plans_of enforcer) (remembered_in enforcer) time
-  pub trace : List Step
-  pub stands : Stands enforcer trace
-  pub in_reach : reach_in enforcer ≤ most_time Inserted
+  pub over : NoneIsOver (plans_of enforcer) enforcer.pending.instances enforcer.clock
+  pub in_reach : reach_in enforcer ≤ MOST_TIME
 
--- its plans can work together, and it serves as long as it is not stopped
+-- its plans can work together, its horizon is bounded, and it serves as long as it is not stopped
 pub record IsEnforcing (enforcer : Enforcing) : Type 0 where
   pub together : WorkTogether (typed_of enforcer.policy)
+  pub bounded : (typed_of enforcer.policy).ranked.horizon ≤ MOST_HORIZON
   pub serves : enforcer.stopped ≡ false → Serves enforcer

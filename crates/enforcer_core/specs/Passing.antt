@@ -1,8 +1,7 @@
 -- What an enforcer does at the deadlines that are passed.
 use Rattle.std.specs.Prelude.{ℕ, ◌+◌, ◌<◌, ◌≤◌, List, [], ◌∷◌, ◌++◌, All, length, Option, None, Some, Contains}
 use Rattle.enf_value.specs.declared.steps.Step.{Step}
-use Rattle.trace_meaning.specs.Records.{Record, most_time, time_of}
-use Rattle.trace_meaning.specs.declared.kinds.StepKind.TheVariants.{Inserted}
+use Rattle.trace_meaning.specs.Records.{Record, time_of}
 use Rattle.obligations.specs.Waiting.{IsLeastOf}
 use Rattle.choice_step.specs.Follows.{ActedStep, Inserts, IsPassed, steps_of}
 use Rattle.enforcer_core.specs.Answered.{ChangesLawfully, GoesOn, RiseWithin, clock_drained}
@@ -27,7 +26,7 @@ pub record Passes (until : Option ℕ) (before : Enforcing) (out : List ActedSte
   pub within : StaysWithin until before after
   pub few : length out + before.clock ≤ after.clock
   pub rising : RiseWithin before.clock after.clock out
-  pub bounded : All (λ o. o.step.time ≤ most_time Inserted) out
+  pub bounded : All (λ o. o.step.time ≤ reach_in before) out
   pub stands : KeepsStanding before after out
   pub changed : ChangesLawfully (plans_of before) before.clock after.clock [] out
   pub inserts : (trace : List Step) → Stands before trace → (more : List ActedStep)

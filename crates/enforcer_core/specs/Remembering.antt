@@ -1,5 +1,5 @@
 -- What is remembered of the steps that went out, and how a step goes out and is remembered.
-use Rattle.std.specs.Prelude.{◌≡◌, ℕ, ◌+◌, ◌≤◌, ◌^◌, List, ◌∷◌, [], ◌++◌, Option, length, map}
+use Rattle.std.specs.Prelude.{◌≡◌, ℕ, ◌+◌, ◌≤◌, ◌^◌, Bool, List, ◌∷◌, [], ◌++◌, Option, length, map}
 use Rattle.std.specs.List.{AllByRecursion}
 use Rattle.enf_value.specs.Membership.{HasNoRepeats}
 use Rattle.enf_value.specs.declared.events.Event.{Event}
@@ -13,12 +13,13 @@ use Rattle.past_state.specs.LastTimes.{IsLastTime}
 use Rattle.past_state.specs.Past.{PastStands}
 use Rattle.past_state.specs.Runs.{AreUpToTimeOf}
 use Rattle.obligations.specs.Asked.{placed_guard}
+use Rattle.obligations.specs.Carrying.{AreServed, LeadsAt}
 use Rattle.obligations.specs.Pending.{Goes, Pend}
 use Rattle.obligations.specs.Traces.{PlansStand}
 use Rattle.obligations.specs.Waiting.{CanAskOf, CanAskRoots, KeepsDeadlines}
 use Rattle.obligations.specs.declared.instances.Instance.{Instance}
-use Rattle.choice_step.specs.Choosing.{ActsFrom}
-use Rattle.choice_step.specs.Follows.{GoesOut}
+use Rattle.choice_step.specs.Choosing.{ActsFrom, AreAsked}
+use Rattle.choice_step.specs.Follows.{GoesOut, is_inserted}
 use Rattle.choice_step.specs.Idle.{AllSleep}
 use Rattle.enforcer_core.specs.Enforcers.{acted_step}
 use Rattle.enforcer_core.specs.declared.remembered.Remembered.{Remembered}
@@ -50,10 +51,13 @@ pub record Remembers (plans : List Plan) (r : Remembered) (trace : List Step) : 
   pub last : IsLastTime trace r.last
   pub pending : Pend plans trace r.pending.instances
 
--- for each trace that is remembered, what is pending goes where a step with these events at a time leads it
-abbrev pub PendingGoes : List Plan → Remembered → (time : ℕ) → List Event → (after : List Instance) → Type 0
-PendingGoes plans before time events after = (trace : List Step) → Remembers plans before trace
+-- for each trace that is remembered, what is pending goes where a step with these events at a time leads it, if those
+-- of it that are forced are served there
+abbrev pub PendingGoes : List Plan → Remembered → (inserted : Bool) → (time : ℕ) → List Event → (after : List Instance)
+    → Type 0
+PendingGoes plans before inserted time events after = (trace : List Step) → Remembers plans before trace
     → last_time trace ≤ time
+    → AreServed plans inserted (trace ++ record { time = time; events = events } ∷ []) before.pending.instances
     → Goes plans (trace ++ record { time = time; events = events } ∷ []) before.pending.instances after
 
 -- a step goes out from these events and is remembered
@@ -63,6 +67,9 @@ pub record IsDecided (plans : List Plan) (before : Remembered) (kind : StepKind)
   pub time_is : o.time ≡ time
   pub distinct : HasNoRepeats o.events
   pub acts : ActsFrom plans events o.actions o.events
+  pub asked : AreAsked plans before.pending.instances events o.actions
+  pub leads : LeadsAt o.events time before.position plans (is_inserted kind) before.pending.instances
+      after.pending.instances
   pub guards : after.past.guards ≡ before.past.guards
   pub position : after.position ≡ before.position + 1
   pub deadlines : KeepsDeadlines plans after.pending

@@ -7,8 +7,8 @@ use Rattle.obligations.specs.Existing.{PendCanBeAsked}
 use Rattle.obligations.specs.Founding.{WellFormedCanBeAsked, WellFormedStand}
 use Rattle.choice_step.specs.Laws.{ActionsAreLawful, CausesAlone, DecidedIsDistinct, DecidedMissesNothing}
 use Rattle.choice_step.specs.Laws.{EventsAreActedOnOnce}
-use Rattle.enforcer_core.specs.Ending.{DeadlinesAreWithinReach, NoneGoesOver, ReachIsWithinHorizon}
-use Rattle.enforcer_core.specs.Ending.{ServedDeadlinesFall, WindowsAreInOrder}
+use Rattle.enforcer_core.specs.Ending.{DeadlinesAreWithinReach, LedDeadlinesFall, LedStaysInReach, NoneGoesOver}
+use Rattle.enforcer_core.specs.Ending.{ReachIsWithinHorizon, ServedDeadlinesFall, WindowsAreInOrder}
 use Rattle.enforcer_core.specs.Existing.{SomethingDrains}
 
 -- of one step
@@ -29,6 +29,8 @@ pub record StepLaws : Type 0 where
   pub horizon : ReachIsWithinHorizon
   pub none_over : NoneGoesOver
   pub windows : WindowsAreInOrder
+  pub led : LedDeadlinesFall
+  pub stays : LedStaysInReach
 
 -- of a drain, and that there is one
 pub record DrainLaws : Type 0 where

@@ -1,9 +1,9 @@
 //! Why inserted steps end: laws over the definitions, each the contract of a function that does nothing.
 ghost use Rattle.enforcer_core.specs.Ending.{AnyCountsFall, AnyDeadlinesFall, DeadlinesAreWithinReach};
-ghost use Rattle.enforcer_core.specs.Ending.{NoneGoesOver, ReachIsWithinHorizon, ServedDeadlinesFall};
-ghost use Rattle.enforcer_core.specs.Ending.{WindowsAreInOrder};
+ghost use Rattle.enforcer_core.specs.Ending.{HighsAreNear, LedDeadlinesFall, LedStaysInReach, NoneGoesOver};
+ghost use Rattle.enforcer_core.specs.Ending.{ReachIsWithinHorizon, ServedDeadlinesFall, WindowsAreInOrder};
 
-use choice_step::laws::decided_misses_nothing;
+use choice_step::laws::{actions_are_lawful, decided_misses_nothing};
 use obligations::laws::{
     missing_is_one, pending_is_one, pending_was_begun, steps_reach, well_formed_can_be_asked,
 };
@@ -29,6 +29,7 @@ pub fn serving_ends_anywhere()
 pub fn serving_ends()
     ensures fall { ServedDeadlinesFall }
     ensures horizon { ReachIsWithinHorizon }
+    ensures near { HighsAreNear }
     ensures reach { DeadlinesAreWithinReach }
     ensures over { NoneGoesOver }
     ensures windows { WindowsAreInOrder }
@@ -41,4 +42,16 @@ pub fn serving_ends()
     pending_was_begun();
     well_formed_can_be_asked();
     last_time_of_trace();
+}
+
+/// Whatever the guards say, what a step leads on to has no deadline that is over, and is owed within the horizon; where
+/// the step serves the least deadline, each is later, and nothing is owed for longer than it was.
+pub fn steps_lead_on()
+    ensures fall { LedDeadlinesFall }
+    ensures stays { LedStaysInReach }
+{
+    nodes_stand_in_plans();
+    ranks_by_recursion();
+    steps_reach();
+    actions_are_lawful();
 }

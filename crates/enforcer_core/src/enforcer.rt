@@ -1,15 +1,17 @@
 //! The enforcer.
-ghost use Rattle.std.specs.Prelude.{◌≡◌, ◌≢◌, ◌≤◌, ◌<◌, ℕ, [], ◌∷◌, false, All, Contains, IfOk, Err, length, ◌+◌, ◌-◌};
+ghost use Rattle.std.specs.Prelude.{◌≡◌, ◌≢◌, ◌≤◌, ◌<◌, ℕ, List, [], ◌∷◌, false, All, Contains, IfOk, Err, length, ◌+◌, ◌-◌};
 ghost use Rattle.enforce_types.specs.Typed.{WorkTogether, typed_of};
+ghost use Rattle.enf_value.specs.declared.steps.Step.{Step};
 ghost use Rattle.obligations.specs.Waiting.{IsLeastOf};
+ghost use Rattle.obligations.specs.declared.now.TheConstants.{MOST_TIME};
 ghost use Rattle.trace_meaning.specs.Records.{StepRecord, Tick, most_time};
-ghost use Rattle.trace_meaning.specs.declared.kinds.StepKind.TheVariants.{Inserted, System};
+ghost use Rattle.trace_meaning.specs.declared.kinds.StepKind.TheVariants.{System};
 ghost use Rattle.enforcer_core.specs.Answered.{Admits, Answered, AnsweredDrain, ChangesLawfully, IsNewOf, RiseWithin};
 ghost use Rattle.enforcer_core.specs.Enforcers.{acted_steps, plans_of};
 ghost use Rattle.enforcer_core.specs.Follows.{FollowsDrainFrom, FollowsFrom};
 ghost use Rattle.enforcer_core.specs.Justifying.{IsJustifiedFrom};
 ghost use Rattle.enforcer_core.specs.Remembering.{most_positions};
-ghost use Rattle.enforcer_core.specs.Snapshots.{IsKeptOf, SavesTrace};
+ghost use Rattle.enforcer_core.specs.Snapshots.{CanBeTakenUp, IsKeptOf, IsTakenUpFrom, SavesTrace, StandsAgain};
 ghost use Rattle.enforcer_core.specs.Stands.{KeepsStanding, SatisfiesBehind, Stands};
 ghost use Rattle.enforcer_core.specs.Transparency.{DrainsNothing, LeavesAlone};
 
@@ -24,6 +26,7 @@ use obligations::laws::{pending_is_enough, well_formed_can_be_asked};
 use obligations::{Instance, Pending};
 use past_state::PastState;
 use past_state::laws::operators_are_nodes;
+use plan_terms::laws::{found_node_inherits, nodes_have_scopes};
 use save_codec::Snapshot;
 use std::alloc::Global;
 use std::marker::Model;
@@ -85,18 +88,61 @@ impl Enforcer {
         ensures stands { IfOk result (λ enforcer. Stands enforcer []) }
     {
         well_formed_can_be_asked();
+        // Its clause says that the horizon is bounded.
+        let _horizon = policy.horizon();
         let wakes = Wakes::of(alloc, policy.plans())?;
         let past = PastState::new(alloc, policy.guards())?;
+        let pending = Pending::new(alloc);
         Ok(Enforcer {
             policy,
             wakes,
             remembered: Remembered {
                 past,
-                pending: Pending::new(alloc),
+                pending,
                 position: 0,
                 last: None,
             },
             clock: 0,
+            stopped: false,
+        })
+    }
+
+    /// An enforcer of a policy that goes on from what was kept of one.
+    pub fn from_snapshot(
+        alloc: Global,
+        policy: TypedPolicy,
+        snapshot: Snapshot,
+    ) -> Result<Enforcer, NoMemory>
+        requires bounds { CanBeTakenUp policy snapshot }
+        ensures taken_up { IfOk result (IsTakenUpFrom policy snapshot) }
+        ensures together { IfOk result (λ enforcer. WorkTogether (typed_of enforcer.policy)) }
+        ensures stands { IfOk result (StandsAgain policy snapshot) }
+    {
+        well_formed_can_be_asked();
+        nodes_have_scopes();
+        found_node_inherits();
+        // Its clause says that the horizon is bounded.
+        let _horizon = policy.horizon();
+        let Snapshot {
+            clock,
+            last,
+            position,
+            kept,
+            pending,
+        } = snapshot;
+        let wakes = Wakes::of(alloc, policy.plans())?;
+        let past = PastState::from_kept(alloc, policy.guards(), last, kept)?;
+        let pending = Pending::from_list(alloc, policy.plans(), pending)?;
+        Ok(Enforcer {
+            policy,
+            wakes,
+            remembered: Remembered {
+                past,
+                pending,
+                position,
+                last,
+            },
+            clock,
             stopped: false,
         })
     }
@@ -152,6 +198,13 @@ impl Enforcer {
             kept,
             pending,
         })
+    }
+
+    /// The policy that it keeps.
+    pub fn into_policy(self) -> TypedPolicy
+        ensures { result ≡ self.policy }
+    {
+        self.policy
     }
 
     /// Takes a step of the system at a time up to 10^15. First it inserts a step at each deadline below that time,
@@ -238,9 +291,12 @@ impl Enforcer {
         ensures rising { IfOk result
             (λ out. RiseWithin self.old.clock self.new.clock (acted_steps out.steps)) }
         ensures bounded { IfOk result
-            (λ out. All (λ o. o.step.time ≤ most_time Inserted) (acted_steps out.steps)) }
-        ensures horizon { IfOk result
-            (λ _. self.new.clock ≤ self.old.clock + (typed_of self.old.policy).ranked.horizon + 1) }
+            (λ out. All (λ o. o.step.time ≤ MOST_TIME) (acted_steps out.steps)) }
+        ensures latest { IfOk result (λ out. (last : ℕ)
+            → ((deadline : ℕ) → Contains self.old.pending.deadlines deadline → deadline ≤ last)
+            → All (λ o. o.step.time ≤ last + (typed_of self.old.policy).ranked.horizon) (acted_steps out.steps)) }
+        ensures horizon { IfOk result (λ _. (trace : List Step) → Stands self.old trace
+            → self.new.clock ≤ self.old.clock + (typed_of self.old.policy).ranked.horizon + 1) }
         ensures stands { IfOk result
             (λ out. KeepsStanding self.old self.new (acted_steps out.steps)) }
         ensures changed { IfOk result

@@ -3,20 +3,22 @@ ghost use Rattle.enforcer_core.specs.Justifying.{CourseIsJustified, CourseIsJust
 ghost use Rattle.enforcer_core.specs.Justifying.{FollowsIsJustified};
 ghost use Rattle.enforcer_core.specs.Laws.{CourseBegins, CourseGoesOn, CourseKeepsUp, CourseEnforces};
 ghost use Rattle.enforcer_core.specs.Laws.{CourseFollows, CourseFollowsToEnd, PlannedAreSatisfied, StandsForGood};
+ghost use Rattle.enforcer_core.specs.Snapshots.{KeptCanBeTakenUp};
 ghost use Rattle.enforcer_core.specs.StepLaws.{DrainLaws, StepLaws};
 ghost use Rattle.enforcer_core.specs.Transparency.{CourseIsTransparent, CourseIsTransparentToEnd};
 ghost use Rattle.enforcer_core.specs.Transparency.{FollowsAlone, NothingDrains};
 
-use crate::ending::serving_ends;
+use crate::ending::{serving_ends, steps_lead_on};
 use crate::existing::something_is_decided;
 use choice_step::laws::{
     actions_are_justified, actions_are_lawful, decided_misses_nothing, some_decision,
 };
 use enforce_types::laws::policy_plans_keep_meaning;
 use obligations::laws::{
-    missing_is_one, pending_can_be_asked, pending_is_enough, pending_is_one, pending_was_begun,
-    traces_grow, well_formed_can_be_asked,
+    missing_is_one, pending_can_be, pending_can_be_asked, pending_is_enough, pending_is_one,
+    pending_was_begun, traces_grow, well_formed_can_be_asked,
 };
+use past_state::laws::kept_can_be_restored;
 use rank_check::laws::owed_nodes_are_not_lost;
 use trace_meaning::laws;
 
@@ -80,6 +82,16 @@ pub fn planned()
     policy_plans_keep_meaning();
 }
 
+/// What is kept of a trace that is ready for a clock can be taken up, where the clock is not too late.
+pub fn kept_can_be_taken_up()
+    ensures { KeptCanBeTakenUp }
+{
+    pending_can_be();
+    pending_is_one();
+    kept_can_be_restored();
+    serving_ends();
+}
+
 // What a step that goes out rests on.
 pub(crate) fn step_laws()
     ensures { StepLaws }
@@ -92,6 +104,7 @@ pub(crate) fn step_laws()
     decided_misses_nothing();
     actions_are_lawful();
     serving_ends();
+    steps_lead_on();
 }
 
 // And what a drain rests on.

@@ -5,6 +5,7 @@ ghost use Rattle.plan_terms.specs.Plans.{plan_of};
 ghost use Rattle.plan_terms.specs.Triggers.{guard_triggers};
 ghost use Rattle.obligations.specs.declared.now.TheConstants.{MOST_TIME};
 ghost use Rattle.obligations.specs.Asked.{placed_guard};
+ghost use Rattle.obligations.specs.Carrying.{LeadsAt};
 ghost use Rattle.obligations.specs.Traces.{LooksAtNow};
 ghost use Rattle.obligations.specs.Waiting.{CanAskOf, KeepsDeadlines};
 ghost use Rattle.past_state.specs.Past.{GuardsWillHold};
@@ -19,13 +20,16 @@ ghost use Rattle.enforcer_core.specs.Remembering.{CanAskAll, CanGoOn, IsDecided,
 use crate::laws::step_laws;
 use crate::steps::{OutStep, OutSteps};
 use choice_step::idle::asleep_is_idle;
+use choice_step::laws::decided_misses_nothing;
 use choice_step::{Actions, Choice, Wakes, choose_with};
 use enf_value::Event;
 use enf_value::event_sets::EventSet;
 use enf_value::memory::NoMemory;
 use enforce_types::TypedPolicy;
 use monitorable_guard::StepEvents;
-use obligations::laws::{now_stands, pending_exists, pending_is_enough, traces_grow};
+use obligations::laws::{
+    now_stands, pending_exists, pending_is_enough, pending_was_begun, traces_grow,
+};
 use obligations::{Now, Pending};
 use past_state::{PastState, Tables};
 use plan_terms::Plan;
@@ -113,6 +117,8 @@ impl Remembered {
     {
         traces_grow();
         trace_grows();
+        decided_misses_nothing();
+        pending_was_begun();
         let inserted = is_inserted(kind);
         let Choice {
             events,
@@ -131,7 +137,7 @@ impl Remembered {
         )?;
         // Its clause says that no event stands twice.
         let _given = events.as_slice();
-        self.progress(alloc, plans, time, &events, &tables)?;
+        self.progress(alloc, plans, time, &events, &tables, inserted)?;
         self.past.commit(time, &events, tables)?;
         self.position += 1;
         self.last = Some(time);
@@ -278,6 +284,7 @@ impl Remembered {
         time: u64,
         events: &EventSet,
         tables: &Tables,
+        inserted: bool,
     ) -> Result<(), NoMemory>
         requires can { CanAskAll (map plan_of plans.now) self.old }
         requires guards { tables.now.guards ≡ self.old.past.guards }
@@ -286,8 +293,10 @@ impl Remembered {
         ensures past { self.new.past ≡ self.old.past }
         ensures position { self.new.position ≡ self.old.position }
         ensures last { self.new.last ≡ self.old.last }
-        ensures goes { OnOk result (PendingGoes (map plan_of plans.now) self.old time events.now
+        ensures goes { OnOk result (PendingGoes (map plan_of plans.now) self.old inserted time events.now
             self.new.pending.instances) }
+        ensures leads { OnOk result (LeadsAt events.now time self.old.position (map plan_of plans.now) inserted
+            self.old.pending.instances self.new.pending.instances) }
         ensures deadlines { OnOk result (KeepsDeadlines (map plan_of plans.now) self.new.pending) }
         ensures instances { OnOk result (AllByRecursion
             (CanAskOf (map placed_guard self.old.past.guards) (map plan_of plans.now)) self.new.pending.instances) }
@@ -299,7 +308,7 @@ impl Remembered {
             return Ok(());
         }
         let ordered = StepEvents::of(alloc, events)?;
-        self.progress_over(alloc, plans, time, &ordered, tables)
+        self.progress_over(alloc, plans, time, &ordered, tables, inserted)
     }
 
     // Whether nothing is pending and no plan looks ahead.
@@ -318,6 +327,7 @@ impl Remembered {
         time: u64,
         ordered: &StepEvents<'_>,
         tables: &Tables,
+        inserted: bool,
     ) -> Result<(), NoMemory>
         requires can { CanAskAll (map plan_of plans.now) self.old }
         requires guards { tables.now.guards ≡ self.old.past.guards }
@@ -326,8 +336,10 @@ impl Remembered {
         ensures past { self.new.past ≡ self.old.past }
         ensures position { self.new.position ≡ self.old.position }
         ensures last { self.new.last ≡ self.old.last }
-        ensures goes { OnOk result (PendingGoes (map plan_of plans.now) self.old time ordered.now
+        ensures goes { OnOk result (PendingGoes (map plan_of plans.now) self.old inserted time ordered.now
             self.new.pending.instances) }
+        ensures leads { OnOk result (LeadsAt ordered.now time self.old.position (map plan_of plans.now) inserted
+            self.old.pending.instances self.new.pending.instances) }
         ensures deadlines { OnOk result (KeepsDeadlines (map plan_of plans.now) self.new.pending) }
         ensures instances { OnOk result (AllByRecursion
             (CanAskOf (map placed_guard self.old.past.guards) (map plan_of plans.now)) self.new.pending.instances) }
@@ -340,7 +352,7 @@ impl Remembered {
             ordered,
             tables,
         };
-        self.pending.progress(alloc, plans, &now)
+        self.pending.progress(alloc, plans, &now, inserted)
     }
 }
 

@@ -143,6 +143,16 @@ module _ (now : Now) (n : ℕ) (f : Formula) (scope xs : List VarId) (at : IsGua
   pub row_fits : (row : List Value) → Contains t.rows row → length row ≡ length xs
   row_fits row there = fits (record { columns = xs; rows = t.rows }) row is_table there
 
+  -- for each row of the table the guard holds by its tables
+  pub row_holds : (row : List Value) → Contains t.rows row → (tables : List Relation) × HoldsNow now.ordered.now tables (with_values xs row v) f
+  row_holds row there =
+      let long = row_fits row there in (
+        tables_of g now.tables.now,
+        subst (HoldsNow now.ordered.now (tables_of g now.tables.now) (with_values xs row v)) formula_is
+            ((holds_for (with_values xs row v) (same_on_scope scope xs new v fit row long) (row_values scope xs new v fit row long)).0
+            (row, there, λ x among. value_at-with_inside xs row v x (new_distinct scope xs new) long among)),
+      )
+
   module _ (trace : List Step) (is : IsNowOf now trace) (row : List Value) (long : length row ≡ length xs) where
     abbrev w : Valuation
     w = with_values xs row v

@@ -2,8 +2,9 @@
 use Rattle.std.proofs.Common.{◌≡◌, ℕ, zero, suc, ◌+◌, ◌<◌, Bool, true, false, List, [], ◌∷◌, ◌++◌, length, length-append, Contains, None, refl, sym, ap, append_assoc, subst, arith, inl, inr, ◌⊎◌, ◌∙◌, true≢false}
 use Rattle.std.specs.Prelude.{IsFalse, IsTrue}
 use Rattle.std.specs.List.{AllByRecursion}
-use Rattle.std.proofs.lemmas.List.{append-nil}
-use Rattle.enf_value.specs.ListLaws.{AllByRecursion-append, AllByRecursion-contains, AllByRecursion-from_contains}
+use Rattle.std.proofs.lemmas.List.{append-nil, nil_from_length}
+use Rattle.enf_value.specs.ListLaws.{AllByRecursion-append, AllByRecursion-contains, AllByRecursion-from_contains, here}
+use Rattle.enf_value.specs.declared.values.Value.{Value}
 use Rattle.enf_value.specs.Valuations.{Valuation, with_values}
 use Rattle.enf_value.specs.declared.steps.Step.{Step}
 use Rattle.enf_value.specs.declared.terms.VarId.{VarId}
@@ -21,9 +22,10 @@ use Rattle.plan_terms.specs.Standing.{IsNamed, StandsIn}
 use Rattle.valuations.specs.Just.{Binds}
 use Rattle.valuations.specs.Scopes.{filled}
 use Rattle.valuations.specs.Tables.{IsTable, Relation}
-use Rattle.obligations.specs.Adding.{AddsAsked, TellsNothing, begun_by}
+use Rattle.obligations.specs.Adding.{AddsAsked, IsBegunHere, TellsNothing, begun_by}
 use Rattle.obligations.specs.Asked.{CanAsk, FitsScope, IsGuardAt, IsNowOf, guards_at}
 use Rattle.obligations.specs.Begun.{BeginsOrWaits, Begun, LacksNothing, LacksSome, WithBehind, begun_now}
+use Rattle.obligations.specs.Reaching.{IsReachedBy}
 use Rattle.obligations.specs.Rows.{Gathers}
 use Rattle.obligations.specs.Sides.{IsSideTaken, TakesSide}
 use Rattle.obligations.specs.Waiting.{CanAskOf}
@@ -31,6 +33,7 @@ use Rattle.obligations.specs.declared.instances.Instance.{Instance}
 use Rattle.obligations.specs.declared.now.Now.{Now}
 use Rattle.obligations.proofs.AddingLemmas.{gathers_as, row_is}
 use Rattle.obligations.proofs.AskLemmas.{rows_are, test_is}
+use Rattle.obligations.proofs.ReachingLemmas.{row_met}
 use Rattle.obligations.proofs.WantedLemmas.{in_body, in_left, in_right}
 
 -- each node of one plan is one of another
@@ -55,34 +58,46 @@ left_smaller node left right = omega (arith, length-append (nodes left) (nodes r
 pub right_smaller : (node : Plan) (left right : Plan) → length (nodes right) < length (node ∷ nodes left ++ nodes right)
 right_smaller node left right = omega (arith, length-append (nodes left) (nodes right))
 
+-- what is reached of one plan is reached of another
+abbrev pub IsBelow : Now → Plan → Plan → Type 0
+IsBelow now part whole = (end : Plan) → IsReachedBy now.ordered.now part end → IsReachedBy now.ordered.now whole end
+
 -- ---- what is put last
 
 module _ (now : Now) (rule : ℕ) where
+  begun_below : (part whole : Plan) → IsBelow now part whole → (is : List Instance) → AllByRecursion (IsBegunHere now rule part) is
+      → AllByRecursion (IsBegunHere now rule whole) is
+  begun_below part whole below [] each = tt
+  begun_below part whole below (i ∷ is) each =
+      ((each.0.0, below each.0.0 each.0.1, each.0.2), begun_below part whole below is each.1)
+
   pub asked_nothing : (plan : Plan) (P : List Step → List Instance → Type 0) (out : List Instance)
       → ((trace : List Step) → IsNowOf now trace → P trace []) → AddsAsked now rule plan P out out
   asked_nothing plan P out are = record {
     adds = record { more = []; grown = sym (append-nil out); are = are };
     asked = λ plans stands. tt;
+    begun = tt;
   }
 
-  pub asked_as : (part whole : Plan) → IsInside part whole → (P Q : List Step → List Instance → Type 0)
+  pub asked_as : (part whole : Plan) → IsInside part whole → IsBelow now part whole → (P Q : List Step → List Instance → Type 0)
       → ((trace : List Step) → IsNowOf now trace → (xs : List Instance) → P trace xs → Q trace xs)
       → (before after : List Instance) → AddsAsked now rule part P before after → AddsAsked now rule whole Q before after
-  asked_as part whole inside P Q turn before after puts = record {
+  asked_as part whole inside below P Q turn before after puts = record {
     adds = record {
       more = puts.adds.more;
       grown = puts.adds.grown;
       are = λ trace is. turn trace is puts.adds.more (puts.adds.are trace is);
     };
     asked = λ plans stands. puts.asked plans (stands_inside plans rule part whole inside stands);
+    begun = begun_below part whole below puts.adds.more puts.begun;
   }
 
-  pub asked_both : (one other whole : Plan) → IsInside one whole → IsInside other whole
+  pub asked_both : (one other whole : Plan) → IsInside one whole → IsBelow now one whole → IsInside other whole → IsBelow now other whole
       → (P Q R : List Step → List Instance → Type 0) (before between after : List Instance)
       → ((trace : List Step) (xs ys : List Instance) → P trace xs → Q trace ys → R trace (xs ++ ys))
       → AddsAsked now rule one P before between → AddsAsked now rule other Q between after
       → AddsAsked now rule whole R before after
-  asked_both one other whole inside too P Q R before between after join first next = record {
+  asked_both one other whole inside below too lower P Q R before between after join first next = record {
     adds = record {
       more = first.adds.more ++ next.adds.more;
       grown = next.adds.grown ∙ (ap (λ l. l ++ next.adds.more) first.adds.grown ∙ append_assoc before first.adds.more next.adds.more);
@@ -91,6 +106,8 @@ module _ (now : Now) (rule : ℕ) where
     asked = λ plans stands. AllByRecursion-append (CanAskOf (guards_at now.tables.now) plans) first.adds.more next.adds.more
         (first.asked plans (stands_inside plans rule one whole inside stands))
         (next.asked plans (stands_inside plans rule other whole too stands));
+    begun = AllByRecursion-append (IsBegunHere now rule whole) first.adds.more next.adds.more
+        (begun_below one whole below first.adds.more first.begun) (begun_below other whole lower next.adds.more next.begun);
   }
 
   -- the instance of a node that is begun
@@ -105,25 +122,26 @@ module _ (now : Now) (rule : ℕ) where
 
   pub asked_instance : (plan : Plan) (low high : ℕ) (v : Valuation) → is_future plan ≡ true
       → ((plans : List Plan) → StandsIn plans rule plan → IsNamed plans rule plan) → CanAsk (guards_at now.tables.now) plan v
-      → AllByRecursion EndsInTime (nodes plan) → (before after : List Instance)
-      → after ≡ before ++ begun_by now rule (number_of plan) low high v ∷ []
+      → AllByRecursion EndsInTime (nodes plan) → IsBegunHere now rule plan (begun_by now rule (number_of plan) low high v)
+      → (before after : List Instance) → after ≡ before ++ begun_by now rule (number_of plan) low high v ∷ []
       → AddsAsked now rule plan (IsBegun (number_of plan) low high v) before after
-  asked_instance plan low high v future named can ends before after grown = record {
+  asked_instance plan low high v future named can ends begins before after grown = record {
     adds = record {
       more = begun_by now rule (number_of plan) low high v ∷ [];
       grown = grown;
       are = λ trace is. ap (λ i. i ∷ []) (begun_is trace is (number_of plan) low high v);
     };
     asked = λ plans stands. (record { node = plan; found = named plans stands; future = future; can = can; ends = ends }, tt);
+    begun = (begins, tt);
   }
 
   -- an instance, and what is begun with it behind
-  pub asked_behind : (part whole : Plan) → IsInside part whole → (node low high : ℕ) (v : Valuation)
+  pub asked_behind : (part whole : Plan) → IsInside part whole → IsBelow now part whole → (node low high : ℕ) (v : Valuation)
       → (P : List Step → List Instance → Type 0) (before between after : List Instance)
       → AddsAsked now rule whole (IsBegun node low high v) before between → AddsAsked now rule part P between after
       → AddsAsked now rule whole (λ trace. WithBehind (begun_now trace rule node low high v) (P trace)) before after
-  asked_behind part whole inside node low high v P before between after first next =
-      asked_both whole part whole (λ n there. there) inside (IsBegun node low high v) P
+  asked_behind part whole inside below node low high v P before between after first next =
+      asked_both whole part whole (λ n there. there) (λ end is. is) inside below (IsBegun node low high v) P
       (λ trace. WithBehind (begun_now trace rule node low high v) (P trace)) before between after
       (λ trace xs ys is more. (ys, more, ap (λ l. l ++ ys) is)) first next
 
@@ -140,7 +158,8 @@ module _ (now : Now) (rule : ℕ) (v : Valuation) where
   pub both_begun : (node : ℕ) (left right : Plan) (before between after : List Instance) → Puts left before between
       → Puts right between after → Puts (Both node left right) before after
   both_begun node left right before between after first next =
-      asked_both now rule left right (Both node left right) (in_left (Both node left right) left right) (in_right (Both node left right) left right)
+      asked_both now rule left right (Both node left right) (in_left (Both node left right) left right) (λ end is. inr (inl is))
+      (in_right (Both node left right) left right) (λ end is. inr (inr is))
       (λ trace. Begun trace rule left v) (λ trace. Begun trace rule right v) (λ trace. Begun trace rule (Both node left right) v)
       before between after (λ trace xs ys is too. (xs, ys, is, too, refl)) first next
 
@@ -149,6 +168,10 @@ module _ (now : Now) (rule : ℕ) (v : Valuation) where
   pub side_inside : (node : ℕ) (left right side : Plan) → (side ≡ left) ⊎ (side ≡ right) → IsInside side (Either node left right)
   side_inside node left right side (inl same) = subst (λ s. IsInside s (Either node left right)) (sym same) (in_left (Either node left right) left right)
   side_inside node left right side (inr same) = subst (λ s. IsInside s (Either node left right)) (sym same) (in_right (Either node left right) left right)
+
+  side_below : (node : ℕ) (left right side : Plan) → (side ≡ left) ⊎ (side ≡ right) → IsBelow now side (Either node left right)
+  side_below node left right side (inl same) = subst (λ s. IsBelow now s (Either node left right)) (sym same) (λ end is. inr (inl is))
+  side_below node left right side (inr same) = subst (λ s. IsBelow now s (Either node left right)) (sym same) (λ end is. inr (inr is))
 
   pub side_asked : (node : ℕ) (left right side : Plan) → (side ≡ left) ⊎ (side ≡ right) → MayAsk (Either node left right) → MayAsk side
   side_asked node left right side (inl same) can = subst MayAsk (sym same) (record { scope = can.scope; can = can.can.1; fits = can.fits })
@@ -164,7 +187,7 @@ module _ (now : Now) (rule : ℕ) (v : Valuation) where
   pub side_begun : (node : ℕ) (left right side : Plan) → IsSideTaken now left right v side → (before after : List Instance)
       → Puts side before after → Puts (Either node left right) before after
   side_begun node left right side taken before after puts =
-      asked_as now rule side (Either node left right) (side_inside node left right side taken.one)
+      asked_as now rule side (Either node left right) (side_inside node left right side taken.one) (side_below node left right side taken.one)
       (λ trace. Begun trace rule side v) (λ trace. Begun trace rule (Either node left right) v)
       (λ trace is xs begun. taken.begins trace is rule node xs begun) before after puts
 
@@ -188,7 +211,7 @@ module _ (now : Now) (rule : ℕ) (v : Valuation) where
   pub eventually_at_once : (node place low high : ℕ) (body : Plan) → low ≡ 0 → TellsNothing now body v true
       → (before after : List Instance) → Puts body before after → Puts (Eventually node place low high body) before after
   eventually_at_once node place low high body is told before after puts =
-      asked_as now rule body (Eventually node place low high body) (in_body (Eventually node place low high body) body)
+      asked_as now rule body (Eventually node place low high body) (in_body (Eventually node place low high body) body) (λ end is. inr is)
       (λ trace. Begun trace rule body v) (λ trace. Begun trace rule (Eventually node place low high body) v)
       (λ trace here xs begun. at_once_begun low body trace (Begun trace rule body v xs) (xs ≡ begun_now trace rule node low high v ∷ []) is (told trace here) begun)
       before after puts
@@ -198,16 +221,17 @@ module _ (now : Now) (rule : ℕ) (v : Valuation) where
       → (before after : List Instance) → after ≡ before ++ begun_by now rule node low high v ∷ []
       → Puts (Eventually node place low high body) before after
   eventually_waits node place low high body told can ends before after grown =
-      asked_as now rule (Eventually node place low high body) (Eventually node place low high body) (λ n there. there)
+      asked_as now rule (Eventually node place low high body) (Eventually node place low high body) (λ n there. there) (λ end is. is)
       (IsBegun now rule node low high v) (λ trace. Begun trace rule (Eventually node place low high body) v)
       (λ trace here xs begun. waits_begun low body trace (Begun trace rule body v xs) (xs ≡ begun_now trace rule node low high v ∷ []) (λ is. told is trace here) begun)
       before after
-      (asked_instance now rule (Eventually node place low high body) low high v refl (λ plans stands. stands.named.0) can ends before after grown)
+      (asked_instance now rule (Eventually node place low high body) low high v refl (λ plans stands. stands.named.0) can ends
+      (Eventually node place low high body, inl refl, (v, refl)) before after grown)
 
   pub until_at_once : (node place low high : ℕ) (left right : Plan) → low ≡ 0 → TellsNothing now right v true
       → (before after : List Instance) → Puts right before after → Puts (Until node place low high left right) before after
   until_at_once node place low high left right is told before after puts =
-      asked_as now rule right (Until node place low high left right) (in_right (Until node place low high left right) left right)
+      asked_as now rule right (Until node place low high left right) (in_right (Until node place low high left right) left right) (λ end is. inr (inr is))
       (λ trace. Begun trace rule right v) (λ trace. Begun trace rule (Until node place low high left right) v)
       (λ trace here xs begun. at_once_begun low right trace (Begun trace rule right v xs)
       (WithBehind (begun_now trace rule node low high v) (Begun trace rule left v) xs) is (told trace here) begun)
@@ -218,37 +242,41 @@ module _ (now : Now) (rule : ℕ) (v : Valuation) where
       → (before between after : List Instance) → between ≡ before ++ begun_by now rule node low high v ∷ [] → Puts left between after
       → Puts (Until node place low high left right) before after
   until_waits node place low high left right told can ends before between after grown puts =
-      asked_as now rule (Until node place low high left right) (Until node place low high left right) (λ n there. there)
+      asked_as now rule (Until node place low high left right) (Until node place low high left right) (λ n there. there) (λ end is. is)
       (λ trace. WithBehind (begun_now trace rule node low high v) (Begun trace rule left v)) (λ trace. Begun trace rule (Until node place low high left right) v)
       (λ trace here xs begun. waits_begun low right trace (Begun trace rule right v xs)
       (WithBehind (begun_now trace rule node low high v) (Begun trace rule left v) xs) (λ is. told is trace here) begun)
       before after
-      (asked_behind now rule left (Until node place low high left right) (in_left (Until node place low high left right) left right) node low high v
+      (asked_behind now rule left (Until node place low high left right) (in_left (Until node place low high left right) left right) (λ end is. inr (inl is)) node low high v
       (λ trace. Begun trace rule left v) before between after
-      (asked_instance now rule (Until node place low high left right) low high v refl (λ plans stands. stands.named.0) can ends before between grown) puts)
+      (asked_instance now rule (Until node place low high left right) low high v refl (λ plans stands. stands.named.0) can ends
+      (Until node place low high left right, inl refl, (v, refl)) before between grown) puts)
 
   pub always_later : (node place low high : ℕ) (body : Plan) → 0 < low → MayAsk (Always node place low high body)
       → AllByRecursion EndsInTime (nodes (Always node place low high body)) → (before after : List Instance)
       → after ≡ before ++ begun_by now rule node low high v ∷ [] → Puts (Always node place low high body) before after
   always_later node place zero high body later can ends before after grown = absurd (omega (arith, later))
   always_later node place (suc low) high body later can ends before after grown =
-      asked_instance now rule (Always node place (suc low) high body) (suc low) high v refl (λ plans stands. stands.named.0) can ends before after grown
+      asked_instance now rule (Always node place (suc low) high body) (suc low) high v refl (λ plans stands. stands.named.0) can ends
+      (Always node place (suc low) high body, inl refl, (v, refl)) before after grown
 
   pub always_at_once : (node place low high : ℕ) (body : Plan) → (0 < low → ⊥) → MayAsk (Always node place low high body)
       → AllByRecursion EndsInTime (nodes (Always node place low high body)) → (before between after : List Instance)
       → between ≡ before ++ begun_by now rule node low high v ∷ [] → Puts body between after
       → Puts (Always node place low high body) before after
   always_at_once node place zero high body at_once can ends before between after grown puts =
-      asked_behind now rule body (Always node place 0 high body) (in_body (Always node place 0 high body) body) node 0 high v
+      asked_behind now rule body (Always node place 0 high body) (in_body (Always node place 0 high body) body) (λ end is. inr is) node 0 high v
       (λ trace. Begun trace rule body v) before between after
-      (asked_instance now rule (Always node place 0 high body) 0 high v refl (λ plans stands. stands.named.0) can ends before between grown) puts
+      (asked_instance now rule (Always node place 0 high body) 0 high v refl (λ plans stands. stands.named.0) can ends
+      (Always node place 0 high body, inl refl, (v, refl)) before between grown) puts
   always_at_once node place (suc low) high body at_once can ends before between after grown puts = absurd (at_once (omega arith))
 
   pub next_begun : (node place high : ℕ) (body : Plan) → MayAsk (Next node place high body)
       → AllByRecursion EndsInTime (nodes (Next node place high body)) → (before after : List Instance)
       → after ≡ before ++ begun_by now rule node 0 high v ∷ [] → Puts (Next node place high body) before after
   next_begun node place high body can ends before after grown =
-      asked_instance now rule (Next node place high body) 0 high v refl (λ plans stands. stands.named.0) can ends before after grown
+      asked_instance now rule (Next node place high body) 0 high v refl (λ plans stands. stands.named.0) can ends
+      (Next node place high body, inl refl, (v, refl)) before after grown
 
   -- ---- tests
 
@@ -261,7 +289,7 @@ module _ (now : Now) (rule : ℕ) (v : Valuation) where
 
     pub test_begins : IsFalse holds → (before after : List Instance) → Puts body before after → Puts (TestOr node n f body) before after
     test_begins is_false before after puts =
-        asked_as now rule body (TestOr node n f body) (in_body (TestOr node n f body) body)
+        asked_as now rule body (TestOr node n f body) (in_body (TestOr node n f body) body) (λ end is. inr is)
         (λ trace. Begun trace rule body v) (λ trace. Begun trace rule (TestOr node n f body) v)
         (λ trace is xs begun. inr (
           (λ satisfied. true≢false (sym ((test_is now trace n f scope at free is v binds holds told).1 satisfied) ∙ is_false)),
@@ -274,16 +302,35 @@ module _ (now : Now) (n : ℕ) (f : Formula) (scope xs : List VarId) (at : IsGua
     (opening : AreOpen f scope xs) (new : AreNew scope xs) (v : Valuation) (fit : FitsScope scope v) (t : Relation)
     (table : IsTable t) (columns : HasOpenColumns now.tables.now n t)
     (evaluated : AreEvaluated now.tables.now n now.ordered.now v t) where
+  -- what is begun is so under a row
+  rows_below : (rule node : ℕ) (body : Plan) (before after more : List Instance) → after ≡ before ++ more → (t.rows ≡ [] → after ≡ before)
+      → AllByRecursion (IsBegunHere now rule body) more → AllByRecursion (IsBegunHere now rule (Guarded node xs n f body)) more
+  rows_below rule node body before after more grown none each = by t.rows refl
+    where
+      by : (rows : List (List Value)) → t.rows ≡ rows → AllByRecursion (IsBegunHere now rule (Guarded node xs n f body)) more
+      by [] are =
+          let same : length after ≡ length before = ap length (none are) in
+          let long : length after ≡ length before + length more = ap length grown ∙ length-append before more in
+          subst (AllByRecursion (IsBegunHere now rule (Guarded node xs n f body))) (sym (nil_from_length more (omega (arith, same, long)))) tt
+      by (row ∷ rows) are =
+          begun_below now rule body (Guarded node xs n f body)
+          (λ end is. inr (row_met now n f scope xs at opening new v fit t table columns evaluated row (subst (λ l. Contains l row) (sym are) (here row rows)), is)) more each
+
   pub rows_begun : (rule node : ℕ) (body : Plan) (before after : List Instance)
       → AddsAsked now rule body (λ trace. Gathers (λ row. Begun trace rule body (filled v t.columns row)) t.rows) before after
-      → Puts now rule v (Guarded node xs n f body) before after
-  rows_begun rule node body before after puts =
-      asked_as now rule body (Guarded node xs n f body) (in_body (Guarded node xs n f body) body)
-      (λ trace. Gathers (λ row. Begun trace rule body (filled v t.columns row)) t.rows)
-      (λ trace. Begun trace rule (Guarded node xs n f body) v)
-      (λ trace is begun gathered. (
+      → (t.rows ≡ [] → after ≡ before) → Puts now rule v (Guarded node xs n f body) before after
+  rows_begun rule node body before after puts none = record {
+    adds = record {
+      more = puts.adds.more;
+      grown = puts.adds.grown;
+      are = λ trace is. (
         t.rows,
         rows_are now n f scope xs at opening new v fit t table columns evaluated trace is,
-        gathers_as (λ row. Begun trace rule body (filled v t.columns row)) (λ row. Begun trace rule body (with_values xs row v)) t.rows begun
-            (λ row there ys one. subst (λ w. Begun trace rule body w ys) (row_is now n f scope xs at opening new v fit t table columns evaluated row there) one) gathered,
-      )) before after puts
+        gathers_as (λ row. Begun trace rule body (filled v t.columns row)) (λ row. Begun trace rule body (with_values xs row v)) t.rows puts.adds.more
+            (λ row there ys one. subst (λ w. Begun trace rule body w ys) (row_is now n f scope xs at opening new v fit t table columns evaluated row there) one)
+            (puts.adds.are trace is),
+      );
+    };
+    asked = λ plans stands. puts.asked plans (stands_inside plans rule body (Guarded node xs n f body) (in_body (Guarded node xs n f body) body) stands);
+    begun = rows_below rule node body before after puts.adds.more puts.adds.grown none puts.begun;
+  }

@@ -3,6 +3,7 @@ pub mod LostLemmas
 pub mod EnoughLemmas
 pub mod OneLemmas
 pub mod AskLemmas
+pub mod ReachingLemmas
 pub mod AddingLemmas
 pub mod ExistLemmas
 pub mod WantedLemmas

@@ -1,5 +1,5 @@
 -- What a pending instance misses is what a part of its node misses.
-use Rattle.std.proofs.Common.{◌≡◌, ℕ, Bool, false, List, sym, subst, inl, inr}
+use Rattle.std.proofs.Common.{◌≡◌, ℕ, Bool, false, List, refl, sym, subst, inl, inr}
 use Rattle.std.specs.Prelude.{IsTrue}
 use Rattle.enf_value.specs.declared.steps.Step.{Step}
 use Rattle.plan_terms.specs.Plans.{Plan, Eventually, Always, Until, Next}
@@ -21,6 +21,7 @@ module _ (now : Now) (i : Instance) where
     misses = λ trace is literals missing. missing;
     inside = in_body (Eventually node place low high body) body;
     can = record { scope = can.scope; can = can.can.1; fits = can.fits };
+    has = refl;
   })
 
   pub asks_next : (node place high : ℕ) (body : Plan) → CanAsk (guards_at now.tables.now) (Next node place high body) i.valuation
@@ -29,6 +30,7 @@ module _ (now : Now) (i : Instance) where
     misses = λ trace is literals missing. missing;
     inside = in_body (Next node place high body) body;
     can = record { scope = can.scope; can = can.can.1; fits = can.fits };
+    has = refl;
   }
 
   pub asks_always : (node place low high : ℕ) (body : Plan) → CanAsk (guards_at now.tables.now) (Always node place low high body) i.valuation
@@ -37,6 +39,7 @@ module _ (now : Now) (i : Instance) where
     misses = λ trace is literals missing. inl (in_window_now trace is within, missing);
     inside = in_body (Always node place low high body) body;
     can = record { scope = can.scope; can = can.can.1; fits = can.fits };
+    has = refl;
   }
 
   -- in its window, the right side of an until misses something
@@ -55,6 +58,7 @@ module _ (now : Now) (i : Instance) where
     misses = λ trace is literals missing. inr (missed trace is, missing);
     inside = in_right (Until node place low high left right) left right;
     can = record { scope = can.scope; can = can.can.2; fits = can.fits };
+    has = inr refl;
   })
 
   pub asks_left : (node place low high : ℕ) (left right : Plan) → CanAsk (guards_at now.tables.now) (Until node place low high left right) i.valuation
@@ -63,4 +67,5 @@ module _ (now : Now) (i : Instance) where
     misses = λ trace is literals missing. inr (missed trace is, missing);
     inside = in_left (Until node place low high left right) left right;
     can = record { scope = can.scope; can = can.can.1; fits = can.fits };
+    has = inl refl;
   })

@@ -24,16 +24,18 @@ use Rattle.plan_terms.specs.Plans.{Until, Next}
 use Rattle.plan_terms.specs.ScopeLaws.{FoundIsFirst}
 use Rattle.plan_terms.specs.Standing.{IsNamed, StandsIn, node_in}
 use Rattle.plan_terms.specs.Triggers.{TriggersAreMet, triggers}
-use Rattle.obligations.specs.Begun.{Begun, BeginsAlways, BeginsOrWaits, LacksNothing, WithBehind, begun_now}
+use Rattle.obligations.specs.Begun.{Begun, BeginsAlways, BeginsOrWaits, LacksNothing, WithBehind, begun_now, time_now}
 use Rattle.obligations.specs.Missing.{Missing, MissesAlways, MissesUntil, IsAbsent, IsPresent, LiteralUnless, OfEvent, cause, suppress}
 use Rattle.obligations.specs.Pending.{After, AtNode, BecomesAt, Goes, PendsBehind, node_of}
-use Rattle.obligations.specs.Reached.{AreMet, BegunByRoots-contains, BegunIsNamed, BegunIsReached, Gathers-contains, IsBegunBy, IsBegunIn, IsMissedIn, IsReached, MissedIsReached, PendCame, PendingWasBegun, ReachedIsInside}
+use Rattle.obligations.specs.Reached.{AreMet, BegunByRoots-contains, BegunIsNamed, BegunIsReached, Gathers-contains, IsBegunBy, IsBegunIn, IsMissedIn, IsReached, MissedIsReached, PendCame, PendingWasBegun, ReachedIsInside, last_events}
+use Rattle.obligations.specs.Reaching.{IsBegunAt, IsReachedBy, begun_at}
 use Rattle.obligations.specs.Rows.{AreRowsOf, HoldsLast, last_position}
 use Rattle.obligations.specs.Traces.{PlansStand}
 use Rattle.obligations.specs.declared.instances.Instance.{Instance}
 use Rattle.obligations.specs.declared.literals.Literal.{Literal}
 use Rattle.obligations.proofs.EnoughLemmas.{taken}
 use Rattle.obligations.proofs.ExistLemmas.{present_or_not}
+use Rattle.obligations.proofs.ReachingLemmas.{met_or_not}
 use Rattle.obligations.proofs.TraceLemmas.{shorter_pends, stands_found, whole}
 use Rattle.obligations.proofs.WantedLemmas.{args_long}
 
@@ -47,35 +49,6 @@ only {X} x y xs are there =
     ⊎_elim (λ same. same) (λ none. absurd (none_in_nil x none)) (first_or_later x y [] (subst (λ (l : List X). Contains l x) are there))
 
 -- ---- triggers that are met
-
-name_decided : (a b : NameId) → Decides (nat_eq a.0 b.0) (a ≡ b)
-name_decided a b = (
-  λ e. ap (λ (n : ℕ). let name : NameId = record { 0 = n } in name) ((unsigned_Decides a.0 b.0).0 e),
-  λ same. (unsigned_Decides a.0 b.0).1 (ap (λ (n : NameId). n.0) same),
-)
-
-name_or_not : (names : List NameId) (name : NameId) → Contains names name ⊎ (Contains names name → ⊥)
-name_or_not names name = by _ (list_any-Decides (λ (a b : NameId). nat_eq a.0 b.0) name_decided names name)
-  where
-    by : (b : Bool) → Decides b (Contains names name) → Contains names name ⊎ (Contains names name → ⊥)
-    by true decides = inl (decides.0 refl)
-    by false decides = inr (λ there. false≢true (decides.1 there))
-
-abbrev Among : List Event → List NameId → Type 0
-Among events names = (event : Event) × Contains events event × Contains names event.name
-
-met_or_not : (names : List NameId) (events : List Event) → Among events names ⊎ (Among events names → ⊥)
-met_or_not names [] = inr (λ m. none_in_nil m.0 m.1)
-met_or_not names (e ∷ events) = ⊎_elim
-    (λ is. inl (e, here e events, is))
-    (λ other. ⊎_elim
-    (λ m. inl (m.0, later m.0 e events m.1, m.2))
-    (λ none. inr (λ m. ⊎_elim
-    (λ same. other (subst (λ (x : Event). Contains names x.name) (sym same) m.2))
-    (λ more. none (m.0, more, m.2))
-    (first_or_later m.0 e events m.1)))
-    (met_or_not names events))
-    (name_or_not names e.name)
 
 module _ (triggers_are_met : TriggersAreMet) (trace : List Step) where
   guard_met : (v : Valuation) (test : Formula) → HoldsLast trace v test → AreMet trace (triggers test)
@@ -327,52 +300,52 @@ in_two plan left right end reached on_left on_right =
     (λ l. Contains-append_left (nodes left) (nodes right) end (on_left l))
     (λ r. Contains-append_right (nodes left) (nodes right) end (on_right r)) r)) reached
 
-node_inside : (trace : List Step) (plan end : Plan) → IsReached trace plan end → Contains (nodes plan) end
-node_inside trace (Cause node place name terms) end reached = self (Cause node place name terms) end [] reached
-node_inside trace (Suppress node place name terms) end reached = self (Suppress node place name terms) end [] reached
-node_inside trace (Both node left right) end reached =
-    in_two (Both node left right) left right end reached (node_inside trace left end) (node_inside trace right end)
-node_inside trace (Either node left right) end reached =
-    in_two (Either node left right) left right end reached (node_inside trace left end) (node_inside trace right end)
-node_inside trace (TestOr node guard test body) end reached =
-    in_one (TestOr node guard test body) body end reached (node_inside trace body end)
-node_inside trace (Guarded node xs guard test body) end reached =
-    in_one (Guarded node xs guard test body) body end reached (λ r. node_inside trace body end r.1)
-node_inside trace (Eventually node place low high body) end reached =
-    in_one (Eventually node place low high body) body end reached (node_inside trace body end)
-node_inside trace (Always node place low high body) end reached =
-    in_one (Always node place low high body) body end reached (node_inside trace body end)
-node_inside trace (Until node place low high left right) end reached =
-    in_two (Until node place low high left right) left right end reached (node_inside trace left end) (node_inside trace right end)
-node_inside trace (Next node place high body) end reached =
-    in_one (Next node place high body) body end reached (node_inside trace body end)
+node_inside : (events : List Event) (plan end : Plan) → IsReachedBy events plan end → Contains (nodes plan) end
+node_inside events (Cause node place name terms) end reached = self (Cause node place name terms) end [] reached
+node_inside events (Suppress node place name terms) end reached = self (Suppress node place name terms) end [] reached
+node_inside events (Both node left right) end reached =
+    in_two (Both node left right) left right end reached (node_inside events left end) (node_inside events right end)
+node_inside events (Either node left right) end reached =
+    in_two (Either node left right) left right end reached (node_inside events left end) (node_inside events right end)
+node_inside events (TestOr node guard test body) end reached =
+    in_one (TestOr node guard test body) body end reached (node_inside events body end)
+node_inside events (Guarded node xs guard test body) end reached =
+    in_one (Guarded node xs guard test body) body end reached (λ r. node_inside events body end r.1)
+node_inside events (Eventually node place low high body) end reached =
+    in_one (Eventually node place low high body) body end reached (node_inside events body end)
+node_inside events (Always node place low high body) end reached =
+    in_one (Always node place low high body) body end reached (node_inside events body end)
+node_inside events (Until node place low high left right) end reached =
+    in_two (Until node place low high left right) left right end reached (node_inside events left end) (node_inside events right end)
+node_inside events (Next node place high body) end reached =
+    in_one (Next node place high body) body end reached (node_inside events body end)
 
 pub reached_is_inside : ReachedIsInside
-reached_is_inside trace plan node reached = node_inside trace plan node reached
+reached_is_inside events plan node reached = node_inside events plan node reached
 
-named : (trace : List Step) (rule number low high : ℕ) (v : Valuation) (i : Instance)
-    → begun_now trace rule number low high v ≡ i → (i.rule ≡ rule) × (i.node ≡ number)
-named trace rule number low high v i same = (sym (ap (λ (k : Instance). k.rule) same), sym (ap (λ (k : Instance). k.node) same))
+named : (time position rule number low high : ℕ) (v : Valuation) (i : Instance)
+    → begun_at time position rule number low high v ≡ i → (i.rule ≡ rule) × (i.node ≡ number)
+named time position rule number low high v i same = (sym (ap (λ (k : Instance). k.rule) same), sym (ap (λ (k : Instance). k.node) same))
 
-rule_and_node : (trace : List Step) (rule : ℕ) (node : Plan) (i : Instance) → IsBegunBy trace rule node i
+rule_and_node : (time position rule : ℕ) (node : Plan) (i : Instance) → IsBegunAt time position rule node i
     → (i.rule ≡ rule) × (i.node ≡ number_of node)
-rule_and_node trace rule (Eventually node place low high body) i (v, same) = named trace rule node low high v i same
-rule_and_node trace rule (Always node place low high body) i (v, same) = named trace rule node low high v i same
-rule_and_node trace rule (Until node place low high left right) i (v, same) = named trace rule node low high v i same
-rule_and_node trace rule (Next node place high body) i (v, same) = named trace rule node 0 high v i same
-rule_and_node trace rule (Cause node place name terms) i begins = absurd begins
-rule_and_node trace rule (Suppress node place name terms) i begins = absurd begins
-rule_and_node trace rule (Both node left right) i begins = absurd begins
-rule_and_node trace rule (Either node left right) i begins = absurd begins
-rule_and_node trace rule (TestOr node guard test body) i begins = absurd begins
-rule_and_node trace rule (Guarded node xs guard test body) i begins = absurd begins
+rule_and_node time position rule (Eventually node place low high body) i (v, same) = named time position rule node low high v i same
+rule_and_node time position rule (Always node place low high body) i (v, same) = named time position rule node low high v i same
+rule_and_node time position rule (Until node place low high left right) i (v, same) = named time position rule node low high v i same
+rule_and_node time position rule (Next node place high body) i (v, same) = named time position rule node 0 high v i same
+rule_and_node time position rule (Cause node place name terms) i begins = absurd begins
+rule_and_node time position rule (Suppress node place name terms) i begins = absurd begins
+rule_and_node time position rule (Both node left right) i begins = absurd begins
+rule_and_node time position rule (Either node left right) i begins = absurd begins
+rule_and_node time position rule (TestOr node guard test body) i begins = absurd begins
+rule_and_node time position rule (Guarded node xs guard test body) i begins = absurd begins
 
 pub begun_is_named : BegunIsNamed
-begun_is_named plans trace rule plan node i stands reached begins =
-    let is = rule_and_node trace rule node i begins in (
+begun_is_named plans events time position rule plan node i stands reached begins =
+    let is = rule_and_node time position rule node i begins in (
       is.0,
       ap (λ (n : ℕ). node_in plans i.rule n) is.1 ∙ ap (λ (r : ℕ). node_in plans r (number_of node)) is.0
-          ∙ AllByRecursion-contains (IsNamed plans rule) (nodes plan) node stands.named (node_inside trace plan node reached),
+          ∙ AllByRecursion-contains (IsNamed plans rule) (nodes plan) node stands.named (node_inside events plan node reached),
     )
 
 -- a part of a node stands in it
@@ -431,7 +404,7 @@ module _ (first : FoundIsFirst) (met : TriggersAreMet) (plans : List Plan)
   was_begun_here : (front more : List Step) → front ++ more ≡ trace → 0 < length front → (rule : ℕ) (plan : Plan) (i : Instance)
       → StandsIn plans rule plan → IsBegunIn front rule plan i → WasBegun i
   was_begun_here front more splits some rule plan i stands (node, reached, begins) =
-      let is = begun_is_named plans front rule plan node i stands reached begins in
+      let is = begun_is_named plans (last_events front) (time_now front) (last_position front) rule plan node i stands reached begins in
       (node, is.1, front, more, splits, some, subst (λ (r : ℕ). IsBegunBy front r node i) (sym is.0) begins)
 
   was_begun : (n : ℕ) → n ≤ length trace → (pending : List Instance) → PendsBehind plans trace n pending → (i : Instance)

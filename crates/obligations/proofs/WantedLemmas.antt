@@ -27,12 +27,14 @@ use Rattle.valuations.specs.Tables.{IsTable, Relation, cell}
 use Rattle.obligations.specs.Adding.{AddsOf}
 use Rattle.obligations.specs.Asked.{FitsScope, IsBound, IsGuardAt, IsKnownAt, IsLeafConstant, IsWanted, guards_at}
 use Rattle.obligations.specs.Missing.{LiteralUnless, OfEvent, cause, suppress}
+use Rattle.obligations.specs.Reaching.{IsReachedBy}
 use Rattle.obligations.specs.Waiting.{IsWantedUnder}
 use Rattle.obligations.specs.declared.literals.Literal.{Literal}
 use Rattle.obligations.specs.declared.now.Now.{Now}
 use Rattle.obligations.proofs.AddingLemmas.{row_is}
 use Rattle.obligations.proofs.ExistLemmas.{present_or_not}
 use Rattle.obligations.proofs.AskLemmas.{new_distinct, row_fits, the_guard}
+use Rattle.obligations.proofs.ReachingLemmas.{row_met}
 
 -- ---- the values of a leaf's terms
 
@@ -104,6 +106,7 @@ cause_wanted now v node place name terms (Some l) missing = by (values_of v term
         (λ absent. subst (IsWanted now (Cause node place name terms) v) (sym (one_only l (cause (record { name = name; args = args }) node) absent.1)) (record {
           leaf = Cause node place name terms;
           there = here (Cause node place name terms) [];
+          reached = refl;
           is = (refl, refl, refl, args_long v terms args e);
           changes = absent.0;
           known = known_of now (Cause node place name terms) v terms args e (λ value among. (Cause node place name terms, here (Cause node place name terms) [], among));
@@ -129,6 +132,7 @@ suppress_wanted now v node place name terms (Some l) missing = by (values_of v t
         (λ absent. subst (IsWanted now (Suppress node place name terms) v) (sym (one_only l (suppress (record { name = name; args = args }) node) absent.1)) (record {
           leaf = Suppress node place name terms;
           there = here (Suppress node place name terms) [];
+          reached = refl;
           is = (refl, refl, refl, args_long v terms args e);
           changes = held (record { name = name; args = args }) absent.0;
           known = known_of now (Suppress node place name terms) v terms args e (λ value among. (Suppress node place name terms, here (Suppress node place name terms) [], among));
@@ -138,11 +142,13 @@ suppress_wanted now v node place name terms (Some l) missing = by (values_of v t
 -- ---- what a part wants
 
 pub wanted_in : (now : Now) (part whole : Plan) (v : Valuation)
-    → ((leaf : Plan) → Contains (nodes part) leaf → Contains (nodes whole) leaf) → (l : Literal) → IsWanted now part v l
-    → IsWanted now whole v l
-wanted_in now part whole v inside l wanted = record {
+    → ((leaf : Plan) → Contains (nodes part) leaf → Contains (nodes whole) leaf)
+    → ((leaf : Plan) → IsReachedBy now.ordered.now part leaf → IsReachedBy now.ordered.now whole leaf)
+    → (l : Literal) → IsWanted now part v l → IsWanted now whole v l
+wanted_in now part whole v inside below l wanted = record {
   leaf = wanted.leaf;
   there = inside wanted.leaf wanted.there;
+  reached = below wanted.leaf wanted.reached;
   is = wanted.is;
   changes = wanted.changes;
   known = λ value there. ⊎_elim inl (λ k. inr (⊎_elim inl (λ k'. inr (⊎_elim inl (λ k''. inr (⊎_elim inl
@@ -216,6 +222,7 @@ module _ (now : Now) (n : ℕ) (f : Formula) (scope xs : List VarId) (at : IsGua
       let w = subst (λ u. IsWanted now body u l) (row_is now n f scope xs at opening new v fit t table columns evaluated under.row under.there) under.wanted in record {
         leaf = w.leaf;
         there = in_body whole body w.leaf w.there;
+        reached = inr (row_met now n f scope xs at opening new v fit t table columns evaluated under.row under.there, w.reached);
         is = w.is;
         changes = w.changes;
         known = λ value there. ⊎_elim (λ bound. row_known under.row under.there value bound)

@@ -26,6 +26,7 @@ use Rattle.plan_terms.specs.Plans.{Until, Next}
 use Rattle.plan_terms.specs.Scopes.{AtEach}
 use Rattle.valuations.specs.Just.{Binds}
 use Rattle.obligations.specs.Begun.{time_now}
+use Rattle.obligations.specs.Reaching.{IsReachedBy}
 use Rattle.obligations.specs.Rows.{HoldsLast, last_position}
 use Rattle.obligations.specs.declared.literals.Literal.{Literal}
 use Rattle.obligations.specs.declared.literals.LiteralKind.{LiteralKind}
@@ -128,10 +129,12 @@ IsKnownAt now plan v value = IsBound v value ⊎ (IsArgument now.ordered.now val
     ⊎ (IsTabled now.tables.now.stack value ⊎ (IsConstantOf (formulas now.tables.now.guards) value
     ⊎ IsLeafConstant plan value)))
 
--- the literal is that of a leaf of the plan, it changes the events, and each of its values is known
+-- the literal is that of a leaf of the plan, below guards that are triggered at the step, it changes the events, and
+-- each of its values is known
 pub record IsWanted (now : Now) (plan : Plan) (v : Valuation) (literal : Literal) : Type 0 where
   pub leaf : Plan
   pub there : Contains (nodes plan) leaf
+  pub reached : IsReachedBy now.ordered.now plan leaf
   pub is : IsLeaf leaf literal.kind literal.leaf literal.event
   pub changes : Changes literal.kind literal.event now.events.now
   pub known : (value : Value) → Contains literal.event.args value → IsKnownAt now plan v value

@@ -1,15 +1,19 @@
 -- What of pending instances goes on behind a step, and what is begun for them, whatever trace the step stands for.
-use Rattle.std.specs.Prelude.{◌≡◌, ℕ, ◌+◌, Bool, cond, List, [], ◌∷◌, ◌++◌, Option, None, Some, IfSome, Contains}
+use Rattle.std.specs.Prelude.{◌≡◌, ◌⊎◌, ℕ, ◌+◌, ◌==◌, ◌&&◌, Bool, true, false, cond, List, [], ◌∷◌, ◌++◌, Option, None}
+use Rattle.std.specs.Prelude.{Some, IfSome, Contains, slice_get}
 use Rattle.std.specs.List.{AllByRecursion}
+use Rattle.enf_value.specs.declared.events.Event.{Event}
 use Rattle.enf_value.specs.declared.steps.Step.{Step}
 use Rattle.deadline_queue.specs.Queues.{held}
-use Rattle.plan_terms.specs.Nodes.{nodes}
-use Rattle.plan_terms.specs.Plans.{Plan}
+use Rattle.plan_terms.specs.Nodes.{has_deadline, nodes}
+use Rattle.plan_terms.specs.Plans.{Plan, Eventually, Until, Next}
 use Rattle.obligations.specs.Adding.{Adds}
 use Rattle.obligations.specs.Asked.{CanAsk, IsNowOf, guards_at}
-use Rattle.obligations.specs.Begun.{Begun}
-use Rattle.obligations.specs.Pending.{BecomesAt}
-use Rattle.obligations.specs.Waiting.{CanAskOf, count_due}
+use Rattle.obligations.specs.Begun.{Begun, LacksNothing, time_now}
+use Rattle.obligations.specs.Pending.{After, AtNode, BecomesAt, IsNowIn, node_of}
+use Rattle.obligations.specs.Reaching.{IsBegunUnder}
+use Rattle.obligations.specs.Rows.{Gathers}
+use Rattle.obligations.specs.Waiting.{CanAskOf, HasPart, count_due}
 use Rattle.obligations.specs.declared.instances.Instance.{Instance}
 use Rattle.obligations.specs.declared.now.Now.{Now}
 
@@ -23,17 +27,85 @@ pub record IsPartOf (now : Now) (node : Plan) (i : Instance) (part : Plan) : Typ
   pub inside : (leaf : Plan) → Contains (nodes part) leaf → Contains (nodes node) leaf
   pub can : CanAsk (guards_at now.tables.now) part i.valuation
 
--- an instance of the node stays, or not, and what this part begins comes behind it
-pub record WillBecome (now : Now) (node : Plan) (i : Instance) (stays : Bool) (begins : Option Plan) : Type 0 where
-  pub becomes : (trace : List Step) → IsNowOf now trace → (begun : List Instance) → BegunFor trace i begins begun
+-- at an inserted step at the end of its window an instance cannot wait any longer
+abbrev pub is_forced_at : (inserted : Bool) → (time : ℕ) → Instance → Bool
+is_forced_at inserted time i = inserted && (time == i.high)
+
+-- what a node with a deadline waits for
+abbrev pub awaited_in : Plan → Option Plan
+awaited_in (Eventually node place low high body) = Some body
+awaited_in (Until node place low high left right) = Some right
+awaited_in (Next node place high body) = Some body
+awaited_in plan = None
+
+-- where it has a deadline, it is in its window, and nothing is missing of what it waits for
+abbrev pub IsServed : List Step → Plan → Instance → Type 0
+IsServed trace (Eventually node place low high body) i = IsNowIn trace i × LacksNothing trace body i.valuation
+IsServed trace (Until node place low high left right) i = IsNowIn trace i × LacksNothing trace right i.valuation
+IsServed trace plan i = Unit {0}
+
+-- each of the instances that are forced is served
+abbrev pub AreServed : List Plan → (inserted : Bool) → List Step → List Instance → Type 0
+AreServed plans inserted trace = AllByRecursion (λ i. is_forced_at inserted (time_now trace) i ≡ true
+    → AtNode (node_of plans i) (λ node. IsServed trace node i))
+
+-- an instance of the node stays, or not, and what this part begins comes behind it. One with a deadline that is forced
+-- does not stay, and counts as served
+pub record WillBecome (now : Now) (node : Plan) (i : Instance) (forced stays : Bool) (begins : Option Plan) : Type 0 where
+  pub becomes : (trace : List Step) → IsNowOf now trace → (forced ≡ true → IsServed trace node i)
+      → (begun : List Instance) → BegunFor trace i begins begun
       → BecomesAt trace node i (cond stays (i ∷ []) [] ++ begun)
   pub part : IfSome begins (IsPartOf now node i)
+  pub waits : stays ≡ true → has_deadline node ≡ true → forced ≡ false
+  pub has : IfSome begins (HasPart node)
+
+-- what an instance becomes, and what each of some does, where those that are forced are served
+abbrev pub BecomesOne : List Plan → (inserted : Bool) → Instance → List Step → List Instance → Type 0
+BecomesOne plans inserted i trace after = AreServed plans inserted trace (i ∷ []) → After plans trace i after
+
+abbrev pub BecomeAll : List Plan → (inserted : Bool) → List Instance → List Step → List Instance → Type 0
+BecomeAll plans inserted pending trace after =
+    AreServed plans inserted trace pending → Gathers (After plans trace) pending after
+
+-- at a step at a time and a position, with these events: the instance is the one that waits, or is begun for it, whatever
+-- the guards say
+abbrev pub ComesAt : List Event → (time position : ℕ) → List Plan → (inserted : Bool) → Instance → Instance → Type 0
+ComesAt events time position plans inserted i j = AtNode (node_of plans i) (λ node.
+    ((i ≡ j) × (has_deadline node ≡ true → is_forced_at inserted time i ≡ false))
+    ⊎ ((part : Plan) × HasPart node part × IsBegunUnder events time position i.rule part j))
+
+-- or the root of a rule begins it, whatever the guards say
+abbrev pub RootComesAt : List Event → (time position : ℕ) → List Plan → Instance → Type 0
+RootComesAt events time position plans j = (rule : ℕ) × (plan : Plan) × (slice_get plans rule ≡ Some plan)
+    × IsBegunUnder events time position rule plan j
+
+-- what a step leaves pending of what was pending, whatever the guards say
+abbrev pub LeadsAt : List Event → (time position : ℕ) → List Plan → (inserted : Bool) → (before after : List Instance)
+    → Type 0
+LeadsAt events time position plans inserted before after = (j : Instance) → Contains after j
+    → ((i : Instance) × Contains before i × ComesAt events time position plans inserted i j)
+    ⊎ RootComesAt events time position plans j
+
+abbrev pub ComesOf : Now → List Plan → (inserted : Bool) → Instance → Instance → Type 0
+ComesOf now = ComesAt now.ordered.now now.time now.position
+
+abbrev pub ComesOfRoot : Now → List Plan → Instance → Type 0
+ComesOfRoot now = RootComesAt now.ordered.now now.time now.position
+
+abbrev pub Leads : Now → List Plan → (inserted : Bool) → (before after : List Instance) → Type 0
+Leads now = LeadsAt now.ordered.now now.time now.position
+
+-- each instance comes of one of these
+abbrev pub ComeOf : Now → List Plan → (inserted : Bool) → (gone more : List Instance) → Type 0
+ComeOf now plans inserted gone more = (j : Instance) → Contains more j
+    → (i : Instance) × Contains gone i × ComesOf now plans inserted i j
 
 -- instances of the plans went out of what is pending, and others that have the property were put last in a list of it:
--- they can be asked, and the queue of deadlines went along
-pub record CarriesOn (now : Now) (plans : List Plan) (P : List Step → List Instance → Type 0) (gone : List Instance)
-    (before after : List Instance) (queue later : List (ℕ × ℕ)) : Type 0 where
+-- they can be asked and come of those, and the queue of deadlines went along
+pub record CarriesOn (now : Now) (plans : List Plan) (inserted : Bool) (P : List Step → List Instance → Type 0)
+    (gone : List Instance) (before after : List Instance) (queue later : List (ℕ × ℕ)) : Type 0 where
   pub adds : Adds now P before after
   pub asked : AllByRecursion (CanAskOf (guards_at now.tables.now) plans) adds.more
+  pub come : ComeOf now plans inserted gone adds.more
   pub deadlines : (deadline : ℕ) → held later deadline + count_due plans gone deadline
       ≡ held queue deadline + count_due plans adds.more deadline

@@ -16,6 +16,7 @@ pub mod Leading
 pub mod Existing
 pub mod Sources
 pub mod Founding
+pub mod Reaching
 pub mod Reached
 pub mod Patient
 pub mod Unread

@@ -1,6 +1,5 @@
 -- Where in a plan is what is missed and begun at a step: below guards that are triggered there.
-use Rattle.std.specs.Prelude.{◌≡◌, ℕ, suc, ◌+◌, ◌<◌, List, [], ◌∷◌, ◌++◌, ◌⊎◌, length, Contains}
-use Rattle.std.specs.Prelude.{Option, None, Some, slice_get}
+use Rattle.std.specs.Prelude.{◌≡◌, ℕ, suc, ◌+◌, ◌<◌, List, [], ◌∷◌, ◌++◌, length, Contains, Option, Some, slice_get}
 use Rattle.std.proofs.Common.{subst, ⊎_elim, arith, refl}
 use Rattle.enf_value.specs.Data.{step_at}
 use Rattle.enf_value.specs.ListLaws.{Contains-append, here, later, none_in_nil}
@@ -9,59 +8,39 @@ use Rattle.enf_value.specs.declared.events.Event.{Event}
 use Rattle.enf_value.specs.declared.events.NameId.{NameId}
 use Rattle.enf_value.specs.declared.steps.Step.{Step}
 use Rattle.plan_terms.specs.Nodes.{nodes}
-use Rattle.plan_terms.specs.Plans.{Plan, Cause, Suppress, Both, Either, TestOr, Guarded, Eventually, Always}
-use Rattle.plan_terms.specs.Plans.{Until, Next}
+use Rattle.plan_terms.specs.Plans.{Plan}
 use Rattle.plan_terms.specs.Standing.{StandsIn}
-use Rattle.plan_terms.specs.Triggers.{triggers}
 use Rattle.obligations.specs.Asked.{Changes, IsLeaf}
-use Rattle.obligations.specs.Begun.{Begun, begun_now}
-use Rattle.obligations.specs.Missing.{IsPresent, Missing}
+use Rattle.obligations.specs.Begun.{Begun, time_now}
+use Rattle.obligations.specs.Missing.{Missing}
 use Rattle.obligations.specs.Pending.{BegunByRoots, Goes, Pend, node_of}
+use Rattle.obligations.specs.Reaching.{AreMetBy, IsBegunAt, IsReachedBy}
 use Rattle.obligations.specs.Rows.{Gathers, last_position}
 use Rattle.obligations.specs.Traces.{PlansStand}
 use Rattle.obligations.specs.declared.instances.Instance.{Instance}
 use Rattle.obligations.specs.declared.literals.Literal.{Literal}
 
--- where there are names, the last step has an event of one of them
+-- the events of the last step
+abbrev pub last_events : List Step → List Event
+last_events trace = (step_at trace (last_position trace)).events
+
+-- where there are names, one of these has one of them
 abbrev pub AreMet : List Step → Option (List NameId) → Type 0
-AreMet trace None = Unit {0}
-AreMet trace (Some names) = (event : Event) × IsPresent trace event × Contains names event.name
+AreMet trace = AreMetBy (last_events trace)
 
 -- the plan has the node, and the triggers of each guard above it are met
 abbrev pub IsReached : List Step → (plan end : Plan) → Type 0
-IsReached trace (Cause node place name terms) end = Cause node place name terms ≡ end
-IsReached trace (Suppress node place name terms) end = Suppress node place name terms ≡ end
-IsReached trace (Both node left right) end =
-    (Both node left right ≡ end) ⊎ (IsReached trace left end ⊎ IsReached trace right end)
-IsReached trace (Either node left right) end =
-    (Either node left right ≡ end) ⊎ (IsReached trace left end ⊎ IsReached trace right end)
-IsReached trace (TestOr node guard test body) end = (TestOr node guard test body ≡ end) ⊎ IsReached trace body end
-IsReached trace (Guarded node xs guard test body) end =
-    (Guarded node xs guard test body ≡ end) ⊎ (AreMet trace (triggers test) × IsReached trace body end)
-IsReached trace (Eventually node place low high body) end =
-    (Eventually node place low high body ≡ end) ⊎ IsReached trace body end
-IsReached trace (Always node place low high body) end =
-    (Always node place low high body ≡ end) ⊎ IsReached trace body end
-IsReached trace (Until node place low high left right) end =
-    (Until node place low high left right ≡ end) ⊎ (IsReached trace left end ⊎ IsReached trace right end)
-IsReached trace (Next node place high body) end = (Next node place high body ≡ end) ⊎ IsReached trace body end
+IsReached trace = IsReachedBy (last_events trace)
 
 -- the literal is that of a leaf that is reached, and it changes the events
 abbrev pub IsMissedIn : List Step → Plan → Literal → Type 0
 IsMissedIn trace plan literal = (leaf : Plan) × IsReached trace plan leaf
     × IsLeaf leaf literal.kind literal.leaf literal.event
-    × Changes literal.kind literal.event (step_at trace (last_position trace)).events
+    × Changes literal.kind literal.event (last_events trace)
 
 -- the instance is one that an operator on the future itself begins at the last position
 abbrev pub IsBegunBy : List Step → (rule : ℕ) → Plan → Instance → Type 0
-IsBegunBy trace rule (Eventually node place low high body) i =
-    (v : Valuation) × (begun_now trace rule node low high v ≡ i)
-IsBegunBy trace rule (Always node place low high body) i =
-    (v : Valuation) × (begun_now trace rule node low high v ≡ i)
-IsBegunBy trace rule (Until node place low high left right) i =
-    (v : Valuation) × (begun_now trace rule node low high v ≡ i)
-IsBegunBy trace rule (Next node place high body) i = (v : Valuation) × (begun_now trace rule node 0 high v ≡ i)
-IsBegunBy trace rule plan i = ⊥
+IsBegunBy trace = IsBegunAt (time_now trace) (last_position trace)
 
 -- such an operator is reached
 abbrev pub IsBegunIn : List Step → (rule : ℕ) → Plan → Instance → Type 0
@@ -117,11 +96,11 @@ BegunIsReached = (trace : List Step) (rule : ℕ) (plan : Plan) (v : Valuation) 
 
 -- a node that is reached is one of the plan's, and the instance that it begins names it
 abbrev pub ReachedIsInside : Type 0
-ReachedIsInside = (trace : List Step) (plan node : Plan) → IsReached trace plan node → Contains (nodes plan) node
+ReachedIsInside = (events : List Event) (plan node : Plan) → IsReachedBy events plan node → Contains (nodes plan) node
 
 abbrev pub BegunIsNamed : Type 0
-BegunIsNamed = (plans : List Plan) (trace : List Step) (rule : ℕ) (plan node : Plan) (i : Instance)
-    → StandsIn plans rule plan → IsReached trace plan node → IsBegunBy trace rule node i
+BegunIsNamed = (plans : List Plan) (events : List Event) (time position rule : ℕ) (plan node : Plan) (i : Instance)
+    → StandsIn plans rule plan → IsReachedBy events plan node → IsBegunAt time position rule node i
     → (i.rule ≡ rule) × (node_of plans i ≡ Some node)
 
 -- what is pending behind one step more was led there by that step

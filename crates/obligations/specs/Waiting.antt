@@ -1,5 +1,5 @@
 -- Pending instances of plans, what it takes to ask them, and their deadlines.
-use Rattle.std.specs.Prelude.{◌≡◌, ℕ, ◌==◌, Bool, true, false, cond, List, [], ◌∷◌, Option, None, Some, Contains}
+use Rattle.std.specs.Prelude.{◌≡◌, ◌⊎◌, ℕ, ◌==◌, Bool, true, false, cond, List, [], ◌∷◌, Option, None, Some, Contains}
 use Rattle.std.specs.Coded.{Coded, coded_ℕ, coded_list, coded×, code_by}
 use Rattle.std.specs.List.{AllByRecursion, count_by}
 use Rattle.std.specs.Prelude.{refl}
@@ -10,7 +10,7 @@ use Rattle.enf_value.specs.declared.values.Value.{Value}
 use Rattle.enf_formula.specs.Formulas.{Formula}
 use Rattle.plan_terms.specs.Limits.{EndsInTime}
 use Rattle.plan_terms.specs.Nodes.{has_deadline, is_future, nodes}
-use Rattle.plan_terms.specs.Plans.{Plan}
+use Rattle.plan_terms.specs.Plans.{Plan, Eventually, Always, Until, Next}
 use Rattle.valuations.specs.Scopes.{filled}
 use Rattle.valuations.specs.Tables.{Relation}
 use Rattle.obligations.specs.Asked.{CanAsk, IsNowOf, IsWanted, guards_at}
@@ -43,11 +43,22 @@ pub record CanAskOf (guards : List (Formula × List VarId)) (plans : List Plan) 
   pub can : CanAsk guards node i.valuation
   pub ends : AllByRecursion EndsInTime (nodes node)
 
--- the literal is wanted by the node of the instance
+-- the part is directly below an operator on the future
+abbrev pub HasPart : Plan → Plan → Type 0
+HasPart (Eventually node place low high body) part = body ≡ part
+HasPart (Next node place high body) part = body ≡ part
+HasPart (Always node place low high body) part = body ≡ part
+HasPart (Until node place low high left right) part = (left ≡ part) ⊎ (right ≡ part)
+HasPart plan part = ⊥
+
+-- the literal is wanted by a part of the node of the instance
 pub record IsWantedOf (now : Now) (plans : List Plan) (i : Instance) (literal : Literal) : Type 0 where
   pub node : Plan
   pub found : node_of plans i ≡ Some node
-  pub wanted : IsWanted now node i.valuation literal
+  pub part : Plan
+  pub has : HasPart node part
+  pub inside : (leaf : Plan) → Contains (nodes part) leaf → Contains (nodes node) leaf
+  pub wanted : IsWanted now part i.valuation literal
 
 -- it is wanted by a plan under one of the rows, which have the values of the columns that v does not bind
 pub record IsWantedUnder (now : Now) (plan : Plan) (v : Valuation) (rows : Relation) (literal : Literal) : Type 0 where
@@ -61,6 +72,7 @@ pub record AsksPart (now : Now) (node : Plan) (i : Instance) (forced : Bool) (pa
       → Missing trace part i.valuation literals → MissesAt trace node i forced literals
   pub inside : (leaf : Plan) → Contains (nodes part) leaf → Contains (nodes node) leaf
   pub can : CanAsk (guards_at now.tables.now) part i.valuation
+  pub has : HasPart node part
 
 -- it misses what this part misses, or nothing
 abbrev pub Asks : Now → Plan → Instance → (forced : Bool) → Option Plan → Type 0

@@ -1,5 +1,5 @@
 //! What a pending instance becomes behind a step.
-ghost use Rattle.std.specs.Prelude.{◌≡◌, ◌≤◌, ◌∷◌, [], false, true, IfOk, IfSome, List, OnOk, map};
+ghost use Rattle.std.specs.Prelude.{◌≡◌, ◌≤◌, ◌∷◌, [], false, true, Contains, IfOk, IfSome, List, OnOk, Some, map};
 ghost use Rattle.std.specs.List.{AllByRecursion};
 ghost use Rattle.std.specs.Option.{option_copied, option_map};
 ghost use Rattle.enf_value.specs.declared.steps.Step.{Step};
@@ -8,12 +8,13 @@ ghost use Rattle.plan_terms.specs.Nodes.{is_future, nodes};
 ghost use Rattle.plan_terms.specs.Plans.{Plan as Tree, plan_of};
 ghost use Rattle.plan_terms.specs.Standing.{StandsIn};
 ghost use Rattle.valuations.specs.Scopes.{bound_in};
-ghost use Rattle.obligations.specs.Adding.{AddsAsked};
+ghost use Rattle.obligations.specs.Adding.{AddsAsked, IsBegunHere};
 ghost use Rattle.obligations.specs.Asked.{CanAsk, IsNowOf, guards_at};
 ghost use Rattle.obligations.specs.Begun.{Begun};
-ghost use Rattle.obligations.specs.Carrying.{BegunFor, IsPartOf, WillBecome};
+ghost use Rattle.obligations.specs.Carrying.{BegunFor, ComesOf, IsPartOf, WillBecome, awaited_in, is_forced_at};
 ghost use Rattle.obligations.specs.Pending.{After};
 ghost use Rattle.obligations.specs.Waiting.{CanAskOf};
+ghost use Rattle.obligations.specs.declared.instances.Instance.{Instance as AnyInstance};
 ghost use Rattle.obligations.specs.declared.now.TheConstants.{MOST_TIME};
 
 use crate::beginning::begin_behind;
@@ -35,8 +36,50 @@ pub struct Becoming<'a> {
     pub begins: Option<&'a Plan>,
 }
 
-// What an instance of the node becomes.
+// What an instance of the node becomes. One that is forced at an inserted step is served there, so that nothing is asked.
 pub fn becoming_of<'a>(
+    alloc: Global,
+    node: &'a Plan,
+    instance: &Instance,
+    now: &Now<'_>,
+    inserted: bool,
+) -> Result<Becoming<'a>, NoMemory>
+    requires can { CanAsk (guards_at now.now.tables.now) (plan_of node.now) instance.now.valuation }
+    requires future { is_future (plan_of node.now) ≡ true }
+    ensures { IfOk result (λ b. WillBecome now.now (plan_of node.now) instance.now
+        (is_forced_at inserted now.now.time instance.now) b.stays (option_map plan_of (option_copied b.begins))) }
+{
+    if is_forced(instance, now.time, inserted) {
+        if let Some(part) = awaited(node) {
+            return Ok(Becoming {
+                stays: false,
+                begins: Some(part),
+            });
+        }
+    }
+    becoming_waiting(alloc, node, instance, now)
+}
+
+// Whether an instance cannot wait any longer: at an inserted step at the end of its window.
+fn is_forced(instance: &Instance, time: u64, inserted: bool) -> bool
+    ensures { result ≡ is_forced_at inserted time instance.now }
+{
+    inserted && time == instance.high
+}
+
+// What an instance of a node with a deadline waits for.
+fn awaited(node: &Plan) -> Option<&Plan>
+    ensures { option_map plan_of (option_copied result) ≡ awaited_in (plan_of node.now) }
+{
+    match node {
+        Plan::Eventually { body, .. } | Plan::Next { body, .. } => Some(body),
+        Plan::Until { right, .. } => Some(right),
+        _ => None,
+    }
+}
+
+// What one becomes that can wait, or has no deadline.
+fn becoming_waiting<'a>(
     alloc: Global,
     node: &'a Plan,
     instance: &Instance,
@@ -44,7 +87,7 @@ pub fn becoming_of<'a>(
 ) -> Result<Becoming<'a>, NoMemory>
     requires can { CanAsk (guards_at now.now.tables.now) (plan_of node.now) instance.now.valuation }
     requires future { is_future (plan_of node.now) ≡ true }
-    ensures { IfOk result (λ b. WillBecome now.now (plan_of node.now) instance.now b.stays
+    ensures { IfOk result (λ b. WillBecome now.now (plan_of node.now) instance.now false b.stays
         (option_map plan_of (option_copied b.begins))) }
 {
     let in_window = is_in_window(instance, now.time);
@@ -139,6 +182,9 @@ pub fn begun_for(
     ensures asked { IfOk result (λ begun. (plans : List Tree)
         → IfSome (option_map plan_of (option_copied part.entry)) (StandsIn plans instance.now.rule)
         → AllByRecursion (CanAskOf (guards_at now.now.tables.now) plans) begun.items) }
+    ensures comes { IfOk result (λ begun. (j : AnyInstance) → Contains begun.items j
+        → (p : Tree) × (option_map plan_of (option_copied part.entry) ≡ Some p)
+        × IsBegunHere now.now instance.now.rule p j) }
 {
     let mut begun = Vec::new(alloc);
     if let Some(part) = part {
@@ -154,16 +200,19 @@ pub fn reacts(
     plans: &[Plan],
     instance: &Instance,
     now: &Now<'_>,
+    inserted: bool,
 ) -> Result<bool, NoMemory>
     requires asked { CanAskOf (guards_at now.now.tables.now) (map plan_of plans.now) instance.now }
     requires in_time { now.now.time ≤ MOST_TIME }
-    ensures { IfOk result (λ reacts. reacts ≡ false → (trace : List Step) → IsNowOf now.now trace
+    ensures stays { IfOk result (λ reacts. reacts ≡ false → (trace : List Step) → IsNowOf now.now trace
         → After (map plan_of plans.now) trace instance.now (instance.now ∷ [])) }
+    ensures waits { IfOk result (λ reacts. reacts ≡ false
+        → ComesOf now.now (map plan_of plans.now) inserted instance.now instance.now) }
 {
     let Some(node) = node_in(plans, instance) else {
         return Ok(true);
     };
-    let becoming = becoming_of(alloc, node, instance, now)?;
+    let becoming = becoming_of(alloc, node, instance, now, inserted)?;
     if !becoming.stays {
         return Ok(true);
     }

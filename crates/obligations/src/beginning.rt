@@ -145,9 +145,10 @@ fn begin_under<'a>(
         (plan_of body.now) (filled (bound_in v.now) rows.now.columns row) }
     requires ends { AllByRecursion EndsInTime (nodes (plan_of body.now)) }
     requires in_time { now.now.time ≤ MOST_TIME }
-    ensures { OnOk result (AddsAsked now.now rule (plan_of body.now) (λ trace. Gathers (λ row. Begun trace rule
+    ensures puts { OnOk result (AddsAsked now.now rule (plan_of body.now) (λ trace. Gathers (λ row. Begun trace rule
         (plan_of body.now) (filled (bound_in v.now) rows.now.columns row)) rows.now.rows)
         into.old.items into.new.items) }
+    ensures none { OnOk result (rows.now.rows ≡ [] → into.new.items ≡ into.old.items) }
 {
     for place in 0..rows.len() {
         let inner = Frame::Row(&*v, rows.columns(), rows.row(place));

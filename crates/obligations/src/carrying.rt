@@ -1,16 +1,17 @@
 //! What is pending, carried over a step.
 ghost use Rattle.std.specs.Prelude.{◌≡◌, ◌+◌, ◌<◌, ◌≤◌, ◌^◌, ℕ, ◌++◌, ◌∷◌, [], cond, IfOk, List, OnOk, length, map};
-ghost use Rattle.std.specs.Prelude.{take};
+ghost use Rattle.std.specs.Prelude.{Contains, take};
 ghost use Rattle.std.specs.List.{AllByRecursion};
 ghost use Rattle.deadline_queue.specs.Queues.{IsQueue, held};
 ghost use Rattle.enf_value.specs.declared.steps.Step.{Step};
 ghost use Rattle.plan_terms.specs.Plans.{plan_of};
 ghost use Rattle.obligations.specs.Asked.{IsNowOf, guards_at};
-ghost use Rattle.obligations.specs.Carrying.{CarriesOn};
+ghost use Rattle.obligations.specs.Carrying.{AreServed, BecomeAll, BecomesOne, CarriesOn, ComeOf, ComesOfRoot, Leads};
 ghost use Rattle.obligations.specs.Pending.{After, BegunByRoots, Goes};
 ghost use Rattle.obligations.specs.Rows.{Gathers};
 ghost use Rattle.obligations.specs.Traces.{PlansStand};
 ghost use Rattle.obligations.specs.Waiting.{CanAskOf, CanAskRoots, count_due};
+ghost use Rattle.obligations.specs.declared.instances.Instance.{Instance as AnyInstance};
 ghost use Rattle.obligations.specs.declared.now.TheConstants.{MOST_TIME};
 
 use crate::becoming::{becoming_of, begin_ahead, begun_for, reacts};
@@ -30,6 +31,7 @@ pub fn carry_on(
     alloc: Global,
     plans: &[Plan],
     now: &Now<'_>,
+    inserted: bool,
     pending: &mut Vec<Instance>,
     deadlines: &mut DeadlineQueue,
 ) -> Result<(), NoMemory>
@@ -43,14 +45,17 @@ pub fn carry_on(
     requires held { (deadline : ℕ) → held deadlines.old deadline
         ≡ count_due (map plan_of plans.now) pending.old.items deadline }
     ensures goes { OnOk result ((trace : List Step) → IsNowOf now.now trace
+        → AreServed (map plan_of plans.now) inserted trace pending.old.items
         → Goes (map plan_of plans.now) trace pending.old.items pending.new.items) }
+    ensures leads { OnOk result (Leads now.now (map plan_of plans.now) inserted
+        pending.old.items pending.new.items) }
     ensures instances { OnOk result (AllByRecursion
         (CanAskOf (guards_at now.now.tables.now) (map plan_of plans.now)) pending.new.items) }
     ensures held { OnOk result ((deadline : ℕ) → held deadlines.new deadline
         ≡ count_due (map plan_of plans.now) pending.new.items deadline) }
     ensures queue { IsQueue deadlines.new }
 {
-    become_each(alloc, plans, now, pending, deadlines)?;
+    become_each(alloc, plans, now, inserted, pending, deadlines)?;
     let begun = begun_by_roots(alloc, plans, now)?;
     put_behind(plans, begun, pending, deadlines)
 }
@@ -60,6 +65,7 @@ fn become_each(
     alloc: Global,
     plans: &[Plan],
     now: &Now<'_>,
+    inserted: bool,
     pending: &mut Vec<Instance>,
     deadlines: &mut DeadlineQueue,
 ) -> Result<(), NoMemory>
@@ -71,19 +77,22 @@ fn become_each(
     requires held { (deadline : ℕ) → held deadlines.old deadline
         ≡ count_due (map plan_of plans.now) pending.old.items deadline }
     ensures becomes { OnOk result ((trace : List Step) → IsNowOf now.now trace
+        → AreServed (map plan_of plans.now) inserted trace pending.old.items
         → Gathers (After (map plan_of plans.now) trace) pending.old.items pending.new.items) }
+    ensures come { OnOk result (ComeOf now.now (map plan_of plans.now) inserted
+        pending.old.items pending.new.items) }
     ensures instances { OnOk result (AllByRecursion
         (CanAskOf (guards_at now.now.tables.now) (map plan_of plans.now)) pending.new.items) }
     ensures held { OnOk result ((deadline : ℕ) → held deadlines.new deadline
         ≡ count_due (map plan_of plans.now) pending.new.items deadline) }
     ensures queue { IsQueue deadlines.new }
 {
-    let front = staying(alloc, plans, pending, now)?;
+    let front = staying(alloc, plans, pending, now, inserted)?;
     if front == pending.len() {
         return Ok(());
     }
     let rest = pending.split_off(front)?;
-    carry_each(alloc, plans, rest, now, pending, deadlines)
+    carry_each(alloc, plans, rest, now, inserted, pending, deadlines)
 }
 
 // How many of the instances stay as they are, from the front on, before one that may not.
@@ -92,15 +101,18 @@ fn staying(
     plans: &[Plan],
     pending: &[Instance],
     now: &Now<'_>,
+    inserted: bool,
 ) -> Result<usize, NoMemory>
     requires instances { AllByRecursion (CanAskOf (guards_at now.now.tables.now) (map plan_of plans.now)) pending.now }
     requires in_time { now.now.time ≤ MOST_TIME }
     ensures within { IfOk result (λ front. front ≤ length pending.now) }
     ensures stay { IfOk result (λ front. (trace : List Step) → IsNowOf now.now trace
         → Gathers (After (map plan_of plans.now) trace) (take front pending.now) (take front pending.now)) }
+    ensures wait { IfOk result (λ front. ComeOf now.now (map plan_of plans.now) inserted
+        (take front pending.now) (take front pending.now)) }
 {
     for (front, instance) in pending.iter().enumerate() {
-        if reacts(alloc, plans, instance, now)? {
+        if reacts(alloc, plans, instance, now, inserted)? {
             return Ok(front);
         }
     }
@@ -113,6 +125,7 @@ fn carry_each(
     plans: &[Plan],
     pending: Vec<Instance>,
     now: &Now<'_>,
+    inserted: bool,
     into: &mut Vec<Instance>,
     deadlines: &mut DeadlineQueue,
 ) -> Result<(), NoMemory>
@@ -124,13 +137,13 @@ fn carry_each(
     requires held { (deadline : ℕ) → held deadlines.old deadline
         ≡ count_due (map plan_of plans.now) into.old.items deadline
         + count_due (map plan_of plans.now) pending.items deadline }
-    ensures carries { OnOk result (CarriesOn now.now (map plan_of plans.now)
-        (λ trace. Gathers (After (map plan_of plans.now) trace) pending.items) pending.items
+    ensures carries { OnOk result (CarriesOn now.now (map plan_of plans.now) inserted
+        (BecomeAll (map plan_of plans.now) inserted pending.items) pending.items
         into.old.items into.new.items deadlines.old deadlines.new) }
     ensures queue { IsQueue deadlines.new }
 {
     for instance in pending {
-        carry_one(alloc, plans, instance, now, into, deadlines)?;
+        carry_one(alloc, plans, instance, now, inserted, into, deadlines)?;
     }
     Ok(())
 }
@@ -141,6 +154,7 @@ fn carry_one(
     plans: &[Plan],
     instance: Instance,
     now: &Now<'_>,
+    inserted: bool,
     into: &mut Vec<Instance>,
     deadlines: &mut DeadlineQueue,
 ) -> Result<(), NoMemory>
@@ -151,8 +165,8 @@ fn carry_one(
     requires held { (deadline : ℕ) → count_due (map plan_of plans.now) (instance ∷ []) deadline
         ≤ held deadlines.old deadline }
     requires few { (deadline : ℕ) → held deadlines.old deadline < length into.old.items + 2 ^ 63 }
-    ensures carries { OnOk result (CarriesOn now.now (map plan_of plans.now)
-        (λ trace. After (map plan_of plans.now) trace instance) (instance ∷ [])
+    ensures carries { OnOk result (CarriesOn now.now (map plan_of plans.now) inserted
+        (BecomesOne (map plan_of plans.now) inserted instance) (instance ∷ [])
         into.old.items into.new.items deadlines.old deadlines.new) }
     ensures queue { IsQueue deadlines.new }
 {
@@ -160,7 +174,7 @@ fn carry_one(
     let Some(node) = node_in(plans, &instance) else {
         return Ok(());
     };
-    let becoming = becoming_of(alloc, node, &instance, now)?;
+    let becoming = becoming_of(alloc, node, &instance, now, inserted)?;
     let begun = begun_for(alloc, &instance, becoming.begins, now)?;
     settle(plans, instance, becoming.stays, into, deadlines)?;
     put_behind(plans, begun, into, deadlines)
@@ -224,6 +238,8 @@ fn begun_by_roots(alloc: Global, plans: &[Plan], now: &Now<'_>) -> Result<Vec<In
         → BegunByRoots trace 0 (map plan_of plans.now) begun.items) }
     ensures asked { IfOk result (λ begun. AllByRecursion
         (CanAskOf (guards_at now.now.tables.now) (map plan_of plans.now)) begun.items) }
+    ensures come { IfOk result (λ begun. (j : AnyInstance) → Contains begun.items j
+        → ComesOfRoot now.now (map plan_of plans.now) j) }
 {
     let none = Valuation::empty(alloc);
     let mut begun = Vec::new(alloc);

@@ -4,6 +4,7 @@ ghost use Rattle.std.specs.List.{AllByRecursion};
 ghost use Rattle.enf_value.specs.declared.steps.Step.{Step};
 ghost use Rattle.plan_terms.specs.Plans.{plan_of};
 ghost use Rattle.obligations.specs.Asked.{IsNowOf, guards_at};
+ghost use Rattle.obligations.specs.Carrying.{AreServed, Leads};
 ghost use Rattle.obligations.specs.Pending.{Goes};
 ghost use Rattle.obligations.specs.Traces.{PlansStand};
 ghost use Rattle.obligations.specs.Waiting.{CanAskOf, CanAskRoots, IsLeastOf, KeepsDeadlines};
@@ -95,8 +96,15 @@ impl Pending {
     }
 
     /// Each instance becomes what it becomes behind the step, in its place, and what the roots of the rules begin comes
-    /// last. After want of memory it is fit to be dropped.
-    pub fn progress(&mut self, alloc: Global, plans: &[Plan], now: &Now<'_>) -> Result<(), NoMemory>
+    /// last. At an inserted step those are served whose deadline it is: nothing is asked of them. After want of memory
+    /// it is fit to be dropped.
+    pub fn progress(
+        &mut self,
+        alloc: Global,
+        plans: &[Plan],
+        now: &Now<'_>,
+        inserted: bool,
+    ) -> Result<(), NoMemory>
         requires roots { CanAskRoots (guards_at now.now.tables.now) (map plan_of plans.now) }
         requires named { PlansStand (map plan_of plans.now) }
         requires instances { AllByRecursion (CanAskOf (guards_at now.now.tables.now) (map plan_of plans.now))
@@ -105,13 +113,23 @@ impl Pending {
         requires few { length plans.now ≤ 2 ^ 32 }
         requires in_time { now.now.time ≤ MOST_TIME }
         ensures goes { OnOk result ((trace : List Step) → IsNowOf now.now trace
+            → AreServed (map plan_of plans.now) inserted trace self.old.instances
             → Goes (map plan_of plans.now) trace self.old.instances self.new.instances) }
+        ensures leads { OnOk result (Leads now.now (map plan_of plans.now) inserted
+            self.old.instances self.new.instances) }
         ensures deadlines { OnOk result (KeepsDeadlines (map plan_of plans.now) self.new) }
         ensures instances { OnOk result (AllByRecursion
             (CanAskOf (guards_at now.now.tables.now) (map plan_of plans.now)) self.new.instances) }
     {
         let mut instances = replace(&mut self.instances, Instances::new(alloc)).into_vec();
-        carry_on(alloc, plans, now, &mut instances, &mut self.deadlines)?;
+        carry_on(
+            alloc,
+            plans,
+            now,
+            inserted,
+            &mut instances,
+            &mut self.deadlines,
+        )?;
         self.instances = Instances::from_vec(instances);
         Ok(())
     }

@@ -63,6 +63,9 @@ returns-then-ended-clause-justified c =
 pub returns-then-ended-clause-acted : goal.returns-then-ended-clause-acted
 returns-then-ended-clause-acted c = (keeps c).acts
 
+pub returns-then-ended-clause-asked : goal.returns-then-ended-clause-asked
+returns-then-ended-clause-asked c = (keeps c).asked
+
 pub returns-then-ended-clause-tables : goal.returns-then-ended-clause-tables
 returns-then-ended-clause-tables c = c.in_ok-after.ensures.tables c.if-ended.true
 

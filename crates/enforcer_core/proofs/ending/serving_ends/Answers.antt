@@ -1,4 +1,4 @@
-use Rattle.enforcer_core.proofs.EndingLemmas.{deadlines_are_within_reach, goes_over, reach_is_within_horizon, served_deadlines_fall, windows_are_in_order}
+use Rattle.enforcer_core.proofs.EndingLemmas.{deadlines_are_within_reach, goes_over, highs_are_near, reach_is_within_horizon, served_deadlines_fall, windows_are_in_order}
 use Rattle.enforcer_core.proofs.ending.serving_ends.Goals as goal
 
 pub returns-clause-fall : goal.returns-clause-fall
@@ -24,3 +24,6 @@ pub returns-clause-windows : goal.returns-clause-windows
 returns-clause-windows c =
     windows_are_in_order c.nodes_stand_in_plans.ensures.nodes c.steps_reach.ensures.inside c.steps_reach.ensures.named c.steps_reach.ensures.begun c.missing_is_one.ensures.missing
     c.well_formed_can_be_asked.ensures.stand c.pending_was_begun.ensures.begun
+
+pub returns-clause-near : goal.returns-clause-near
+returns-clause-near c = highs_are_near c.well_formed_can_be_asked.ensures.stand c.pending_was_begun.ensures.begun c.last_time_of_trace.ensures.at_the_end

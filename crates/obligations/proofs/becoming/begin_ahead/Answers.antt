@@ -23,6 +23,7 @@ returns-then-not-has_future c =
             subst (Begun trace c.args.rule plan v) (none_begun trace c.args.rule plan now v begun.0 begun.1) begun.1;
       };
       asked = λ plans stands. tt;
+      begun = tt;
     }
 
 pub returns-then-is_asleep : goal.returns-then-is_asleep
@@ -33,4 +34,5 @@ returns-then-is_asleep c = record {
     are = λ trace is. c.is_asleep.ensures c.if-is_asleep.true trace is c.args.rule (bound_in c.args.v.now);
   };
   asked = λ plans stands. tt;
+  begun = tt;
 }

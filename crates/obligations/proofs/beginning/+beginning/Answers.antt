@@ -1,5 +1,5 @@
 use Rattle.std.specs.Prelude.{true, false, None, ◌+◌}
-use Rattle.std.proofs.Common.{rules, ◌≡◌, ◌<◌, ◌≤◌, List, [], length, take, refl, ⊎_elim, sym, subst, arith}
+use Rattle.std.proofs.Common.{rules, ◌≡◌, ◌<◌, ◌≤◌, List, [], length, take, refl, ⊎_elim, sym, ap, subst, arith}
 use Rattle.std.specs.List.{AllByRecursion}
 use Rattle.std.specs.Option.{option_copied, option_map}
 use Rattle.std.proofs.lemmas.List.{take_all}
@@ -22,6 +22,7 @@ use Rattle.obligations.proofs.AskLemmas.{binds_bound, is_test, within}
 use Rattle.obligations.proofs.BegunLemmas.{Puts, all_inside, always_at_once, always_later, asked_both, asked_nothing, both_begun, left_smaller, right_smaller}
 use Rattle.obligations.proofs.BegunLemmas.{eventually_at_once, eventually_waits, neither_begun, next_begun, rows_begun, side_asked, side_begun}
 use Rattle.obligations.proofs.BegunLemmas.{side_inside, side_smaller, test_begins, test_begins_nothing, until_at_once, until_waits}
+use Rattle.obligations.proofs.CarryLemmas.{on_ok_both}
 use Rattle.obligations.proofs.WantedLemmas.{in_left, in_right}
 use Rattle.obligations.proofs.beginning.+beginning.Goals as goal
 use Rattle.obligations.proofs.beginning.+beginning.Goals.{begin_later-else-low-eq0-via-then-low-eq0+in_ok-misses_nothing-in-Eventually+else-branch, begin_later-else-low-eq0-via-else-low-eq0}
@@ -205,12 +206,12 @@ pub begin_behind-returns-in_ok-rows-in-Guarded : goal.begin_behind-returns-in_ok
 begin_behind-returns-in_ok-rows-in-Guarded t c =
     let can = subst (λ p. CanAskIn (guards_at c.args.now.now.tables.now) (plan_of p) c.requires.asked.scope) c.in-Guarded.is c.requires.asked.can in
     let e = c.in_ok-rows-in-Guarded.ensures in
-    on_ok_weaker c.begin_under.result (λ puts.
+    on_ok_both c.begin_under.result _ _ _ (λ puts none.
     subst (λ p. Puts c.args.now.now c.args.rule (bound_in c.args.v.now) (plan_of p) c.args.into.now.items c.begin_under.new.into.items) (sym c.in-Guarded.is)
     (rows_begun c.args.now.now c.in-Guarded.guard (tree_of c.in-Guarded.test.value) c.requires.asked.scope c.in-Guarded.vars can.0.0 can.0.1 can.0.2 (bound_in c.args.v.now) c.requires.asked.fits c.in_ok-rows-in-Guarded.rows e.table e.columns e.evaluated
     c.args.rule c.in-Guarded.node (plan_of c.in-Guarded.body.value) c.args.into.now.items c.begin_under.new.into.items
-    (subst (λ p. AddsAsked c.args.now.now c.args.rule (plan_of p) (λ trace. Gathers (λ row. Begun trace c.args.rule (plan_of p) (filled (bound_in c.args.v.now) c.in_ok-rows-in-Guarded.rows.columns row)) c.in_ok-rows-in-Guarded.rows.rows) c.args.into.now.items c.begin_under.new.into.items) c.deref-in-Guarded.ensures puts)))
-    c.begin_under.ensures
+    (subst (λ p. AddsAsked c.args.now.now c.args.rule (plan_of p) (λ trace. Gathers (λ row. Begun trace c.args.rule (plan_of p) (filled (bound_in c.args.v.now) c.in_ok-rows-in-Guarded.rows.columns row)) c.in_ok-rows-in-Guarded.rows.rows) c.args.into.now.items c.begin_under.new.into.items) c.deref-in-Guarded.ensures puts) none))
+    c.begin_under.ensures.puts c.begin_under.ensures.none
 
 pub begin_later-returns-else-low-eq0 : goal.begin_later-returns-else-low-eq0
 begin_later-returns-else-low-eq0 t c =
@@ -270,26 +271,33 @@ begin_behind-returns-in-Cause-2 t c =
     c.in-Cause.is
 
 pub begin_under-loop-place-init : goal.begin_under-loop-place-init
-begin_under-loop-place-init t c =
-    asked_nothing c.args.now.now c.args.rule (plan_of c.args.body.now) (λ trace. Gathers (λ r. Begun trace c.args.rule (plan_of c.args.body.now) (filled (bound_in c.args.v.now) c.args.rows.now.columns r)) []) c.args.into.now.items (λ trace is. refl)
+begin_under-loop-place-init t c = record {
+  puts = asked_nothing c.args.now.now c.args.rule (plan_of c.args.body.now) (λ trace. Gathers (λ r. Begun trace c.args.rule (plan_of c.args.body.now) (filled (bound_in c.args.v.now) c.args.rows.now.columns r)) []) c.args.into.now.items (λ trace is. refl);
+  none = λ none. refl;
+}
 
 pub begin_under-loop-place-preserved : goal.begin_under-loop-place-preserved
 begin_under-loop-place-preserved t c =
     let row = c.row.result.now in
     let long : c.len-place-end.result ≡ length c.args.rows.now.rows = c.len-place-end.ensures in
     let inner : filled (bound_in c.args.v.now) c.columns.result.now row ≡ filled (bound_in c.args.v.now) c.args.rows.now.columns row = (λ i. filled (bound_in c.args.v.now) (c.columns.ensures i) row) in
-    asked_both c.args.now.now c.args.rule (plan_of c.args.body.now) (plan_of c.args.body.now) (plan_of c.args.body.now) (λ n there. there) (λ n there. there)
+    let puts = asked_both c.args.now.now c.args.rule (plan_of c.args.body.now) (plan_of c.args.body.now) (plan_of c.args.body.now) (λ n there. there) (λ end is. is) (λ n there. there) (λ end is. is)
     (λ trace. Gathers (λ r. Begun trace c.args.rule (plan_of c.args.body.now) (filled (bound_in c.args.v.now) c.args.rows.now.columns r)) (take c.loop-place.place c.args.rows.now.rows))
     (λ trace. Begun trace c.args.rule (plan_of c.args.body.now) (filled (bound_in c.args.v.now) c.args.rows.now.columns row))
     (λ trace. Gathers (λ r. Begun trace c.args.rule (plan_of c.args.body.now) (filled (bound_in c.args.v.now) c.args.rows.now.columns r)) (take (c.loop-place.place + 1) c.args.rows.now.rows))
     c.args.into.now.items c.loop-place.into.items c.begin_behind.new.into.items
     (λ trace xs ys before is. gathers_one_more (λ r. Begun trace c.args.rule (plan_of c.args.body.now) (filled (bound_in c.args.v.now) c.args.rows.now.columns r)) c.args.rows.now.rows c.loop-place.place row xs ys
     (subst (λ n. c.loop-place.place < n) long c.loop-place-test.true) (sym (get_or_from_slice_get c.args.rows.now.rows c.loop-place.place row row c.row.ensures)) before is)
-    c.loop-place.invariant
-    (subst (λ (v : Valuation). AddsAsked c.args.now.now c.args.rule (plan_of c.args.body.now) (λ trace. Begun trace c.args.rule (plan_of c.args.body.now) v) c.loop-place.into.items c.begin_behind.new.into.items) inner c.in_ok-begin_behind.ensures)
+    c.loop-place.invariant.puts
+    (subst (λ (v : Valuation). AddsAsked c.args.now.now c.args.rule (plan_of c.args.body.now) (λ trace. Begun trace c.args.rule (plan_of c.args.body.now) v) c.loop-place.into.items c.begin_behind.new.into.items) inner c.in_ok-begin_behind.ensures) in
+    let some : c.loop-place.place < length c.args.rows.now.rows = subst (λ n. c.loop-place.place < n) long c.loop-place-test.true in
+    record {
+      puts = puts;
+      none = λ none. let no : length c.args.rows.now.rows ≡ 0 = ap length none in absurd (omega (arith, some, no));
+    }
 
-pub begin_under-returns : goal.begin_under-returns
-begin_under-returns t c =
+pub begin_under-returns-clause-puts : goal.begin_under-returns-clause-puts
+begin_under-returns-clause-puts t c =
     let long : c.len-place-end.result ≡ length c.args.rows.now.rows = c.len-place-end.ensures in
     subst (λ (l : List (List Value)). AddsAsked c.args.now.now c.args.rule (plan_of c.args.body.now) (λ trace. Gathers (λ r. Begun trace c.args.rule (plan_of c.args.body.now) (filled (bound_in c.args.v.now) c.args.rows.now.columns r)) l) c.args.into.now.items c.loop-place.into.items)
-    (take_all c.loop-place.place c.args.rows.now.rows (subst (λ n. n ≤ c.loop-place.place) long c.loop-place-test.false)) c.loop-place.invariant
+    (take_all c.loop-place.place c.args.rows.now.rows (subst (λ n. n ≤ c.loop-place.place) long c.loop-place-test.false)) c.loop-place.invariant.puts

@@ -1,4 +1,4 @@
-use Rattle.std.proofs.Common.{◌+◌, ◌*◌, length, take}
+use Rattle.std.proofs.Common.{◌≡◌, ◌+◌, ◌*◌, [], length, take}
 use Rattle.plan_terms.specs.Nodes.{nodes}
 use Rattle.plan_terms.specs.Plans.{plan_of}
 use Rattle.valuations.specs.Scopes.{bound_in, filled}
@@ -17,5 +17,7 @@ abbrev pub decreases-begin_under : goal.decreases-begin_under
 decreases-begin_under l = 3 * length (nodes (plan_of l.body.now)) + 2
 
 abbrev pub invariant-begin_under-loop-place : goal.invariant-begin_under-loop-place
-invariant-begin_under-loop-place l =
-    AddsAsked l.now l.rule (plan_of l.body) (λ trace. Gathers (λ row. Begun trace l.rule (plan_of l.body) (filled (bound_in l.v) l.rows.columns row)) (take l.place l.rows.rows)) l.fn.into.items l.into.items
+invariant-begin_under-loop-place l = record {
+  puts : AddsAsked l.now l.rule (plan_of l.body) (λ trace. Gathers (λ row. Begun trace l.rule (plan_of l.body) (filled (bound_in l.v) l.rows.columns row)) (take l.place l.rows.rows)) l.fn.into.items l.into.items;
+  none : l.rows.rows ≡ [] → l.into.items ≡ l.fn.into.items;
+}

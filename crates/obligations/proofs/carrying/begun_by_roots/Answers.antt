@@ -4,7 +4,7 @@ use Rattle.obligations.specs.Adding.{AddsAsked}
 use Rattle.obligations.specs.Asked.{CanAsk, guards_at}
 use Rattle.obligations.specs.Begun.{Begun}
 use Rattle.obligations.specs.Waiting.{CanAskRoot}
-use Rattle.obligations.proofs.RootLemmas.{all_at, get_at, root_asked, root_more}
+use Rattle.obligations.proofs.RootLemmas.{all_at, get_at, root_asked, root_comes, root_more}
 use Rattle.obligations.proofs.carrying.begun_by_roots.Goals as goal
 
 pub begin_ahead-requires-clause-asked : goal.begin_ahead-requires-clause-asked
@@ -28,4 +28,6 @@ loop-rule-preserved c =
       root_more plan_of plans rule plan within at now c.loop-rule.begun.items c.begin_ahead.new.into.items puts c.loop-rule.invariant.0,
       root_asked plan_of plans rule plan within at now c.loop-rule.begun.items c.begin_ahead.new.into.items puts (map plan_of plans)
           (c.requires.named rule (plan_of plan) (get_at plan_of plans rule plan within at)) c.loop-rule.invariant.1,
+      root_comes plan_of plans rule plan within at now c.loop-rule.begun.items c.begin_ahead.new.into.items puts (map plan_of plans)
+          (get_at plan_of plans rule plan within at) c.loop-rule.invariant.2,
     )

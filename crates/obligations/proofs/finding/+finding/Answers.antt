@@ -1,5 +1,5 @@
 use Rattle.std.specs.Prelude.{IfSome, None, Some, false, not}
-use Rattle.std.proofs.Common.{rules, ◌≡◌, ◌<◌, ◌≤◌, List, [], length, sym, subst, arith}
+use Rattle.std.proofs.Common.{rules, ◌≡◌, ◌<◌, ◌≤◌, List, [], length, inl, inr, sym, subst, arith}
 use Rattle.std.proofs.lemmas.List.{take_all}
 use Rattle.std.proofs.lemmas.Option.{get_or_from_slice_get}
 use Rattle.std.proofs.lemmas.Result.{IfOk-weaker}
@@ -83,7 +83,7 @@ pub find_missing-returns-in-Some-clause-wanted : goal.find_missing-returns-in-So
 find_missing-returns-in-Some-clause-wanted t c =
     let wanted = subst (λ p. IsWanted c.args.now.now (plan_of p) (bound_in c.args.v.now) c.in-Some.literal) c.deref.ensures (subst (λ found. IfSome found (IsWanted c.args.now.now (plan_of c.deref.result.now) (bound_in c.args.v.now))) c.in-Some.is c.in_ok-literal-in-Both.ensures.wanted) in
     subst (λ p. IsWanted c.args.now.now (plan_of p) (bound_in c.args.v.now) c.in-Some.literal) (sym c.in-Both.is)
-    (wanted_in c.args.now.now (plan_of c.in-Both.left.value) (Both c.in-Both.node (plan_of c.in-Both.left.value) (plan_of c.in-Both.right.value)) (bound_in c.args.v.now) (in_left (Both c.in-Both.node (plan_of c.in-Both.left.value) (plan_of c.in-Both.right.value)) (plan_of c.in-Both.left.value) (plan_of c.in-Both.right.value)) c.in-Some.literal wanted)
+    (wanted_in c.args.now.now (plan_of c.in-Both.left.value) (Both c.in-Both.node (plan_of c.in-Both.left.value) (plan_of c.in-Both.right.value)) (bound_in c.args.v.now) (in_left (Both c.in-Both.node (plan_of c.in-Both.left.value) (plan_of c.in-Both.right.value)) (plan_of c.in-Both.left.value) (plan_of c.in-Both.right.value)) (λ leaf is. inr (inl is)) c.in-Some.literal wanted)
 
 pub find_missing-returns-in-None-clause-first : goal.find_missing-returns-in-None-clause-first
 find_missing-returns-in-None-clause-first t c =
@@ -96,7 +96,7 @@ pub find_missing-returns-in-None-clause-wanted : goal.find_missing-returns-in-No
 find_missing-returns-in-None-clause-wanted t c =
     IfOk-weaker c.find_missing-in-None.result _ (λ found. IfSome found (IsWanted c.args.now.now (plan_of c.args.plan.now) (bound_in c.args.v.now))) (λ found wanted.
     subst (λ p. IfSome found (IsWanted c.args.now.now (plan_of p) (bound_in c.args.v.now))) (sym c.in-Both.is)
-    (if_some found (IsWanted c.args.now.now (plan_of c.in-Both.right.value) (bound_in c.args.v.now)) (IsWanted c.args.now.now (Both c.in-Both.node (plan_of c.in-Both.left.value) (plan_of c.in-Both.right.value)) (bound_in c.args.v.now)) (wanted_in c.args.now.now (plan_of c.in-Both.right.value) (Both c.in-Both.node (plan_of c.in-Both.left.value) (plan_of c.in-Both.right.value)) (bound_in c.args.v.now) (in_right (Both c.in-Both.node (plan_of c.in-Both.left.value) (plan_of c.in-Both.right.value)) (plan_of c.in-Both.left.value) (plan_of c.in-Both.right.value)))
+    (if_some found (IsWanted c.args.now.now (plan_of c.in-Both.right.value) (bound_in c.args.v.now)) (IsWanted c.args.now.now (Both c.in-Both.node (plan_of c.in-Both.left.value) (plan_of c.in-Both.right.value)) (bound_in c.args.v.now)) (wanted_in c.args.now.now (plan_of c.in-Both.right.value) (Both c.in-Both.node (plan_of c.in-Both.left.value) (plan_of c.in-Both.right.value)) (bound_in c.args.v.now) (in_right (Both c.in-Both.node (plan_of c.in-Both.left.value) (plan_of c.in-Both.right.value)) (plan_of c.in-Both.left.value) (plan_of c.in-Both.right.value)) (λ leaf is. inr (inr is)))
     (subst (λ p. IfSome found (IsWanted c.args.now.now (plan_of p) (bound_in c.args.v.now))) c.deref-in-None.ensures wanted))) c.find_missing-in-None.ensures.wanted
 
 pub find_missing-returns-else-branch-clause-first : goal.find_missing-returns-else-branch-clause-first
@@ -109,7 +109,7 @@ pub find_missing-returns-else-branch-clause-wanted : goal.find_missing-returns-e
 find_missing-returns-else-branch-clause-wanted t c =
     IfOk-weaker c.find_missing-in-Either.result _ (λ found. IfSome found (IsWanted c.args.now.now (plan_of c.args.plan.now) (bound_in c.args.v.now))) (λ found wanted.
     subst (λ p. IfSome found (IsWanted c.args.now.now (plan_of p) (bound_in c.args.v.now))) (sym c.in-Either.is)
-    (if_some found (IsWanted c.args.now.now (plan_of c.in-Either.right.value) (bound_in c.args.v.now)) (IsWanted c.args.now.now (Either c.in-Either.node (plan_of c.in-Either.left.value) (plan_of c.in-Either.right.value)) (bound_in c.args.v.now)) (wanted_in c.args.now.now (plan_of c.in-Either.right.value) (Either c.in-Either.node (plan_of c.in-Either.left.value) (plan_of c.in-Either.right.value)) (bound_in c.args.v.now) (in_right (Either c.in-Either.node (plan_of c.in-Either.left.value) (plan_of c.in-Either.right.value)) (plan_of c.in-Either.left.value) (plan_of c.in-Either.right.value)))
+    (if_some found (IsWanted c.args.now.now (plan_of c.in-Either.right.value) (bound_in c.args.v.now)) (IsWanted c.args.now.now (Either c.in-Either.node (plan_of c.in-Either.left.value) (plan_of c.in-Either.right.value)) (bound_in c.args.v.now)) (wanted_in c.args.now.now (plan_of c.in-Either.right.value) (Either c.in-Either.node (plan_of c.in-Either.left.value) (plan_of c.in-Either.right.value)) (bound_in c.args.v.now) (in_right (Either c.in-Either.node (plan_of c.in-Either.left.value) (plan_of c.in-Either.right.value)) (plan_of c.in-Either.left.value) (plan_of c.in-Either.right.value)) (λ leaf is. inr (inr is)))
     (subst (λ p. IfSome found (IsWanted c.args.now.now (plan_of p) (bound_in c.args.v.now))) c.deref-in-Either-2.ensures wanted))) c.find_missing-in-Either.ensures.wanted
 
 pub find_missing-returns-else-branch-2-clause-first : goal.find_missing-returns-else-branch-2-clause-first
@@ -123,7 +123,7 @@ pub find_missing-returns-else-branch-2-clause-wanted : goal.find_missing-returns
 find_missing-returns-else-branch-2-clause-wanted t c =
     IfOk-weaker c.find_missing-in-TestOr.result _ (λ found. IfSome found (IsWanted c.args.now.now (plan_of c.args.plan.now) (bound_in c.args.v.now))) (λ found wanted.
     subst (λ p. IfSome found (IsWanted c.args.now.now (plan_of p) (bound_in c.args.v.now))) (sym c.in-TestOr.is)
-    (if_some found (IsWanted c.args.now.now (plan_of c.in-TestOr.body.value) (bound_in c.args.v.now)) (IsWanted c.args.now.now (TestOr c.in-TestOr.node c.in-TestOr.guard (tree_of c.in-TestOr.test.value) (plan_of c.in-TestOr.body.value)) (bound_in c.args.v.now)) (wanted_in c.args.now.now (plan_of c.in-TestOr.body.value) (TestOr c.in-TestOr.node c.in-TestOr.guard (tree_of c.in-TestOr.test.value) (plan_of c.in-TestOr.body.value)) (bound_in c.args.v.now) (in_body (TestOr c.in-TestOr.node c.in-TestOr.guard (tree_of c.in-TestOr.test.value) (plan_of c.in-TestOr.body.value)) (plan_of c.in-TestOr.body.value)))
+    (if_some found (IsWanted c.args.now.now (plan_of c.in-TestOr.body.value) (bound_in c.args.v.now)) (IsWanted c.args.now.now (TestOr c.in-TestOr.node c.in-TestOr.guard (tree_of c.in-TestOr.test.value) (plan_of c.in-TestOr.body.value)) (bound_in c.args.v.now)) (wanted_in c.args.now.now (plan_of c.in-TestOr.body.value) (TestOr c.in-TestOr.node c.in-TestOr.guard (tree_of c.in-TestOr.test.value) (plan_of c.in-TestOr.body.value)) (bound_in c.args.v.now) (in_body (TestOr c.in-TestOr.node c.in-TestOr.guard (tree_of c.in-TestOr.test.value) (plan_of c.in-TestOr.body.value)) (plan_of c.in-TestOr.body.value)) (λ leaf is. inr is))
     (subst (λ p. IfSome found (IsWanted c.args.now.now (plan_of p) (bound_in c.args.v.now))) c.deref-in-TestOr.ensures wanted))) c.find_missing-in-TestOr.ensures.wanted
 
 pub find_missing-returns-in_ok-rows-in-Guarded-clause-first : goal.find_missing-returns-in_ok-rows-in-Guarded-clause-first
@@ -149,7 +149,7 @@ pub find_missing-returns-else-low-gt0-clause-wanted : goal.find_missing-returns-
 find_missing-returns-else-low-gt0-clause-wanted t c =
     IfOk-weaker c.find_missing-in-Always.result _ (λ found. IfSome found (IsWanted c.args.now.now (plan_of c.args.plan.now) (bound_in c.args.v.now))) (λ found wanted.
     subst (λ p. IfSome found (IsWanted c.args.now.now (plan_of p) (bound_in c.args.v.now))) (sym c.in-Always.is)
-    (if_some found (IsWanted c.args.now.now (plan_of c.in-Always.body.value) (bound_in c.args.v.now)) (IsWanted c.args.now.now (Always c.in-Always.node c.in-Always.place c.in-Always.low c.in-Always.high (plan_of c.in-Always.body.value)) (bound_in c.args.v.now)) (wanted_in c.args.now.now (plan_of c.in-Always.body.value) (Always c.in-Always.node c.in-Always.place c.in-Always.low c.in-Always.high (plan_of c.in-Always.body.value)) (bound_in c.args.v.now) (in_body (Always c.in-Always.node c.in-Always.place c.in-Always.low c.in-Always.high (plan_of c.in-Always.body.value)) (plan_of c.in-Always.body.value)))
+    (if_some found (IsWanted c.args.now.now (plan_of c.in-Always.body.value) (bound_in c.args.v.now)) (IsWanted c.args.now.now (Always c.in-Always.node c.in-Always.place c.in-Always.low c.in-Always.high (plan_of c.in-Always.body.value)) (bound_in c.args.v.now)) (wanted_in c.args.now.now (plan_of c.in-Always.body.value) (Always c.in-Always.node c.in-Always.place c.in-Always.low c.in-Always.high (plan_of c.in-Always.body.value)) (bound_in c.args.v.now) (in_body (Always c.in-Always.node c.in-Always.place c.in-Always.low c.in-Always.high (plan_of c.in-Always.body.value)) (plan_of c.in-Always.body.value)) (λ leaf is. inr is))
     (subst (λ p. IfSome found (IsWanted c.args.now.now (plan_of p) (bound_in c.args.v.now))) c.deref-in-Always.ensures wanted))) c.find_missing-in-Always.ensures.wanted
 
 pub find_missing-returns-else-low-eq0-clause-first : goal.find_missing-returns-else-low-eq0-clause-first
@@ -167,7 +167,7 @@ pub find_missing-returns-else-low-eq0-clause-wanted : goal.find_missing-returns-
 find_missing-returns-else-low-eq0-clause-wanted t c =
     IfOk-weaker c.find_missing-in-Until.result _ (λ found. IfSome found (IsWanted c.args.now.now (plan_of c.args.plan.now) (bound_in c.args.v.now))) (λ found wanted.
     subst (λ p. IfSome found (IsWanted c.args.now.now (plan_of p) (bound_in c.args.v.now))) (sym c.in-Until.is)
-    (if_some found (IsWanted c.args.now.now (plan_of c.in-Until.left.value) (bound_in c.args.v.now)) (IsWanted c.args.now.now (Until c.in-Until.node c.in-Until.place c.in-Until.low c.in-Until.high (plan_of c.in-Until.left.value) (plan_of c.in-Until.right.value)) (bound_in c.args.v.now)) (wanted_in c.args.now.now (plan_of c.in-Until.left.value) (Until c.in-Until.node c.in-Until.place c.in-Until.low c.in-Until.high (plan_of c.in-Until.left.value) (plan_of c.in-Until.right.value)) (bound_in c.args.v.now) (in_left (Until c.in-Until.node c.in-Until.place c.in-Until.low c.in-Until.high (plan_of c.in-Until.left.value) (plan_of c.in-Until.right.value)) (plan_of c.in-Until.left.value) (plan_of c.in-Until.right.value)))
+    (if_some found (IsWanted c.args.now.now (plan_of c.in-Until.left.value) (bound_in c.args.v.now)) (IsWanted c.args.now.now (Until c.in-Until.node c.in-Until.place c.in-Until.low c.in-Until.high (plan_of c.in-Until.left.value) (plan_of c.in-Until.right.value)) (bound_in c.args.v.now)) (wanted_in c.args.now.now (plan_of c.in-Until.left.value) (Until c.in-Until.node c.in-Until.place c.in-Until.low c.in-Until.high (plan_of c.in-Until.left.value) (plan_of c.in-Until.right.value)) (bound_in c.args.v.now) (in_left (Until c.in-Until.node c.in-Until.place c.in-Until.low c.in-Until.high (plan_of c.in-Until.left.value) (plan_of c.in-Until.right.value)) (plan_of c.in-Until.left.value) (plan_of c.in-Until.right.value)) (λ leaf is. inr (inl is)))
     (subst (λ p. IfSome found (IsWanted c.args.now.now (plan_of p) (bound_in c.args.v.now))) c.deref-in-Until.ensures wanted))) c.find_missing-in-Until.ensures.wanted
 
 pub find_under-returns-in-Some-clause-first : goal.find_under-returns-in-Some-clause-first

@@ -1,5 +1,5 @@
 use Rattle.std.specs.Prelude.{true, false, ◌+◌}
-use Rattle.std.proofs.Common.{rules, ◌≡◌, ◌<◌, ◌≤◌, List, length, take, sym, subst, arith}
+use Rattle.std.proofs.Common.{rules, ◌≡◌, ◌<◌, ◌≤◌, List, length, take, inl, inr, sym, subst, arith}
 use Rattle.std.proofs.lemmas.List.{take_all}
 use Rattle.std.proofs.lemmas.Option.{get_or_from_slice_get}
 use Rattle.std.proofs.lemmas.Result.{on_ok_weaker}
@@ -177,7 +177,7 @@ pub push_missing-returns-else-branch-clause-wanted : goal.push_missing-returns-e
 push_missing-returns-else-branch-clause-wanted t c =
     on_ok_weaker c.push_missing-in-Either.result (λ adds.
     subst (λ p. AddsOf (IsWanted c.args.now.now (plan_of p) (bound_in c.args.v.now)) c.args.out.now.items c.push_missing-in-Either.new.out.items) (sym c.in-Either.is)
-    (adds_of (IsWanted c.args.now.now (plan_of c.in-Either.right.value) (bound_in c.args.v.now)) (IsWanted c.args.now.now (Either c.in-Either.node (plan_of c.in-Either.left.value) (plan_of c.in-Either.right.value)) (bound_in c.args.v.now)) c.args.out.now.items c.push_missing-in-Either.new.out.items (wanted_in c.args.now.now (plan_of c.in-Either.right.value) (Either c.in-Either.node (plan_of c.in-Either.left.value) (plan_of c.in-Either.right.value)) (bound_in c.args.v.now) (in_right (Either c.in-Either.node (plan_of c.in-Either.left.value) (plan_of c.in-Either.right.value)) (plan_of c.in-Either.left.value) (plan_of c.in-Either.right.value)))
+    (adds_of (IsWanted c.args.now.now (plan_of c.in-Either.right.value) (bound_in c.args.v.now)) (IsWanted c.args.now.now (Either c.in-Either.node (plan_of c.in-Either.left.value) (plan_of c.in-Either.right.value)) (bound_in c.args.v.now)) c.args.out.now.items c.push_missing-in-Either.new.out.items (wanted_in c.args.now.now (plan_of c.in-Either.right.value) (Either c.in-Either.node (plan_of c.in-Either.left.value) (plan_of c.in-Either.right.value)) (bound_in c.args.v.now) (in_right (Either c.in-Either.node (plan_of c.in-Either.left.value) (plan_of c.in-Either.right.value)) (plan_of c.in-Either.left.value) (plan_of c.in-Either.right.value)) (λ leaf is. inr (inr is)))
     (subst (λ p. AddsOf (IsWanted c.args.now.now (plan_of p) (bound_in c.args.v.now)) c.args.out.now.items c.push_missing-in-Either.new.out.items) c.deref-in-Either-2.ensures adds)))
     c.push_missing-in-Either.ensures.wanted
 
@@ -185,7 +185,7 @@ pub push_missing-returns-else-branch-2-clause-wanted : goal.push_missing-returns
 push_missing-returns-else-branch-2-clause-wanted t c =
     on_ok_weaker c.push_missing-in-TestOr.result (λ adds.
     subst (λ p. AddsOf (IsWanted c.args.now.now (plan_of p) (bound_in c.args.v.now)) c.args.out.now.items c.push_missing-in-TestOr.new.out.items) (sym c.in-TestOr.is)
-    (adds_of (IsWanted c.args.now.now (plan_of c.in-TestOr.body.value) (bound_in c.args.v.now)) (IsWanted c.args.now.now (TestOr c.in-TestOr.node c.in-TestOr.guard (tree_of c.in-TestOr.test.value) (plan_of c.in-TestOr.body.value)) (bound_in c.args.v.now)) c.args.out.now.items c.push_missing-in-TestOr.new.out.items (wanted_in c.args.now.now (plan_of c.in-TestOr.body.value) (TestOr c.in-TestOr.node c.in-TestOr.guard (tree_of c.in-TestOr.test.value) (plan_of c.in-TestOr.body.value)) (bound_in c.args.v.now) (in_body (TestOr c.in-TestOr.node c.in-TestOr.guard (tree_of c.in-TestOr.test.value) (plan_of c.in-TestOr.body.value)) (plan_of c.in-TestOr.body.value)))
+    (adds_of (IsWanted c.args.now.now (plan_of c.in-TestOr.body.value) (bound_in c.args.v.now)) (IsWanted c.args.now.now (TestOr c.in-TestOr.node c.in-TestOr.guard (tree_of c.in-TestOr.test.value) (plan_of c.in-TestOr.body.value)) (bound_in c.args.v.now)) c.args.out.now.items c.push_missing-in-TestOr.new.out.items (wanted_in c.args.now.now (plan_of c.in-TestOr.body.value) (TestOr c.in-TestOr.node c.in-TestOr.guard (tree_of c.in-TestOr.test.value) (plan_of c.in-TestOr.body.value)) (bound_in c.args.v.now) (in_body (TestOr c.in-TestOr.node c.in-TestOr.guard (tree_of c.in-TestOr.test.value) (plan_of c.in-TestOr.body.value)) (plan_of c.in-TestOr.body.value)) (λ leaf is. inr is))
     (subst (λ p. AddsOf (IsWanted c.args.now.now (plan_of p) (bound_in c.args.v.now)) c.args.out.now.items c.push_missing-in-TestOr.new.out.items) c.deref-in-TestOr.ensures adds)))
     c.push_missing-in-TestOr.ensures.wanted
 
@@ -193,7 +193,7 @@ pub push_missing-returns-else-low-gt0-clause-wanted : goal.push_missing-returns-
 push_missing-returns-else-low-gt0-clause-wanted t c =
     on_ok_weaker c.push_missing-in-Always.result (λ adds.
     subst (λ p. AddsOf (IsWanted c.args.now.now (plan_of p) (bound_in c.args.v.now)) c.args.out.now.items c.push_missing-in-Always.new.out.items) (sym c.in-Always.is)
-    (adds_of (IsWanted c.args.now.now (plan_of c.in-Always.body.value) (bound_in c.args.v.now)) (IsWanted c.args.now.now (Always c.in-Always.node c.in-Always.place c.in-Always.low c.in-Always.high (plan_of c.in-Always.body.value)) (bound_in c.args.v.now)) c.args.out.now.items c.push_missing-in-Always.new.out.items (wanted_in c.args.now.now (plan_of c.in-Always.body.value) (Always c.in-Always.node c.in-Always.place c.in-Always.low c.in-Always.high (plan_of c.in-Always.body.value)) (bound_in c.args.v.now) (in_body (Always c.in-Always.node c.in-Always.place c.in-Always.low c.in-Always.high (plan_of c.in-Always.body.value)) (plan_of c.in-Always.body.value)))
+    (adds_of (IsWanted c.args.now.now (plan_of c.in-Always.body.value) (bound_in c.args.v.now)) (IsWanted c.args.now.now (Always c.in-Always.node c.in-Always.place c.in-Always.low c.in-Always.high (plan_of c.in-Always.body.value)) (bound_in c.args.v.now)) c.args.out.now.items c.push_missing-in-Always.new.out.items (wanted_in c.args.now.now (plan_of c.in-Always.body.value) (Always c.in-Always.node c.in-Always.place c.in-Always.low c.in-Always.high (plan_of c.in-Always.body.value)) (bound_in c.args.v.now) (in_body (Always c.in-Always.node c.in-Always.place c.in-Always.low c.in-Always.high (plan_of c.in-Always.body.value)) (plan_of c.in-Always.body.value)) (λ leaf is. inr is))
     (subst (λ p. AddsOf (IsWanted c.args.now.now (plan_of p) (bound_in c.args.v.now)) c.args.out.now.items c.push_missing-in-Always.new.out.items) c.deref-in-Always.ensures adds)))
     c.push_missing-in-Always.ensures.wanted
 
@@ -201,7 +201,7 @@ pub push_missing-returns-else-low-eq0-clause-wanted : goal.push_missing-returns-
 push_missing-returns-else-low-eq0-clause-wanted t c =
     on_ok_weaker c.push_missing-in-Until.result (λ adds.
     subst (λ p. AddsOf (IsWanted c.args.now.now (plan_of p) (bound_in c.args.v.now)) c.args.out.now.items c.push_missing-in-Until.new.out.items) (sym c.in-Until.is)
-    (adds_of (IsWanted c.args.now.now (plan_of c.in-Until.left.value) (bound_in c.args.v.now)) (IsWanted c.args.now.now (Until c.in-Until.node c.in-Until.place c.in-Until.low c.in-Until.high (plan_of c.in-Until.left.value) (plan_of c.in-Until.right.value)) (bound_in c.args.v.now)) c.args.out.now.items c.push_missing-in-Until.new.out.items (wanted_in c.args.now.now (plan_of c.in-Until.left.value) (Until c.in-Until.node c.in-Until.place c.in-Until.low c.in-Until.high (plan_of c.in-Until.left.value) (plan_of c.in-Until.right.value)) (bound_in c.args.v.now) (in_left (Until c.in-Until.node c.in-Until.place c.in-Until.low c.in-Until.high (plan_of c.in-Until.left.value) (plan_of c.in-Until.right.value)) (plan_of c.in-Until.left.value) (plan_of c.in-Until.right.value)))
+    (adds_of (IsWanted c.args.now.now (plan_of c.in-Until.left.value) (bound_in c.args.v.now)) (IsWanted c.args.now.now (Until c.in-Until.node c.in-Until.place c.in-Until.low c.in-Until.high (plan_of c.in-Until.left.value) (plan_of c.in-Until.right.value)) (bound_in c.args.v.now)) c.args.out.now.items c.push_missing-in-Until.new.out.items (wanted_in c.args.now.now (plan_of c.in-Until.left.value) (Until c.in-Until.node c.in-Until.place c.in-Until.low c.in-Until.high (plan_of c.in-Until.left.value) (plan_of c.in-Until.right.value)) (bound_in c.args.v.now) (in_left (Until c.in-Until.node c.in-Until.place c.in-Until.low c.in-Until.high (plan_of c.in-Until.left.value) (plan_of c.in-Until.right.value)) (plan_of c.in-Until.left.value) (plan_of c.in-Until.right.value)) (λ leaf is. inr (inl is)))
     (subst (λ p. AddsOf (IsWanted c.args.now.now (plan_of p) (bound_in c.args.v.now)) c.args.out.now.items c.push_missing-in-Until.new.out.items) c.deref-in-Until.ensures adds)))
     c.push_missing-in-Until.ensures.wanted
 
@@ -224,8 +224,8 @@ push_missing-returns-in_ok-push_missing-in-Both-clause-wanted t c =
     on_ok_weaker c.push_missing-in-Both.result (λ adds.
     subst (λ p. AddsOf (IsWanted c.args.now.now (plan_of p) (bound_in c.args.v.now)) c.args.out.now.items c.push_missing-in-Both.new.out.items) (sym c.in-Both.is)
     (adds_more (IsWanted c.args.now.now (Both c.in-Both.node (plan_of c.in-Both.left.value) (plan_of c.in-Both.right.value)) (bound_in c.args.v.now)) c.args.out.now.items c.push_missing.new.out.items c.push_missing-in-Both.new.out.items
-    (adds_of (IsWanted c.args.now.now (plan_of c.in-Both.left.value) (bound_in c.args.v.now)) (IsWanted c.args.now.now (Both c.in-Both.node (plan_of c.in-Both.left.value) (plan_of c.in-Both.right.value)) (bound_in c.args.v.now)) c.args.out.now.items c.push_missing.new.out.items (wanted_in c.args.now.now (plan_of c.in-Both.left.value) (Both c.in-Both.node (plan_of c.in-Both.left.value) (plan_of c.in-Both.right.value)) (bound_in c.args.v.now) (in_left (Both c.in-Both.node (plan_of c.in-Both.left.value) (plan_of c.in-Both.right.value)) (plan_of c.in-Both.left.value) (plan_of c.in-Both.right.value)))
+    (adds_of (IsWanted c.args.now.now (plan_of c.in-Both.left.value) (bound_in c.args.v.now)) (IsWanted c.args.now.now (Both c.in-Both.node (plan_of c.in-Both.left.value) (plan_of c.in-Both.right.value)) (bound_in c.args.v.now)) c.args.out.now.items c.push_missing.new.out.items (wanted_in c.args.now.now (plan_of c.in-Both.left.value) (Both c.in-Both.node (plan_of c.in-Both.left.value) (plan_of c.in-Both.right.value)) (bound_in c.args.v.now) (in_left (Both c.in-Both.node (plan_of c.in-Both.left.value) (plan_of c.in-Both.right.value)) (plan_of c.in-Both.left.value) (plan_of c.in-Both.right.value)) (λ leaf is. inr (inl is)))
     (subst (λ p. AddsOf (IsWanted c.args.now.now (plan_of p) (bound_in c.args.v.now)) c.args.out.now.items c.push_missing.new.out.items) c.deref.ensures c.in_ok-push_missing-in-Both.ensures.wanted))
-    (adds_of (IsWanted c.args.now.now (plan_of c.in-Both.right.value) (bound_in c.args.v.now)) (IsWanted c.args.now.now (Both c.in-Both.node (plan_of c.in-Both.left.value) (plan_of c.in-Both.right.value)) (bound_in c.args.v.now)) c.push_missing.new.out.items c.push_missing-in-Both.new.out.items (wanted_in c.args.now.now (plan_of c.in-Both.right.value) (Both c.in-Both.node (plan_of c.in-Both.left.value) (plan_of c.in-Both.right.value)) (bound_in c.args.v.now) (in_right (Both c.in-Both.node (plan_of c.in-Both.left.value) (plan_of c.in-Both.right.value)) (plan_of c.in-Both.left.value) (plan_of c.in-Both.right.value)))
+    (adds_of (IsWanted c.args.now.now (plan_of c.in-Both.right.value) (bound_in c.args.v.now)) (IsWanted c.args.now.now (Both c.in-Both.node (plan_of c.in-Both.left.value) (plan_of c.in-Both.right.value)) (bound_in c.args.v.now)) c.push_missing.new.out.items c.push_missing-in-Both.new.out.items (wanted_in c.args.now.now (plan_of c.in-Both.right.value) (Both c.in-Both.node (plan_of c.in-Both.left.value) (plan_of c.in-Both.right.value)) (bound_in c.args.v.now) (in_right (Both c.in-Both.node (plan_of c.in-Both.left.value) (plan_of c.in-Both.right.value)) (plan_of c.in-Both.left.value) (plan_of c.in-Both.right.value)) (λ leaf is. inr (inr is)))
     (subst (λ p. AddsOf (IsWanted c.args.now.now (plan_of p) (bound_in c.args.v.now)) c.push_missing.new.out.items c.push_missing-in-Both.new.out.items) c.deref-in-Both.ensures adds))))
     c.push_missing-in-Both.ensures.wanted

@@ -6,7 +6,7 @@ use Rattle.plan_terms.specs.Plans.{plan_of}
 use Rattle.obligations.specs.Asked.{IsWanted}
 use Rattle.obligations.specs.Pending.{node_of}
 use Rattle.obligations.specs.Waiting.{Asks, AsksPart, IsWantedOf}
-use Rattle.obligations.proofs.WantedLemmas.{if_some, wanted_in}
+use Rattle.obligations.proofs.WantedLemmas.{if_some}
 use Rattle.obligations.proofs.missing.first_missing_of.Goals as goal
 
 pub returns-in-Some-2-clause-wanted : goal.returns-in-Some-2-clause-wanted
@@ -19,4 +19,11 @@ returns-in-Some-2-clause-wanted c =
     let asks : AsksPart now node i c.args.forced part = subst (λ o. Asks now node i c.args.forced (option_map plan_of (option_copied o))) c.in-Some-2.is c.in_ok-part.ensures in
     IfOk-weaker c.find_missing.result _ (λ l. IfSome l (IsWantedOf now (map plan_of c.args.plans.now) i)) (λ l wanted.
     if_some l (IsWanted now part i.valuation) (IsWantedOf now (map plan_of c.args.plans.now) i)
-    (λ literal w. record { node = node; found = found; wanted = wanted_in now part node i.valuation asks.inside literal w }) wanted) c.find_missing.ensures.wanted
+    (λ literal w. record {
+      node = node;
+      found = found;
+      part = part;
+      has = asks.has;
+      inside = asks.inside;
+      wanted = w;
+    }) wanted) c.find_missing.ensures.wanted

@@ -14,7 +14,7 @@ let_out-requires-clause-serves c =
 
 pub invariant_of-self-2 : goal.invariant_of-self-2
 invariant_of-self-2 c =
-    (record { together = c.self.invariant.0.together; serves = λ on. c.in_ok-steps.ensures.serves }, c.self.invariant.1)
+    (record { together = c.self.invariant.0.together; bounded = c.self.invariant.0.bounded; serves = λ on. c.in_ok-steps.ensures.serves }, c.self.invariant.1)
 
 pub returns : goal.returns
 returns c =

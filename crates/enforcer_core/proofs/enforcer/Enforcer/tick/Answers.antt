@@ -13,7 +13,7 @@ let_pass-requires-clause-serves c =
 
 pub invariant_of-self-2 : goal.invariant_of-self-2
 invariant_of-self-2 c =
-    (record { together = c.self.invariant.0.together; serves = λ on. c.in_ok-steps.ensures.out.serves }, c.self.invariant.1)
+    (record { together = c.self.invariant.0.together; bounded = c.self.invariant.0.bounded; serves = λ on. c.in_ok-steps.ensures.out.serves }, c.self.invariant.1)
 
 pub returns-in_err-steps-clause-no_memory : goal.returns-in_err-steps-clause-no_memory
 returns-in_err-steps-clause-no_memory c later same =

@@ -1,5 +1,6 @@
-use Rattle.std.proofs.Common.{◌≡◌, ℕ, ◌≤◌, List, [], ◌∷◌, ◌++◌, Option, length-append, map, refl, sym, subst, arith}
+use Rattle.std.proofs.Common.{Contains, List, [], ◌∷◌, ◌++◌, Option, length-append, map, refl, sym, subst, arith}
 use Rattle.std.proofs.lemmas.List.Elements.{All-nil}
+use Rattle.enf_value.specs.ListLaws.{none_in_nil}
 use Rattle.enf_value.specs.declared.events.Event.{Event}
 use Rattle.enf_value.specs.declared.events.NameId.{NameId}
 use Rattle.enf_value.specs.declared.steps.Step.{Step}
@@ -15,7 +16,7 @@ use Rattle.choice_step.specs.Choosing.{ActsFrom}
 use Rattle.choice_step.specs.Follows.{is_inserted}
 use Rattle.choice_step.specs.Idle.{AllSleep}
 use Rattle.obligations.specs.declared.actions.Action.{Action}
-use Rattle.enforcer_core.specs.Remembering.{CanAskAll, IsIdle}
+use Rattle.enforcer_core.specs.Remembering.{IsIdle}
 use Rattle.enforcer_core.proofs.remembered.Remembered.decide.Goals as goal
 
 pub returns-then-is_idle-clause-decided : goal.returns-then-is_idle-clause-decided
@@ -34,6 +35,8 @@ returns-then-is_idle-clause-decided c =
       time_is = refl;
       distinct = c.as_slice.ensures.distinct;
       acts = subst (λ (l : List Action). ActsFrom (map plan_of c.args.plans.now) c.args.events l c.args.events) (sym c.new.ensures) refl;
+      asked = λ action there. absurd (none_in_nil action (subst (λ (l : List Action). Contains l action) c.new.ensures there));
+      leads = λ j there. absurd (none_in_nil j (subst (λ (l : List Instance). Contains l j) idle.pending there));
       guards = refl;
       position = refl;
       deadlines = c.requires.can.asked.deadlines;

@@ -1,9 +1,14 @@
-use Rattle.std.proofs.Common.{◌≡◌, ◌∙◌, ap, List, [], ◌∷◌, ◌++◌, length-append, map, refl, sym, subst, arith}
-use Rattle.enf_value.specs.declared.events.Event.{Event}
-use Rattle.obligations.specs.Pending.{Goes}
+use Rattle.std.proofs.Common.{◌≡◌, ◌≤◌, ◌∙◌, ap, List, [], ◌∷◌, ◌++◌, length-append, map, refl, sym, subst, arith}
+use Rattle.enf_value.specs.declared.steps.Step.{Step}
+use Rattle.trace_meaning.specs.Continuation.{last_time}
 use Rattle.past_state.specs.Past.{AreOf, CommittedWillStand, Past}
 use Rattle.plan_terms.specs.Plans.{plan_of}
+use Rattle.obligations.specs.Asked.{placed_guard}
+use Rattle.obligations.specs.Carrying.{LeadsAt}
+use Rattle.obligations.specs.Pending.{Goes}
 use Rattle.choice_step.specs.Choice.{Decides}
+use Rattle.enforcer_core.specs.Remembering.{Remembers}
+use Rattle.enforcer_core.proofs.ServedLemmas.{are_served}
 use Rattle.enforcer_core.proofs.remembered.Remembered.decide_awake.Goals as goal
 
 pub commit-requires-clause-are : goal.commit-requires-clause-are
@@ -18,12 +23,21 @@ returns-clause-decided c =
     let are : AreOf c.args.self.now.past c.args.time c.in_ok-events.field-0.events c.in_ok-events.field-0.tables = c.in_ok-events.ensures.tables in
     let stand : CommittedWillStand c.args.self.now.past c.args.time c.in_ok-events.field-0.events c.in_ok-events.field-0.tables c.commit.new.self =
     subst (λ (p : Past). CommittedWillStand p c.args.time c.in_ok-events.field-0.events c.in_ok-events.field-0.tables c.commit.new.self) c.in_ok-progress.ensures.past c.in_ok-commit.ensures.stands in
+    let goes : (trace : List Step) → Remembers plans before trace → last_time trace ≤ c.args.time
+    → Goes plans (trace ++ record { time = c.args.time; events = events } ∷ []) before.pending.instances c.progress.new.self.pending.instances =
+    λ trace remembers later. c.in_ok-progress.ensures.goes trace remembers later
+    (are_served c.pending_was_begun.ensures.begun c.decided_misses_nothing.ensures (map placed_guard before.past.guards) plans trace before.pending.instances c.is_inserted-inserted.result c.args.time
+    c.args.events c.in_ok-events.field-0.actions events c.requires.can.asked.named c.requires.can.asked.instances remembers.pending
+    (c.in_ok-events.ensures.decided trace remembers.past (sym remembers.position) later)) in
     let long : c.progress.new.self.position ≡ c.args.self.now.position = c.in_ok-progress.ensures.position in
     record {
       kind_is = refl;
       time_is = refl;
       distinct = c.as_slice-given.ensures.distinct;
       acts = c.in_ok-events.ensures.acted;
+      asked = c.in_ok-events.ensures.asked;
+      leads = subst (λ inserted. LeadsAt events c.args.time before.position plans inserted before.pending.instances c.progress.new.self.pending.instances)
+          c.is_inserted-inserted.ensures c.in_ok-progress.ensures.leads;
       guards = c.in_ok-commit.ensures.guards ∙ ap (λ p. p.guards) c.in_ok-progress.ensures.past;
       position = omega (arith, long);
       deadlines = c.in_ok-progress.ensures.deadlines;
@@ -35,8 +49,7 @@ returns-clause-decided c =
         decided = subst (λ inserted. Decides (map plan_of c.args.plans.now) trace c.args.self.now.pending.instances inserted c.args.time c.args.events c.in_ok-events.field-0.actions c.in_ok-events.field-0.events) c.is_inserted-inserted.ensures
             (c.in_ok-events.ensures.decided trace remembers.past (sym remembers.position) later);
       };
-      goes = λ trace remembers later.
-          c.in_ok-progress.ensures.goes trace remembers later;
+      goes = goes;
       remembers = λ trace remembers later.
           let at = remembers.position in
           record {
@@ -44,6 +57,6 @@ returns-clause-decided c =
             last = (omega (arith, length-append trace (record { time = c.args.time; events = events } ∷ [])), sym (c.trace_grows.ensures.last trace (record { time = c.args.time; events = events })));
             past = stand trace (record { time = c.args.time; events = events }) refl refl later remembers.past are;
             pending = c.traces_grow.ensures.pending plans trace (record { time = c.args.time; events = events }) before.pending.instances c.progress.new.self.pending.instances remembers.pending
-                (c.in_ok-progress.ensures.goes trace remembers later);
+                (goes trace remembers later);
           };
     }

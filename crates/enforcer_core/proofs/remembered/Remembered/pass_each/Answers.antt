@@ -1,6 +1,6 @@
 use Rattle.std.proofs.Common.{◌+◌, ◌-◌, ◌<◌, ◌≤◌, List, [], ◌∷◌, Contains, map, sym, subst, arith}
 use Rattle.enf_value.specs.declared.events.Event.{Event}
-use Rattle.trace_meaning.specs.Records.{most_time}
+use Rattle.obligations.specs.declared.now.TheConstants.{MOST_TIME}
 use Rattle.trace_meaning.specs.declared.kinds.StepKind.TheVariants.{Inserted}
 use Rattle.plan_terms.specs.Plans.{plan_of}
 use Rattle.plan_terms.specs.declared.plans.Plan.{Plan as StoredPlan}
@@ -24,7 +24,7 @@ decide-requires-clause-can c =
 
 pub decide-requires-clause-in_time : goal.decide-requires-clause-in_time
 decide-requires-clause-in_time c =
-    let le : c.in-Some.deadline ≤ 2000000000000000 =
+    let le : c.in-Some.deadline ≤ MOST_TIME =
     within_most c.step_laws.ensures c.args.policy.now c.loop-deadline.self c.loop-deadline.behind c.in-Some.deadline c.loop-deadline.invariant.passes.serves c.in-Some.ensures.1 in
     omega (arith, le)
 
@@ -37,18 +37,18 @@ returns-in_err-push-clause-memory c =
 
 pub overflow_add-behind : goal.overflow_add-behind
 overflow_add-behind c =
-    let le : c.in-Some.deadline ≤ 2000000000000000 =
+    let le : c.in-Some.deadline ≤ MOST_TIME =
     within_most c.step_laws.ensures c.args.policy.now c.loop-deadline.self c.loop-deadline.behind c.in-Some.deadline c.loop-deadline.invariant.passes.serves c.in-Some.ensures.1 in
     omega (arith, le)
 
 pub loop-deadline-smaller : goal.loop-deadline-smaller
 loop-deadline-smaller c =
     let serves = c.loop-deadline.invariant.passes.serves in
-    let le : c.in-Some.deadline ≤ 2000000000000000 =
+    let le : c.in-Some.deadline ≤ MOST_TIME =
     within_most c.step_laws.ensures c.args.policy.now c.loop-deadline.self c.loop-deadline.behind c.in-Some.deadline serves c.in-Some.ensures.1 in
     let from : c.loop-deadline.behind ≤ c.in-Some.deadline =
     not_before c.step_laws.ensures c.args.policy.now c.loop-deadline.self c.loop-deadline.behind c.in-Some.deadline serves c.in-Some.ensures.1 in
-    let less : (most_time Inserted + 1) - (c.in-Some.deadline + 1) < (most_time Inserted + 1) - c.loop-deadline.behind = omega (arith, le, from) in less
+    let less : (MOST_TIME + 1) - (c.in-Some.deadline + 1) < (MOST_TIME + 1) - c.loop-deadline.behind = omega (arith, le, from) in less
 
 pub loop-deadline-preserved : goal.loop-deadline-preserved
 loop-deadline-preserved c =

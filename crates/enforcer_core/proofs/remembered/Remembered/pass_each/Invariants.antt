@@ -1,6 +1,5 @@
 use Rattle.std.proofs.Common.{◌≡◌, ◌+◌, ◌-◌}
-use Rattle.trace_meaning.specs.Records.{most_time}
-use Rattle.trace_meaning.specs.declared.kinds.StepKind.TheVariants.{Inserted}
+use Rattle.obligations.specs.declared.now.TheConstants.{MOST_TIME}
 use Rattle.enforcer_core.specs.Enforcers.{acted_steps}
 use Rattle.enforcer_core.specs.Keeping.{enforcing_at}
 use Rattle.enforcer_core.specs.Passing.{NoneIsLeft, Passes}
@@ -13,4 +12,4 @@ invariant-loop-deadline l = record {
 }
 
 abbrev pub decreases-loop-deadline : goal.decreases-loop-deadline
-decreases-loop-deadline l = (most_time Inserted + 1) - l.behind
+decreases-loop-deadline l = (MOST_TIME + 1) - l.behind

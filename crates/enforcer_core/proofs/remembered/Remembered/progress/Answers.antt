@@ -1,13 +1,17 @@
-use Rattle.std.proofs.Common.{◌≡◌, List, [], ◌∷◌, ◌++◌, map, sym, subst, ◌∙◌}
+use Rattle.std.proofs.Common.{◌≡◌, Contains, List, [], ◌∷◌, ◌++◌, map, sym, subst, ◌∙◌}
+use Rattle.std.specs.Prelude.{OnOk}
+use Rattle.enf_value.specs.ListLaws.{none_in_nil}
+use Rattle.enf_value.specs.declared.events.Event.{Event}
 use Rattle.enf_value.specs.declared.steps.Step.{Step}
 use Rattle.obligations.specs.Asked.{placed_guard}
+use Rattle.obligations.specs.Carrying.{LeadsAt}
 use Rattle.obligations.specs.Pending.{Goes}
 use Rattle.obligations.specs.declared.instances.Instance.{Instance}
 use Rattle.plan_terms.specs.Plans.{plan_of}
 use Rattle.enforcer_core.proofs.remembered.Remembered.progress.Goals as goal
 
 pub returns-then-looks_at_now-clause-goes : goal.returns-then-looks_at_now-clause-goes
-returns-then-looks_at_now-clause-goes c = λ trace remembers later.
+returns-then-looks_at_now-clause-goes c = λ trace remembers later served.
     let plans = map plan_of c.args.plans.now in
     let before = c.args.self.now.pending.instances in
     let step : Step = record { time = c.args.time; events = c.args.events.now } in
@@ -16,3 +20,12 @@ returns-then-looks_at_now-clause-goes c = λ trace remembers later.
     let pend = c.traces_grow.ensures.pending plans trace step before goes.0 remembers.pending goes.1 in
     let none : goes.0 ≡ [] = c.pending_is_enough.ensures.nothing plans (trace ++ step ∷ []) goes.0 present.1 pend in
     subst (λ (l : List Instance). Goes plans (trace ++ step ∷ []) before l) (none ∙ sym present.0) goes.1
+
+pub returns-then-looks_at_now-clause-leads : goal.returns-then-looks_at_now-clause-leads
+returns-then-looks_at_now-clause-leads c = λ j there.
+    absurd (none_in_nil j (subst (λ (l : List Instance). Contains l j) (c.looks_at_now.ensures c.if-looks_at_now.true).0 there))
+
+pub returns-clause-leads : goal.returns-clause-leads
+returns-clause-leads c =
+    subst (λ (events : List Event). OnOk c.progress_over.result (LeadsAt events c.args.time c.args.self.now.position (map plan_of c.args.plans.now) c.args.inserted
+    c.args.self.now.pending.instances c.progress_over.new.self.pending.instances)) c.in_ok-ordered.ensures c.progress_over.ensures.leads

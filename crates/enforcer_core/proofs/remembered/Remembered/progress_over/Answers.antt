@@ -1,6 +1,7 @@
 use Rattle.std.proofs.Common.{List, [], ◌∷◌, ◌++◌, map, sym, subst}
 use Rattle.std.proofs.lemmas.Result.{on_ok_weaker}
 use Rattle.enf_value.specs.declared.events.Event.{Event}
+use Rattle.obligations.specs.Carrying.{AreServed}
 use Rattle.obligations.specs.Pending.{Goes}
 use Rattle.past_state.specs.Past.{GuardsWillHold}
 use Rattle.plan_terms.specs.Plans.{plan_of}
@@ -8,10 +9,12 @@ use Rattle.enforcer_core.proofs.remembered.Remembered.progress_over.Goals as goa
 
 pub returns-clause-goes : goal.returns-clause-goes
 returns-clause-goes c = on_ok_weaker c.progress.result
-    (λ goes trace remembers later.
+    (λ goes trace remembers later served.
     subst (λ (events : List Event). Goes (map plan_of c.args.plans.now) (trace ++ record { time = c.args.time; events = events } ∷ []) c.args.self.now.pending.instances c.progress.new.self.instances) c.set.ensures
     (goes (trace ++ record { time = c.args.time; events = c.set.result.now } ∷ [])
     (c.now_stands.ensures c.args.self.now.past trace _ (sym c.set.ensures)
     (subst (λ (events : List Event). GuardsWillHold c.args.self.now.past c.args.time events c.args.tables.now) (sym c.set.ensures) c.requires.hold)
-    remembers.past (sym remembers.position) later)))
+    remembers.past (sym remembers.position) later)
+    (subst (λ (events : List Event). AreServed (map plan_of c.args.plans.now) c.args.inserted (trace ++ record { time = c.args.time; events = events } ∷ []) c.args.self.now.pending.instances)
+    (sym c.set.ensures) served)))
     c.progress.ensures.goes

@@ -1,0 +1,59 @@
+use Rattle.std.proofs.Common.{◌∙◌, ℕ, ◌≤◌, List, length, map, sym, ap, subst, arith}
+use Rattle.std.specs.List.{AllByRecursion}
+use Rattle.std.proofs.lemmas.List.Elements.{All-nil}
+use Rattle.monitorable_guard.specs.Guards.{BoundFormula}
+use Rattle.plan_terms.specs.Guards.{guards_of}
+use Rattle.plan_terms.specs.Plans.{plan_of}
+use Rattle.plan_terms.specs.Triggers.{guard_triggers}
+use Rattle.plan_terms.specs.declared.plans.Plan.{Plan as StoredPlan}
+use Rattle.past_state.specs.Guarded.{AreCopies}
+use Rattle.rank_check.specs.declared.horizon.TheConstants.{MOST_HORIZON}
+use Rattle.enforce_types.specs.Typed.{WorkTogether, typed_of}
+use Rattle.obligations.specs.Asked.{placed_guard}
+use Rattle.obligations.specs.Pending.{HasDeadline, NoneIsOver}
+use Rattle.obligations.specs.Waiting.{CanAskOf}
+use Rattle.obligations.specs.declared.instances.Instance.{Instance}
+use Rattle.obligations.specs.declared.now.TheConstants.{MOST_TIME}
+use Rattle.enforcer_core.specs.Ending.{reach_of}
+use Rattle.enforcer_core.specs.Enforcers.{plans_in}
+use Rattle.enforcer_core.proofs.SnapshotLemmas.{keeps_none}
+use Rattle.enforcer_core.proofs.enforcer.Enforcer.new.Goals as goal
+
+pub invariant_of-result : goal.invariant_of-result
+invariant_of-result c =
+    let plans = plans_in c.args.policy in
+    let guards = map placed_guard c.in_ok-past.past.guards in
+    let together : WorkTogether (typed_of c.args.policy) = record {
+      formed = c.plans.ensures.formed;
+      later = c.plans.ensures.later;
+      accepted = c.plans.ensures.accepted;
+      ranked = c.plans.ensures.ranked;
+    } in
+    let bounded : (typed_of c.args.policy).ranked.horizon ≤ MOST_HORIZON =
+    subst (λ (horizon : ℕ). horizon ≤ MOST_HORIZON) c.horizon-horizon.ensures.value c.horizon-horizon.ensures.bounded in
+    let copies : AreCopies c.args.policy.guards c.in_ok-past.past.guards =
+    subst (λ (l : List BoundFormula). AreCopies l c.in_ok-past.past.guards) c.guards.ensures.guards c.in_ok-past.ensures.guards in
+    let few : length plans ≤ 64 = together.formed.few in (
+      record {
+        together = together;
+        bounded = bounded;
+        serves = λ on. record {
+          guards = copies;
+          can = λ time later. record {
+            asked = record {
+              few = omega (arith, few);
+              roles = together.formed.roles;
+              named = c.well_formed_can_be_asked.ensures.stand plans (guards_of c.args.policy.guards) together.formed;
+              roots = c.well_formed_can_be_asked.ensures.asked plans c.args.policy.guards c.in_ok-past.past.guards together.formed copies;
+              instances = subst (AllByRecursion (CanAskOf guards plans)) (sym c.new-pending.ensures.instances) tt;
+              deadlines = keeps_none plans c.new-pending.result c.new-pending.ensures.instances c.new-pending.ensures.deadlines;
+            };
+            up_to = c.in_ok-past.ensures.up_to time;
+          };
+          over = subst (λ (l : List Instance). NoneIsOver plans l 0) (sym c.new-pending.ensures.instances)
+              (All-nil (λ (i : Instance). (deadline : ℕ) → HasDeadline plans i deadline → 0 ≤ deadline));
+          in_reach = subst (λ (l : List Instance). reach_of (typed_of c.args.policy).ranked.ranks plans l ≤ MOST_TIME) (sym c.new-pending.ensures.instances) (omega arith);
+        };
+      },
+      c.in_ok-wakes.ensures ∙ ap (λ (l : List StoredPlan). map guard_triggers (map plan_of l)) c.plans.ensures.plans,
+    )
