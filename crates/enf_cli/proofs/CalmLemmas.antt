@@ -1,7 +1,8 @@
 -- Over the devices that never fail, with the files that the words name, no fault comes.
-use Rattle.std.proofs.Common.{◌≡◌, ◌≢◌, ℕ, List, refl, subst, arith, inl, inr, ◌⊎◌}
+use Rattle.std.proofs.Common.{◌≡◌, ◌≢◌, ℕ, List, refl, ap, subst, arith, inl, inr, ◌⊎◌}
 use Rattle.enf_io.specs.Calm.{CalmContents, calm_files, contents_under}
 use Rattle.enf_io.specs.Counts.{one_more}
+use Rattle.enf_io.specs.FileCalls.{FileView}
 use Rattle.signature.specs.declared.entries.NameEntry.{NameEntry}
 use Rattle.enf_io.specs.Contents.{Missing}
 use Rattle.enf_cli.specs.Calls.{Call}
@@ -31,7 +32,7 @@ module _ {Gate : Type 0} (call : Call Gate) (x : CalmContents) (files : call.bef
     misses_none report m = by (one_form call.words signature policy m.signature_file m.policy_file form m.form) m.failed
       where
         by : (signature ≡ m.signature_file) × (policy ≡ m.policy_file)
-            → FailsToRead m.signature_file call.before.files call.after.files ⊎ (((entries : List NameEntry) × HoldsSignature call.before.files.contents m.signature_file entries) × FailsToRead m.policy_file call.before.files call.after.files) → ⊥
+            → FailsToRead m.signature_file call.before.files call.after.files ⊎ (((bytes : List ℕ) × (entries : List NameEntry) × HoldsSignature call.before.files.contents m.signature_file bytes entries) × FailsToRead m.policy_file call.before.files call.after.files) → ⊥
         by names (inl failed) = reads_held m.signature_file (subst (λ (n : List ℕ). contents_under x n ≢ Missing) names.0 held) failed
         by names (inr (holds, failed)) = reads_held m.policy_file (subst (λ (n : List ℕ). contents_under x n ≢ Missing) names.1 also) failed
 
@@ -45,12 +46,15 @@ module _ {Gate : Type 0} (call : Call Gate) (x : CalmContents) (files : call.bef
         by (inr (inl b)) = none_more call.before.gate.read_faults call.after.gate.read_faults before after b.failed
 
   -- no write fault comes
-  pub no_write_fault : call.before.gate.write_faults ≡ 0 → call.after.gate.write_faults ≡ 0 → call.before.report.write_faults ≡ 0 → call.after.report.write_faults ≡ 0 → Outcome call statuses.WriteFault → ⊥
-  no_write_fault before after said-before said-after (inl (inl failed)) = by failed.cut
+  pub no_write_fault : (y : CalmContents) → call.after.files ≡ calm_files y → call.before.gate.write_faults ≡ 0 → call.after.gate.write_faults ≡ 0 → call.before.report.write_faults ≡ 0 → call.after.report.write_faults ≡ 0 → Outcome call statuses.WriteFault → ⊥
+  no_write_fault y files' before after said-before said-after (inl (inl (inr failed))) =
+      let name = failed.file in
+      none_more (call.before.files.write_faults name) (call.after.files.write_faults name) (ap (λ (v : FileView). v.write_faults name) files) (ap (λ (v : FileView). v.write_faults name) files') failed.written.writes.named
+  no_write_fault y files' before after said-before said-after (inl (inl (inl failed))) = by failed.cut
     where
       by : CutsRun failed.setting (seen_of call.before.gate call.before.report) (seen_of call.after.gate call.after.report) cuts.WriteFault → ⊥
       by (inl gate) = none_more call.before.gate.write_faults call.after.gate.write_faults before after gate.writes
       by (inr report) = none_more call.before.report.write_faults call.after.report.write_faults said-before said-after report.actions.writes
-  no_write_fault before after said-before said-after (inl (inr generated)) = none_more call.before.gate.write_faults call.after.gate.write_faults before after generated.writes
-  no_write_fault before after said-before said-after (inr (inl checked)) = none_more call.before.gate.write_faults call.after.gate.write_faults before after checked.writes
-  no_write_fault before after said-before said-after (inr (inr found)) = none_more call.before.gate.write_faults call.after.gate.write_faults before after found.writes
+  no_write_fault y files' before after said-before said-after (inl (inr generated)) = none_more call.before.gate.write_faults call.after.gate.write_faults before after generated.writes
+  no_write_fault y files' before after said-before said-after (inr (inl checked)) = none_more call.before.gate.write_faults call.after.gate.write_faults before after checked.writes
+  no_write_fault y files' before after said-before said-after (inr (inr found)) = none_more call.before.gate.write_faults call.after.gate.write_faults before after found.writes

@@ -2,7 +2,7 @@
 use Rattle.std.proofs.Common.{◌≡◌, ◌≢◌, ℕ, ◌-◌, ◌<◌, List, [], ◌∷◌, Option, Some, None, Result, Err, Ok, length, take, codes, get_or, refl, sym, ap, subst, ◌∙◌, inl, inr, arith}
 use Rattle.std.specs.Prelude.{◌⊎◌}
 use Rattle.enf_io.specs.Contents.{Contents}
-use Rattle.enf_io.specs.FileCalls.{FileView}
+use Rattle.enf_io.specs.FileCalls.{FileView, WritesFile}
 use Rattle.enf_io.specs.Streams.{Stream}
 use Rattle.enforce_types.specs.Accepted.{AcceptedIsNotRefused, RefusesPolicy}
 use Rattle.enforce_types.specs.declared.refusals.TypeRefusal.{TypeRefusal}
@@ -20,20 +20,22 @@ use Rattle.trace_audit.specs.Laws.{VerdictIsOne}
 use Rattle.trace_audit.specs.Verdicts.{IsVerdict}
 use Rattle.trace_audit.specs.declared.verdicts.Verdict.{Verdict as Found}
 use Rattle.trace_audit.specs.declared.verdicts.Verdict.TheVariants.{Holds, Fails}
-use Rattle.trace_meaning.specs.Records.{recorded}
+use Rattle.choice_step.specs.Follows.{ActedStep}
+use Rattle.trace_meaning.specs.Records.{Record, recorded}
 use Rattle.enf_cli.specs.Accepted.{UpToDate}
 use Rattle.enf_cli.specs.Audits.{GivesNothing, TakesWholeTrace, as_trace}
 use Rattle.enf_cli.specs.Calls.{Call, LeavesFiles, LeavesGate}
-use Rattle.enf_cli.specs.Dues.{AsksPolicy, AsksRefused, AsksRefusedPolicy, AsksRefusedSignature, AsksSignature, AsksToCheck, AsksToGenerate, AsksToRead, AsksTold, BreaksOff, CanBeDone, Dues, IsAcceptable, IsAuditable, IsViolating, MeetsReadFault, MeetsRefusal, TellBytes, taken_between}
+use Rattle.enf_cli.specs.Dues.{AsksPolicy, AsksRefused, AsksRefusedPolicy, AsksRefusedSignature, AsksSignature, AsksToCheck, AsksToGenerate, AsksToRead, AsksTold, BreaksOff, CanBeDone, Dues, IsAcceptable, IsAuditable, IsViolating, MeetsReadFault, MeetsRefusal, MeetsWriteFault, TellBytes, taken_between}
 use Rattle.enf_cli.specs.Files.{AreHeld, AreUnder, HoldsSignature, IsRefusedPolicy, IsRefusedSignature}
-use Rattle.enf_cli.specs.Logs.{RunsLog}
-use Rattle.enf_cli.specs.Owed.{Setting, anew, reading_of}
+use Rattle.enf_cli.specs.Logs.{RunsLogFor}
+use Rattle.enf_cli.specs.Owed.{IsOwedInAll, IsOwedSoFar, Setting, anew, reading_of}
 use Rattle.enf_cli.specs.Readings.{Accepts, IsRefusedAs, Reading, ReadsToEnd, records_of, taken_in}
 use Rattle.enf_cli.specs.Seen.{Seen, seen_of}
 use Rattle.enf_cli.specs.Outcomes.{Asks, AsksToEnforce, AuditsLog, ChecksPolicy, FindsVerdict, GeneratesLog, IsDone, Meets, Outcome, Refuses, RefusesAudited, RefusesPolicyFile, RefusesRecord, RefusesSignatureFile, RefusesWords, SaysVerdict}
 use Rattle.enf_cli.specs.Policies.{ReadsPolicy, SpellsPolicy, SpellsRefused, formulas}
 use Rattle.enf_cli.specs.Signatures.{SpellsSignature}
-use Rattle.enf_cli.specs.Words.{IsAudit, IsCheck, IsEnforce, IsGenerate, MatchNoForm, NamesFiles}
+use Rattle.enf_cli.specs.Words.{IsAudit, IsCheck, IsEnforce, IsGenerate, MatchNoForm, NamesFiles, save_words}
+use Rattle.enf_cli.proofs.FileLemmas.{same_counts}
 use Rattle.enf_cli.proofs.ReadOnce.{OneRecordAnswer, refused_not_whole, whole_meets_none, whole_read}
 use Rattle.enf_cli.specs.declared.intake.Verdict.{Verdict}
 use Rattle.enf_cli.specs.declared.intake.Verdict.TheVariants as verdicts
@@ -54,46 +56,60 @@ same_command words command other more others e f =
     let both : command ∷ more ≡ other ∷ others = sym e ∙ f in
     cc
 
--- and two words behind it
-same_files : (words : List (List ℕ)) (command other signature policy signature' policy' : List ℕ) → words ≡ command ∷ signature ∷ policy ∷ [] → words ≡ other ∷ signature' ∷ policy' ∷ [] → (signature ≡ signature') × (policy ≡ policy')
-same_files words command other signature policy signature' policy' e f =
-    let both : command ∷ signature ∷ policy ∷ [] ≡ other ∷ signature' ∷ policy' ∷ [] = sym e ∙ f in
+-- and the first two words behind it
+same_files : (words : List (List ℕ)) (command other signature policy signature' policy' : List ℕ) (more others : List (List ℕ)) → words ≡ command ∷ signature ∷ policy ∷ more → words ≡ other ∷ signature' ∷ policy' ∷ others
+    → (signature ≡ signature') × (policy ≡ policy')
+same_files words command other signature policy signature' policy' more others e f =
+    let both : command ∷ signature ∷ policy ∷ more ≡ other ∷ signature' ∷ policy' ∷ others = sym e ∙ f in
     (cc, cc)
 
--- words that name files are a command of more than three letters, and the two names
+-- words that name files are a command of more than three letters, and the two names, and what stands behind these
 record AreNamed (words : List (List ℕ)) (signature policy : List ℕ) : Type 0 where
   pub command : List ℕ
   pub long : 3 < length command
-  pub form : words ≡ command ∷ signature ∷ policy ∷ []
+  pub more : List (List ℕ)
+  pub form : words ≡ command ∷ signature ∷ policy ∷ more
 
 named : (words : List (List ℕ)) (signature policy : List ℕ) → NamesFiles words signature policy → AreNamed words signature policy
-named words signature policy (inl e) = record { command = codes "enforce"; long = omega arith; form = e }
-named words signature policy (inr (inl e)) = record { command = codes "check"; long = omega arith; form = e }
-named words signature policy (inr (inr e)) = record { command = codes "audit"; long = omega arith; form = e }
+named words signature policy (inl (saved, e)) = record { command = codes "enforce"; long = omega arith; more = save_words saved; form = e }
+named words signature policy (inr (inl e)) = record { command = codes "check"; long = omega arith; more = []; form = e }
+named words signature policy (inr (inr e)) = record { command = codes "audit"; long = omega arith; more = []; form = e }
 
 -- the words name one signature and one policy
 pub one_form : (words : List (List ℕ)) (signature policy signature' policy' : List ℕ) → NamesFiles words signature policy → NamesFiles words signature' policy' → (signature ≡ signature') × (policy ≡ policy')
 one_form words signature policy signature' policy' e f =
     let n = named words signature policy e in
     let m = named words signature' policy' f in
-    same_files words n.command m.command signature policy signature' policy' n.form m.form
+    same_files words n.command m.command signature policy signature' policy' n.more m.more n.form m.form
 
 -- and they do not ask to generate
 pub files_or_generate : (words : List (List ℕ)) (signature policy : List ℕ) (start steps : ℕ) → NamesFiles words signature policy → IsGenerate words start steps → ⊥
 files_or_generate words signature policy start steps e g =
     let n = named words signature policy e in
-    let command : n.command ≡ codes "gen" = same_command words n.command (codes "gen") (signature ∷ policy ∷ []) (g.start_word ∷ g.steps_word ∷ []) n.form g.form in
+    let command : n.command ≡ codes "gen" = same_command words n.command (codes "gen") (signature ∷ policy ∷ n.more) (g.start_word ∷ g.steps_word ∷ []) n.form g.form in
     omega (arith, n.long, ap length command)
 
-pub enforce_or_check : (words : List (List ℕ)) (signature policy signature' policy' : List ℕ) → IsEnforce words signature policy → IsCheck words signature' policy' → ⊥
-enforce_or_check words signature policy signature' policy' e f =
-    let command : codes "enforce" ≡ codes "check" = same_command words (codes "enforce") (codes "check") (signature ∷ policy ∷ []) (signature' ∷ policy' ∷ []) e f in
+pub enforce_or_check : (saved : Option (List ℕ)) (words : List (List ℕ)) (signature policy signature' policy' : List ℕ) → IsEnforce saved words signature policy → IsCheck words signature' policy' → ⊥
+enforce_or_check saved words signature policy signature' policy' e f =
+    let command : codes "enforce" ≡ codes "check" = same_command words (codes "enforce") (codes "check") (signature ∷ policy ∷ save_words saved) (signature' ∷ policy' ∷ []) e f in
     omega (arith, ap length command)
 
-pub enforce_or_audit : (words : List (List ℕ)) (signature policy signature' policy' : List ℕ) → IsEnforce words signature policy → IsAudit words signature' policy' → ⊥
-enforce_or_audit words signature policy signature' policy' e f =
-    let command : codes "enforce" ≡ codes "audit" = same_command words (codes "enforce") (codes "audit") (signature ∷ policy ∷ []) (signature' ∷ policy' ∷ []) e f in
+pub enforce_or_audit : (saved : Option (List ℕ)) (words : List (List ℕ)) (signature policy signature' policy' : List ℕ) → IsEnforce saved words signature policy → IsAudit words signature' policy' → ⊥
+enforce_or_audit saved words signature policy signature' policy' e f =
+    let command : codes "enforce" ≡ codes "audit" = same_command words (codes "enforce") (codes "audit") (signature ∷ policy ∷ save_words saved) (signature' ∷ policy' ∷ []) e f in
     omega (arith, ap length command)
+
+-- words that enforce name one file for the state, or none
+same_save : (saved others : Option (List ℕ)) → save_words saved ≡ save_words others → saved ≡ others
+same_save None None e = refl
+same_save None (Some file) e = cc
+same_save (Some file) None e = cc
+same_save (Some file) (Some other) e = ap Some cc
+
+pub one_save : (saved others : Option (List ℕ)) (words : List (List ℕ)) (signature policy signature' policy' : List ℕ) → IsEnforce saved words signature policy → IsEnforce others words signature' policy' → saved ≡ others
+one_save saved others words signature policy signature' policy' e f =
+    let both : codes "enforce" ∷ signature ∷ policy ∷ save_words saved ≡ codes "enforce" ∷ signature' ∷ policy' ∷ save_words others = sym e ∙ f in
+    same_save saved others cc
 
 check_or_audit : (words : List (List ℕ)) (signature policy signature' policy' : List ℕ) → IsCheck words signature policy → IsAudit words signature' policy' → ⊥
 check_or_audit words signature policy signature' policy' e f =
@@ -102,7 +118,8 @@ check_or_audit words signature policy signature' policy' e f =
 
 -- words that name files match a form
 some_form : (words : List (List ℕ)) (signature policy : List ℕ) → NamesFiles words signature policy → MatchNoForm words → ⊥
-some_form words signature policy (inl e) none = none.enforce signature policy e
+some_form words signature policy (inl (None, e)) none = none.enforce signature policy e
+some_form words signature policy (inl (Some file, e)) none = none.save signature policy file e
 some_form words signature policy (inr (inl e)) none = none.check signature policy e
 some_form words signature policy (inr (inr e)) none = none.audit signature policy e
 
@@ -121,11 +138,11 @@ same_text_answer : OneTextAnswer → (entries : List NameEntry) (bytes : List �
 same_text_answer one entries bytes answer other is also = let all = one entries bytes in all.2 answer is ∙ sym (all.2 other also)
 
 -- a form that names files
-abbrev IsNaming : (List (List ℕ) → List ℕ → List ℕ → Type 0) → Type 0
+abbrev pub IsNaming : (List (List ℕ) → List ℕ → List ℕ → Type 0) → Type 0
 IsNaming IsForm = (words : List (List ℕ)) (signature policy : List ℕ) → IsForm words signature policy → NamesFiles words signature policy
 
-enforce_names : IsNaming IsEnforce
-enforce_names words signature policy e = inl e
+pub enforce_names : (saved : Option (List ℕ)) → IsNaming (IsEnforce saved)
+enforce_names saved words signature policy e = inl (saved, e)
 
 check_names : IsNaming IsCheck
 check_names words signature policy e = inr (inl e)
@@ -138,17 +155,19 @@ all_names words signature policy e = e
 
 -- what is asked for in one form
 module _ {Gate : Type 0} (call : Call Gate) (entries : List NameEntry) (policy : List Rule) (IsForm : List (List ℕ) → List ℕ → List ℕ → Type 0) (names : IsNaming IsForm) where
-  asks_named : Asks IsForm call entries policy → Asks NamesFiles call entries policy
+  abbrev pub asks_named : Asks IsForm call entries policy → Asks NamesFiles call entries policy
   asks_named a =
       record {
         signature_file = a.signature_file;
         policy_file = a.policy_file;
         form = names call.words a.signature_file a.policy_file a.form;
+        signature_bytes = a.signature_bytes;
+        policy_bytes = a.policy_bytes;
         holds_signature = a.holds_signature;
         holds_policy = a.holds_policy;
       }
 
-  policy_named : AsksPolicy IsForm call entries policy → AsksPolicy NamesFiles call entries policy
+  abbrev pub policy_named : AsksPolicy IsForm call entries policy → AsksPolicy NamesFiles call entries policy
   policy_named t =
       record {
         asks = record {
@@ -211,10 +230,10 @@ module _ (one : OneAnswer) (one_text : OneTextAnswer) (accepted : AcceptedIsNotR
 
   module _ {Gate : Type 0} (call : Call Gate) (entries : List NameEntry) (t : AsksSignature NamesFiles call entries) where
     -- files have no other signature under the name
-    one_signature : (signature policy : List ℕ) (others : List NameEntry) → NamesFiles call.words signature policy → HoldsSignature call.before.files.contents signature others → entries ≡ others
-    one_signature signature policy others form holds =
+    one_signature : (signature policy bytes : List ℕ) (others : List NameEntry) → NamesFiles call.words signature policy → HoldsSignature call.before.files.contents signature bytes others → entries ≡ others
+    one_signature signature policy bytes others form holds =
         let names = one_form call.words t.signature_file t.policy_file signature policy t.form form in
-        let all = told_bytes call.before.files.contents t.signature_file signature t.bytes holds.bytes names.0 t.told holds.under in
+        let all = told_bytes call.before.files.contents t.signature_file signature t.bytes bytes names.0 t.told holds.under in
         same_signature t.bytes entries others t.is_signature (subst (λ (b : List ℕ). SpellsSignature b others) all holds.is_signature)
 
     -- the signature is not refused
@@ -227,10 +246,10 @@ module _ (one : OneAnswer) (one_text : OneTextAnswer) (accepted : AcceptedIsNotR
     -- nor have they another policy under the name
     one_policy : (bytes : List ℕ) → TellBytes call.before.files.contents t.policy_file bytes → (others : List NameEntry) (policy : List Rule) → Asks NamesFiles call others policy → (entries ≡ others) × SpellsPolicy entries bytes policy
     one_policy bytes told others policy a =
-        let same = one_signature a.signature_file a.policy_file others a.form a.holds_signature in
+        let same = one_signature a.signature_file a.policy_file a.signature_bytes others a.form a.holds_signature in
         let names = one_form call.words t.signature_file t.policy_file a.signature_file a.policy_file t.form a.form in
-        let all = told_bytes call.before.files.contents t.policy_file a.policy_file bytes a.holds_policy.bytes names.1 told a.holds_policy.under in
-        let here = subst (λ (es : List NameEntry). SpellsPolicy es a.holds_policy.bytes policy) (sym same) a.holds_policy.is_policy in
+        let all = told_bytes call.before.files.contents t.policy_file a.policy_file bytes a.policy_bytes names.1 told a.holds_policy.under in
+        let here = subst (λ (es : List NameEntry). SpellsPolicy es a.policy_bytes policy) (sym same) a.holds_policy.is_policy in
         (same, subst (λ (b : List ℕ). SpellsPolicy entries b policy) all here)
 
   module _ {Gate : Type 0} (call : Call Gate) where
@@ -238,7 +257,7 @@ module _ (one : OneAnswer) (one_text : OneTextAnswer) (accepted : AcceptedIsNotR
     refused_signature_not_asked : (t : AsksRefusedSignature call) (entries : List NameEntry) (policy : List Rule) → Asks NamesFiles call entries policy → ⊥
     refused_signature_not_asked t entries policy a =
         let names = one_form call.words t.signature_file t.policy_file a.signature_file a.policy_file t.form a.form in
-        let all = told_bytes call.before.files.contents t.signature_file a.signature_file t.bytes a.holds_signature.bytes names.0 t.told a.holds_signature.under in
+        let all = told_bytes call.before.files.contents t.signature_file a.signature_file t.bytes a.signature_bytes names.0 t.told a.holds_signature.under in
         signature_not_refused t.why t.bytes entries (subst (λ (b : List ℕ). SpellsSignature b entries) all a.holds_signature.is_signature) t.refused
 
     -- nor is a policy that is refused
@@ -270,36 +289,43 @@ module _ (one : OneAnswer) (one_text : OneTextAnswer) (accepted : AcceptedIsNotR
         no_policy_refusal : RefusesPolicyFile call r.between why → ⊥
         no_policy_refusal m =
             let w = m.refused in
-            let same = one_signature call entries t.asks m.signature_file m.policy_file m.entries m.form m.holds_signature in
+            let same = one_signature call entries t.asks m.signature_file m.policy_file m.bytes m.entries m.form m.holds_signature in
             let names = one_form call.words t.asks.signature_file t.asks.policy_file m.signature_file m.policy_file t.asks.form m.form in
             let all = told_bytes call.before.files.contents t.asks.policy_file m.policy_file t.bytes w.bytes names.1 t.told w.under in
             let here = subst (λ (es : List NameEntry). IsRefusedPolicy es why w.bytes) (sym same) w.refused in
             policy_not_refused entries why t.bytes policy t.is_policy (subst (IsRefusedPolicy entries why) all here)
 
-  module _ {Gate : Type 0} (call : Call Gate) (IsForm : List (List ℕ) → List ℕ → List ℕ → Type 0) (names : IsNaming IsForm) (entries : List NameEntry) (policy : List Rule) (t : AsksPolicy IsForm call entries policy) where
+  module _ {Gate : Type 0} (call : Call Gate) (entries : List NameEntry) (policy : List Rule) (t : AsksPolicy NamesFiles call entries policy) where
     -- the files tell one signature and one policy
-    one_asked : (others : List NameEntry) (other : List Rule) → Asks IsForm call others other → (entries ≡ others) × (policy ≡ other)
+    pub one_asked : (others : List NameEntry) (other : List Rule) → Asks NamesFiles call others other → (entries ≡ others) × (policy ≡ other)
     one_asked others other a =
-        let mine = policy_named call entries policy IsForm names t in
-        let same = one_policy call entries mine.asks mine.bytes mine.told others other (asks_named call others other IsForm names a) in
-        (same.0, same_policy entries mine.bytes policy other mine.is_policy.reads same.1.reads)
+        let same = one_policy call entries t.asks t.bytes t.told others other a in
+        (same.0, same_policy entries t.bytes policy other t.is_policy.reads same.1.reads)
+
+    -- and these bytes of each
+    pub one_source : (others : List NameEntry) (other : List Rule) (a : Asks NamesFiles call others other) → (a.signature_bytes ≡ t.asks.bytes) × (a.policy_bytes ≡ t.bytes)
+    one_source others other a =
+        let told = call.before.files.contents in
+        let names = one_form call.words t.asks.signature_file t.asks.policy_file a.signature_file a.policy_file t.asks.form a.form in (
+          told_bytes told t.asks.signature_file a.signature_file t.asks.bytes a.signature_bytes names.0 t.asks.told a.holds_signature.under,
+          told_bytes told t.asks.policy_file a.policy_file t.bytes a.policy_bytes names.1 t.told a.holds_policy.under,
+        )
 
   module _ {Gate : Type 0} (call : Call Gate) (s : Setting) (t : AsksTold call s) where
-    -- what is asked for is this setting
-    pub one_setting : (other : Setting) → AsksToEnforce call other → s ≡ other
-    one_setting other a =
-        let same = one_asked call IsEnforce enforce_names s.entries s.rules t.asks other.entries other.rules a.asks in
-        t.is_setting ∙ (λ i. anew (same.0 i) (same.1 i)) ∙ sym a.is_setting
+    abbrev told_policy : AsksPolicy NamesFiles call s.entries s.rules
+    told_policy = policy_named call s.entries s.rules (IsEnforce t.saved) (enforce_names t.saved) t.asks
 
-    -- the log is run in the setting that is told
-    pub ran_told : (report : Stream) (other : Setting) (verdict : Verdict) → AsksToEnforce call other → RunsLog other verdict (seen_of call.before.gate call.before.report) (seen_of call.after.gate report) → RunsLog s verdict (seen_of call.before.gate call.before.report) (seen_of call.after.gate report)
-    ran_told report other verdict asks ran = subst (λ (o : Setting). RunsLog o verdict (seen_of call.before.gate call.before.report) (seen_of call.after.gate report)) (sym (one_setting other asks)) ran
+    -- what is asked for is this setting
+    pub one_setting : (saved : Option (List ℕ)) (other : Setting) → AsksToEnforce call saved other → s ≡ other
+    one_setting saved other a =
+        let same = one_asked call s.entries s.rules told_policy other.entries other.rules (asks_named call other.entries other.rules (IsEnforce saved) (enforce_names saved) a.asks) in
+        t.is_setting ∙ (λ i. anew (same.0 i) (same.1 i)) ∙ sym a.is_setting
 
   module _ (law : OneRecordAnswer) where
     -- ---- the run of a log, and an audit, take it so
 
-    ran_to_end : (s : Setting) (verdict : Verdict) (before after : Seen) → RunsLog s verdict before after → ReadsToEnd (UpToDate s) (reading_of s) verdict before.gate after.gate
-    ran_to_end s verdict before after ran =
+    ran_to_end : (IsOwed : List Record → List ActedStep → Type 0) (s : Setting) (verdict : Verdict) (before after : Seen) → RunsLogFor IsOwed s verdict before after → ReadsToEnd (UpToDate s) (reading_of s) verdict before.gate after.gate
+    ran_to_end IsOwed s verdict before after ran =
         record {
           log = record { taken = ran.taken; given = ran.given; exchanged = ran.exchanged; read = ran.answers.read; rest = ran.rest; accepts = ran.answers.accepts };
           ends = ran.ends;
@@ -307,27 +333,27 @@ module _ (one : OneAnswer) (one_text : OneTextAnswer) (accepted : AcceptedIsNotR
 
     module _ {Gate : Type 0} (call : Call Gate) where
       -- a run in the setting that is told, and an audit under what is told, are those of what is asked
-      told_run : (s : Setting) → AsksTold call s → (report : Stream) (other : Setting) (verdict : Verdict) → AsksToEnforce call other → RunsLog other verdict (seen_of call.before.gate call.before.report) (seen_of call.after.gate report)
+      told_run : (s : Setting) → AsksTold call s → (saved : Option (List ℕ)) (other : Setting) (verdict : Verdict) → AsksToEnforce call saved other → ReadsToEnd (UpToDate other) (reading_of other) verdict call.before.gate call.after.gate
           → ReadsToEnd (UpToDate s) (reading_of s) verdict call.before.gate call.after.gate
-      told_run s t report other verdict asks ran =
-          ran_to_end s verdict (seen_of call.before.gate call.before.report) (seen_of call.after.gate report) (ran_told call s t report other verdict asks ran)
+      told_run s t saved other verdict asks read =
+          subst (λ (o : Setting). ReadsToEnd (UpToDate o) (reading_of o) verdict call.before.gate call.after.gate) (sym (one_setting call s t saved other asks)) read
 
       told_audit : (entries : List NameEntry) (policy : List Rule) → AsksPolicy IsAudit call entries policy → (report : Stream) (verdict : Verdict) (a : AuditsLog call report verdict)
           → TakesWholeTrace entries verdict call.before.gate call.after.gate
       told_audit entries policy t report verdict a =
-          let same = one_asked call IsAudit audit_names entries policy t a.entries a.policy a.asks in
+          let same = one_asked call entries policy (policy_named call entries policy IsAudit audit_names t) a.entries a.policy (asks_named call a.entries a.policy IsAudit audit_names a.asks) in
           subst (λ (es : List NameEntry). TakesWholeTrace es verdict call.before.gate call.after.gate) (sym same.0) a.whole
 
-      done_meets_none : (report : Stream) → IsDone call report → MeetsRefusal call → ⊥
-      done_meets_none report d m = by m.reading m.asks m.read m.rest m.accepts m.why m.refused
+      done_meets_none : (saved : Option (List ℕ)) (setting : Setting) → AsksToEnforce call saved setting → ReadsToEnd (UpToDate setting) (reading_of setting) verdicts.Accepted call.before.gate call.after.gate → MeetsRefusal call → ⊥
+      done_meets_none saved setting asked whole m = by m.reading m.asks m.read m.rest m.accepts m.why m.refused
         where
           by : (r : Reading) → AsksToRead call r → (read : List LogItem) (rest : List ℕ) → Accepts r.entries r.mode r.clock (taken_between m.x m.y) read rest
               → (why : RecordRefusal) → IsRefusedAs (taken_in r read (taken_between m.x m.y) rest) call.after.gate why → ⊥
           by r (inl (s, asks, is)) read rest accepts why refused =
-              let w = subst (λ (k : Reading). ReadsToEnd (UpToDate s) k verdicts.Accepted call.before.gate call.after.gate) (sym is) (told_run s asks report d.setting verdicts.Accepted d.asks d.ran) in
+              let w = subst (λ (k : Reading). ReadsToEnd (UpToDate s) k verdicts.Accepted call.before.gate call.after.gate) (sym is) (told_run s asks saved setting verdicts.Accepted asked whole) in
               whole_meets_none law (UpToDate s) r call.before.gate call.after.gate w m.x m.y m.told m.told' read rest accepts why refused
           by r (inr (entries, policy, asks, is)) read rest accepts why refused =
-              enforce_or_audit call.words d.asks.asks.signature_file d.asks.asks.policy_file asks.asks.signature_file asks.asks.policy_file d.asks.asks.form asks.asks.form
+              enforce_or_audit saved call.words asked.asks.signature_file asked.asks.policy_file asks.asks.signature_file asks.asks.policy_file asked.asks.form asks.asks.form
 
       audit_meets_none : (report : Stream) → AuditsLog call report verdicts.Accepted → MeetsRefusal call → ⊥
       audit_meets_none report a m = by m.reading m.asks m.read m.rest m.accepts m.why m.refused
@@ -335,7 +361,7 @@ module _ (one : OneAnswer) (one_text : OneTextAnswer) (accepted : AcceptedIsNotR
           by : (r : Reading) → AsksToRead call r → (read : List LogItem) (rest : List ℕ) → Accepts r.entries r.mode r.clock (taken_between m.x m.y) read rest
               → (why : RecordRefusal) → IsRefusedAs (taken_in r read (taken_between m.x m.y) rest) call.after.gate why → ⊥
           by r (inl (s, asks, is)) read rest accepts why refused =
-              enforce_or_audit call.words asks.asks.asks.signature_file asks.asks.asks.policy_file a.asks.signature_file a.asks.policy_file asks.asks.asks.form a.asks.form
+              enforce_or_audit asks.saved call.words asks.asks.asks.signature_file asks.asks.asks.policy_file a.asks.signature_file a.asks.policy_file asks.asks.asks.form a.asks.form
           by r (inr (entries, policy, asks, is)) read rest accepts why refused =
               let w = subst (λ (k : Reading). ReadsToEnd GivesNothing k verdicts.Accepted call.before.gate call.after.gate) (sym is) (told_audit entries policy asks report verdicts.Accepted a) in
               whole_meets_none law GivesNothing r call.before.gate call.after.gate w m.x m.y m.told m.told' read rest accepts why refused
@@ -343,7 +369,9 @@ module _ (one : OneAnswer) (one_text : OneTextAnswer) (accepted : AcceptedIsNotR
       -- a log that is refused in a run, or in an audit, is no whole one
       record_not_acceptable : (report : Stream) (number : ℕ) (why : RecordRefusal) → RefusesRecord call report number why → IsAcceptable call → ⊥
       record_not_acceptable report number why o due =
-          refused_not_whole law (UpToDate due.setting) (reading_of due.setting) call.before.gate call.after.gate why (told_run due.setting due.asks report o.setting (verdicts.Refused why) o.asks o.ran) due.whole
+          refused_not_whole law (UpToDate due.setting) (reading_of due.setting) call.before.gate call.after.gate why
+          (told_run due.setting due.asks o.saved o.setting (verdicts.Refused why) o.asks
+          (ran_to_end (IsOwedInAll o.setting) o.setting (verdicts.Refused why) (seen_of call.before.gate call.before.report) (seen_of call.after.gate report) o.ran)) due.whole
 
       audited_not_acceptable : (report : Stream) (why : RecordRefusal) → AuditsLog call report (verdicts.Refused why) → (found : Found) → IsAuditable call found → ⊥
       audited_not_acceptable report why a found due =
@@ -354,7 +382,7 @@ module _ (one : OneAnswer) (one_text : OneTextAnswer) (accepted : AcceptedIsNotR
       one_found one_verdict report found other f due = subst Q same.0 base f.audit.whole f.is_verdict yours
         where
           same : (due.entries ≡ f.audit.entries) × (due.policy ≡ f.audit.policy)
-          same = one_asked call IsAudit audit_names due.entries due.policy due.asks f.audit.entries f.audit.policy f.audit.asks
+          same = one_asked call due.entries due.policy (policy_named call due.entries due.policy IsAudit audit_names due.asks) f.audit.entries f.audit.policy (asks_named call f.audit.entries f.audit.policy IsAudit audit_names f.audit.asks)
 
           IsFound : List LogItem → Found → Type 0
           IsFound read verdict = IsVerdict (formulas f.audit.policy) (recorded (records_of read)) verdict
@@ -373,47 +401,77 @@ module _ (one : OneAnswer) (one_text : OneTextAnswer) (accepted : AcceptedIsNotR
     -- ---- where each status must come
 
     module _ (verdict_is_one : VerdictIsOne) {Gate : Type 0} (call : Call Gate) where
-      -- no read failed
+      -- no call of a file failed
+      abbrev NoFileFailed : Type 0
+      NoFileFailed = ((name : List ℕ) → call.after.files.read_faults name ≡ call.before.files.read_faults name) × ((name : List ℕ) → call.after.files.write_faults name ≡ call.before.files.write_faults name)
+
+      left : LeavesFiles call → NoFileFailed
+      left files = ((λ name. ap (λ (v : FileView). v.read_faults name) files), (λ name. ap (λ (v : FileView). v.write_faults name) files))
+
+      read_faultless : NoFileFailed → call.after.gate.read_faults ≡ call.before.gate.read_faults → MeetsReadFault call → ⊥
+      read_faultless files gate (inl (name, moved)) = moved (files.0 name)
+      read_faultless files gate (inr moved) = moved gate
+
+      write_faultless : NoFileFailed → call.after.gate.write_faults ≡ call.before.gate.write_faults → MeetsWriteFault call → ⊥
+      write_faultless files gate (inl (name, moved)) = moved (files.1 name)
+      write_faultless files gate (inr moved) = moved gate
+
+      -- no read failed, and no write
       no_read_fault : LeavesFiles call → call.after.gate.read_faults ≡ call.before.gate.read_faults → MeetsReadFault call → ⊥
-      no_read_fault files gate (inl (name, moved)) = moved (ap (λ (v : FileView). v.read_faults name) files)
-      no_read_fault files gate (inr moved) = moved gate
+      no_read_fault files gate due = read_faultless (left files) gate due
+
+      no_write_fault : LeavesFiles call → call.after.gate.write_faults ≡ call.before.gate.write_faults → MeetsWriteFault call → ⊥
+      no_write_fault files gate due = write_faultless (left files) gate due
 
       -- the words ask for one thing
-      not_enforced : (entries : List NameEntry) (policy : List Rule) → Asks IsEnforce call entries policy → IsViolating call → ⊥
-      not_enforced entries policy a due =
-          enforce_or_audit call.words a.signature_file a.policy_file due.2.asks.asks.signature_file due.2.asks.asks.policy_file a.form due.2.asks.asks.form
+      not_enforced : (saved : Option (List ℕ)) (entries : List NameEntry) (policy : List Rule) → Asks (IsEnforce saved) call entries policy → IsViolating call → ⊥
+      not_enforced saved entries policy a due =
+          enforce_or_audit saved call.words a.signature_file a.policy_file due.2.asks.asks.signature_file due.2.asks.asks.policy_file a.form due.2.asks.asks.form
 
       not_generated : (start steps : ℕ) → IsGenerate call.words start steps → (signature policy : List ℕ) → NamesFiles call.words signature policy → ⊥
       not_generated start steps form signature policy names = files_or_generate call.words signature policy start steps names form
 
       -- a refusal that is met is that of a log
-      refusal_named : MeetsRefusal call → (signature : List ℕ) × (policy : List ℕ) × (IsEnforce call.words signature policy ⊎ IsAudit call.words signature policy)
+      abbrev NamesLog : (signature policy : List ℕ) → Type 0
+      NamesLog signature policy = ((saved : Option (List ℕ)) × IsEnforce saved call.words signature policy) ⊎ IsAudit call.words signature policy
+
+      refusal_named : MeetsRefusal call → (signature : List ℕ) × (policy : List ℕ) × NamesLog signature policy
       refusal_named m = by m.reading m.asks
         where
-          by : (r : Reading) → AsksToRead call r → (signature : List ℕ) × (policy : List ℕ) × (IsEnforce call.words signature policy ⊎ IsAudit call.words signature policy)
-          by r (inl (s, a, is)) = (a.asks.asks.signature_file, a.asks.asks.policy_file, inl a.asks.asks.form)
+          by : (r : Reading) → AsksToRead call r → (signature : List ℕ) × (policy : List ℕ) × NamesLog signature policy
+          by r (inl (s, a, is)) = (a.asks.asks.signature_file, a.asks.asks.policy_file, inl (a.saved, a.asks.asks.form))
           by r (inr (entries, policy, a, is)) = (a.asks.signature_file, a.asks.policy_file, inr a.asks.form)
 
       refusal_names : MeetsRefusal call → (signature : List ℕ) × (policy : List ℕ) × NamesFiles call.words signature policy
       refusal_names m = let n = refusal_named m in (n.0, n.1, by n.0 n.1 n.2)
         where
-          by : (signature policy : List ℕ) → IsEnforce call.words signature policy ⊎ IsAudit call.words signature policy → NamesFiles call.words signature policy
+          by : (signature policy : List ℕ) → NamesLog signature policy → NamesFiles call.words signature policy
           by signature policy (inl e) = inl e
           by signature policy (inr e) = inr (inr e)
 
-      dues_done : IsDone call call.after.report → Dues call statuses.Done
-      dues_done o =
-          let a = o.asks.asks in
+      dues_enforced : (saved : Option (List ℕ)) (s : Setting) → AsksToEnforce call saved s → (IsOwed : List Record → List ActedStep → Type 0)
+          → RunsLogFor IsOwed s verdicts.Accepted (seen_of call.before.gate call.before.report) (seen_of call.after.gate call.after.report) → NoFileFailed → Dues call statuses.Done
+      dues_enforced saved s asked IsOwed ran files =
+          let a = asked.asks in
+          let whole = ran_to_end IsOwed s verdicts.Accepted (seen_of call.before.gate call.before.report) (seen_of call.after.gate call.after.report) ran in
           record {
             done = λ due. inl refl;
-            violated = λ due. absurd (not_enforced o.setting.entries o.setting.rules a due);
-            words = λ due. absurd (due.enforce a.signature_file a.policy_file a.form);
-            files = λ due. absurd (not_asked call due o.setting.entries o.setting.rules (asks_named call o.setting.entries o.setting.rules IsEnforce enforce_names a));
-            refused_record = λ due. absurd (done_meets_none call call.after.report o due);
-            read_fault = λ due. absurd (no_read_fault o.files o.ran.ends.2 due);
-            write_fault = λ due. absurd (due o.ran.writes);
-            report_fault = λ moved. absurd (moved o.ran.actions.writes);
+            violated = λ due. absurd (not_enforced saved s.entries s.rules a due);
+            words = λ due. absurd (some_form call.words a.signature_file a.policy_file (inl (saved, a.form)) due);
+            files = λ due. absurd (not_asked call due s.entries s.rules (asks_named call s.entries s.rules (IsEnforce saved) (enforce_names saved) a));
+            refused_record = λ due. absurd (done_meets_none call saved s asked whole due);
+            read_fault = λ due. absurd (read_faultless files ran.ends.2 due);
+            write_fault = λ due. absurd (write_faultless files ran.writes due);
+            report_fault = λ moved. absurd (moved ran.actions.writes);
           }
+
+      -- a write that succeeds is no fault
+      written : (name bytes : List ℕ) → WritesFile {T = Unit {0}} name bytes (Ok tt) call.before.files call.after.files → NoFileFailed
+      written name bytes w = (w.reads, same_counts name (Ok tt) call.before.files.write_faults call.after.files.write_faults w.writes (λ n. refl))
+
+      dues_done : IsDone call call.after.report → Dues call statuses.Done
+      dues_done (inl o) = dues_enforced None o.setting o.asks (IsOwedInAll o.setting) o.ran (left o.files)
+      dues_done (inr o) = let p = o.paused in dues_enforced (Some o.file) p.setting p.asks (IsOwedSoFar p.setting) p.ran (written o.file o.state o.written)
 
       dues_generated : GeneratesLog call call.after.report → Dues call statuses.Done
       dues_generated o =
@@ -425,7 +483,7 @@ module _ (one : OneAnswer) (one_text : OneTextAnswer) (accepted : AcceptedIsNotR
             files = λ due. absurd (files_not_generated call due g.start g.steps g.form);
             refused_record = λ due. let n = refusal_names due in absurd (not_generated g.start g.steps g.form n.0 n.1 n.2);
             read_fault = λ due. absurd (no_read_fault g.files g.reads due);
-            write_fault = λ due. absurd (due o.writes);
+            write_fault = λ due. absurd (no_write_fault g.files o.writes due);
             report_fault = λ moved. absurd (moved (ap (λ (s : Stream). s.write_faults) g.silent));
           }
 
@@ -433,8 +491,8 @@ module _ (one : OneAnswer) (one_text : OneTextAnswer) (accepted : AcceptedIsNotR
       not_read : (signature policy : List ℕ) → IsCheck call.words signature policy → MeetsRefusal call → ⊥
       not_read signature policy form due = let n = refusal_named due in by n.0 n.1 n.2
         where
-          by : (other others : List ℕ) → IsEnforce call.words other others ⊎ IsAudit call.words other others → ⊥
-          by other others (inl e) = enforce_or_check call.words other others signature policy e form
+          by : (other others : List ℕ) → NamesLog other others → ⊥
+          by other others (inl (saved, e)) = enforce_or_check saved call.words other others signature policy e form
           by other others (inr e) = check_or_audit call.words signature policy other others form e
 
       dues_checked : ChecksPolicy call call.after.report → Dues call statuses.Done
@@ -447,7 +505,7 @@ module _ (one : OneAnswer) (one_text : OneTextAnswer) (accepted : AcceptedIsNotR
             files = λ due. absurd (not_asked call due o.policy.entries o.policy.policy (asks_named call o.policy.entries o.policy.policy IsCheck check_names a));
             refused_record = λ due. absurd (not_read a.signature_file a.policy_file a.form due);
             read_fault = λ due. absurd (no_read_fault o.policy.files o.policy.reads due);
-            write_fault = λ due. absurd (due o.writes);
+            write_fault = λ due. absurd (no_write_fault o.policy.files o.writes due);
             report_fault = λ moved. absurd (moved (ap (λ (s : Stream). s.write_faults) o.policy.silent));
           }
 
@@ -477,13 +535,13 @@ module _ (one : OneAnswer) (one_text : OneTextAnswer) (accepted : AcceptedIsNotR
             files = λ due. absurd (audit_files Holds o due);
             refused_record = λ due. absurd (audit_meets_none call call.after.report o.finds.audit due);
             read_fault = λ due. absurd (audit_reads Holds o due);
-            write_fault = λ due. absurd (due o.writes);
+            write_fault = λ due. absurd (no_write_fault o.finds.audit.files o.writes due);
             report_fault = λ moved. absurd (audit_silent Holds o moved);
           }
 
       -- an audit is nothing else
       audit_alone : (signature policy : List ℕ) → IsAudit call.words signature policy → IsAcceptable call ⊎ (AsksToGenerate call ⊎ AsksToCheck call) → ⊥
-      audit_alone signature policy form (inl due) = enforce_or_audit call.words due.asks.asks.asks.signature_file due.asks.asks.asks.policy_file signature policy due.asks.asks.asks.form form
+      audit_alone signature policy form (inl due) = enforce_or_audit due.asks.saved call.words due.asks.asks.asks.signature_file due.asks.asks.asks.policy_file signature policy due.asks.asks.asks.form form
       audit_alone signature policy form (inr (inl due)) = files_or_generate call.words signature policy due.0 due.1 (inr (inr form)) due.2
       audit_alone signature policy form (inr (inr due)) = check_or_audit call.words due.2.asks.signature_file due.2.asks.policy_file signature policy due.2.asks.form form
 
@@ -502,7 +560,7 @@ module _ (one : OneAnswer) (one_text : OneTextAnswer) (accepted : AcceptedIsNotR
               files = λ due. absurd (audit_files (Fails rule position) o due);
               refused_record = λ due. absurd (audit_meets_none call call.after.report o.finds.audit due);
               read_fault = λ due. absurd (audit_reads (Fails rule position) o due);
-              write_fault = λ due. absurd (due o.writes);
+              write_fault = λ due. absurd (no_write_fault o.finds.audit.files o.writes due);
               report_fault = λ moved. absurd (audit_silent (Fails rule position) o moved);
             }
 
@@ -511,7 +569,7 @@ module _ (one : OneAnswer) (one_text : OneTextAnswer) (accepted : AcceptedIsNotR
       IsUndone result = (result ≢ statuses.Done) × (result ≢ statuses.Violated)
 
       words_not_done : (report : Stream) → RefusesWords call report → CanBeDone call → ⊥
-      words_not_done report o (inl (inl due)) = o.words.enforce due.asks.asks.asks.signature_file due.asks.asks.asks.policy_file due.asks.asks.asks.form
+      words_not_done report o (inl (inl due)) = let a = due.asks.asks.asks in some_form call.words a.signature_file a.policy_file (inl (due.asks.saved, a.form)) o.words
       words_not_done report o (inl (inr due)) = o.words.audit due.asks.asks.signature_file due.asks.asks.policy_file due.asks.asks.form
       words_not_done report o (inr (inl due)) = o.words.generate due.0 due.1 due.2
       words_not_done report o (inr (inr due)) = o.words.check due.2.asks.signature_file due.2.asks.policy_file due.2.asks.form
@@ -525,7 +583,7 @@ module _ (one : OneAnswer) (one_text : OneTextAnswer) (accepted : AcceptedIsNotR
             files = λ due. absurd (files_some_form call due o.words);
             refused_record = λ due. let n = refusal_names due in absurd (some_form call.words n.0 n.1 n.2 o.words);
             read_fault = λ due. absurd (no_read_fault o.files (ap (λ (s : Stream). s.read_faults) o.gate.1) due);
-            write_fault = λ due. absurd (due (ap (λ (s : Stream). s.write_faults) o.gate.1));
+            write_fault = λ due. absurd (no_write_fault o.files (ap (λ (s : Stream). s.write_faults) o.gate.1) due);
             report_fault = λ moved. ((λ is. cc), (λ is. cc));
           }
 
@@ -550,11 +608,11 @@ module _ (one : OneAnswer) (one_text : OneTextAnswer) (accepted : AcceptedIsNotR
       read_not_refused_files m o = by m.reading m.asks
         where
           by : (r : Reading) → AsksToRead call r → ⊥
-          by r (inl (s, a, is)) = told_not_refused s.entries s.rules IsEnforce enforce_names a.asks o
+          by r (inl (s, a, is)) = told_not_refused s.entries s.rules (IsEnforce a.saved) (enforce_names a.saved) a.asks o
           by r (inr (entries, policy, a, is)) = told_not_refused entries policy IsAudit audit_names a o
 
       refused_not_done : FilesRefused call → CanBeDone call → ⊥
-      refused_not_done o (inl (inl due)) = told_not_refused due.setting.entries due.setting.rules IsEnforce enforce_names due.asks.asks o
+      refused_not_done o (inl (inl due)) = told_not_refused due.setting.entries due.setting.rules (IsEnforce due.asks.saved) (enforce_names due.asks.saved) due.asks.asks o
       refused_not_done o (inl (inr due)) = told_not_refused due.entries due.policy IsAudit audit_names due.asks o
       refused_not_done o (inr (inl due)) = let n = refused_named o in files_or_generate call.words n.0 n.1 due.0 due.1 n.2 due.2
       refused_not_done o (inr (inr due)) = told_not_refused due.0 due.1 IsCheck check_names due.2 o
@@ -568,30 +626,30 @@ module _ (one : OneAnswer) (one_text : OneTextAnswer) (accepted : AcceptedIsNotR
             files = λ due. inl refl;
             refused_record = λ due. absurd (read_not_refused_files due o);
             read_fault = λ due. absurd (no_read_fault (refused_files o) (ap (λ (s : Stream). s.read_faults) (refused_gate o).1) due);
-            write_fault = λ due. absurd (due (ap (λ (s : Stream). s.write_faults) (refused_gate o).1));
+            write_fault = λ due. absurd (no_write_fault (refused_files o) (ap (λ (s : Stream). s.write_faults) (refused_gate o).1) due);
             report_fault = λ moved. ((λ is. cc), (λ is. cc));
           }
 
       module _ (report : Stream) (number : ℕ) (why : RecordRefusal) (o : RefusesRecord call report number why) where
-        abbrev asks_of_record : Asks IsEnforce call o.setting.entries o.setting.rules
+        abbrev asks_of_record : Asks (IsEnforce o.saved) call o.setting.entries o.setting.rules
         asks_of_record = o.asks.asks
 
         record_not_done : CanBeDone call → ⊥
         record_not_done (inl (inl due)) = record_not_acceptable call report number why o due
-        record_not_done (inl (inr due)) = enforce_or_audit call.words asks_of_record.signature_file asks_of_record.policy_file due.asks.asks.signature_file due.asks.asks.policy_file asks_of_record.form due.asks.asks.form
-        record_not_done (inr (inl due)) = files_or_generate call.words asks_of_record.signature_file asks_of_record.policy_file due.0 due.1 (inl asks_of_record.form) due.2
-        record_not_done (inr (inr due)) = enforce_or_check call.words asks_of_record.signature_file asks_of_record.policy_file due.2.asks.signature_file due.2.asks.policy_file asks_of_record.form due.2.asks.form
+        record_not_done (inl (inr due)) = enforce_or_audit o.saved call.words asks_of_record.signature_file asks_of_record.policy_file due.asks.asks.signature_file due.asks.asks.policy_file asks_of_record.form due.asks.asks.form
+        record_not_done (inr (inl due)) = files_or_generate call.words asks_of_record.signature_file asks_of_record.policy_file due.0 due.1 (inl (o.saved, asks_of_record.form)) due.2
+        record_not_done (inr (inr due)) = enforce_or_check o.saved call.words asks_of_record.signature_file asks_of_record.policy_file due.2.asks.signature_file due.2.asks.policy_file asks_of_record.form due.2.asks.form
 
         dues_record : Dues call statuses.Record
         dues_record =
             record {
               done = λ due. absurd (record_not_done due);
-              violated = λ due. absurd (not_enforced o.setting.entries o.setting.rules asks_of_record due);
-              words = λ due. absurd (due.enforce asks_of_record.signature_file asks_of_record.policy_file asks_of_record.form);
-              files = λ due. absurd (not_asked call due o.setting.entries o.setting.rules (asks_named call o.setting.entries o.setting.rules IsEnforce enforce_names asks_of_record));
+              violated = λ due. absurd (not_enforced o.saved o.setting.entries o.setting.rules asks_of_record due);
+              words = λ due. absurd (some_form call.words asks_of_record.signature_file asks_of_record.policy_file (inl (o.saved, asks_of_record.form)) due);
+              files = λ due. absurd (not_asked call due o.setting.entries o.setting.rules (asks_named call o.setting.entries o.setting.rules (IsEnforce o.saved) (enforce_names o.saved) asks_of_record));
               refused_record = λ due. inl refl;
               read_fault = λ due. absurd (no_read_fault o.files o.ran.ends.1 due);
-              write_fault = λ due. absurd (due o.ran.writes);
+              write_fault = λ due. absurd (no_write_fault o.files o.ran.writes due);
               report_fault = λ moved. ((λ is. cc), (λ is. cc));
             }
 
@@ -614,7 +672,7 @@ module _ (one : OneAnswer) (one_text : OneTextAnswer) (accepted : AcceptedIsNotR
               files = λ due. absurd (not_asked call due a.entries a.policy (asks_named call a.entries a.policy IsAudit audit_names a.asks));
               refused_record = λ due. inl refl;
               read_fault = λ due. absurd (no_read_fault a.files a.whole.ends.1 due);
-              write_fault = λ due. absurd (due o.silence.writes);
+              write_fault = λ due. absurd (no_write_fault a.files o.silence.writes due);
               report_fault = λ moved. ((λ is. cc), (λ is. cc));
             }
 

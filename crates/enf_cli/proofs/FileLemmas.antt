@@ -27,7 +27,7 @@ is_short None name bytes g l = record { under = tt; short = l }
 is_short (Some files) name bytes g l = record { under = short_of (files name) bytes g l; short = l }
 
 -- a call that meets no fault leaves the counts of all names
-same_counts : {T : Type 0} (name : List ℕ) (result : Result T IoRefusal) (before after : List ℕ → ℕ) → CountsFor name result before after → ((n : ℕ) → faults_after result n ≡ n) → (other : List ℕ) → after other ≡ before other
+pub same_counts : {T : Type 0} (name : List ℕ) (result : Result T IoRefusal) (before after : List ℕ → ℕ) → CountsFor name result before after → ((n : ℕ) → faults_after result n ≡ n) → (other : List ℕ) → after other ≡ before other
 same_counts name result before after counts none other =
     let least = counts.at_least other in
     let most = counts.at_most other in

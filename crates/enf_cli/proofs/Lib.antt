@@ -13,6 +13,7 @@ pub mod TextLemmas
 pub mod TurnLemmas
 pub mod LogTurns
 pub mod RunLemmas
+pub mod SavingLemmas
 pub mod ReadOnce
 pub mod DueLemmas
 pub mod CalmLemmas

@@ -1,6 +1,6 @@
 -- How far the run of a log has come, and one turn more.
 use Rattle.std.proofs.Common.{◌≡◌, ℕ, ◌+◌, ◌-◌, ◌<◌, ◌≤◌, List, [], ◌∷◌, ◌++◌, length, refl, sym, ap, subst, ◌∙◌, inl, inr, Option, arith, append_assoc}
-use Rattle.std.specs.Prelude.{◌⊎◌}
+use Rattle.std.specs.Prelude.{◌⊎◌, Bool, true, false}
 use Rattle.std.proofs.lemmas.List.{append-nil, map-append, length_push}
 use Rattle.enf_io.specs.Counts.{one_more}
 use Rattle.enf_io.specs.Exchange.{Exchange, Gave}
@@ -30,7 +30,8 @@ use Rattle.trace_meaning.specs.OutSteps.{trace_of}
 use Rattle.trace_meaning.specs.Records.{Record, clock_after, recorded}
 use Rattle.enf_cli.specs.Accepted.{UpToDate}
 use Rattle.enforce_types.specs.Marks.{is_causable, is_suppressible}
-use Rattle.enforce_types.specs.Typed.{WorkTogether, typed_of}
+use Rattle.enforce_types.specs.PolicyPlans.{ArePlanned}
+use Rattle.enforce_types.specs.Typed.{StoredTyped, WorkTogether, typed_of}
 use Rattle.enf_cli.specs.Actions.{SaysActions}
 use Rattle.enf_cli.specs.Lines.{CutsActions, CutsLine, CutsSteps}
 use Rattle.enf_cli.specs.Policies.{formulas}
@@ -40,16 +41,17 @@ use Rattle.enf_cli.proofs.LineLemmas.{all_said, fails_within, gains_none, lines_
 use Rattle.enf_cli.specs.Exchanges.{Exchanged, IsBegun}
 use Rattle.enf_cli.specs.Limits.{most_log_bytes}
 use Rattle.enf_cli.specs.Intakes.{LosesBytes, TakesBytes}
-use Rattle.enf_cli.specs.Logs.{CutsRun, FailsAtGate, FailsAtReport, IsCutLine, IsOwedWhere, LacksMemory, RanAsJudged, RunsShort, taken_of}
+use Rattle.enf_cli.specs.Logs.{CutsRun, FailsAtGate, FailsAtReport, IsCutLine, IsOwedWhere, LacksMemory, RanSo, RunsShort, taken_of}
 use Rattle.enf_cli.specs.Readings.{Accepts, record_of, records_of}
 use Rattle.enf_cli.specs.Owed.{HasPlans, IsMarked, IsOwedInAll, IsOwedSoFar, Setting, setting_of}
 use Rattle.plan_terms.specs.Plans.{Plan}
 use Rattle.rank_check.specs.Transparent.{is_transparent}
 use Rattle.std.specs.Prelude.{IsTrue}
-use Rattle.enf_cli.specs.Progress.{CutsDrain, CutsDrainLines, CutsTaken, Drains, GivesDrain, Laws, LosesTurn, TakesItem, TakesRecord, WritesNothing, moment}
+use Rattle.enf_cli.specs.Progress.{CutsDrain, CutsDrainLines, CutsTaken, Drains, GivesDrain, GivesRest, Laws, LosesTurn, TakesItem, TakesRecord, WritesNothing, Moment, moment}
 use Rattle.enf_cli.specs.declared.endings.Cut.{Cut}
 use Rattle.enf_cli.specs.declared.endings.Cut.TheVariants as cuts
 use Rattle.enf_cli.specs.declared.log.Enforcement.{Enforcement}
+use Rattle.enf_cli.specs.declared.intake.Judged.{Judged}
 use Rattle.enf_cli.specs.declared.intake.Verdict.{Verdict}
 use Rattle.enf_cli.specs.declared.refusals.RecordRefusal.TheVariants as records
 use Rattle.enf_cli.proofs.ExchangeLemmas.{begun_gave, exchanged_gave}
@@ -374,9 +376,35 @@ module _ (entries : List NameEntry) (rules : List Rule) (first : Enforcing) (tra
             lacks_all before c (taken ++ lost.bytes) rest log.enforcer read exchanged (inl (owed_so_far (taken ++ lost.bytes) rest log.enforcer read, reads)) writes actions
 
     module _ (before : Seen) (taken rest : List ℕ) (accepted : ℕ) (now : Enforcing) (verdict : Verdict) (b c : Seen) (e : Ended before taken rest accepted now verdict b) where
-      -- the log ended, and what a drain lets out was given
-      pub ran_judged : (after : Enforcing) → GivesDrain entries rules (moment now b) (moment after c) → RanAsJudged setting (record { accepted = accepted; verdict = verdict }) before c
-      ran_judged after g =
+      abbrev judged : Judged
+      judged = record { accepted = accepted; verdict = verdict }
+
+      -- the log ended, and what is still owed was left
+      ran_left : RanSo true setting judged now before b
+      ran_left =
+          let h = e.so_far in
+          record {
+            ran = record {
+              taken = taken;
+              given = text_of (names_of entries) (out_steps h.out);
+              exchanged = e.ended.exchanged;
+              rest = rest;
+              answers = record { read = h.read; accepts = accepts taken rest now h; out = h.out; text = refl; owed = owed_so_far taken rest now h };
+              ends = e.ended.ends;
+              writes = e.writes;
+              actions = e.actions;
+            };
+            count = e.count;
+            behind = record {
+              planned = subst (λ (stored : StoredTyped). ArePlanned entries policy (typed_of stored).plans (typed_of stored).guards) (sym h.course.policy) built;
+              clock = h.course.clock;
+              stands = h.course.stands;
+            };
+          }
+
+      -- or what a drain lets out was given
+      ran_drained : (after : Enforcing) → GivesDrain entries rules (moment now b) (moment after c) → RanSo false setting judged after before c
+      ran_drained after g =
           let h = e.so_far in
           let steps = acted_steps g.made.steps in
           let lines = text_of (names_of entries) (out_steps steps) in
@@ -394,7 +422,12 @@ module _ (entries : List NameEntry) (rules : List Rule) (first : Enforcing) (tra
               actions = says_more entries rules h.out steps before.report b.report c.report e.actions g.given.actions;
             };
             count = e.count;
+            behind = tt;
           }
+
+      pub ran_rest : (left : Bool) (after : Enforcing) → GivesRest left entries rules (moment now b) (moment after c) → RanSo left setting judged after before c
+      ran_rest true after same = subst (λ (m : Moment). RanSo true setting judged m.enforcer before m.seen) (sym same) ran_left
+      ran_rest false after g = ran_drained after g
 
       -- or its lines were not all given
       cut_lines : (cut : Cut) → CutsDrainLines entries rules cut (moment now b) c → CutsRun setting before c cut

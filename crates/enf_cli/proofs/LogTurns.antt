@@ -1,5 +1,5 @@
 -- One turn more of the run of a log, and how it ends.
-use Rattle.std.proofs.Common.{◌≡◌, ℕ, ◌+◌, ◌*◌, ◌-◌, ◌^◌, ◌<◌, ◌≤◌, List, [], ◌++◌, length, length-append, None, inl, inr, sym, ap, subst, ◌∙◌, arith}
+use Rattle.std.proofs.Common.{◌≡◌, ℕ, ◌+◌, ◌*◌, ◌-◌, ◌^◌, ◌<◌, ◌≤◌, List, [], ◌++◌, length, length-append, None, false, inl, inr, sym, ap, subst, ◌∙◌, arith}
 use Rattle.enforcer_core.specs.Enforcers.{Enforcing, out_steps}
 use Rattle.enforcer_core.specs.Stands.{Stands}
 use Rattle.enf_value.specs.declared.steps.Step.{Step}
@@ -52,14 +52,15 @@ abbrev pub Done : List NameEntry → List Rule → Enforcing → Seen → List �
 Done entries rules first before taken log after = (trace : List Step) → HasPlans entries rules first → Stands first trace
     → Progress entries rules first trace before taken log.intake.reader.rest log.intake.accepted log.enforcer after
 
--- the times of what was taken are those of records, and no more steps went out than records were taken and units of time
--- went by
+-- the enforcer goes on, the times of what was taken are those of records, and no more steps went out than records were
+-- taken and units of time went by
 pub record IsWithinLimits (log : Enforcement) : Type 0 where
+  pub going : log.enforcer.stopped ≡ false
   pub clock : log.enforcer.clock ≤ 1000000000000000
   pub position : log.enforcer.position < 2 ^ 63 + log.intake.accepted + log.enforcer.clock
 
 pub limits_none : (entries : List NameEntry) (log : Enforcement) → IsNew entries log → IsWithinLimits log
-limits_none entries log new = record { clock = new.clock; position = omega (arith, new.position) }
+limits_none entries log new = record { going = new.going; clock = new.clock; position = omega (arith, new.position) }
 
 -- of a new log nothing was taken
 pub done_none : (entries : List NameEntry) (rules : List Rule) (log : Enforcement) (laws : Laws) (may : MayRun entries log.enforcer) (before : Seen) → IsNew entries log
@@ -95,6 +96,7 @@ module _ (entries : List NameEntry) (rules : List Rule) (first : Enforcing) (law
       let takes = t.taken.takes in
       let moved = takes.answered in
       record {
+        going = moved.1.goes_on;
         clock = omega (arith, moved.1.clock_is, item_time entries _ t.item t.begins.2);
         position = omega (arith, moved.0.not_over, moved.1.clock_is, moved.1.position, takes.few, one.accepted, limits.position);
       }
@@ -134,6 +136,7 @@ module _ (entries : List NameEntry) (rules : List Rule) (first : Enforcing) (law
         reader_is = piece.reader ∙ (λ i. reads_on entries (sym rest_is i));
         progress = piece_more later;
         still = record {
+          going = ap (λ (e : Enforcing). e.stopped) later.enforcer ∙ limits.going;
           clock = omega (arith, limits.clock, ap (λ (e : Enforcing). e.clock) later.enforcer);
           position = omega (arith, limits.position, piece.accepted, ap (λ (e : Enforcing). e.position) later.enforcer, ap (λ (e : Enforcing). e.clock) later.enforcer);
         };

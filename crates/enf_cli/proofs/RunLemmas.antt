@@ -1,20 +1,24 @@
 -- How a run ends, from how its parts end.
-use Rattle.std.proofs.Common.{◌≡◌, ℕ, ◌+◌, List, [], length, inl, inr, refl, sym, ap, subst, ◌∙◌, Ok, Err}
+use Rattle.std.proofs.Common.{◌≡◌, ℕ, ◌+◌, List, [], length, inl, inr, refl, sym, ap, subst, ◌∙◌, is_some, true, Option, None, Some, Result, Ok, Err}
 use Rattle.enforcer_core.specs.Enforcers.{Enforcing}
 use Rattle.formula_reader.specs.Resolution.{Rule}
 use Rattle.log_stream.specs.declared.items.LogMode.TheVariants.{Input}
 use Rattle.signature.specs.declared.entries.NameEntry.{NameEntry}
 use Rattle.enf_io.specs.Streams.{Stream}
+use Rattle.enf_io.specs.declared.devices.IoRefusal.{IoRefusal}
 use Rattle.enf_io.specs.declared.devices.IoRefusal.TheVariants as io
 use Rattle.enf_cli.specs.Calls.{Call, LeavesFiles}
-use Rattle.enf_cli.specs.Seen.{seen_of}
+use Rattle.enf_cli.specs.Saving.{RunsRefused, RunsSo, RunsWhole, SavesState, SavesWhereAsked, WritesState}
+use Rattle.enf_cli.specs.Seen.{Seen, seen_of}
+use Rattle.enf_cli.proofs.SavingLemmas.{is_state_of}
+use Rattle.save_codec.specs.Saved.{saved_text}
 use Rattle.enf_cli.specs.Checking.{check_text}
 use Rattle.enf_cli.specs.Endings.{ending_after_file, faults_behind}
 use Rattle.enf_cli.specs.Policies.{formulas}
 use Rattle.enf_cli.specs.Files.{EndsFile, HoldsPolicy, HoldsRefusedPolicy, HoldsRefusedSignature, HoldsSignature}
-use Rattle.enf_cli.specs.Logs.{CutsRun, RunsLog, conclusion_of}
+use Rattle.enf_cli.specs.Logs.{CutsRun, IsOwedAtEnd, RanSo, RunsLogFor, conclusion_of, is_left}
 use Rattle.enf_cli.specs.Owed.{Setting, anew, setting_of}
-use Rattle.enf_cli.specs.Outcomes.{Asks, AsksToEnforce, AuditsLog, ChecksPolicy, FindsVerdict, GivesNoVerdict, IsCut, IsDone, Meets, Outcome, Performs, Refuses, SaysVerdict, SaysVerdictInPart}
+use Rattle.enf_cli.specs.Outcomes.{Asks, AsksToEnforce, AuditsLog, ChecksPolicy, FindsVerdict, GivesNoVerdict, IsCut, IsDone, IsFinished, Meets, Outcome, PausesRun, Performs, Refuses, SaysVerdict, SaysVerdictInPart, WritesRun}
 use Rattle.enf_cli.specs.Audits.{GivesNothing, HasAudited, LosesLog, TakesTrace, TakesWholeTrace, as_trace, finish_after, verdict_line}
 use Rattle.enf_cli.specs.Exchanges.{Exchanged}
 use Rattle.enf_cli.specs.Readings.{EndsAs, records_of, taken_in}
@@ -67,55 +71,118 @@ module _ {Gate : Type 0} (call : Call Gate) (report : Stream) (signature_file po
   signature_ends (files.NotRead io.NoMemory) itself seen h = memory_ends itself seen h
 
   -- the policy gives nothing, behind a signature
-  pub policy_ends : (entries : List NameEntry) (end : FileEnding PolicyRefusal) → call.after.gate_itself ≡ call.before.gate_itself → call.after.gate ≡ call.before.gate
-      → HoldsSignature call.before.files.contents signature_file entries
+  pub policy_ends : (bytes : List ℕ) (entries : List NameEntry) (end : FileEnding PolicyRefusal) → call.after.gate_itself ≡ call.before.gate_itself → call.after.gate ≡ call.before.gate
+      → HoldsSignature call.before.files.contents signature_file bytes entries
       → EndsFile (HoldsRefusedPolicy call.before.files.contents policy_file entries) policy_file call.before.files call.after.files end → Performs call report (Err (ending_after_file refusals.Policy end))
-  policy_ends entries (files.Refused why) itself seen holds h =
-      record { signature_file = signature_file; policy_file = policy_file; form = form; entries = entries; holds_signature = holds; refused = h.0; gate = (itself, seen); files = h.1; silent = silent }
-  policy_ends entries (files.NotRead io.Failed) itself seen holds h =
-      inl (record { signature_file = signature_file; policy_file = policy_file; form = form; failed = inr ((entries, holds), h); gate = (itself, seen); silent = silent })
-  policy_ends entries (files.NotRead io.NoMemory) itself seen holds h = memory_ends itself seen h
+  policy_ends bytes entries (files.Refused why) itself seen holds h =
+      record { signature_file = signature_file; policy_file = policy_file; form = form; bytes = bytes; entries = entries; holds_signature = holds; refused = h.0; gate = (itself, seen); files = h.1; silent = silent }
+  policy_ends bytes entries (files.NotRead io.Failed) itself seen holds h =
+      inl (record { signature_file = signature_file; policy_file = policy_file; form = form; failed = inr ((bytes, entries, holds), h); gate = (itself, seen); silent = silent })
+  policy_ends bytes entries (files.NotRead io.NoMemory) itself seen holds h = memory_ends itself seen h
 
-module _ {Gate : Type 0} (call : Call Gate) (report : Stream) (signature_file policy_file : List ℕ) (form : IsEnforce call.words signature_file policy_file) (entries : List NameEntry) (policy : List Rule)
-    (holds_signature : HoldsSignature call.before.files.contents signature_file entries) (holds_policy : HoldsPolicy call.before.files.contents policy_file entries policy)
-    (same : LeavesFiles call) where
+module _ {Gate : Type 0} (call : Call Gate) (report : Stream) (saved : Option (List ℕ)) (signature_file policy_file : List ℕ) (form : IsEnforce saved call.words signature_file policy_file) (entries : List NameEntry) (policy : List Rule)
+    (signature_bytes policy_bytes : List ℕ) (holds_signature : HoldsSignature call.before.files.contents signature_file signature_bytes entries)
+    (holds_policy : HoldsPolicy call.before.files.contents policy_file policy_bytes entries policy) where
   abbrev here : Setting
   here = anew entries policy
 
-  abbrev asks : AsksToEnforce call here
+  abbrev before : Seen
+  before = seen_of call.before.gate call.before.report
+
+  abbrev after : Seen
+  after = seen_of call.after.gate report
+
+  abbrev asks : AsksToEnforce call saved here
   asks =
       record {
-        asks = record { signature_file = signature_file; policy_file = policy_file; form = form; holds_signature = holds_signature; holds_policy = holds_policy };
+        asks = record {
+          signature_file = signature_file;
+          policy_file = policy_file;
+          form = form;
+          signature_bytes = signature_bytes;
+          policy_bytes = policy_bytes;
+          holds_signature = holds_signature;
+          holds_policy = holds_policy;
+        };
         is_setting = refl;
       }
 
   -- the run of the log was cut
-  pub log_ends : (cut : Cut) → CutsRun here (seen_of call.before.gate call.before.report) (seen_of call.after.gate report) cut → Performs call report (Err (endings.Cut cut))
-  log_ends cuts.WriteFault h = inl (inl (record { setting = here; asks = asks; cut = h; files = same }))
-  log_ends cuts.NoMemory h = inl (inr (record { setting = here; asks = asks; cut = h; files = same }))
+  log_ends : LeavesFiles call → (cut : Cut) → CutsRun here before after cut → Performs call report (Err (endings.Cut cut))
+  log_ends same cuts.WriteFault h = inl (inl (inl (record { saved = saved; setting = here; asks = asks; cut = h; files = same })))
+  log_ends same cuts.NoMemory h = inl (inr (inl (record { saved = saved; setting = here; asks = asks; cut = h; files = same })))
 
   -- the judgement of the log is a refusal
-  pub log_refused : (accepted : ℕ) (verdict : Verdict) (ran : RunsLog here verdict (seen_of call.before.gate call.before.report) (seen_of call.after.gate report)) (why : Refusal)
-      → accepted ≡ length ran.answers.read → Err why ≡ conclusion_of accepted verdict → Meets call report why
-  log_refused accepted verdicts.Accepted ran why count h = cc
-  log_refused accepted verdicts.Fault ran why count h =
-      let is : why ≡ refusals.ReadFault = cc in
-      subst (Meets call report) (sym is) (inr (inl (record { setting = here; asks = asks; ran = ran; failed = ran.ends.1; files = same })))
-  log_refused accepted (verdicts.Refused refusal) ran why count h =
-      let is : why ≡ refusals.Record (accepted + 1) refusal = cc in
-      subst (Meets call report) (sym is) (inl (record { setting = here; asks = asks; ran = ran; number_is = ap (λ n. n + 1) count; files = same }))
+  log_refused : (why : Refusal) → RunsRefused saved here why call.before.files call.after.files before after → Meets call report why
+  log_refused why r = by r.judged.verdict r.ran.ran r.ran.count r.concluded
+    where
+      by : (verdict : Verdict) (ran : RunsLogFor (IsOwedAtEnd (is_left (is_some saved) verdict) here) here verdict before after) → r.judged.accepted ≡ length ran.answers.read → Err why ≡ conclusion_of r.judged.accepted verdict → Meets call report why
+      by verdicts.Accepted ran count h = cc
+      by verdicts.Fault ran count h =
+          let is : why ≡ refusals.ReadFault = cc in
+          subst (Meets call report) (sym is) (inr (inl (record { saved = saved; setting = here; asks = asks; ran = ran; failed = ran.ends.1; files = r.same })))
+      by (verdicts.Refused refusal) ran count h =
+          let is : why ≡ refusals.Record (r.judged.accepted + 1) refusal = cc in
+          subst (Meets call report) (sym is) (inl (record { saved = saved; setting = here; asks = asks; ran = ran; number_is = ap (λ n. n + 1) count; files = r.same }))
 
-  -- the judgement of the log is that all is accepted
-  pub log_done : (accepted : ℕ) (verdict : Verdict) (ran : RunsLog here verdict (seen_of call.before.gate call.before.report) (seen_of call.after.gate report)) → Ok tt ≡ conclusion_of accepted verdict → IsDone call report
-  log_done accepted verdicts.Fault ran h = cc
-  log_done accepted (verdicts.Refused refusal) ran h = cc
-  log_done accepted verdicts.Accepted ran h = record { setting = here; asks = asks; ran = ran; files = same }
+  -- it was accepted to its end, and a file is named for the state
+  module _ (file : List ℕ) (asked : AsksToEnforce call (Some file) here) (accepted : ℕ) (enforcer : Enforcing) (ran : RanSo true here (record { accepted = accepted; verdict = verdicts.Accepted }) enforcer before after) where
+    abbrev paused : PausesRun call report file
+    paused = record { setting = here; asks = asked; ran = ran.ran }
+
+    state_written : (ended : Result (Unit {0}) IoRefusal) → WritesState enforcer asked.asks.signature_bytes asked.asks.policy_bytes file ended call.before.files call.after.files → WritesRun call report ended
+    state_written ended w =
+        record {
+          file = file;
+          paused = paused;
+          state = saved_text asked.asks.signature_bytes asked.asks.policy_bytes w.kept;
+          is_state = is_state_of here (records_of ran.ran.answers.read) ran.ran.answers.out enforcer ran.behind asked.asks.signature_bytes asked.asks.policy_bytes call.before.files call.after.files file ended w;
+          written = w.written;
+        }
+
+    state_cut : (cut : Cut) → SavesState enforcer asked.asks.signature_bytes asked.asks.policy_bytes file call.before.files call.after.files (Err cut) → Performs call report (Err (endings.Cut cut))
+    state_cut cuts.WriteFault w = inl (inl (inr (state_written (Err io.Failed) w)))
+    state_cut cuts.NoMemory same = inl (inr (inr (record { file = file; paused = paused; files = same })))
+
+  -- the run is done, with the state saved where that was asked
+  abbrev Whole : Result (Unit {0}) Cut → Type 0
+  Whole ended = RunsWhole saved signature_bytes policy_bytes here call.before.files call.after.files before after ended
+
+  log_done : Whole (Ok tt) → IsDone call report
+  log_done w = by saved asks w.ran w.saves
+    where
+      by : (o : Option (List ℕ)) (asked : AsksToEnforce call o here) → RanSo (is_some o) here (record { accepted = w.accepted; verdict = verdicts.Accepted }) w.enforcer before after
+          → SavesWhereAsked o w.enforcer asked.asks.signature_bytes asked.asks.policy_bytes call.before.files call.after.files (Ok tt) → IsDone call report
+      by None asked ran saves = inl (record { setting = here; asks = asked; ran = ran.ran; files = saves.1 })
+      by (Some file) asked ran saves = inr (state_written file asked w.accepted w.enforcer ran (Ok tt) saves)
+
+  -- or the save was cut
+  save_ends : (cut : Cut) → Whole (Err cut) → Performs call report (Err (endings.Cut cut))
+  save_ends cut w = by saved asks w.ran w.saves
+    where
+      by : (o : Option (List ℕ)) (asked : AsksToEnforce call o here) → RanSo (is_some o) here (record { accepted = w.accepted; verdict = verdicts.Accepted }) w.enforcer before after
+          → SavesWhereAsked o w.enforcer asked.asks.signature_bytes asked.asks.policy_bytes call.before.files call.after.files (Err cut) → Performs call report (Err (endings.Cut cut))
+      by None asked ran saves = let no = saves.0 in absurd cc
+      by (Some file) asked ran saves = state_cut file asked w.accepted w.enforcer ran cut saves
+
+  -- how the run of the log ends is how the work of the run does
+  abbrev Ran : Result (Unit {0}) Ending → Type 0
+  Ran result = RunsSo saved signature_bytes policy_bytes here call.before.files call.after.files before after result
+
+  pub run_done : Ran (Ok tt) → IsFinished call report
+  run_done w = inl (inl (log_done w))
+
+  pub run_ends : (ending : Ending) → Ran (Err ending) → Performs call report (Err ending)
+  run_ends (endings.Refused why) r = log_refused why r
+  run_ends (endings.Cut cut) (inl h) = log_ends h.1 cut h.0
+  run_ends (endings.Cut cut) (inr w) = save_ends cut w
 
 module _ {Gate : Type 0} (call : Call Gate) (report : Stream) (signature_file policy_file : List ℕ) (form : IsCheck call.words signature_file policy_file) (entries : List NameEntry) (policy : List Rule)
-    (holds_signature : HoldsSignature call.before.files.contents signature_file entries) (holds_policy : HoldsPolicy call.before.files.contents policy_file entries policy)
-    (typed : Typed) (is_typed : IsTyped entries (formulas policy) typed) (same : LeavesFiles call) (silent : report ≡ call.before.report) where
+    (signature_bytes policy_bytes : List ℕ) (holds_signature : HoldsSignature call.before.files.contents signature_file signature_bytes entries)
+    (holds_policy : HoldsPolicy call.before.files.contents policy_file policy_bytes entries policy) (typed : Typed) (is_typed : IsTyped entries (formulas policy) typed) (same : LeavesFiles call) (silent : report ≡ call.before.report) where
   abbrev asks_check : Asks IsCheck call entries policy
-  asks_check = record { signature_file = signature_file; policy_file = policy_file; form = form; holds_signature = holds_signature; holds_policy = holds_policy }
+  asks_check =
+      record { signature_file = signature_file; policy_file = policy_file; form = form; signature_bytes = signature_bytes; policy_bytes = policy_bytes; holds_signature = holds_signature; holds_policy = holds_policy }
 
   -- what is to be said of the policy was given whole
   pub check_done : WritesText {T = Unit {0}} (check_text entries policy typed.ranked) (Ok tt) call.before.gate call.after.gate → ChecksPolicy call report
@@ -140,10 +207,11 @@ module _ {Gate : Type 0} (call : Call Gate) (report : Stream) (signature_file po
 
 -- how an audit ends
 module _ {Gate : Type 0} (call : Call Gate) (report : Stream) (signature_file policy_file : List ℕ) (form : IsAudit call.words signature_file policy_file) (entries : List NameEntry) (policy : List Rule)
-    (holds_signature : HoldsSignature call.before.files.contents signature_file entries) (holds_policy : HoldsPolicy call.before.files.contents policy_file entries policy)
-    (same : LeavesFiles call) (silent : report ≡ call.before.report) where
+    (signature_bytes policy_bytes : List ℕ) (holds_signature : HoldsSignature call.before.files.contents signature_file signature_bytes entries)
+    (holds_policy : HoldsPolicy call.before.files.contents policy_file policy_bytes entries policy) (same : LeavesFiles call) (silent : report ≡ call.before.report) where
   abbrev asks_audit : Asks IsAudit call entries policy
-  asks_audit = record { signature_file = signature_file; policy_file = policy_file; form = form; holds_signature = holds_signature; holds_policy = holds_policy }
+  asks_audit =
+      record { signature_file = signature_file; policy_file = policy_file; form = form; signature_bytes = signature_bytes; policy_bytes = policy_bytes; holds_signature = holds_signature; holds_policy = holds_policy }
 
   -- memory ran out within the log
   pub audit_lost : LosesLog entries call.before.gate call.after.gate → call.after.gate.write_faults ≡ call.before.gate.write_faults → Performs call report (Err (endings.Cut cuts.NoMemory))

@@ -7,7 +7,7 @@ use Rattle.signature.specs.Grammar.{names as names_of}
 use Rattle.choice_step.specs.Follows.{ActedStep}
 use Rattle.enforcer_core.specs.Enforcers.{out_steps}
 use Rattle.trace_meaning.specs.Records.{Record}
-use Rattle.enf_cli.specs.Owed.{IsOwedInAll, IsOwedSoFar, Setting}
+use Rattle.enf_cli.specs.Owed.{IsOwedSoFar, Setting}
 use Rattle.enf_cli.specs.Readings.{Accepts, records_of}
 
 -- the records of the bytes taken, up to a rest, are accepted, and the bytes given are the text of what is owed to them
@@ -19,12 +19,9 @@ pub record Gives (IsOwed : List Record → List ActedStep → Type 0) (s : Setti
   pub text : given ≡ text_of (names_of s.entries) (out_steps out)
   pub owed : IsOwed (records_of read) out
 
--- of what is owed so far, and in all
+-- of what is owed so far
 abbrev pub GivesSoFar : Setting → List ℕ → List ℕ → List ℕ → Type 0
 GivesSoFar s taken given rest = Gives (IsOwedSoFar s) s taken given rest
-
-abbrev pub GivesInAll : Setting → List ℕ → List ℕ → List ℕ → Type 0
-GivesInAll s taken given rest = Gives (IsOwedInAll s) s taken given rest
 
 -- all whole records of the bytes taken are answered so far, and none behind them is refused
 pub record UpToDate (s : Setting) (taken given : List ℕ) : Type 0 where

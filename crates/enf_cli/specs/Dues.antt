@@ -48,10 +48,11 @@ pub record AsksPolicy {Gate : Type 0} (IsForm : List (List ℕ) → List ℕ →
   pub told : TellBytes call.before.files.contents asks.policy_file bytes
   pub is_policy : SpellsPolicy entries bytes policy
 
--- the words ask to enforce, under a signature that files tell and a policy that they tell and that is accepted, so that
--- the log is enforced in this setting
+-- the words ask to enforce, and to save the state to this file or to none, under a signature that files tell and a
+-- policy that they tell and that is accepted, so that the log is enforced in this setting
 pub record AsksTold {Gate : Type 0} (call : Call Gate) (s : Setting) : Type 0 where
-  pub asks : AsksPolicy IsEnforce call s.entries s.rules
+  pub saved : Option (List ℕ)
+  pub asks : AsksPolicy (IsEnforce saved) call s.entries s.rules
   pub is_setting : s ≡ anew s.entries s.rules
 
 -- the words ask so to enforce or to audit a log, which is read so
@@ -147,6 +148,12 @@ MeetsReadFault call =
     ((name : List ℕ) × (call.after.files.read_faults name ≢ call.before.files.read_faults name))
     ⊎ (call.after.gate.read_faults ≢ call.before.gate.read_faults)
 
+-- a write of a file failed, or one to the gate
+abbrev pub MeetsWriteFault : {Gate : Type 0} → Call Gate → Type 0
+MeetsWriteFault call =
+    ((name : List ℕ) × (call.after.files.write_faults name ≢ call.before.files.write_faults name))
+    ⊎ (call.after.gate.write_faults ≢ call.before.gate.write_faults)
+
 -- a run may break off by a fault or want of memory
 abbrev pub BreaksOff : Status → Type 0
 BreaksOff status = (status ≡ statuses.ReadFault) ⊎ ((status ≡ statuses.WriteFault) ⊎ (status ≡ statuses.NoMemory))
@@ -163,6 +170,6 @@ pub record Dues {Gate : Type 0} (call : Call Gate) (result : Status) : Type 0 wh
   pub files : AsksRefused call → Comes statuses.Files result
   pub refused_record : MeetsRefusal call → Comes statuses.Record result
   pub read_fault : MeetsReadFault call → Comes statuses.ReadFault result
-  pub write_fault : call.after.gate.write_faults ≢ call.before.gate.write_faults → Comes statuses.WriteFault result
+  pub write_fault : MeetsWriteFault call → Comes statuses.WriteFault result
   pub report_fault : call.after.report.write_faults ≢ call.before.report.write_faults
       → (result ≢ statuses.Done) × (result ≢ statuses.Violated)

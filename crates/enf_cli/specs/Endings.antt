@@ -19,6 +19,11 @@ abbrev pub cut_after : WriteRefusal → Cut
 cut_after (writes.WriteFault written) = cuts.WriteFault
 cut_after (writes.NoMemory written) = cuts.NoMemory
 
+-- why a run ends after a write of a file was refused
+abbrev pub cut_after_file : IoRefusal → Cut
+cut_after_file io.Failed = cuts.WriteFault
+cut_after_file io.NoMemory = cuts.NoMemory
+
 -- why a run ends after a read of a file was refused
 abbrev pub ending_after_read : IoRefusal → Ending
 ending_after_read io.Failed = endings.Refused ReadFault

@@ -33,16 +33,15 @@ AreHeld bytes (Holds all) = bytes ≡ all
 abbrev pub AreUnder : Option (List ℕ → Contents) → List ℕ → List ℕ → Type 0
 AreUnder told name bytes = IfSome told (λ files. AreHeld bytes (files name))
 
--- the file holds this signature
-pub record HoldsSignature (told : Option (List ℕ → Contents)) (name : List ℕ) (entries : List NameEntry) : Type 0 where
-  pub bytes : List ℕ
+-- the file holds these bytes, which are this signature
+pub record HoldsSignature (told : Option (List ℕ → Contents)) (name bytes : List ℕ) (entries : List NameEntry)
+    : Type 0 where
   pub under : AreUnder told name bytes
   pub is_signature : SpellsSignature bytes entries
 
--- the file holds an accepted policy of these rules under this signature
-pub record HoldsPolicy (told : Option (List ℕ → Contents)) (name : List ℕ) (entries : List NameEntry)
+-- the file holds these bytes, which are an accepted policy of these rules under this signature
+pub record HoldsPolicy (told : Option (List ℕ → Contents)) (name bytes : List ℕ) (entries : List NameEntry)
     (policy : List Rule) : Type 0 where
-  pub bytes : List ℕ
   pub under : AreUnder told name bytes
   pub is_policy : SpellsPolicy entries bytes policy
 

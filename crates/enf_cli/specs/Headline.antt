@@ -1,9 +1,9 @@
 -- The headline, in its own words over definitions of the crates below: what becomes of a log that a run enforces, where
 -- the files tell an accepted policy, and the gate and the report tell what goes through them.
 use Rattle.std.specs.Prelude.{◌≡◌, ◌≢◌, ◌⊎◌, ℕ, ◌+◌, ◌<◌, ◌≤◌, IsTrue, List, [], ◌∷◌, ◌++◌, length, map, codes}
-use Rattle.std.specs.Prelude.{decimal, Option, Some, Ok}
+use Rattle.std.specs.Prelude.{decimal, Option, None, Some, Ok}
 use Rattle.std.specs.List.{flat_map}
-use Rattle.enf_io.specs.Contents.{Contents, Holds}
+use Rattle.enf_io.specs.Contents.{Contents, Holds, with_contents}
 use Rattle.enf_io.specs.Counts.{one_more}
 use Rattle.enf_io.specs.Exchange.{IsAtEnd}
 use Rattle.enf_io.specs.FileCalls.{FileView}
@@ -34,6 +34,9 @@ use Rattle.trace_meaning.specs.Lawful.{Lawful}
 use Rattle.trace_meaning.specs.OutSteps.{IsWithin, trace_of}
 use Rattle.trace_meaning.specs.Records.{NeverFall, Record, StepRecord, Tick, clock_after, recorded, time_of}
 use Rattle.trace_meaning.specs.Satisfies.{Satisfies}
+use Rattle.trace_meaning.specs.Start.{Start, from_nothing, start_behind}
+use Rattle.past_state.specs.Operators.{all_operators}
+use Rattle.save_codec.specs.Saved.{IsSavedText}
 use Rattle.choice_step.specs.Follows.{ActedStep}
 use Rattle.action_report.specs.Lines.{action_line}
 use Rattle.enforcer_core.specs.Enforcers.{out_steps}
@@ -46,12 +49,18 @@ use Rattle.enf_cli.specs.declared.refusals.Status.TheVariants as statuses
 abbrev pub formulas : List Rule → List Formula
 formulas rules = map (λ rule. rule.formula) rules
 
--- the words are `enforce SIGNATURE POLICY`; the files tell a signature, and an accepted policy under it
-pub record IsAsked (words : List (List ℕ)) (told : Option (List ℕ → Contents)) (entries : List NameEntry)
-    (rules : List Rule) : Type 0 where
+-- what stands behind the policy where the state is saved to a file
+abbrev pub save_words : (saved : Option (List ℕ)) → List (List ℕ)
+save_words None = []
+save_words (Some file) = codes "--save" ∷ file ∷ []
+
+-- the words are `enforce SIGNATURE POLICY`, and `--save FILE` where the state is saved to a file; the files tell a
+-- signature, and an accepted policy under it
+pub record IsAsked (words : List (List ℕ)) (told : Option (List ℕ → Contents)) (saved : Option (List ℕ))
+    (entries : List NameEntry) (rules : List Rule) : Type 0 where
   pub signature_file : List ℕ
   pub policy_file : List ℕ
-  pub form : words ≡ codes "enforce" ∷ signature_file ∷ policy_file ∷ []
+  pub form : words ≡ codes "enforce" ∷ signature_file ∷ policy_file ∷ save_words saved
   pub files : List ℕ → Contents
   pub tell : told ≡ Some files
   pub signature : List ℕ
@@ -90,16 +99,21 @@ pub record IsMarked (entries : List NameEntry) (policy : List Formula) : Type 0 
   pub planned : ArePlanned entries policy plans guards
   pub marked : IsTrue (is_transparent plans)
 
--- so far: no whole record is left; what went out, the inserted steps below the clock, can be continued well from it on;
--- and under the mark it is the steps of the records, as they came, where these can be
+-- what went out for the records, the inserted steps below the clock, can be continued well from it on; and under the
+-- mark it is the steps of the records, as they came, where these can be
+pub record IsGoodSoFar (entries : List NameEntry) (rules : List Rule) (records : List Record) (out : List ActedStep)
+    : Type 0 where
+  pub within : IsWithin 0 (clock_after 0 records) (out_steps out)
+  pub good : Good (formulas rules) (trace_of (out_steps out)) (clock_after 0 records)
+  pub alone : IsMarked entries (formulas rules)
+      → Good (formulas rules) (recorded records) (clock_after 0 records)
+      → out ≡ untouched (recorded records)
+
+-- so far: no whole record is left, and what went out is good
 pub record IsKeptSoFar (entries : List NameEntry) (rules : List Rule) (taken given : List ℕ) : Type 0 where
   pub answered : IsAnswered entries rules taken given
   pub pending : IsPending answered.rest
-  pub within : IsWithin 0 (clock_after 0 (records_of answered.read)) (out_steps answered.out)
-  pub good : Good (formulas rules) (trace_of (out_steps answered.out)) (clock_after 0 (records_of answered.read))
-  pub alone : IsMarked entries (formulas rules)
-      → Good (formulas rules) (recorded (records_of answered.read)) (clock_after 0 (records_of answered.read))
-      → answered.out ≡ untouched (recorded (records_of answered.read))
+  pub so_far : IsGoodSoFar entries rules (records_of answered.read) answered.out
 
 -- the greatest number of bytes that are taken of a log
 abbrev pub most_log_bytes : ℕ
@@ -168,20 +182,52 @@ pub record IsKept (entries : List NameEntry) (rules : List Rule) (gate gate' : S
   pub alone : IsMarked entries (formulas rules) → Satisfies (recorded (records_of answered.read)) (formulas rules)
       → answered.out ≡ untouched (recorded (records_of answered.read))
 
--- the log was taken to its end, to a record that is refused, or to a read that failed
-abbrev pub HasTakenLog : (gate gate' : Stream) → Status → Type 0
-HasTakenLog gate gate' result =
-    (result ≡ statuses.Done)
+-- the bytes are the saved text of a policy of these rules that has come so far, under the bytes of its signature and of
+-- it: of the trace, of its clock, of what the guards remember and of what is pending
+pub record IsState (entries : List NameEntry) (rules : List Rule) (signature policy : List ℕ) (at : Start)
+    (state : List ℕ) : Type 0 where
+  pub plans : List Plan
+  pub guards : List (Formula × List VarId)
+  pub planned : ArePlanned entries (formulas rules) plans guards
+  pub text : IsSavedText signature policy plans
+      (all_operators (map (λ (guard : Formula × List VarId). guard.0) guards)) at.trace at.clock state
+
+-- at a save: the log was taken to its end, what went out is good so far, each action has its line on the report, and the
+-- state behind it stands under the name of its file, which alone has changed
+pub record IsSaved (entries : List NameEntry) (rules : List Rule) (signature policy file : List ℕ)
+    (files : List ℕ → Contents) (told : Option (List ℕ → Contents)) (gate gate' : Stream)
+    (taken given said : List ℕ) : Type 0 where
+  pub answered : IsAnswered entries rules taken given
+  pub ended : EndsWithStatus entries answered.read taken answered.rest [] gate gate' statuses.Done
+  pub so_far : IsGoodSoFar entries rules (records_of answered.read) answered.out
+  pub reported : said ≡ action_lines entries rules answered.out
+  pub state : List ℕ
+  pub is_state : IsState entries rules signature policy
+      (start_behind from_nothing (records_of answered.read) (out_steps answered.out)) state
+  pub stands : told ≡ Some (with_contents file (Holds state) files)
+
+-- the log was taken to its end, and no state is to be saved there; or to a record that is refused, or to a read that
+-- failed
+abbrev pub HasTakenLog : (saved : Option (List ℕ)) → (gate gate' : Stream) → Status → Type 0
+HasTakenLog saved gate gate' result =
+    ((result ≡ statuses.Done) × (saved ≡ None))
     ⊎ ((result ≡ statuses.Record)
     ⊎ ((result ≡ statuses.ReadFault) × (gate'.read_faults ≢ gate.read_faults)))
 
--- the gate and the report are as they are seen before the call and behind it
-pub record Headline (words : List (List ℕ)) (files : FileView) (gate gate' report report' : Stream)
+-- the gate, the files and the report are as they are seen before the call and behind it
+pub record Headline (words : List (List ℕ)) (files files' : FileView) (gate gate' report report' : Stream)
     (result : Status) : Type 0 where
-  pub at_the_end : (entries : List NameEntry) (rules : List Rule) → IsAsked words files.contents entries rules
-      → HasTakenLog gate gate' result
+  pub at_the_end : (saved : Option (List ℕ)) (entries : List NameEntry) (rules : List Rule)
+      → IsAsked words files.contents saved entries rules → HasTakenLog saved gate gate' result
       → OfCalls (λ log. OfCalls (λ said.
       IsKept entries rules gate gate' result (taken_bytes log) log.given said.given
       ) report.told report'.told) gate.told gate'.told
-  pub at_each_read : (entries : List NameEntry) (rules : List Rule) → IsAsked words files.contents entries rules
+  pub at_a_save : (file : List ℕ) (entries : List NameEntry) (rules : List Rule)
+      → (asked : IsAsked words files.contents (Some file) entries rules) → result ≡ statuses.Done
+      → OfCalls (λ log. OfCalls (λ said.
+      IsSaved entries rules asked.signature asked.policy file asked.files files'.contents gate gate'
+      (taken_bytes log) log.given said.given
+      ) report.told report'.told) gate.told gate'.told
+  pub at_each_read : (saved : Option (List ℕ)) (entries : List NameEntry) (rules : List Rule)
+      → IsAsked words files.contents saved entries rules
       → OfCalls (AtEachMark (IsKeptSoFar entries rules)) gate.told gate'.told

@@ -22,6 +22,7 @@ pub mod Progress
 pub mod Readings
 pub mod Refusals
 pub mod Reports
+pub mod Saving
 pub mod Seen
 pub mod Signatures
 pub mod Words

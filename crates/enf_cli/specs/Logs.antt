@@ -1,16 +1,18 @@
 -- What a run of the log takes from the gate, gives to it and says on the report, by how it ends.
-use Rattle.std.specs.Prelude.{◌≡◌, ◌≢◌, ℕ, ◌+◌, List, [], ◌∷◌, ◌++◌, length, ◌⊎◌, Result, Ok, Err}
+use Rattle.std.specs.Prelude.{◌≡◌, ◌≢◌, ℕ, ◌+◌, Bool, true, false, List, [], ◌∷◌, ◌++◌, length, ◌⊎◌, Result, Ok, Err}
 use Rattle.enf_io.specs.Counts.{one_more}
 use Rattle.enf_io.specs.Streams.{Stream}
 use Rattle.log_stream.specs.Lines.{line_of, text_of}
 use Rattle.log_stream.specs.declared.items.LogItem.{LogItem}
 use Rattle.signature.specs.Grammar.{names as names_of}
 use Rattle.trace_meaning.specs.Good.{GoodPrefix}
+use Rattle.trace_meaning.specs.Records.{Record, clock_after}
 use Rattle.choice_step.specs.Follows.{ActedStep, out_step, steps_of}
-use Rattle.enforcer_core.specs.Enforcers.{out_steps}
-use Rattle.enf_cli.specs.Accepted.{GivesInAll, UpToDate}
+use Rattle.enforcer_core.specs.Enforcers.{Enforcing, out_steps}
+use Rattle.enforcer_core.specs.Stands.{Stands}
+use Rattle.enf_cli.specs.Accepted.{Gives, UpToDate}
 use Rattle.enf_cli.specs.Actions.{FailsWithinActions, SaysActions, SaysActionsInPart}
-use Rattle.enf_cli.specs.Owed.{IsOwedInAll, IsOwedSoFar, Setting, policy_of, reading_of}
+use Rattle.enf_cli.specs.Owed.{HasPlans, IsOwedInAll, IsOwedSoFar, Setting, policy_of, reading_of}
 use Rattle.enf_cli.specs.Readings.{Accepts, EndsAs, Taken, records_of, taken_in}
 use Rattle.enf_cli.specs.Endings.{IsPart}
 use Rattle.enf_cli.specs.Exchanges.{Exchanged, IsBegun}
@@ -27,22 +29,57 @@ use Rattle.enf_cli.specs.declared.refusals.Refusal.TheVariants as refusals
 abbrev pub taken_of : Setting → List LogItem → (taken rest : List ℕ) → Taken
 taken_of s read taken rest = taken_in (reading_of s) read taken rest
 
--- the log was begun and ended so, what was given is what is owed in all to its accepted records, and the report gained
--- the lines of the actions of that
-pub record RunsLog (s : Setting) (verdict : Verdict) (before after : Seen) : Type 0 where
+-- the log was begun and ended so, what was given is what is owed to its accepted records, and the report gained the
+-- lines of the actions of that
+pub record RunsLogFor (IsOwed : List Record → List ActedStep → Type 0) (s : Setting) (verdict : Verdict)
+    (before after : Seen) : Type 0 where
   pub taken : List ℕ
   pub given : List ℕ
   pub exchanged : Exchanged (UpToDate s) taken given before.gate.told after.gate.told
   pub rest : List ℕ
-  pub answers : GivesInAll s taken given rest
+  pub answers : Gives IsOwed s taken given rest
   pub ends : EndsAs (taken_of s answers.read taken rest) before.gate after.gate verdict
   pub writes : after.gate.write_faults ≡ before.gate.write_faults
   pub actions : SaysActions s.entries s.rules answers.out before.report after.report
 
--- the run of the log ended as it was judged, behind so many accepted records
-pub record RanAsJudged (s : Setting) (judged : Judged) (before after : Seen) : Type 0 where
-  pub ran : RunsLog s judged.verdict before after
+-- what is owed in all was given
+abbrev pub RunsLog : Setting → Verdict → (before after : Seen) → Type 0
+RunsLog s verdict before after = RunsLogFor (IsOwedInAll s) s verdict before after
+
+-- what is owed so far was given of a log that was accepted to its end
+abbrev pub PausesLog : Setting → (before after : Seen) → Type 0
+PausesLog s before after = RunsLogFor (IsOwedSoFar s) s verdicts.Accepted before after
+
+-- where the state is to be saved at the end of a log, what is still owed then is left to the run that resumes
+abbrev pub is_left : (saves : Bool) → Verdict → Bool
+is_left saves verdicts.Accepted = saves
+is_left saves verdicts.Fault = false
+is_left saves (verdicts.Refused why) = false
+
+abbrev pub IsOwedAtEnd : (left : Bool) → Setting → List Record → List ActedStep → Type 0
+IsOwedAtEnd true s records out = IsOwedSoFar s records out
+IsOwedAtEnd false s records out = IsOwedInAll s records out
+
+-- an enforcer of the rules stands behind what was given for the records, at their clock
+pub record IsBehind (s : Setting) (records : List Record) (out : List ActedStep) (enforcer : Enforcing) : Type 0 where
+  pub planned : HasPlans s.entries s.rules enforcer
+  pub clock : enforcer.clock ≡ clock_after s.start.clock records
+  pub stands : Stands enforcer (s.start.trace ++ steps_of out)
+
+abbrev pub IsBehindWhereLeft : (left : Bool) → Setting → List Record → List ActedStep → Enforcing → Type 0
+IsBehindWhereLeft true s records out enforcer = IsBehind s records out enforcer
+IsBehindWhereLeft false s records out enforcer = Unit {0}
+
+-- the run of the log ended so, behind so many accepted records, and left the enforcer so
+pub record RanSo (left : Bool) (s : Setting) (judged : Judged) (enforcer : Enforcing) (before after : Seen)
+    : Type 0 where
+  pub ran : RunsLogFor (IsOwedAtEnd left s) s judged.verdict before after
   pub count : judged.accepted ≡ length ran.answers.read
+  pub behind : IsBehindWhereLeft left s (records_of ran.answers.read) ran.answers.out enforcer
+
+-- the run of the log ended as it was judged
+abbrev pub RanAsJudged : (saves : Bool) → Setting → Judged → Enforcing → (before after : Seen) → Type 0
+RanAsJudged saves s judged enforcer before after = RanSo (is_left saves judged.verdict) s judged enforcer before after
 
 -- of a line that is cut, a part; where no step is left there is no such line
 abbrev pub IsCutLine : List (List ℕ) → List ActedStep → List ℕ → Type 0

@@ -1,9 +1,12 @@
 -- What holds of a run at each status: of its work, which leaves the report in some state, and then of the line that
 -- says on the report why it ended early.
-use Rattle.std.specs.Prelude.{◌≡◌, ℕ, ◌+◌, List, [], length, ◌⊎◌, Option, Result, Ok, Err}
+use Rattle.std.specs.Prelude.{◌≡◌, ℕ, ◌+◌, List, [], length, ◌⊎◌, Option, None, Some, Result, Ok, Err}
 use Rattle.enf_io.specs.Counts.{one_more}
 use Rattle.enf_io.specs.Exchange.{Exchange, Gave}
+use Rattle.enf_io.specs.FileCalls.{WritesFile}
 use Rattle.enf_io.specs.Streams.{Stream}
+use Rattle.enf_io.specs.declared.devices.IoRefusal.{IoRefusal}
+use Rattle.enf_io.specs.declared.devices.IoRefusal.TheVariants.{Failed}
 use Rattle.enforce_types.specs.Accepted.{IsTyped}
 use Rattle.enforce_types.specs.Typed.{Typed}
 use Rattle.formula_reader.specs.Resolution.{Rule}
@@ -12,7 +15,9 @@ use Rattle.log_gen.specs.Generated.{generated_text}
 use Rattle.trace_audit.specs.Verdicts.{IsVerdict}
 use Rattle.trace_audit.specs.declared.verdicts.Verdict.{Verdict as Found}
 use Rattle.trace_audit.specs.declared.verdicts.Verdict.TheVariants.{Holds, Fails}
+use Rattle.enforcer_core.specs.Enforcers.{out_steps}
 use Rattle.trace_meaning.specs.Records.{recorded}
+use Rattle.trace_meaning.specs.Start.{start_behind}
 use Rattle.enf_cli.specs.Audits.{LosesLog, TakesWholeTrace, verdict_line}
 use Rattle.enf_cli.specs.Calls.{Call, LeavesFiles, LeavesGate}
 use Rattle.enf_cli.specs.Checking.{check_text}
@@ -20,10 +25,11 @@ use Rattle.enf_cli.specs.Endings.{IsPart, faults_behind}
 use Rattle.enf_cli.specs.Files.{FailsToRead, HoldsPolicy, HoldsRefusedPolicy, HoldsRefusedSignature, HoldsSignature}
 use Rattle.enf_cli.specs.Generating.{AddsPartOrNothing}
 use Rattle.enf_cli.specs.Policies.{formulas}
-use Rattle.enf_cli.specs.Logs.{CutsRun, RunsLog}
+use Rattle.enf_cli.specs.Logs.{CutsRun, PausesLog, RunsLog}
 use Rattle.enf_cli.specs.Owed.{Setting, anew}
 use Rattle.enf_cli.specs.Readings.{records_of}
 use Rattle.enf_cli.specs.Refusals.{text_of_refusal}
+use Rattle.enf_cli.specs.Saving.{IsState}
 use Rattle.enf_cli.specs.Seen.{seen_of}
 use Rattle.enf_cli.specs.Reports.{AddsPart, IsReported, IsReportedInPart, SaysNoMemory}
 use Rattle.enf_cli.specs.Words.{IsAudit, IsCheck, IsEnforce, IsGenerate, MatchNoForm, NamesFiles}
@@ -49,12 +55,15 @@ pub record Asks {Gate : Type 0} (IsForm : List (List ℕ) → List ℕ → List 
   pub signature_file : List ℕ
   pub policy_file : List ℕ
   pub form : IsForm call.words signature_file policy_file
-  pub holds_signature : HoldsSignature call.before.files.contents signature_file entries
-  pub holds_policy : HoldsPolicy call.before.files.contents policy_file entries policy
+  pub signature_bytes : List ℕ
+  pub policy_bytes : List ℕ
+  pub holds_signature : HoldsSignature call.before.files.contents signature_file signature_bytes entries
+  pub holds_policy : HoldsPolicy call.before.files.contents policy_file policy_bytes entries policy
 
--- the words ask to enforce a policy, so that the log is enforced in this setting
-pub record AsksToEnforce {Gate : Type 0} (call : Call Gate) (s : Setting) : Type 0 where
-  pub asks : Asks IsEnforce call s.entries s.rules
+-- the words ask to enforce a policy, and to save the state to this file or to none, so that the log is enforced in this
+-- setting
+pub record AsksToEnforce {Gate : Type 0} (call : Call Gate) (saved : Option (List ℕ)) (s : Setting) : Type 0 where
+  pub asks : Asks (IsEnforce saved) call s.entries s.rules
   pub is_setting : s ≡ anew s.entries s.rules
 
 -- the words match no form, and nothing was touched
@@ -80,8 +89,9 @@ pub record RefusesPolicyFile {Gate : Type 0} (call : Call Gate) (report : Stream
   pub signature_file : List ℕ
   pub policy_file : List ℕ
   pub form : NamesFiles call.words signature_file policy_file
+  pub bytes : List ℕ
   pub entries : List NameEntry
-  pub holds_signature : HoldsSignature call.before.files.contents signature_file entries
+  pub holds_signature : HoldsSignature call.before.files.contents signature_file bytes entries
   pub refused : HoldsRefusedPolicy call.before.files.contents policy_file entries why
   pub gate : LeavesGate call
   pub files : LeavesFiles call
@@ -90,8 +100,9 @@ pub record RefusesPolicyFile {Gate : Type 0} (call : Call Gate) (report : Stream
 -- the record of this number is refused, behind those that were enforced
 pub record RefusesRecord {Gate : Type 0} (call : Call Gate) (report : Stream) (number : ℕ) (why : RecordRefusal)
     : Type 0 where
+  pub saved : Option (List ℕ)
   pub setting : Setting
-  pub asks : AsksToEnforce call setting
+  pub asks : AsksToEnforce call saved setting
   pub ran : RunsLog setting (verdicts.Refused why) (seen_of call.before.gate call.before.report)
       (seen_of call.after.gate report)
   pub number_is : number ≡ length ran.answers.read + 1
@@ -103,15 +114,17 @@ pub record MissesFile {Gate : Type 0} (call : Call Gate) (report : Stream) : Typ
   pub policy_file : List ℕ
   pub form : NamesFiles call.words signature_file policy_file
   pub failed : FailsToRead signature_file call.before.files call.after.files
-      ⊎ (((entries : List NameEntry) × HoldsSignature call.before.files.contents signature_file entries)
+      ⊎ (((bytes : List ℕ) × (entries : List NameEntry)
+      × HoldsSignature call.before.files.contents signature_file bytes entries)
       × FailsToRead policy_file call.before.files call.after.files)
   pub gate : LeavesGate call
   pub silent : report ≡ call.before.report
 
 -- a read of the log failed, behind the records that were enforced
 pub record BreaksOffLog {Gate : Type 0} (call : Call Gate) (report : Stream) : Type 0 where
+  pub saved : Option (List ℕ)
   pub setting : Setting
-  pub asks : AsksToEnforce call setting
+  pub asks : AsksToEnforce call saved setting
   pub ran : RunsLog setting verdicts.Fault (seen_of call.before.gate call.before.report)
       (seen_of call.after.gate report)
   pub failed : call.after.gate.read_faults ≡ one_more call.before.gate.read_faults
@@ -180,22 +193,49 @@ Meets call report (refusals.Record number why) =
     RefusesRecord call report number why ⊎ RefusesAudited call report number why
 Meets call report refusals.ReadFault = MissesFile call report ⊎ (BreaksOffLog call report ⊎ BreaksOffAudit call report)
 
--- the run is done: the whole log was taken, nothing is left behind its accepted records, and what was given is what is
--- owed to them in all
-pub record IsDone {Gate : Type 0} (call : Call Gate) (report : Stream) : Type 0 where
+-- no state is to be saved: the whole log was taken, nothing is left behind its accepted records, and what was given is
+-- what is owed to them in all
+pub record DrainsRun {Gate : Type 0} (call : Call Gate) (report : Stream) : Type 0 where
   pub setting : Setting
-  pub asks : AsksToEnforce call setting
+  pub asks : AsksToEnforce call None setting
   pub ran : RunsLog setting verdicts.Accepted (seen_of call.before.gate call.before.report)
       (seen_of call.after.gate report)
   pub files : LeavesFiles call
 
--- a write to the gate or to the report failed, behind a front of what the log lets out
-pub record FailsToWrite {Gate : Type 0} (call : Call Gate) (report : Stream) : Type 0 where
+-- the state is to be saved to a file: the whole log was taken, nothing is left behind its accepted records, and what was
+-- given is what is owed to them so far
+pub record PausesRun {Gate : Type 0} (call : Call Gate) (report : Stream) (file : List ℕ) : Type 0 where
   pub setting : Setting
-  pub asks : AsksToEnforce call setting
+  pub asks : AsksToEnforce call (Some file) setting
+  pub ran : PausesLog setting (seen_of call.before.gate call.before.report) (seen_of call.after.gate report)
+
+-- and then the state behind what was given was written to the file, which ended so
+pub record WritesRun {Gate : Type 0} (call : Call Gate) (report : Stream) (ended : Result (Unit {0}) IoRefusal)
+    : Type 0 where
+  pub file : List ℕ
+  pub paused : PausesRun call report file
+  pub state : List ℕ
+  pub is_state : IsState paused.setting.entries paused.setting.rules paused.asks.asks.signature_bytes
+      paused.asks.asks.policy_bytes (start_behind paused.setting.start (records_of paused.ran.answers.read)
+      (out_steps paused.ran.answers.out)) state
+  pub written : WritesFile file state ended call.before.files call.after.files
+
+-- the run is done: with the drain, or with the state under the name of its file
+abbrev pub IsDone : {Gate : Type 0} → Call Gate → Stream → Type 0
+IsDone call report = DrainsRun call report ⊎ WritesRun call report (Ok tt)
+
+-- a write to the gate or to the report failed, behind a front of what the log lets out
+pub record CutsWriting {Gate : Type 0} (call : Call Gate) (report : Stream) : Type 0 where
+  pub saved : Option (List ℕ)
+  pub setting : Setting
+  pub asks : AsksToEnforce call saved setting
   pub cut : CutsRun setting (seen_of call.before.gate call.before.report)
       (seen_of call.after.gate report) cuts.WriteFault
   pub files : LeavesFiles call
+
+-- or the write of the state failed
+abbrev pub FailsToWrite : {Gate : Type 0} → Call Gate → Stream → Type 0
+FailsToWrite call report = CutsWriting call report ⊎ WritesRun call report (Err Failed)
 
 -- memory ran out before the log was begun, or before anything was said of a policy
 pub record RunsOutBefore {Gate : Type 0} (call : Call Gate) (report : Stream) : Type 0 where
@@ -207,12 +247,22 @@ pub record RunsOutBefore {Gate : Type 0} (call : Call Gate) (report : Stream) : 
   pub silent : report ≡ call.before.report
 
 -- memory ran out within the log, behind a front of what it lets out
-pub record RunsOutWithin {Gate : Type 0} (call : Call Gate) (report : Stream) : Type 0 where
+pub record RunsOutInLog {Gate : Type 0} (call : Call Gate) (report : Stream) : Type 0 where
+  pub saved : Option (List ℕ)
   pub setting : Setting
-  pub asks : AsksToEnforce call setting
+  pub asks : AsksToEnforce call saved setting
   pub cut : CutsRun setting (seen_of call.before.gate call.before.report)
       (seen_of call.after.gate report) cuts.NoMemory
   pub files : LeavesFiles call
+
+-- or behind it, at the save
+pub record RunsOutSaving {Gate : Type 0} (call : Call Gate) (report : Stream) : Type 0 where
+  pub file : List ℕ
+  pub paused : PausesRun call report file
+  pub files : LeavesFiles call
+
+abbrev pub RunsOutWithin : {Gate : Type 0} → Call Gate → Stream → Type 0
+RunsOutWithin call report = RunsOutInLog call report ⊎ RunsOutSaving call report
 
 -- the words ask to generate a log, and what was given to the gate is so of its text; nothing was taken from the gate,
 -- no read of it was made, and the files and the report were not touched

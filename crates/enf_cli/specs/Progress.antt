@@ -1,6 +1,6 @@
 -- What one turn of the run of a log does.
 use Rattle.std.specs.Prelude.{◌≡◌, ℕ, ◌+◌, ◌-◌, ◌^◌, ◌<◌, ◌≤◌, List, [], ◌∷◌, length}
-use Rattle.std.specs.Prelude.{Option, None, Some, ◌⊎◌, Ok, false}
+use Rattle.std.specs.Prelude.{Option, None, Some, ◌⊎◌, Ok, Bool, true, false}
 use Rattle.enforcer_core.specs.Answered.{Answered, ChangesLawfully}
 use Rattle.enforcer_core.specs.Enforcers.{Enforcing, acted_steps, plans_of}
 use Rattle.enforcer_core.specs.Existing.{JustOneFollowsPolicy, JustOneFollowsToEnd}
@@ -198,11 +198,16 @@ CutsTurn entries rules log before after cuts.NoMemory =
     LosesTurn log before after
     ⊎ CutsTaken entries rules log.intake.reader.rest cuts.NoMemory (moment log.enforcer before) after
 
--- what is still owed at the end of the log was given
+-- what is still owed at the end of the log was given, all of it
 pub record GivesDrain (entries : List NameEntry) (rules : List Rule) (from to : Moment) : Type 0 where
   pub made : StepOut
   pub drains : Drains from.enforcer made to.enforcer
   pub given : GivesSteps entries rules (acted_steps made.steps) from.seen to.seen
+
+-- or it was left, and nothing was done
+abbrev pub GivesRest : (left : Bool) → List NameEntry → List Rule → Moment → Moment → Type 0
+GivesRest true entries rules from to = to ≡ from
+GivesRest false entries rules from to = GivesDrain entries rules from to
 
 -- or its lines were not all given
 pub record CutsDrainLines (entries : List NameEntry) (rules : List Rule) (cut : Cut) (from : Moment) (seen : Seen)

@@ -1,7 +1,10 @@
 -- The words of the command line.
-use Rattle.std.specs.Prelude.{◌≡◌, ◌⊎◌, ℕ, ◌≤◌, List, [], ◌∷◌, length, codes, map, String, string_bytes}
+use Rattle.std.specs.Prelude.{◌≡◌, ◌⊎◌, ℕ, ◌≤◌, List, [], ◌∷◌, length, codes, map, Option, None, Some, String}
+use Rattle.std.specs.Prelude.{string_bytes}
+use Rattle.std.specs.Option.{option_map}
 use Rattle.std.specs.Str.Parse.{IsNumeral, digits_value}
 use Rattle.std.specs.declared.alloc.Global.{Global}
+pub use Rattle.enf_cli.specs.Headline.{save_words}
 use Rattle.enf_cli.specs.Limits.{most_start, most_steps}
 use Rattle.enf_cli.specs.declared.words.Form.{Form}
 use Rattle.enf_cli.specs.declared.words.Form.TheVariants as forms
@@ -17,9 +20,9 @@ pub record IsNumber (most : ℕ) (word : List ℕ) (number : ℕ) : Type 0 where
   pub value : number ≡ digits_value 10 word
   pub within : number ≤ most
 
--- `enforce SIG POLICY`
-abbrev pub IsEnforce : List (List ℕ) → List ℕ → List ℕ → Type 0
-IsEnforce words signature policy = words ≡ codes "enforce" ∷ signature ∷ policy ∷ []
+-- `enforce SIG POLICY`, and `--save FILE` behind it where the state is saved to a file
+abbrev pub IsEnforce : (saved : Option (List ℕ)) → List (List ℕ) → List ℕ → List ℕ → Type 0
+IsEnforce saved words signature policy = words ≡ codes "enforce" ∷ signature ∷ policy ∷ save_words saved
 
 -- `check SIG POLICY`
 abbrev pub IsCheck : List (List ℕ) → List ℕ → List ℕ → Type 0
@@ -32,7 +35,8 @@ IsAudit words signature policy = words ≡ codes "audit" ∷ signature ∷ polic
 -- a form that names a signature and a policy
 abbrev pub NamesFiles : List (List ℕ) → List ℕ → List ℕ → Type 0
 NamesFiles words signature policy =
-    IsEnforce words signature policy ⊎ (IsCheck words signature policy ⊎ IsAudit words signature policy)
+    ((saved : Option (List ℕ)) × IsEnforce saved words signature policy)
+    ⊎ (IsCheck words signature policy ⊎ IsAudit words signature policy)
 
 -- `gen START N`
 pub record IsGenerate (words : List (List ℕ)) (start steps : ℕ) : Type 0 where
@@ -44,14 +48,16 @@ pub record IsGenerate (words : List (List ℕ)) (start steps : ℕ) : Type 0 whe
 
 -- the words match the form, with what stands in its places
 abbrev pub Matches : List (List ℕ) → Form → Type 0
-Matches words (forms.Enforce signature policy) = IsEnforce words signature.now policy.now
+Matches words (forms.Enforce signature policy save) =
+    IsEnforce (option_map (λ file. file.now) save) words signature.now policy.now
 Matches words (forms.Check signature policy) = IsCheck words signature.now policy.now
 Matches words (forms.Audit signature policy) = IsAudit words signature.now policy.now
 Matches words (forms.Generate start steps) = IsGenerate words start steps
 
 -- the words match no form
 pub record MatchNoForm (words : List (List ℕ)) : Type 0 where
-  pub enforce : (signature policy : List ℕ) → IsEnforce words signature policy → ⊥
+  pub enforce : (signature policy : List ℕ) → IsEnforce None words signature policy → ⊥
+  pub save : (signature policy file : List ℕ) → IsEnforce (Some file) words signature policy → ⊥
   pub check : (signature policy : List ℕ) → IsCheck words signature policy → ⊥
   pub audit : (signature policy : List ℕ) → IsAudit words signature policy → ⊥
   pub generate : (start steps : ℕ) → IsGenerate words start steps → ⊥

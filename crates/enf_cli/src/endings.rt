@@ -46,6 +46,20 @@ impl From<WriteRefusal> for Cut {
     }
 }
 
+// A write of a file.
+impl From<IoRefusal> for Cut {
+    ghost use Rattle.enf_cli.specs.Endings.{cut_after_file};
+
+    ghost from_gives = { λ refusal cut. cut ≡ cut_after_file refusal };
+
+    fn from(refusal: IoRefusal) -> Cut {
+        match refusal {
+            IoRefusal::Failed => Cut::WriteFault,
+            IoRefusal::NoMemory => Cut::NoMemory,
+        }
+    }
+}
+
 /// Why a file gives nothing: what it holds is refused, or it was not read.
 #[derive(Debug, Drop)]
 pub enum FileEnding<W> {

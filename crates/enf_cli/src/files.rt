@@ -22,13 +22,21 @@ use formula_reader::Policy;
 use signature::Signature;
 use std::alloc::Global;
 
+/// A signature, with the bytes that it was read from.
+#[derive(Drop)]
+pub struct ReadSignature {
+    pub bytes: Vec<u8>,
+    pub signature: Signature,
+}
+
 /// Reads the signature.
 pub fn read_signature<F: Files>(
     alloc: Global,
     files: &mut F,
     name: &str,
-) -> Result<Signature, FileEnding<SignatureRefusal>>
-    ensures held { IfOk result (HoldsSignature (F.seen files.old).contents name.now) }
+) -> Result<ReadSignature, FileEnding<SignatureRefusal>>
+    ensures held { IfOk result (λ read.
+        HoldsSignature (F.seen files.old).contents name.now read.bytes.items read.signature) }
     ensures same { OnOk result (F.seen files.new ≡ F.seen files.old) }
     ensures ends { IfErr result (EndsFile (HoldsRefusedSignature (F.seen files.old).contents name.now)
         name.now (F.seen files.old) (F.seen files.new)) }
@@ -37,14 +45,15 @@ pub fn read_signature<F: Files>(
         return Err(FileEnding::Refused(SignatureRefusal::TooLong));
     };
     match Signature::read(alloc, &bytes) {
-        Ok(signature) => Ok(signature),
+        Ok(signature) => Ok(ReadSignature { bytes, signature }),
         Err(refusal) => Err(FileEnding::Refused(refusal_of(alloc, &bytes, refusal)?)),
     }
 }
 
-/// A policy that is accepted, as it was read, with its plans.
+/// A policy that is accepted, as it was read, with the bytes that it was read from and its plans.
 #[derive(Drop)]
 pub struct AcceptedPolicy {
+    pub bytes: Vec<u8>,
     pub policy: Policy,
     pub typed: TypedPolicy,
 }
@@ -56,8 +65,8 @@ pub fn read_policy<F: Files>(
     name: &str,
     signature: &Signature,
 ) -> Result<AcceptedPolicy, FileEnding<PolicyRefusal>>
-    ensures held { IfOk result (λ accepted.
-        HoldsPolicy (F.seen files.old).contents name.now signature.now (rules_of accepted.policy)) }
+    ensures held { IfOk result (λ accepted. HoldsPolicy (F.seen files.old).contents name.now
+        accepted.bytes.items signature.now (rules_of accepted.policy)) }
     ensures typed { IfOk result (λ accepted.
         IsTyped signature.now (formulas (rules_of accepted.policy)) (typed_of accepted.typed)) }
     ensures kept { IfOk result (λ accepted. KeepsToSignature signature.now
@@ -75,7 +84,11 @@ pub fn read_policy<F: Files>(
         Err(refusal) => return Err(FileEnding::Refused(policy_refusal_of(refusal)?)),
     };
     match TypedPolicy::of(alloc, signature, &policy) {
-        Ok(typed) => Ok(AcceptedPolicy { policy, typed }),
+        Ok(typed) => Ok(AcceptedPolicy {
+            bytes,
+            policy,
+            typed,
+        }),
         Err(refusal) => Err(FileEnding::Refused(type_refusal_of(alloc, signature, refusal)?)),
     }
 }

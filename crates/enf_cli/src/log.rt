@@ -1,6 +1,6 @@
 //! The log: it is taken from the gate piece by piece, and all records that a piece completes are
 //! enforced, and their lines and those of their actions given, before the next read.
-ghost use Rattle.std.specs.Prelude.{◌≡◌, ◌<◌, ◌≤◌, ◌^◌, IfOk, IfErr, List, [], OnOk};
+ghost use Rattle.std.specs.Prelude.{◌≡◌, ◌<◌, ◌≤◌, ◌^◌, IfOk, IfErr, List, [], OnOk, false};
 ghost use Rattle.std.specs.Prelude.{None, length};
 ghost use Rattle.formula_reader.specs.Resolution.{rules_of};
 ghost use Rattle.enf_value.specs.declared.steps.Step.{Step};
@@ -13,10 +13,10 @@ ghost use Rattle.enf_cli.specs.Limits.{most_log_bytes, most_read_bytes};
 ghost use Rattle.enf_cli.specs.Readings.{record_of};
 ghost use Rattle.enforce_types.specs.Marks.{is_causable, is_suppressible};
 ghost use Rattle.enforce_types.specs.Typed.{WorkTogether, typed_of};
-ghost use Rattle.enf_cli.specs.Logs.{CutsRun, RanAsJudged};
+ghost use Rattle.enf_cli.specs.Logs.{CutsRun, RanAsJudged, is_left};
 ghost use Rattle.enf_cli.specs.Seen.{seen_of};
 ghost use Rattle.enf_cli.specs.Progress.{AnswersItem, AnswersNext, AnswersTurn, CutsDrain, CutsItem, CutsNext};
-ghost use Rattle.enf_cli.specs.Progress.{CutsTurn, GivesDrain, IsNew, Laws};
+ghost use Rattle.enf_cli.specs.Progress.{CutsTurn, GivesDrain, GivesRest, IsNew, Laws};
 ghost use Rattle.enf_cli.specs.Progress.{TakesRecord, front, moment, reads_on};
 ghost use Rattle.trace_meaning.specs.Records.{most_time, time_of};
 ghost use Rattle.trace_meaning.specs.declared.kinds.StepKind.TheVariants.{System};
@@ -49,6 +49,13 @@ pub struct Enforcement {
 }
 
 impl Enforcement {
+    /// The enforcer, as what was taken so far has left it.
+    pub fn enforcer(&self) -> &Enforcer
+        ensures { result.now ≡ self.now.enforcer }
+    {
+        &self.enforcer
+    }
+
     /// A log of which nothing was taken yet, to be enforced by this policy.
     pub fn new(
         alloc: Global,
@@ -69,34 +76,47 @@ impl Enforcement {
 }
 
 /// Takes the log from the gate, enforces its whole records from where the enforcer stands, and gives their lines and
-/// those of their actions, and at its end those of what is still owed.
+/// those of their actions, and at its end those of what is still owed; but where the state is to be saved at the end of
+/// the input, that is left to the run that resumes.
 pub fn enforce_log<G: Gate, R: Sink>(
     alloc: Global,
     names: &Names<'_>,
-    mut log: Enforcement,
+    saves: bool,
+    log: &mut Enforcement,
     gate: &mut G,
     report: &mut R,
 ) -> Result<Judged, Cut>
-    requires new { IsNew names.now.signature.now log }
+    requires new { IsNew names.now.signature.now log.old }
     requires permits { Permits (is_causable names.now.signature.now) (is_suppressible names.now.signature.now)
-        (plans_of log.enforcer) }
-    requires together { WorkTogether (typed_of log.enforcer.policy) }
+        (plans_of log.old.enforcer) }
+    requires together { WorkTogether (typed_of log.old.enforcer.policy) }
     ensures ran { (trace : List Step) →
-        HasPlans names.now.signature.now (rules_of names.now.policy.now) log.enforcer →
-        Stands log.enforcer trace → IfOk result (λ judged. RanAsJudged
-        (setting_of names.now.signature.now (rules_of names.now.policy.now) log.enforcer trace) judged
+        HasPlans names.now.signature.now (rules_of names.now.policy.now) log.old.enforcer →
+        Stands log.old.enforcer trace → IfOk result (λ judged. RanAsJudged saves
+        (setting_of names.now.signature.now (rules_of names.now.policy.now) log.old.enforcer trace) judged
+        log.new.enforcer
         (seen_of (G.seen gate.old) (R.seen report.old)) (seen_of (G.seen gate.new) (R.seen report.new))) }
     ensures few { IfOk result (λ judged. judged.accepted < 2 ^ 63) }
+    ensures goes_on { OnOk result (log.new.enforcer.stopped ≡ false) }
     ensures cut { (trace : List Step) →
-        HasPlans names.now.signature.now (rules_of names.now.policy.now) log.enforcer →
-        Stands log.enforcer trace → IfErr result (CutsRun
-        (setting_of names.now.signature.now (rules_of names.now.policy.now) log.enforcer trace)
+        HasPlans names.now.signature.now (rules_of names.now.policy.now) log.old.enforcer →
+        Stands log.old.enforcer trace → IfErr result (CutsRun
+        (setting_of names.now.signature.now (rules_of names.now.policy.now) log.old.enforcer trace)
         (seen_of (G.seen gate.old) (R.seen report.old)) (seen_of (G.seen gate.new) (R.seen report.new))) }
 {
     enforcer_laws();
     loop {
-        if let Some(verdict) = go_on(alloc, names, &mut log, gate, report)? {
-            drain(alloc, names, &mut log.enforcer, &mut log.line, gate, report)?;
+        if let Some(verdict) = go_on(alloc, names, log, gate, report)? {
+            let left = leaves_rest(saves, verdict);
+            give_rest(
+                alloc,
+                names,
+                left,
+                &mut log.enforcer,
+                &mut log.line,
+                gate,
+                report,
+            )?;
             return Ok(Judged {
                 accepted: log.intake.accepted,
                 verdict,
@@ -116,7 +136,43 @@ fn enforcer_laws()
     trace_meaning::laws::good();
 }
 
-// Gives the lines of what is still owed at the end of the log.
+// Whether what is still owed at the end of a log is left to the run that resumes.
+fn leaves_rest(saves: bool, verdict: Verdict) -> bool
+    ensures { result ≡ is_left saves verdict }
+{
+    match verdict {
+        Verdict::Accepted => saves,
+        Verdict::Fault | Verdict::Refused(_) => false,
+    }
+}
+
+// Gives the lines of what is still owed at the end of the log, unless that is left.
+fn give_rest<G: Sink, R: Sink>(
+    alloc: Global,
+    names: &Names<'_>,
+    left: bool,
+    enforcer: &mut Enforcer,
+    line: &mut Vec<u8>,
+    gate: &mut G,
+    report: &mut R,
+) -> Result<(), Cut>
+    requires room { enforcer.old.position < most_positions }
+    requires goes_on { enforcer.old.stopped ≡ false }
+    ensures given { OnOk result (GivesRest left names.now.signature.now (rules_of names.now.policy.now)
+        (moment enforcer.old (seen_of (G.seen gate.old) (R.seen report.old)))
+        (moment enforcer.new (seen_of (G.seen gate.new) (R.seen report.new)))) }
+    ensures goes_on { OnOk result (enforcer.new.stopped ≡ false) }
+    ensures cut { IfErr result (CutsDrain names.now.signature.now (rules_of names.now.policy.now)
+        (moment enforcer.old (seen_of (G.seen gate.old) (R.seen report.old)))
+        (seen_of (G.seen gate.new) (R.seen report.new))) }
+{
+    if left {
+        return Ok(());
+    }
+    drain(alloc, names, enforcer, line, gate, report)
+}
+
+// Gives the lines of all that is still owed at the end of the log.
 #[inline(never)]
 fn drain<G: Sink, R: Sink>(
     alloc: Global,
@@ -130,6 +186,7 @@ fn drain<G: Sink, R: Sink>(
     ensures drained { OnOk result (GivesDrain names.now.signature.now (rules_of names.now.policy.now)
         (moment enforcer.old (seen_of (G.seen gate.old) (R.seen report.old)))
         (moment enforcer.new (seen_of (G.seen gate.new) (R.seen report.new)))) }
+    ensures goes_on { OnOk result (enforcer.new.stopped ≡ false) }
     ensures cut { IfErr result (CutsDrain names.now.signature.now (rules_of names.now.policy.now)
         (moment enforcer.old (seen_of (G.seen gate.old) (R.seen report.old)))
         (seen_of (G.seen gate.new) (R.seen report.new))) }

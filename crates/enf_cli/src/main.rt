@@ -14,6 +14,7 @@ mod log;
 mod refusals;
 mod reporting;
 mod run;
+mod saving;
 #[cfg(test)]
 mod tests;
 mod words;

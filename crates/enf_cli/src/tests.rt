@@ -7,4 +7,5 @@ mod faults;
 mod generating;
 mod limits;
 mod rows;
+mod saving;
 mod words;

@@ -17,14 +17,27 @@ const MOST_DIGITS: usize = 10;
 /// What the words ask for.
 #[derive(Clone, Copy, Debug)]
 pub enum Form<'a> {
-    /// `enforce SIG POLICY`
-    Enforce { signature: &'a str, policy: &'a str },
+    /// `enforce SIG POLICY`, and `--save FILE` behind it where the state is saved
+    Enforce {
+        signature: &'a str,
+        policy: &'a str,
+        save: Option<&'a str>,
+    },
     /// `check SIG POLICY`
-    Check { signature: &'a str, policy: &'a str },
+    Check {
+        signature: &'a str,
+        policy: &'a str,
+    },
     /// `audit SIG POLICY`
-    Audit { signature: &'a str, policy: &'a str },
+    Audit {
+        signature: &'a str,
+        policy: &'a str,
+    },
     /// `gen START N`
-    Generate { start: u32, steps: u32 },
+    Generate {
+        start: u32,
+        steps: u32,
+    },
 }
 
 /// The words behind the program's name, which need not be UTF-8. A word that is not matches no form.
@@ -68,13 +81,22 @@ pub fn form_of(words: &[String]) -> Option<Form<'_>>
     ensures some { IfSome result (λ form. Matches (texts words.now) form) }
     ensures none { IfNone result (MatchNoForm (texts words.now)) }
 {
-    let [command, first, second] = words else {
-        return None;
-    };
-    form_of_three(command.as_str(), first.as_str(), second.as_str())
+    match words {
+        [command, first, second] => {
+            form_of_three(command.as_str(), first.as_str(), second.as_str())
+        }
+        [command, signature, policy, option, file] => form_of_five(
+            command.as_str(),
+            signature.as_str(),
+            policy.as_str(),
+            option.as_str(),
+            file.as_str(),
+        ),
+        _ => None,
+    }
 }
 
-// Each form has a command and two words.
+// A form with a command and two words.
 fn form_of_three<'a>(command: &str, first: &'a str, second: &'a str) -> Option<Form<'a>>
     ensures some { IfSome result (λ form. Matches (command.now ∷ first.now ∷ second.now ∷ []) form) }
     ensures none { IfNone result (MatchNoForm (command.now ∷ first.now ∷ second.now ∷ [])) }
@@ -83,6 +105,7 @@ fn form_of_three<'a>(command: &str, first: &'a str, second: &'a str) -> Option<F
         "enforce" => Some(Form::Enforce {
             signature: first,
             policy: second,
+            save: None,
         }),
         "check" => Some(Form::Check {
             signature: first,
@@ -95,6 +118,29 @@ fn form_of_three<'a>(command: &str, first: &'a str, second: &'a str) -> Option<F
         "gen" => Some(Form::Generate {
             start: read_number(first, MOST_START)?,
             steps: read_number(second, MOST_STEPS)?,
+        }),
+        _ => None,
+    }
+}
+
+// A form that names a file for the state behind two others.
+fn form_of_five<'a>(
+    command: &str,
+    signature: &'a str,
+    policy: &'a str,
+    option: &str,
+    file: &'a str,
+) -> Option<Form<'a>>
+    ensures some { IfSome result (λ form. Matches
+        (command.now ∷ signature.now ∷ policy.now ∷ option.now ∷ file.now ∷ []) form) }
+    ensures none { IfNone result
+        (MatchNoForm (command.now ∷ signature.now ∷ policy.now ∷ option.now ∷ file.now ∷ [])) }
+{
+    match (command, option) {
+        ("enforce", "--save") => Some(Form::Enforce {
+            signature,
+            policy,
+            save: Some(file),
         }),
         _ => None,
     }

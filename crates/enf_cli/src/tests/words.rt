@@ -15,7 +15,9 @@ fn words_and_missing_files_are_told(rt: HostRuntime) -> Result<(), Fail> {
     let alloc = rt.alloc();
     for (line, status, report) in [
         ("enforce", Status::Words, USAGE),
-        ("enforce sig pol --save state", Status::Words, USAGE),
+        ("enforce sig pol --save", Status::Words, USAGE),
+        ("enforce sig pol save state", Status::Words, USAGE),
+        ("check sig pol --save state", Status::Words, USAGE),
         ("check sig", Status::Words, USAGE),
         ("check sig pol more", Status::Words, USAGE),
         ("checks sig pol", Status::Words, USAGE),

@@ -31,13 +31,12 @@ returns-in-Ok-of-clause-held g c =
     let answer = subst (λ (text : List ℕ). IsTextAnswer entries text (Ok policy)) c.deref.ensures.value c.in-Ok.ensures.answer in
     let typed = subst (λ (fs : List Formula). IsTyped entries fs (typed_of c.in-Ok-of.typed)) (same_formulas c.in-Ok.policy.rules) c.in-Ok-of.ensures.typed in
     record {
-      bytes = bytes;
       under = short.under;
       is_policy = record { reads = record { short = short.short; answer = answer }; accepted = is_accepted entries (formulas policy) (typed_of c.in-Ok-of.typed) typed };
     }
 
-pub returns-clause-ends : goal.returns-clause-ends
-returns-clause-ends g c =
+pub returns-in_ok-type_refusal_of-in-Err-of-clause-ends : goal.returns-in_ok-type_refusal_of-in-Err-of-clause-ends
+returns-in_ok-type_refusal_of-in-Err-of-clause-ends g c =
     let entries = c.args.signature.now in
     let policy = rules_of c.in-Ok.policy in
     let bytes = c.in-Some.bytes.items in

@@ -1,18 +1,18 @@
-use Rattle.std.proofs.Common.{◌∙◌, [], ℕ, length, ap, sym, subst, arith}
+use Rattle.std.proofs.Common.{◌∙◌, Bool, [], ℕ, length, ap, sym, subst, arith}
 use Rattle.std.proofs.lemmas.Result.{err_from_is_err_and}
 use Rattle.formula_reader.specs.Resolution.{rules_of}
 use Rattle.log_stream.specs.Readers.{Reader}
-use Rattle.enf_cli.specs.Logs.{RanAsJudged}
+use Rattle.enf_cli.specs.Logs.{RanAsJudged, is_left}
 use Rattle.enf_cli.specs.Owed.{setting_of}
 use Rattle.enf_cli.specs.Seen.{seen_of}
 use Rattle.enforcer_core.specs.Enforcers.{Enforcing}
-use Rattle.enf_cli.specs.Progress.{CutsDrain, GivesDrain, moment, reads_on}
-use Rattle.enf_cli.proofs.LogProgress.{cut_drain, ran_judged}
+use Rattle.enf_cli.specs.Progress.{CutsDrain, GivesRest, moment, reads_on}
+use Rattle.enf_cli.proofs.LogProgress.{cut_drain, ran_rest}
 use Rattle.enf_cli.proofs.LogTurns.{cut_run, done_none, ends_log, goes_on, limits_none}
 use Rattle.enf_cli.proofs.log.enforce_log.Goals as goal
 
-pub loop-log-init : goal.loop-log-init
-loop-log-init g c =
+pub loop-verdict-init : goal.loop-verdict-init
+loop-verdict-init g c =
     let laws = c.enforcer_laws.ensures in
     let new = c.requires.new in
     record {
@@ -22,64 +22,73 @@ loop-log-init g c =
       left = omega (arith, new.intake.accepted, ap (λ (r : Reader). length r.rest) new.intake.reader);
       reader = new.intake.reader ∙ (λ i. reads_on c.args.names.now.signature.now (sym (ap (λ (r : Reader). r.rest) new.intake.reader) i));
       room = new.intake.room;
-      limits = limits_none c.args.names.now.signature.now c.args.log new;
-      done = done_none c.args.names.now.signature.now (rules_of c.args.names.now.policy.now) c.args.log laws (c.requires.permits, c.requires.together) (seen_of (g.G.Sink.seen c.args.gate.now) (g.R.Sink.seen c.args.report.now)) new;
+      limits = limits_none c.args.names.now.signature.now c.args.log.now new;
+      done = done_none c.args.names.now.signature.now (rules_of c.args.names.now.policy.now) c.args.log.now laws (c.requires.permits, c.requires.together) (seen_of (g.G.Sink.seen c.args.gate.now) (g.R.Sink.seen c.args.report.now)) new;
     }
 
-pub loop-log-preserved : goal.loop-log-preserved
-loop-log-preserved g c =
+pub loop-verdict-preserved : goal.loop-verdict-preserved
+loop-verdict-preserved g c =
     let laws = c.enforcer_laws.ensures in
-    let inv = c.loop-log.invariant in
+    let inv = c.loop-verdict.invariant in
     let turn = rw c.in_default.is at c.in_ok-verdict.ensures.turn in
-    let go = goes_on c.args.names.now.signature.now (rules_of c.args.names.now.policy.now) c.args.log.enforcer laws (c.requires.permits, c.requires.together) (seen_of (g.G.Sink.seen c.args.gate.now) (g.R.Sink.seen c.args.report.now)) c.loop-log.log c.go_on.new.log inv.bytes (seen_of (g.G.Sink.seen c.loop-log.gate) (g.R.Sink.seen c.loop-log.report)) (seen_of (g.G.Sink.seen c.go_on.new.gate) (g.R.Sink.seen c.go_on.new.report))
+    let go = goes_on c.args.names.now.signature.now (rules_of c.args.names.now.policy.now) c.args.log.now.enforcer laws (c.requires.permits, c.requires.together) (seen_of (g.G.Sink.seen c.args.gate.now) (g.R.Sink.seen c.args.report.now)) c.loop-verdict.log c.go_on.new.log inv.bytes (seen_of (g.G.Sink.seen c.loop-verdict.gate) (g.R.Sink.seen c.loop-verdict.report)) (seen_of (g.G.Sink.seen c.go_on.new.gate) (g.R.Sink.seen c.go_on.new.report))
     inv.done inv.limits inv.count inv.most inv.left turn in
     record { bytes = go.bytes; count = go.count_is; most = go.within; left = go.room_is; reader = go.reader_is; room = c.in_ok-verdict.ensures.room; limits = go.still; done = go.progress }
 
-pub loop-log-smaller : goal.loop-log-smaller
-loop-log-smaller g c =
+pub loop-verdict-smaller : goal.loop-verdict-smaller
+loop-verdict-smaller g c =
     let laws = c.enforcer_laws.ensures in
-    let inv = c.loop-log.invariant in
+    let inv = c.loop-verdict.invariant in
     let turn = rw c.in_default.is at c.in_ok-verdict.ensures.turn in
-    let go = goes_on c.args.names.now.signature.now (rules_of c.args.names.now.policy.now) c.args.log.enforcer laws (c.requires.permits, c.requires.together) (seen_of (g.G.Sink.seen c.args.gate.now) (g.R.Sink.seen c.args.report.now)) c.loop-log.log c.go_on.new.log inv.bytes (seen_of (g.G.Sink.seen c.loop-log.gate) (g.R.Sink.seen c.loop-log.report)) (seen_of (g.G.Sink.seen c.go_on.new.gate) (g.R.Sink.seen c.go_on.new.report))
+    let go = goes_on c.args.names.now.signature.now (rules_of c.args.names.now.policy.now) c.args.log.now.enforcer laws (c.requires.permits, c.requires.together) (seen_of (g.G.Sink.seen c.args.gate.now) (g.R.Sink.seen c.args.report.now)) c.loop-verdict.log c.go_on.new.log inv.bytes (seen_of (g.G.Sink.seen c.loop-verdict.gate) (g.R.Sink.seen c.loop-verdict.report)) (seen_of (g.G.Sink.seen c.go_on.new.gate) (g.R.Sink.seen c.go_on.new.report))
     inv.done inv.limits inv.count inv.most inv.left turn in
     go.less
 
 pub returns-in_err-verdict-clause-cut : goal.returns-in_err-verdict-clause-cut
 returns-in_err-verdict-clause-cut g c trace built stands =
     let laws = c.enforcer_laws.ensures in
-    let inv = c.loop-log.invariant in
+    let inv = c.loop-verdict.invariant in
     let p = err_from_is_err_and c.from_residual.result c.from_residual.ensures.1 in
-    rw (p.1, p.2) (cut_run c.args.names.now.signature.now (rules_of c.args.names.now.policy.now) c.args.log.enforcer trace laws (c.requires.permits, c.requires.together) built (seen_of (g.G.Sink.seen c.args.gate.now) (g.R.Sink.seen c.args.report.now)) inv.bytes c.loop-log.log (seen_of (g.G.Sink.seen c.loop-log.gate) (g.R.Sink.seen c.loop-log.report)) (seen_of (g.G.Sink.seen c.go_on.new.gate) (g.R.Sink.seen c.go_on.new.report))
+    rw (p.1, p.2) (cut_run c.args.names.now.signature.now (rules_of c.args.names.now.policy.now) c.args.log.now.enforcer trace laws (c.requires.permits, c.requires.together) built (seen_of (g.G.Sink.seen c.args.gate.now) (g.R.Sink.seen c.args.report.now)) inv.bytes c.loop-verdict.log (seen_of (g.G.Sink.seen c.loop-verdict.gate) (g.R.Sink.seen c.loop-verdict.report)) (seen_of (g.G.Sink.seen c.go_on.new.gate) (g.R.Sink.seen c.go_on.new.report))
     (inv.done trace built stands) inv.count inv.left c.in_err-verdict.field-0.0 c.in_err-verdict.ensures.cut)
 
-pub returns-in_err-drain-clause-cut : goal.returns-in_err-drain-clause-cut
-returns-in_err-drain-clause-cut g c trace built stands =
+pub returns-in_err-give_rest-clause-cut : goal.returns-in_err-give_rest-clause-cut
+returns-in_err-give_rest-clause-cut g c trace built stands =
     let laws = c.enforcer_laws.ensures in
-    let inv = c.loop-log.invariant in
-    let p = err_from_is_err_and c.from_residual-in_err-drain.result c.from_residual-in_err-drain.ensures.1 in
+    let inv = c.loop-verdict.invariant in
+    let p = err_from_is_err_and c.from_residual-in_err-give_rest.result c.from_residual-in_err-give_rest.ensures.1 in
     let turn = rw c.in-Some.is at c.in_ok-verdict.ensures.turn in
-    let old = c.loop-log.log in
-    let cut = c.in_err-drain.field-0.0 in
+    let old = c.loop-verdict.log in
+    let cut = c.in_err-give_rest.field-0.0 in
     let between = (seen_of (g.G.Sink.seen c.go_on.new.gate) (g.R.Sink.seen c.go_on.new.report)) in
-    let after = (seen_of (g.G.Sink.seen c.drain.new.gate) (g.R.Sink.seen c.drain.new.report)) in
-    let ended = ends_log c.args.names.now.signature.now (rules_of c.args.names.now.policy.now) c.args.log.enforcer trace laws (c.requires.permits, c.requires.together) built (seen_of (g.G.Sink.seen c.args.gate.now) (g.R.Sink.seen c.args.report.now)) old inv.bytes (seen_of (g.G.Sink.seen c.loop-log.gate) (g.R.Sink.seen c.loop-log.report)) between
+    let after = (seen_of (g.G.Sink.seen c.give_rest.new.gate) (g.R.Sink.seen c.give_rest.new.report)) in
+    let ended = ends_log c.args.names.now.signature.now (rules_of c.args.names.now.policy.now) c.args.log.now.enforcer trace laws (c.requires.permits, c.requires.together) built (seen_of (g.G.Sink.seen c.args.gate.now) (g.R.Sink.seen c.args.report.now)) old inv.bytes (seen_of (g.G.Sink.seen c.loop-verdict.gate) (g.R.Sink.seen c.loop-verdict.report)) between
     (inv.done trace built stands) inv.count inv.left turn.2 c.in-Some.verdict turn.3 in
-    let drained = subst (λ (e : Enforcing). CutsDrain c.args.names.now.signature.now (rules_of c.args.names.now.policy.now) (moment e between) after cut) turn.1 c.in_err-drain.ensures.cut in
-    rw (p.1, p.2) (cut_drain c.args.names.now.signature.now (rules_of c.args.names.now.policy.now) c.args.log.enforcer trace laws (c.requires.permits, c.requires.together) built (seen_of (g.G.Sink.seen c.args.gate.now) (g.R.Sink.seen c.args.report.now)) inv.bytes old.intake.reader.rest old.intake.accepted old.enforcer c.in-Some.verdict between after
+    let drained = subst (λ (e : Enforcing). CutsDrain c.args.names.now.signature.now (rules_of c.args.names.now.policy.now) (moment e between) after cut) turn.1 c.in_err-give_rest.ensures.cut in
+    rw (p.1, p.2) (cut_drain c.args.names.now.signature.now (rules_of c.args.names.now.policy.now) c.args.log.now.enforcer trace laws (c.requires.permits, c.requires.together) built (seen_of (g.G.Sink.seen c.args.gate.now) (g.R.Sink.seen c.args.report.now)) inv.bytes old.intake.reader.rest old.intake.accepted old.enforcer c.in-Some.verdict between after
     ended cut drained)
+
+pub give_rest-requires-clause-goes_on : goal.give_rest-requires-clause-goes_on
+give_rest-requires-clause-goes_on g c =
+    let turn = rw c.in-Some.is at c.in_ok-verdict.ensures.turn in
+    ap (λ (e : Enforcing). e.stopped) turn.1 ∙ c.loop-verdict.invariant.limits.going
 
 pub returns-in-Some-clause-ran : goal.returns-in-Some-clause-ran
 returns-in-Some-clause-ran g c trace built stands =
     let laws = c.enforcer_laws.ensures in
-    let inv = c.loop-log.invariant in
+    let inv = c.loop-verdict.invariant in
     let turn = rw c.in-Some.is at c.in_ok-verdict.ensures.turn in
-    let old = c.loop-log.log in
+    let old = c.loop-verdict.log in
     let verdict = c.in-Some.verdict in
+    let entries = c.args.names.now.signature.now in
+    let rules = rules_of c.args.names.now.policy.now in
+    let before = (seen_of (g.G.Sink.seen c.args.gate.now) (g.R.Sink.seen c.args.report.now)) in
     let between = (seen_of (g.G.Sink.seen c.go_on.new.gate) (g.R.Sink.seen c.go_on.new.report)) in
-    let after = (seen_of (g.G.Sink.seen c.drain.new.gate) (g.R.Sink.seen c.drain.new.report)) in
-    let ended = ends_log c.args.names.now.signature.now (rules_of c.args.names.now.policy.now) c.args.log.enforcer trace laws (c.requires.permits, c.requires.together) built (seen_of (g.G.Sink.seen c.args.gate.now) (g.R.Sink.seen c.args.report.now)) old inv.bytes (seen_of (g.G.Sink.seen c.loop-log.gate) (g.R.Sink.seen c.loop-log.report)) between
+    let after = (seen_of (g.G.Sink.seen c.give_rest.new.gate) (g.R.Sink.seen c.give_rest.new.report)) in
+    let ended = ends_log entries rules c.args.log.now.enforcer trace laws (c.requires.permits, c.requires.together) built before old inv.bytes (seen_of (g.G.Sink.seen c.loop-verdict.gate) (g.R.Sink.seen c.loop-verdict.report)) between
     (inv.done trace built stands) inv.count inv.left turn.2 verdict turn.3 in
-    let drained = subst (λ (e : Enforcing). GivesDrain c.args.names.now.signature.now (rules_of c.args.names.now.policy.now) (moment e between) (moment c.drain.new.enforcer after)) turn.1 c.in_ok-drain.ensures.drained in
-    let judged = ran_judged c.args.names.now.signature.now (rules_of c.args.names.now.policy.now) c.args.log.enforcer trace laws (c.requires.permits, c.requires.together) built (seen_of (g.G.Sink.seen c.args.gate.now) (g.R.Sink.seen c.args.report.now)) inv.bytes old.intake.reader.rest old.intake.accepted old.enforcer verdict between after
-    ended c.drain.new.enforcer drained in
-    subst (λ (n : ℕ). RanAsJudged (setting_of c.args.names.now.signature.now (rules_of c.args.names.now.policy.now) c.args.log.enforcer trace) (record { accepted = n; verdict = verdict }) (seen_of (g.G.Sink.seen c.args.gate.now) (g.R.Sink.seen c.args.report.now)) after) (sym turn.0) judged
+    let given = subst (λ (left : Bool). GivesRest left entries rules (moment c.go_on.new.log.enforcer between) (moment c.give_rest.new.enforcer after)) c.leaves_rest-left.ensures c.in_ok-give_rest.ensures.given in
+    let rest = subst (λ (e : Enforcing). GivesRest (is_left c.args.saves verdict) entries rules (moment e between) (moment c.give_rest.new.enforcer after)) turn.1 given in
+    let judged = ran_rest entries rules c.args.log.now.enforcer trace laws (c.requires.permits, c.requires.together) built before inv.bytes old.intake.reader.rest old.intake.accepted old.enforcer verdict between after
+    ended (is_left c.args.saves verdict) c.give_rest.new.enforcer rest in
+    subst (λ (n : ℕ). RanAsJudged c.args.saves (setting_of entries rules c.args.log.now.enforcer trace) (record { accepted = n; verdict = verdict }) c.give_rest.new.enforcer before after) (sym turn.0) judged

@@ -6,8 +6,8 @@ use Rattle.enf_cli.specs.Progress.{reads_on}
 use Rattle.enf_cli.proofs.LogTurns.{Done, IsWithinLimits}
 use Rattle.enf_cli.proofs.log.enforce_log.Given as goal
 
-abbrev pub invariant-loop-log : goal.invariant-loop-log
-invariant-loop-log g l =
+abbrev pub invariant-loop-verdict : goal.invariant-loop-verdict
+invariant-loop-verdict g l =
     let gate = g.G.Sink.seen in
     let report = g.R.Sink.seen in
     record {
@@ -21,5 +21,5 @@ invariant-loop-log g l =
       done : Done l.names.signature.now (rules_of l.names.policy.now) l.fn.log.enforcer (seen_of (gate l.fn.gate) (report l.fn.report)) bytes l.log (seen_of (gate l.gate) (report l.report));
     }
 
-abbrev pub decreases-loop-log : goal.decreases-loop-log
-decreases-loop-log g l = 2 * (most_log_bytes - l.log.intake.taken) + length l.log.intake.reader.rest
+abbrev pub decreases-loop-verdict : goal.decreases-loop-verdict
+decreases-loop-verdict g l = 2 * (most_log_bytes - l.log.intake.taken) + length l.log.intake.reader.rest

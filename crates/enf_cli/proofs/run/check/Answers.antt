@@ -10,37 +10,37 @@ use Rattle.enf_cli.specs.Reports.{WritesText}
 use Rattle.enf_cli.proofs.RunLemmas.{check_done, check_ends, policy_ends, signature_ends}
 use Rattle.enf_cli.proofs.run.check.Goals as goal
 
-pub returns-in_err-signature : goal.returns-in_err-signature
-returns-in_err-signature g c words report after form =
+pub returns-in_err-read : goal.returns-in_err-read
+returns-in_err-read g c words report after form =
     let p = err_from_is_err_and c.from_residual.result c.from_residual.ensures.1 in
-    rw (p.1, p.2) (signature_ends _ report c.args.signature_file.now c.args.policy_file.now (inr (inl form)) refl c.in_err-signature.field-0.0 refl refl c.in_err-signature.ensures.ends)
+    rw (p.1, p.2) (signature_ends _ report c.args.signature_file.now c.args.policy_file.now (inr (inl form)) refl c.in_err-read.field-0.0 refl refl c.in_err-read.ensures.ends)
 
 pub returns-in_err-accepted : goal.returns-in_err-accepted
 returns-in_err-accepted g c words report after form =
     let p = err_from_is_err_and c.from_residual-in_err-accepted.result c.from_residual-in_err-accepted.ensures.1 in
-    let entries = c.in_ok-signature.signature in
+    let entries = c.in_ok-read.read.signature in
     let name = c.args.policy_file.now in
-    let ends = subst (λ (v : FileView). EndsFile (HoldsRefusedPolicy v.contents name entries) name v (g.F.Files.seen c.read_policy.new.files) c.in_err-accepted.field-0.0) c.in_ok-signature.ensures.same c.in_err-accepted.ensures.ends in
-    rw (p.1, p.2) (policy_ends _ report c.args.signature_file.now name (inr (inl form)) refl entries c.in_err-accepted.field-0.0 refl refl c.in_ok-signature.ensures.held ends)
+    let ends = subst (λ (v : FileView). EndsFile (HoldsRefusedPolicy v.contents name entries) name v (g.F.Files.seen c.read_policy.new.files) c.in_err-accepted.field-0.0) c.in_ok-read.ensures.same c.in_err-accepted.ensures.ends in
+    rw (p.1, p.2) (policy_ends _ report c.args.signature_file.now name (inr (inl form)) refl c.in_ok-read.read.bytes.items entries c.in_err-accepted.field-0.0 refl refl c.in_ok-read.ensures.held ends)
 
 pub returns-in_err-give_check : goal.returns-in_err-give_check
 returns-in_err-give_check g c words report after form =
     let p = err_from_is_err_and c.from_residual-in_err-give_check.result c.from_residual-in_err-give_check.ensures.1 in
-    let first = c.in_ok-signature.ensures.same in
-    let entries = c.in_ok-signature.signature in
+    let first = c.in_ok-read.ensures.same in
+    let entries = c.in_ok-read.read.signature in
     let accepted = c.in_ok-accepted.accepted in
     let policy = rules_of accepted.policy in
     let cut = c.in_err-give_check.field-0.0 in
-    let holds = subst (λ (v : FileView). HoldsPolicy v.contents c.args.policy_file.now entries policy) first c.in_ok-accepted.ensures.held in
+    let holds = subst (λ (v : FileView). HoldsPolicy v.contents c.args.policy_file.now c.in_ok-accepted.accepted.bytes.items entries policy) first c.in_ok-accepted.ensures.held in
     let text = subst (λ (rules : List Rule). WritesText {T = Unit {0}} (check_text entries (map rule_of rules) accepted.typed.ranked) (Err cut) (g.G.Sink.seen c.args.gate.now) (g.G.Sink.seen c.give_check.new.sink)) c.as_slice-rules.ensures c.in_err-give_check.ensures in
-    rw (p.1, p.2) (check_ends _ report c.args.signature_file.now c.args.policy_file.now form entries policy c.in_ok-signature.ensures.held holds (typed_of accepted.typed) c.in_ok-accepted.ensures.typed (c.in_ok-accepted.ensures.same ∙ first) refl cut text)
+    rw (p.1, p.2) (check_ends _ report c.args.signature_file.now c.args.policy_file.now form entries policy c.in_ok-read.read.bytes.items c.in_ok-accepted.accepted.bytes.items c.in_ok-read.ensures.held holds (typed_of accepted.typed) c.in_ok-accepted.ensures.typed (c.in_ok-accepted.ensures.same ∙ first) refl cut text)
 
 pub returns : goal.returns
 returns g c words report after form =
-    let first = c.in_ok-signature.ensures.same in
-    let entries = c.in_ok-signature.signature in
+    let first = c.in_ok-read.ensures.same in
+    let entries = c.in_ok-read.read.signature in
     let accepted = c.in_ok-accepted.accepted in
     let policy = rules_of accepted.policy in
-    let holds = subst (λ (v : FileView). HoldsPolicy v.contents c.args.policy_file.now entries policy) first c.in_ok-accepted.ensures.held in
+    let holds = subst (λ (v : FileView). HoldsPolicy v.contents c.args.policy_file.now c.in_ok-accepted.accepted.bytes.items entries policy) first c.in_ok-accepted.ensures.held in
     let text = subst (λ (rules : List Rule). WritesText {T = Unit {0}} (check_text entries (map rule_of rules) accepted.typed.ranked) (Ok tt) (g.G.Sink.seen c.args.gate.now) (g.G.Sink.seen c.give_check.new.sink)) c.as_slice-rules.ensures c.in_ok-give_check.ensures in
-    inr (inl (check_done _ report c.args.signature_file.now c.args.policy_file.now form entries policy c.in_ok-signature.ensures.held holds (typed_of accepted.typed) c.in_ok-accepted.ensures.typed (c.in_ok-accepted.ensures.same ∙ first) refl text))
+    inr (inl (check_done _ report c.args.signature_file.now c.args.policy_file.now form entries policy c.in_ok-read.read.bytes.items c.in_ok-accepted.accepted.bytes.items c.in_ok-read.ensures.held holds (typed_of accepted.typed) c.in_ok-accepted.ensures.typed (c.in_ok-accepted.ensures.same ∙ first) refl text))

@@ -1,0 +1,82 @@
+-- What is saved of an enforcer that stands behind what was given, and how a save ends.
+use Rattle.std.proofs.Common.{◌≡◌, ℕ, Bool, List, [], ◌∷◌, ◌++◌, map, refl, sym, ap, subst, is_some, Option, None, Some, Bor, Result, Ok, Err}
+use Rattle.std.specs.Option.{option_map}
+use Rattle.enf_formula.specs.Formulas.{Formula}
+use Rattle.enf_value.specs.declared.steps.Step.{Step}
+use Rattle.enf_value.specs.declared.terms.VarId.{VarId}
+use Rattle.monitorable_guard.specs.Guards.{BoundFormula}
+use Rattle.past_state.specs.Guarded.{tree_in}
+use Rattle.past_state.specs.Operators.{all_operators}
+use Rattle.plan_terms.specs.Guards.{guards_of}
+use Rattle.trace_meaning.specs.OutSteps.{trace_of}
+use Rattle.trace_meaning.specs.Records.{Record}
+use Rattle.trace_meaning.specs.Start.{start_behind}
+use Rattle.choice_step.specs.Follows.{ActedStep, steps_of}
+use Rattle.enforcer_core.specs.Enforcers.{Enforcing, out_steps, plans_of}
+use Rattle.enforcer_core.specs.Snapshots.{SavesTrace}
+use Rattle.save_codec.specs.Saved.{IsSnapshotOf, saved_text}
+use Rattle.save_codec.specs.declared.snapshots.Snapshot.{Snapshot}
+use Rattle.enf_io.specs.FileCalls.{FileView, WritesFile}
+use Rattle.enf_io.specs.declared.devices.IoRefusal.{IoRefusal}
+use Rattle.enf_io.specs.declared.devices.IoRefusal.TheVariants as io
+use Rattle.enf_cli.specs.Endings.{cut_after_file}
+use Rattle.enf_cli.specs.Logs.{IsBehind, RanAsJudged, RanSo, conclusion_of, is_left}
+use Rattle.enf_cli.specs.Owed.{Setting}
+use Rattle.enf_cli.specs.Seen.{Seen}
+use Rattle.enf_cli.specs.declared.intake.Judged.{Judged}
+use Rattle.enf_cli.specs.declared.intake.Verdict.{Verdict}
+use Rattle.enf_cli.specs.declared.intake.Verdict.TheVariants as verdicts
+use Rattle.enf_cli.specs.Saving.{IsState, SavesState, WritesState}
+use Rattle.enf_cli.proofs.FileLemmas.{same_counts}
+
+-- the guards of the program are formulas
+same_guards : (guards : List BoundFormula) → map tree_in guards ≡ map (λ (guard : Formula × List VarId). guard.0) (guards_of guards)
+same_guards [] = refl
+same_guards (guard ∷ guards) = ap (λ (fs : List Formula). tree_in guard ∷ fs) (same_guards guards)
+
+-- the trace of steps is that of the same steps with their changes
+same_trace : (out : List ActedStep) → trace_of (out_steps out) ≡ steps_of out
+same_trace [] = refl
+same_trace (o ∷ out) = ap (λ (steps : List Step). o.step ∷ steps) (same_trace out)
+
+-- what is kept of an enforcer that stands behind what was given is the state of that
+pub is_state_of : (s : Setting) (records : List Record) (out : List ActedStep) (enforcer : Enforcing) → IsBehind s records out enforcer → (signature policy : List ℕ) (before after : FileView) (file : List ℕ) (ended : Result (Unit {0}) IoRefusal)
+    → (w : WritesState enforcer signature policy file ended before after) → IsState s.entries s.rules signature policy (start_behind s.start records (out_steps out)) (saved_text signature policy w.kept)
+is_state_of s records out enforcer is signature policy before after file ended w =
+    let plans = plans_of enforcer in
+    let guards = enforcer.policy.guards in
+    let trace = s.start.trace in
+    let kept = w.saves (trace ++ steps_of out) is.stands in
+    let of_guards = subst (λ (fs : List Formula). IsSnapshotOf plans (all_operators fs) (trace ++ steps_of out) enforcer.clock w.kept) (same_guards guards) kept in
+    let fs = all_operators (map (λ (guard : Formula × List VarId). guard.0) (guards_of guards)) in
+    let of_trace = subst (λ (steps : List Step). IsSnapshotOf plans fs (trace ++ steps) enforcer.clock w.kept) (sym (same_trace out)) of_guards in
+    let of_clock = subst (λ (clock : ℕ). IsSnapshotOf plans fs (trace ++ trace_of (out_steps out)) clock w.kept) is.clock of_trace in
+    record { plans = plans; guards = guards_of guards; planned = is.planned; text = (w.kept, of_clock, refl) }
+
+-- a write for which memory ran out leaves the files as they were
+same_unwritten : (name bytes : List ℕ) (before after : FileView) → WritesFile {T = Unit {0}} name bytes (Err io.NoMemory) before after → after ≡ before
+same_unwritten name bytes before after w =
+    let writes = same_counts name (Err io.NoMemory) before.write_faults after.write_faults w.writes (λ n. refl) in
+    λ i. record { contents = w.no_memory refl i; is_calm = w.calm i; read_faults = λ other. w.reads other i; write_faults = λ other. writes other i }
+
+-- a write of the state that was refused
+pub save_fails : (enforcer : Enforcing) (signature policy file : List ℕ) (kept : Snapshot) → SavesTrace enforcer kept → (refusal : IoRefusal) (before after : FileView)
+    → WritesFile {T = Unit {0}} file (saved_text signature policy kept) (Err refusal) before after → SavesState enforcer signature policy file before after (Err (cut_after_file refusal))
+save_fails enforcer signature policy file kept saves io.Failed before after w = record { kept = kept; saves = saves; written = w }
+save_fails enforcer signature policy file kept saves io.NoMemory before after w = same_unwritten file (saved_text signature policy kept) before after w
+
+-- a file is named where there is a name
+pub same_some : {T : Type 0} → (o : Option (Bor T)) → is_some (option_map (λ (file : Bor T). file.now) o) ≡ is_some o
+same_some None = refl
+same_some (Some file) = refl
+
+-- a log whose judgement is no refusal was accepted to its end
+pub accepted_so : (saves : Bool) (s : Setting) (judged : Judged) (enforcer : Enforcing) (before after : Seen) → RanAsJudged saves s judged enforcer before after → Ok tt ≡ conclusion_of judged.accepted judged.verdict
+    → RanSo saves s (record { accepted = judged.accepted; verdict = verdicts.Accepted }) enforcer before after
+accepted_so saves s judged enforcer before after ran = by judged.verdict ran
+  where
+    by : (verdict : Verdict) → RanSo (is_left saves verdict) s (record { accepted = judged.accepted; verdict = verdict }) enforcer before after → Ok tt ≡ conclusion_of judged.accepted verdict
+        → RanSo saves s (record { accepted = judged.accepted; verdict = verdicts.Accepted }) enforcer before after
+    by verdicts.Accepted ran h = ran
+    by verdicts.Fault ran h = cc
+    by (verdicts.Refused refusal) ran h = cc

@@ -1,0 +1,21 @@
+use Rattle.std.proofs.Common.{List, ℕ, Err, Ok, subst, ◌∙◌}
+use Rattle.std.proofs.lemmas.Result.{err_from_is_err_and}
+use Rattle.enf_io.specs.FileCalls.{WritesFile}
+use Rattle.enf_cli.proofs.SavingLemmas.{save_fails}
+use Rattle.enf_cli.proofs.saving.save_state.Goals as goal
+
+pub returns-in_err-write : goal.returns-in_err-write
+returns-in_err-write g c =
+    let p = err_from_is_err_and c.from_residual-in_err-write.result c.from_residual-in_err-write.ensures.1 in
+    let text = c.deref.ensures.value ∙ c.in_ok-text.ensures.text in
+    let written = subst (λ (bytes : List ℕ). WritesFile {T = Unit {0}} c.args.file.now bytes (Err c.in_err-write.field-0.0) (g.F.Files.seen c.args.files.now) (g.F.Files.seen c.write.new.self)) text c.in_err-write.ensures in
+    rw (p.1, p.2) (save_fails c.args.enforcer.now c.args.sources.signature.now c.args.sources.policy.now c.args.file.now c.in_ok-snapshot.snapshot c.in_ok-snapshot.ensures.saves c.in_err-write.field-0.0 _ _ written)
+
+pub returns : goal.returns
+returns g c =
+    let text = c.deref.ensures.value ∙ c.in_ok-text.ensures.text in
+    record {
+      kept = c.in_ok-snapshot.snapshot;
+      saves = c.in_ok-snapshot.ensures.saves;
+      written = subst (λ (bytes : List ℕ). WritesFile {T = Unit {0}} c.args.file.now bytes (Ok tt) (g.F.Files.seen c.args.files.now) (g.F.Files.seen c.write.new.self)) text c.in_ok-write.ensures;
+    }

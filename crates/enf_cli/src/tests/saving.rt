@@ -1,0 +1,96 @@
+//! States that are saved.
+use super::calm::{ERASE, Outcome, files_of, words_of};
+use crate::refusals::Status;
+use crate::run::run;
+use enf_io::calm_gate::CalmGate;
+use enf_io::calm_sink::CalmSink;
+use enf_io::devices::{Files, NoMemory};
+use enf_io::mem_files::MemFiles;
+use std::alloc::Global;
+use std::test::Fail;
+
+const SIGNATURE: &[u8] = b"request(text); delete(text) +;";
+
+const LOG: &[u8] = b"@5 request(\"a\");";
+
+const STATE: &[u8] = b"enfstate 1
+signature 30
+request(text); delete(text) +;
+policy 63
+rule erase: forall u. request(u) -> eventually[0,30] delete(u);
+clock 5
+last 5
+position 1
+due 0 1 0 5 35 \"a\"
+end
+";
+
+// What a run left that was to save its state: on its devices, and under the name, nothing where there is no file.
+#[derive(Drop)]
+struct Saved {
+    outcome: Outcome,
+    state: Vec<u8>,
+}
+
+// Enforces `erase` on the log over these files, and saves the state.
+fn enforced_and_saved<F: Files>(
+    alloc: Global,
+    files: &mut F,
+    log: &[u8],
+) -> Result<Saved, NoMemory> {
+    let words = words_of(alloc, "enforce sig pol --save state")?;
+    let mut gate = CalmGate::new(alloc, Vec::from_slice(alloc, log)?, Vec::new(alloc));
+    let mut report = CalmSink::new(alloc);
+    let status = run(alloc, &words, &mut gate, files, &mut report);
+    Ok(Saved {
+        outcome: Outcome {
+            status,
+            output: Vec::from_slice(alloc, gate.given())?,
+            report: Vec::from_slice(alloc, report.given())?,
+        },
+        state: files.read("state", 1_000).unwrap_or(Vec::new(alloc)),
+    })
+}
+
+#[test]
+fn a_state_is_saved_in_place_of_the_drain(rt: HostRuntime) -> Result<(), Fail> {
+    let alloc = rt.alloc();
+    let mut files = files_of(alloc, SIGNATURE, ERASE)?;
+    let saved = enforced_and_saved(alloc, &mut files, LOG)?;
+    let output = b"@5 request(\"a\");\n";
+    saved
+        .outcome
+        .assert_is(&rt, "saved", Status::Done, output, b"");
+    assert!(rt; saved.state.as_slice() == STATE);
+    Ok(())
+}
+
+#[test]
+fn behind_a_refused_record_nothing_is_saved(rt: HostRuntime) -> Result<(), Fail> {
+    let alloc = rt.alloc();
+    let mut files = files_of(alloc, SIGNATURE, ERASE)?;
+    let saved = enforced_and_saved(alloc, &mut files, b"@5 request(\"a\"); @4;")?;
+    let output = b"@5 request(\"a\");\n+35 delete(\"a\");\n";
+    let report =
+        b"cause delete(\"a\") at 35 step 1 rule erase node 1 leaf 2 origin 0 u=\"a\"\nrecord 2: time 4 is below 5\n";
+    saved
+        .outcome
+        .assert_is(&rt, "refused", Status::Record, output, report);
+    assert!(rt; saved.state.is_empty());
+    Ok(())
+}
+
+#[test]
+fn a_write_of_the_state_that_fails_is_a_write_fault(rt: HostRuntime) -> Result<(), Fail> {
+    let alloc = rt.alloc();
+    // Behind the two reads.
+    let mut files = MemFiles::new(alloc, Vec::from_slice(alloc, &[2])?);
+    files.put("sig", Vec::from_slice(alloc, SIGNATURE)?)?;
+    files.put("pol", Vec::from_slice(alloc, ERASE)?)?;
+    let saved = enforced_and_saved(alloc, &mut files, LOG)?;
+    let output = b"@5 request(\"a\");\n";
+    saved
+        .outcome
+        .assert_is(&rt, "failed", Status::WriteFault, output, b"");
+    Ok(())
+}
