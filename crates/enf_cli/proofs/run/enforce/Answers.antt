@@ -10,7 +10,7 @@ use Rattle.formula_reader.specs.Resolution.{rules_of}
 use Rattle.plan_terms.specs.Plans.{plan_of}
 use Rattle.enf_cli.specs.Policies.{formulas}
 use Rattle.enf_cli.specs.Files.{EndsFile, HoldsPolicy, HoldsRefusedPolicy}
-use Rattle.enf_cli.specs.Owed.{HasPlans, Setting, anew}
+use Rattle.enf_cli.specs.Owed.{HasPlans, anew}
 use Rattle.enf_cli.specs.Saving.{RunsSo}
 use Rattle.enf_cli.specs.Seen.{seen_of}
 use Rattle.enf_cli.proofs.RunLemmas.{from_the_start, memory_ends, policy_ends, run_done, run_ends, signature_ends}
