@@ -55,6 +55,7 @@ module _ {Gate : Type 0} (call : Call Gate) (x : CalmContents) (files : call.bef
       by : CutsRun failed.setting (seen_of call.before.gate call.before.report) (seen_of call.after.gate call.after.report) cuts.WriteFault → ⊥
       by (inl gate) = none_more call.before.gate.write_faults call.after.gate.write_faults before after gate.writes
       by (inr report) = none_more call.before.report.write_faults call.after.report.write_faults said-before said-after report.actions.writes
-  no_write_fault y files' before after said-before said-after (inl (inr generated)) = none_more call.before.gate.write_faults call.after.gate.write_faults before after generated.writes
+  no_write_fault y files' before after said-before said-after (inl (inr (inl generated))) = none_more call.before.gate.write_faults call.after.gate.write_faults before after generated.writes
+  no_write_fault y files' before after said-before said-after (inl (inr (inr drilled))) = none_more call.before.gate.write_faults call.after.gate.write_faults before after drilled.writes
   no_write_fault y files' before after said-before said-after (inr (inl checked)) = none_more call.before.gate.write_faults call.after.gate.write_faults before after checked.writes
   no_write_fault y files' before after said-before said-after (inr (inr found)) = none_more call.before.gate.write_faults call.after.gate.write_faults before after found.writes

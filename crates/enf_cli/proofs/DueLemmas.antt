@@ -31,10 +31,10 @@ use Rattle.enf_cli.specs.Logs.{RunsLogFor}
 use Rattle.enf_cli.specs.Owed.{IsOwedInAll, IsOwedSoFar, Setting, anew, reading_of}
 use Rattle.enf_cli.specs.Readings.{Accepts, IsRefusedAs, Reading, ReadsToEnd, records_of, taken_in}
 use Rattle.enf_cli.specs.Seen.{Seen, seen_of}
-use Rattle.enf_cli.specs.Outcomes.{Asks, AsksToEnforce, AuditsLog, ChecksPolicy, FindsVerdict, GeneratesLog, IsDone, Meets, Outcome, Refuses, RefusesAudited, RefusesPolicyFile, RefusesRecord, RefusesSignatureFile, RefusesWords, SaysVerdict}
+use Rattle.enf_cli.specs.Outcomes.{Asks, AsksToEnforce, AuditsLog, ChecksPolicy, DrillsLog, FindsVerdict, GeneratesLog, IsDone, Meets, Outcome, Refuses, RefusesAudited, RefusesPolicyFile, RefusesRecord, RefusesSignatureFile, RefusesWords, SaysVerdict}
 use Rattle.enf_cli.specs.Policies.{ReadsPolicy, SpellsPolicy, SpellsRefused, formulas}
 use Rattle.enf_cli.specs.Signatures.{SpellsSignature}
-use Rattle.enf_cli.specs.Words.{IsAudit, IsCheck, IsEnforce, IsGenerate, MatchNoForm, NamesFiles, save_words}
+use Rattle.enf_cli.specs.Words.{IsAudit, IsCheck, IsDrill, IsEnforce, IsGenerate, MatchNoForm, NamesFiles, NamesGenerated, save_words}
 use Rattle.enf_cli.proofs.FileLemmas.{same_counts}
 use Rattle.enf_cli.proofs.ReadOnce.{OneRecordAnswer, refused_not_whole, whole_meets_none, whole_read}
 use Rattle.enf_cli.specs.declared.intake.Verdict.{Verdict}
@@ -63,17 +63,19 @@ same_files words command other signature policy signature' policy' more others e
     let both : command ∷ signature ∷ policy ∷ more ≡ other ∷ signature' ∷ policy' ∷ others = sym e ∙ f in
     (cc, cc)
 
--- words that name files are a command of more than three letters, and the two names, and what stands behind these
+-- words that name files are a command of more than three letters, which is not `drill`, and the two names, and what
+-- stands behind these
 record AreNamed (words : List (List ℕ)) (signature policy : List ℕ) : Type 0 where
   pub command : List ℕ
   pub long : 3 < length command
+  pub undrilled : command ≢ codes "drill"
   pub more : List (List ℕ)
   pub form : words ≡ command ∷ signature ∷ policy ∷ more
 
 named : (words : List (List ℕ)) (signature policy : List ℕ) → NamesFiles words signature policy → AreNamed words signature policy
-named words signature policy (inl (saved, e)) = record { command = codes "enforce"; long = omega arith; more = save_words saved; form = e }
-named words signature policy (inr (inl e)) = record { command = codes "check"; long = omega arith; more = []; form = e }
-named words signature policy (inr (inr e)) = record { command = codes "audit"; long = omega arith; more = []; form = e }
+named words signature policy (inl (saved, e)) = record { command = codes "enforce"; long = omega arith; undrilled = λ same. omega (arith, ap length same); more = save_words saved; form = e }
+named words signature policy (inr (inl e)) = record { command = codes "check"; long = omega arith; undrilled = λ same. omega (arith, ap (λ (bytes : List ℕ). get_or bytes 0 0) same); more = []; form = e }
+named words signature policy (inr (inr e)) = record { command = codes "audit"; long = omega arith; undrilled = λ same. omega (arith, ap (λ (bytes : List ℕ). get_or bytes 0 0) same); more = []; form = e }
 
 -- the words name one signature and one policy
 pub one_form : (words : List (List ℕ)) (signature policy signature' policy' : List ℕ) → NamesFiles words signature policy → NamesFiles words signature' policy' → (signature ≡ signature') × (policy ≡ policy')
@@ -88,6 +90,16 @@ files_or_generate words signature policy start steps e g =
     let n = named words signature policy e in
     let command : n.command ≡ codes "gen" = same_command words n.command (codes "gen") (signature ∷ policy ∷ n.more) (g.start_word ∷ g.steps_word ∷ []) n.form g.form in
     omega (arith, n.long, ap length command)
+
+-- nor to drill
+pub files_or_drill : (words : List (List ℕ)) (signature policy : List ℕ) (start steps : ℕ) → NamesFiles words signature policy → IsDrill words start steps → ⊥
+files_or_drill words signature policy start steps e g =
+    let n = named words signature policy e in
+    n.undrilled (same_command words n.command (codes "drill") (signature ∷ policy ∷ n.more) (g.start_word ∷ g.steps_word ∷ []) n.form g.form)
+
+files_or_log : (words : List (List ℕ)) (signature policy : List ℕ) (start steps : ℕ) → NamesFiles words signature policy → NamesGenerated words start steps → ⊥
+files_or_log words signature policy start steps e (inl g) = files_or_generate words signature policy start steps e g
+files_or_log words signature policy start steps e (inr g) = files_or_drill words signature policy start steps e g
 
 pub enforce_or_check : (saved : Option (List ℕ)) (words : List (List ℕ)) (signature policy signature' policy' : List ℕ) → IsEnforce saved words signature policy → IsCheck words signature' policy' → ⊥
 enforce_or_check saved words signature policy signature' policy' e f =
@@ -122,6 +134,11 @@ some_form words signature policy (inl (None, e)) none = none.enforce signature p
 some_form words signature policy (inl (Some file, e)) none = none.save signature policy file e
 some_form words signature policy (inr (inl e)) none = none.check signature policy e
 some_form words signature policy (inr (inr e)) none = none.audit signature policy e
+
+-- so do those that say which log is generated
+some_log : (words : List (List ℕ)) (start steps : ℕ) → NamesGenerated words start steps → MatchNoForm words → ⊥
+some_log words start steps (inl g) none = none.generate start steps g
+some_log words start steps (inr g) none = none.drill start steps g
 
 -- where files tell a file's bytes, no others are under its name
 told_bytes : (files : Option (List ℕ → Contents)) (name other all bytes : List ℕ) → name ≡ other → TellBytes files name all → AreUnder files other bytes → bytes ≡ all
@@ -273,9 +290,9 @@ module _ (one : OneAnswer) (one_text : OneTextAnswer) (accepted : AcceptedIsNotR
     files_some_form (inl t) none = some_form call.words t.signature_file t.policy_file t.form none
     files_some_form (inr t) none = some_form call.words t.asks.signature_file t.asks.policy_file t.asks.form none
 
-    files_not_generated : AsksRefused call → (start steps : ℕ) → IsGenerate call.words start steps → ⊥
-    files_not_generated (inl t) start steps form = files_or_generate call.words t.signature_file t.policy_file start steps t.form form
-    files_not_generated (inr t) start steps form = files_or_generate call.words t.asks.signature_file t.asks.policy_file start steps t.asks.form form
+    files_not_generated : AsksRefused call → (start steps : ℕ) → NamesGenerated call.words start steps → ⊥
+    files_not_generated (inl t) start steps form = files_or_log call.words t.signature_file t.policy_file start steps t.form form
+    files_not_generated (inr t) start steps form = files_or_log call.words t.asks.signature_file t.asks.policy_file start steps t.asks.form form
 
     -- what a refused file leaves
     abbrev FilesRefused : Type 0
@@ -428,8 +445,8 @@ module _ (one : OneAnswer) (one_text : OneTextAnswer) (accepted : AcceptedIsNotR
       not_enforced saved entries policy a due =
           enforce_or_audit saved call.words a.signature_file a.policy_file due.2.asks.asks.signature_file due.2.asks.asks.policy_file a.form due.2.asks.asks.form
 
-      not_generated : (start steps : ℕ) → IsGenerate call.words start steps → (signature policy : List ℕ) → NamesFiles call.words signature policy → ⊥
-      not_generated start steps form signature policy names = files_or_generate call.words signature policy start steps names form
+      not_generated : (start steps : ℕ) → NamesGenerated call.words start steps → (signature policy : List ℕ) → NamesFiles call.words signature policy → ⊥
+      not_generated start steps form signature policy names = files_or_log call.words signature policy start steps names form
 
       -- a refusal that is met is that of a log
       abbrev NamesLog : (signature policy : List ℕ) → Type 0
@@ -473,19 +490,24 @@ module _ (one : OneAnswer) (one_text : OneTextAnswer) (accepted : AcceptedIsNotR
       dues_done (inl o) = dues_enforced None o.setting o.asks (IsOwedInAll o.setting) o.ran (left o.files)
       dues_done (inr o) = let p = o.paused in dues_enforced (Some o.file) p.setting p.asks (IsOwedSoFar p.setting) p.ran (written o.file o.state o.written)
 
-      dues_generated : GeneratesLog call call.after.report → Dues call statuses.Done
-      dues_generated o =
-          let g = o.log in
+      -- a log was generated, or a drill made with it
+      dues_log : (start steps : ℕ) → NamesGenerated call.words start steps → LeavesFiles call → call.after.gate.read_faults ≡ call.before.gate.read_faults → call.after.gate.write_faults ≡ call.before.gate.write_faults
+          → call.after.report ≡ call.before.report → Dues call statuses.Done
+      dues_log start steps form files reads writes silent =
           record {
             done = λ due. inl refl;
-            violated = λ due. absurd (not_generated g.start g.steps g.form due.2.asks.asks.signature_file due.2.asks.asks.policy_file (inr (inr due.2.asks.asks.form)));
-            words = λ due. absurd (due.generate g.start g.steps g.form);
-            files = λ due. absurd (files_not_generated call due g.start g.steps g.form);
-            refused_record = λ due. let n = refusal_names due in absurd (not_generated g.start g.steps g.form n.0 n.1 n.2);
-            read_fault = λ due. absurd (no_read_fault g.files g.reads due);
-            write_fault = λ due. absurd (no_write_fault g.files o.writes due);
-            report_fault = λ moved. absurd (moved (ap (λ (s : Stream). s.write_faults) g.silent));
+            violated = λ due. absurd (not_generated start steps form due.2.asks.asks.signature_file due.2.asks.asks.policy_file (inr (inr due.2.asks.asks.form)));
+            words = λ due. absurd (some_log call.words start steps form due);
+            files = λ due. absurd (files_not_generated call due start steps form);
+            refused_record = λ due. let n = refusal_names due in absurd (not_generated start steps form n.0 n.1 n.2);
+            read_fault = λ due. absurd (no_read_fault files reads due);
+            write_fault = λ due. absurd (no_write_fault files writes due);
+            report_fault = λ moved. absurd (moved (ap (λ (s : Stream). s.write_faults) silent));
           }
+
+      dues_generated : GeneratesLog call call.after.report ⊎ DrillsLog call call.after.report → Dues call statuses.Done
+      dues_generated (inl o) = let g = o.log in dues_log g.start g.steps (inl g.form) g.files g.reads o.writes g.silent
+      dues_generated (inr o) = let g = o.log in dues_log g.start g.steps (inr g.form) g.files g.reads o.writes g.silent
 
       -- a check is no reading of a log
       not_read : (signature policy : List ℕ) → IsCheck call.words signature policy → MeetsRefusal call → ⊥
@@ -542,7 +564,7 @@ module _ (one : OneAnswer) (one_text : OneTextAnswer) (accepted : AcceptedIsNotR
       -- an audit is nothing else
       audit_alone : (signature policy : List ℕ) → IsAudit call.words signature policy → IsAcceptable call ⊎ (AsksToGenerate call ⊎ AsksToCheck call) → ⊥
       audit_alone signature policy form (inl due) = enforce_or_audit due.asks.saved call.words due.asks.asks.asks.signature_file due.asks.asks.asks.policy_file signature policy due.asks.asks.asks.form form
-      audit_alone signature policy form (inr (inl due)) = files_or_generate call.words signature policy due.0 due.1 (inr (inr form)) due.2
+      audit_alone signature policy form (inr (inl due)) = files_or_log call.words signature policy due.0 due.1 (inr (inr form)) due.2
       audit_alone signature policy form (inr (inr due)) = check_or_audit call.words due.2.asks.signature_file due.2.asks.policy_file signature policy due.2.asks.form form
 
       module _ (rule position : ℕ) (o : SaysVerdict call call.after.report (Fails rule position)) where
@@ -571,7 +593,7 @@ module _ (one : OneAnswer) (one_text : OneTextAnswer) (accepted : AcceptedIsNotR
       words_not_done : (report : Stream) → RefusesWords call report → CanBeDone call → ⊥
       words_not_done report o (inl (inl due)) = let a = due.asks.asks.asks in some_form call.words a.signature_file a.policy_file (inl (due.asks.saved, a.form)) o.words
       words_not_done report o (inl (inr due)) = o.words.audit due.asks.asks.signature_file due.asks.asks.policy_file due.asks.asks.form
-      words_not_done report o (inr (inl due)) = o.words.generate due.0 due.1 due.2
+      words_not_done report o (inr (inl due)) = some_log call.words due.0 due.1 due.2 o.words
       words_not_done report o (inr (inr due)) = o.words.check due.2.asks.signature_file due.2.asks.policy_file due.2.asks.form
 
       dues_words : (report : Stream) → RefusesWords call report → Dues call statuses.Words
@@ -614,7 +636,7 @@ module _ (one : OneAnswer) (one_text : OneTextAnswer) (accepted : AcceptedIsNotR
       refused_not_done : FilesRefused call → CanBeDone call → ⊥
       refused_not_done o (inl (inl due)) = told_not_refused due.setting.entries due.setting.rules (IsEnforce due.asks.saved) (enforce_names due.asks.saved) due.asks.asks o
       refused_not_done o (inl (inr due)) = told_not_refused due.entries due.policy IsAudit audit_names due.asks o
-      refused_not_done o (inr (inl due)) = let n = refused_named o in files_or_generate call.words n.0 n.1 due.0 due.1 n.2 due.2
+      refused_not_done o (inr (inl due)) = let n = refused_named o in files_or_log call.words n.0 n.1 due.0 due.1 n.2 due.2
       refused_not_done o (inr (inr due)) = told_not_refused due.0 due.1 IsCheck check_names due.2 o
 
       dues_files : FilesRefused call → Dues call statuses.Files
@@ -637,7 +659,7 @@ module _ (one : OneAnswer) (one_text : OneTextAnswer) (accepted : AcceptedIsNotR
         record_not_done : CanBeDone call → ⊥
         record_not_done (inl (inl due)) = record_not_acceptable call report number why o due
         record_not_done (inl (inr due)) = enforce_or_audit o.saved call.words asks_of_record.signature_file asks_of_record.policy_file due.asks.asks.signature_file due.asks.asks.policy_file asks_of_record.form due.asks.asks.form
-        record_not_done (inr (inl due)) = files_or_generate call.words asks_of_record.signature_file asks_of_record.policy_file due.0 due.1 (inl (o.saved, asks_of_record.form)) due.2
+        record_not_done (inr (inl due)) = files_or_log call.words asks_of_record.signature_file asks_of_record.policy_file due.0 due.1 (inl (o.saved, asks_of_record.form)) due.2
         record_not_done (inr (inr due)) = enforce_or_check o.saved call.words asks_of_record.signature_file asks_of_record.policy_file due.2.asks.signature_file due.2.asks.policy_file asks_of_record.form due.2.asks.form
 
         dues_record : Dues call statuses.Record

@@ -1,14 +1,23 @@
--- What a read of a file tells, where it asks for one byte more than a file may have.
-use Rattle.std.proofs.Common.{◌≡◌, ℕ, ◌<◌, ◌≤◌, List, length, refl, ap, ◌∙◌, arith, length-take, Option, None, Some, IfSome, Result, Err}
+-- What a read of a file tells, where it asks for one byte more than a file may have, and the formulas of a policy.
+use Rattle.std.proofs.Common.{◌≡◌, ℕ, ◌<◌, ◌≤◌, List, [], ◌∷◌, length, map, refl, ap, ◌∙◌, arith, length-take, Option, None, Some, IfSome, Result, Err}
 use Rattle.std.proofs.lemmas.List.{take_all}
 use Rattle.std.specs.declared.vec.Vec.{Vec}
 use Rattle.std.specs.declared.alloc.Global.{Global}
+use Rattle.enf_formula.specs.Formulas.{Formula, tree_of}
+use Rattle.formula_reader.specs.Resolution.{formulas as read_formulas, rule_of}
+use Rattle.formula_reader.specs.declared.policies.Rule.{Rule}
 use Rattle.enf_io.specs.Contents.{Contents, Missing, Holds, Gives}
 use Rattle.enf_io.specs.Counts.{faults_after}
 use Rattle.enf_io.specs.FileCalls.{CountsFor, FileView, ReadsFile}
 use Rattle.enf_io.specs.declared.devices.IoRefusal.{IoRefusal}
 use Rattle.enf_io.specs.declared.devices.IoRefusal.TheVariants.{Failed, NoMemory}
 use Rattle.enf_cli.specs.Files.{AreHeld, IsLong, IsNotRead, IsShort}
+use Rattle.enf_cli.specs.Policies.{formulas}
+
+-- the formulas of rules are those of the rules as they were read
+pub same_formulas : (rules : List Rule) → read_formulas rules ≡ formulas (map rule_of rules)
+same_formulas [] = refl
+same_formulas (rule ∷ rules) = ap (λ (fs : List Formula). tree_of rule.formula ∷ fs) (same_formulas rules)
 
 long_of : (c : Contents) (bytes : List ℕ) → Gives c 1048577 bytes → 1048576 < length bytes → (all : List ℕ) × AreHeld all c × (1048576 < length all)
 long_of Missing bytes g l = absurd g

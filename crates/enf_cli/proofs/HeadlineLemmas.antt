@@ -36,13 +36,13 @@ use Rattle.enf_cli.specs.declared.refusals.RecordRefusal.TheVariants as records
 use Rattle.enf_cli.specs.declared.refusals.Refusal.{Refusal}
 use Rattle.enf_cli.specs.declared.refusals.Refusal.TheVariants as refusals
 use Rattle.enf_cli.specs.Seen.{Seen, seen_of}
-use Rattle.enf_cli.specs.Words.{IsAudit, IsCheck, IsEnforce, IsGenerate}
+use Rattle.enf_cli.specs.Words.{IsAudit, IsCheck, IsDrill, IsEnforce, IsGenerate}
 use Rattle.enf_cli.specs.declared.endings.Cut.TheVariants as cuts
 use Rattle.enf_cli.specs.declared.intake.Verdict.{Verdict}
 use Rattle.enf_cli.specs.declared.intake.Verdict.TheVariants as verdicts
 use Rattle.enf_cli.specs.declared.refusals.Status.{Status}
 use Rattle.enf_cli.specs.declared.refusals.Status.TheVariants as statuses
-use Rattle.enf_cli.proofs.DueLemmas.{OneTextAnswer, asks_named, enforce_names, enforce_or_audit, enforce_or_check, files_or_generate, one_save, one_setting, one_source, policy_named}
+use Rattle.enf_cli.proofs.DueLemmas.{OneTextAnswer, asks_named, enforce_names, enforce_or_audit, enforce_or_check, files_or_drill, files_or_generate, one_save, one_setting, one_source, policy_named}
 use Rattle.enf_cli.proofs.ExchangeLemmas.{gave_more, gave_none}
 
 -- a device that told one thing told no other
@@ -148,6 +148,9 @@ module _ {Gate : Type 0} (call : Call Gate) where
     not_generated : (start steps : ℕ) → IsGenerate call.words start steps → ⊥
     not_generated start steps form = files_or_generate call.words asks.asks.signature_file asks.asks.policy_file start steps (inl (saved, asks.asks.form)) form
 
+    not_drilled : (start steps : ℕ) → IsDrill call.words start steps → ⊥
+    not_drilled start steps form = files_or_drill call.words asks.asks.signature_file asks.asks.policy_file start steps (inl (saved, asks.asks.form)) form
+
     not_checked : (signature policy : List ℕ) → IsCheck call.words signature policy → ⊥
     not_checked signature policy form = enforce_or_check saved call.words asks.asks.signature_file asks.asks.policy_file signature policy asks.asks.form form
 
@@ -197,7 +200,8 @@ module _ {Gate : Type 0} (call : Call Gate) where
         by : CutsRun failed.setting (seen_of call.before.gate call.before.report) (seen_of call.after.gate report) cuts.WriteFault → AtReads
         by (inl at) = at_reads failed.saved failed.setting at.short.taken at.short.given failed.asks at.short.exchanged
         by (inr at) = at_reads failed.saved failed.setting at.short.taken at.short.given failed.asks at.short.exchanged
-    reads_failed report (inl (inr generated)) = absurd (not_generated generated.log.start generated.log.steps generated.log.form)
+    reads_failed report (inl (inr (inl generated))) = absurd (not_generated generated.log.start generated.log.steps generated.log.form)
+    reads_failed report (inl (inr (inr drilled))) = absurd (not_drilled drilled.log.start drilled.log.steps drilled.log.form)
     reads_failed report (inr (inl checked)) = absurd (not_checked checked.policy.asks.signature_file checked.policy.asks.policy_file checked.policy.asks.form)
     reads_failed report (inr (inr said)) = let a = said.finds.audit.asks in absurd (not_audited a.signature_file a.policy_file a.form)
 
@@ -205,7 +209,8 @@ module _ {Gate : Type 0} (call : Call Gate) where
     reads_lacked report (inl (inl before)) = no_reads before.gate
     reads_lacked report (inl (inr (inr saving))) = reads_paused report saving.file saving.paused
     reads_lacked report (inl (inr (inl within))) = at_reads within.saved within.setting within.cut.short.taken within.cut.short.given within.asks within.cut.short.exchanged
-    reads_lacked report (inr (inl (inl generated))) = absurd (not_generated generated.log.start generated.log.steps generated.log.form)
+    reads_lacked report (inr (inl (inl (inl generated)))) = absurd (not_generated generated.log.start generated.log.steps generated.log.form)
+    reads_lacked report (inr (inl (inl (inr drilled)))) = absurd (not_drilled drilled.log.start drilled.log.steps drilled.log.form)
     reads_lacked report (inr (inl (inr checked))) = absurd (not_checked checked.policy.asks.signature_file checked.policy.asks.policy_file checked.policy.asks.form)
     reads_lacked report (inr (inr (inl audited))) = absurd (not_audited audited.asks.signature_file audited.asks.policy_file audited.asks.form)
     reads_lacked report (inr (inr (inr said))) = let a = said.finds.audit.asks in absurd (not_audited a.signature_file a.policy_file a.form)
@@ -213,7 +218,8 @@ module _ {Gate : Type 0} (call : Call Gate) where
     reads_of : (result : Status) → Outcome call result → AtReads
     reads_of statuses.Done (inl (inl (inr written))) = reads_paused call.after.report written.file written.paused
     reads_of statuses.Done (inl (inl (inl done))) = at_reads None done.setting done.ran.taken done.ran.given done.asks done.ran.exchanged
-    reads_of statuses.Done (inl (inr generated)) = absurd (not_generated generated.log.start generated.log.steps generated.log.form)
+    reads_of statuses.Done (inl (inr (inl generated))) = absurd (not_generated generated.log.start generated.log.steps generated.log.form)
+    reads_of statuses.Done (inl (inr (inr drilled))) = absurd (not_drilled drilled.log.start drilled.log.steps drilled.log.form)
     reads_of statuses.Done (inr (inl checked)) = absurd (not_checked checked.policy.asks.signature_file checked.policy.asks.policy_file checked.policy.asks.form)
     reads_of statuses.Done (inr (inr said)) = let a = said.finds.audit.asks in absurd (not_audited a.signature_file a.policy_file a.form)
     reads_of statuses.Violated (rule, position, said) = let a = said.finds.audit.asks in absurd (not_audited a.signature_file a.policy_file a.form)
@@ -281,7 +287,8 @@ module _ {Gate : Type 0} (call : Call Gate) where
     kept_of statuses.Done (inl (inl (inr written))) taken = absurd (none_saved written.file written.paused taken)
     kept_of statuses.Done (inl (inl (inl done))) taken =
         kept call.after.report None done.setting verdicts.Accepted [] done.asks (record { ran = done.ran; line = refl }) (gave_none call.after.report.told)
-    kept_of statuses.Done (inl (inr generated)) taken = absurd (not_generated generated.log.start generated.log.steps generated.log.form)
+    kept_of statuses.Done (inl (inr (inl generated))) taken = absurd (not_generated generated.log.start generated.log.steps generated.log.form)
+    kept_of statuses.Done (inl (inr (inr drilled))) taken = absurd (not_drilled drilled.log.start drilled.log.steps drilled.log.form)
     kept_of statuses.Done (inr (inl checked)) taken = absurd (not_checked checked.policy.asks.signature_file checked.policy.asks.policy_file checked.policy.asks.form)
     kept_of statuses.Done (inr (inr found)) taken = let a = found.finds.audit.asks in absurd (not_audited a.signature_file a.policy_file a.form)
     kept_of statuses.Record (number, why, o) taken = kept_record o.between number why o.line o.meets
@@ -360,7 +367,8 @@ module _ {Gate : Type 0} (call : Call Gate) where
       saved_of : IsFinished call call.after.report → AtSave
       saved_of (inl (inl (inr written))) = saves written
       saved_of (inl (inl (inl done))) = let none = sym named ∙ same_file None done.setting done.asks in absurd cc
-      saved_of (inl (inr generated)) = absurd (not_generated generated.log.start generated.log.steps generated.log.form)
+      saved_of (inl (inr (inl generated))) = absurd (not_generated generated.log.start generated.log.steps generated.log.form)
+      saved_of (inl (inr (inr drilled))) = absurd (not_drilled drilled.log.start drilled.log.steps drilled.log.form)
       saved_of (inr (inl checked)) = absurd (not_checked checked.policy.asks.signature_file checked.policy.asks.policy_file checked.policy.asks.form)
       saved_of (inr (inr found)) = let a = found.finds.audit.asks in absurd (not_audited a.signature_file a.policy_file a.form)
 

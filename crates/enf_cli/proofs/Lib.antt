@@ -12,6 +12,8 @@ pub mod ReportLemmas
 pub mod TextLemmas
 pub mod TurnLemmas
 pub mod LogTurns
+pub mod SampleLemmas
+pub mod DrillLemmas
 pub mod RunLemmas
 pub mod SavingLemmas
 pub mod ReadOnce

@@ -85,7 +85,7 @@ put_distinct events event distinct = by (has_event events event) refl
     by true e = distinct
     by false e = HasNoRepeats-push events event distinct (λ there. true≢false (sym ((has_event-Decides events event).1 there) ∙ e))
 
-put_all_distinct : (before events : List Event) → HasNoRepeats before → HasNoRepeats (put_all before events)
+pub put_all_distinct : (before events : List Event) → HasNoRepeats before → HasNoRepeats (put_all before events)
 put_all_distinct before [] distinct = distinct
 put_all_distinct before (event ∷ events) distinct = put_all_distinct (put before event) events (put_distinct before event distinct)
 

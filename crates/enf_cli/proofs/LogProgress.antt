@@ -59,7 +59,7 @@ use Rattle.enf_cli.proofs.IntakeLemmas.{IsEnded, IsFar, ends_gave, exchanged_mor
 use Rattle.enf_cli.proofs.LogLemmas.{begins_shorter, read_distinct}
 
 -- where just one list of steps goes out, none goes out beside it
-none_else : (P : List ActedStep → Type 0) → IsJustOne P → (out : List ActedStep) → P out → (others : List ActedStep) → P others → others ≡ out
+pub none_else : (P : List ActedStep → Type 0) → IsJustOne P → (out : List ActedStep) → P out → (others : List ActedStep) → P others → others ≡ out
 none_else P one out is others also = one.2 others also ∙ sym (one.2 out is)
 
 -- what the plans of an enforcer change may be changed, and they belong together with their guards

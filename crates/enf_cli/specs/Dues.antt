@@ -18,7 +18,7 @@ use Rattle.enf_cli.specs.Owed.{Setting, anew, reading_of}
 use Rattle.enf_cli.specs.Policies.{SpellsPolicy, formulas}
 use Rattle.enf_cli.specs.Readings.{Accepts, IsRefusedAs, Reading, records_of, taken_in}
 use Rattle.enf_cli.specs.Signatures.{SpellsSignature}
-use Rattle.enf_cli.specs.Words.{IsAudit, IsCheck, IsEnforce, IsGenerate, MatchNoForm, NamesFiles}
+use Rattle.enf_cli.specs.Words.{IsAudit, IsCheck, IsEnforce, MatchNoForm, NamesFiles, NamesGenerated}
 use Rattle.enf_cli.specs.declared.refusals.PolicyRefusal.{PolicyRefusal}
 use Rattle.enf_cli.specs.declared.refusals.RecordRefusal.{RecordRefusal}
 use Rattle.enf_cli.specs.declared.refusals.SignatureRefusal.{SignatureRefusal}
@@ -112,9 +112,9 @@ pub record IsAuditable {Gate : Type 0} (call : Call Gate) (found : Found) : Type
   pub whole : IsWholeLog (as_trace entries) call.before.gate.told
   pub is_verdict : IsVerdict (formulas policy) (recorded (records_of whole.read)) found
 
--- the words ask to generate a log
+-- the words ask to generate a log, or to drill with one
 abbrev pub AsksToGenerate : {Gate : Type 0} → Call Gate → Type 0
-AsksToGenerate call = (start steps : ℕ) × IsGenerate call.words start steps
+AsksToGenerate call = (start steps : ℕ) × NamesGenerated call.words start steps
 
 -- the words ask to check a policy that files tell and that is accepted
 abbrev pub AsksToCheck : {Gate : Type 0} → Call Gate → Type 0

@@ -5,6 +5,7 @@ pub mod Audits
 pub mod Calls
 pub mod Cases
 pub mod Checking
+pub mod Drilling
 pub mod Dues
 pub mod Endings
 pub mod Exchanges

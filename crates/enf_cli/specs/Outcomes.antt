@@ -21,6 +21,7 @@ use Rattle.trace_meaning.specs.Start.{start_behind}
 use Rattle.enf_cli.specs.Audits.{LosesLog, TakesWholeTrace, verdict_line}
 use Rattle.enf_cli.specs.Calls.{Call, LeavesFiles, LeavesGate}
 use Rattle.enf_cli.specs.Checking.{check_text}
+use Rattle.enf_cli.specs.Drilling.{Says, SaysPartOrNothing}
 use Rattle.enf_cli.specs.Endings.{IsPart, faults_behind}
 use Rattle.enf_cli.specs.Files.{FailsToRead, HoldsPolicy, HoldsRefusedPolicy, HoldsRefusedSignature, HoldsSignature}
 use Rattle.enf_cli.specs.Generating.{AddsPartOrNothing}
@@ -32,7 +33,7 @@ use Rattle.enf_cli.specs.Refusals.{text_of_refusal}
 use Rattle.enf_cli.specs.Saving.{IsState}
 use Rattle.enf_cli.specs.Seen.{seen_of}
 use Rattle.enf_cli.specs.Reports.{AddsPart, IsReported, IsReportedInPart, SaysNoMemory}
-use Rattle.enf_cli.specs.Words.{IsAudit, IsCheck, IsEnforce, IsGenerate, MatchNoForm, NamesFiles}
+use Rattle.enf_cli.specs.Words.{IsAudit, IsCheck, IsDrill, IsEnforce, IsGenerate, MatchNoForm, NamesFiles}
 use Rattle.enf_cli.specs.declared.endings.Cut.{Cut}
 use Rattle.enf_cli.specs.declared.endings.Cut.TheVariants as cuts
 use Rattle.enf_cli.specs.declared.endings.Ending.{Ending}
@@ -291,6 +292,33 @@ pub record RunsOutGenerating {Gate : Type 0} (call : Call Gate) (report : Stream
   pub log : Generates call report AddsPartOrNothing
   pub writes : call.after.gate.write_faults ≡ call.before.gate.write_faults
 
+-- the words ask to drill, and what was given to the gate is so of what is found; nothing was taken from the gate, no
+-- read of it was made, and the files and the report were not touched
+pub record Drills {Gate : Type 0} (call : Call Gate) (report : Stream)
+    (AreGiven : (start steps : ℕ) → Option Exchange → Option Exchange → Type 0) : Type 0 where
+  pub start : ℕ
+  pub steps : ℕ
+  pub form : IsDrill call.words start steps
+  pub given : AreGiven start steps call.before.gate.told call.after.gate.told
+  pub reads : call.after.gate.read_faults ≡ call.before.gate.read_faults
+  pub files : LeavesFiles call
+  pub silent : report ≡ call.before.report
+
+-- the line of what was found was given whole
+pub record DrillsLog {Gate : Type 0} (call : Call Gate) (report : Stream) : Type 0 where
+  pub log : Drills call report (Says Gave)
+  pub writes : call.after.gate.write_faults ≡ call.before.gate.write_faults
+
+-- a write to the gate failed behind a front of it, which is not the whole
+pub record DrillsInPart {Gate : Type 0} (call : Call Gate) (report : Stream) : Type 0 where
+  pub log : Drills call report (Says AddsPart)
+  pub writes : call.after.gate.write_faults ≡ one_more call.before.gate.write_faults
+
+-- memory ran out behind a front of it, which is not the whole, or before anything was found
+pub record RunsOutDrilling {Gate : Type 0} (call : Call Gate) (report : Stream) : Type 0 where
+  pub log : Drills call report SaysPartOrNothing
+  pub writes : call.after.gate.write_faults ≡ call.before.gate.write_faults
+
 -- the words ask to check an accepted policy, and what was given to the gate is so of what is to be said of it; nothing
 -- was taken from the gate, no read of it was made, and the files and the report were not touched
 pub record Checks {Gate : Type 0} (call : Call Gate) (report : Stream)
@@ -323,7 +351,8 @@ pub record RunsOutChecking {Gate : Type 0} (call : Call Gate) (report : Stream) 
 -- what holds where the work of a run is done; and where it finds that a log violates the policy
 abbrev pub IsFinished : {Gate : Type 0} → Call Gate → Stream → Type 0
 IsFinished call report =
-    (IsDone call report ⊎ GeneratesLog call report) ⊎ (ChecksPolicy call report ⊎ SaysVerdict call report Holds)
+    (IsDone call report ⊎ (GeneratesLog call report ⊎ DrillsLog call report))
+    ⊎ (ChecksPolicy call report ⊎ SaysVerdict call report Holds)
 
 abbrev pub FindsViolation : {Gate : Type 0} → Call Gate → Stream → Type 0
 FindsViolation call report = (rule : ℕ) × (position : ℕ) × SaysVerdict call report (Fails rule position)
@@ -331,11 +360,11 @@ FindsViolation call report = (rule : ℕ) × (position : ℕ) × SaysVerdict cal
 -- what holds where the work of a run is cut
 abbrev pub IsCut : {Gate : Type 0} → Call Gate → Stream → Cut → Type 0
 IsCut call report cuts.WriteFault =
-    (FailsToWrite call report ⊎ GeneratesInPart call report)
+    (FailsToWrite call report ⊎ (GeneratesInPart call report ⊎ DrillsInPart call report))
     ⊎ (ChecksInPart call report ⊎ SaysVerdictInPart call report cuts.WriteFault)
 IsCut call report cuts.NoMemory =
     (RunsOutBefore call report ⊎ RunsOutWithin call report)
-    ⊎ ((RunsOutGenerating call report ⊎ RunsOutChecking call report)
+    ⊎ (((RunsOutGenerating call report ⊎ RunsOutDrilling call report) ⊎ RunsOutChecking call report)
     ⊎ (RunsOutAuditing call report ⊎ SaysVerdictInPart call report cuts.NoMemory))
 
 -- how the work of a run ends, and that it leaves the report so

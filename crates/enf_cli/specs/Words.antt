@@ -38,13 +38,25 @@ NamesFiles words signature policy =
     ((saved : Option (List ℕ)) × IsEnforce saved words signature policy)
     ⊎ (IsCheck words signature policy ⊎ IsAudit words signature policy)
 
--- `gen START N`
-pub record IsGenerate (words : List (List ℕ)) (start steps : ℕ) : Type 0 where
+-- a command, and the start of a generated log and the number of its steps
+pub record IsNumbered (command : List ℕ) (words : List (List ℕ)) (start steps : ℕ) : Type 0 where
   pub start_word : List ℕ
   pub steps_word : List ℕ
-  pub form : words ≡ codes "gen" ∷ start_word ∷ steps_word ∷ []
+  pub form : words ≡ command ∷ start_word ∷ steps_word ∷ []
   pub is_start : IsNumber most_start start_word start
   pub are_steps : IsNumber most_steps steps_word steps
+
+-- `gen START N`
+abbrev pub IsGenerate : List (List ℕ) → ℕ → ℕ → Type 0
+IsGenerate words start steps = IsNumbered (codes "gen") words start steps
+
+-- `drill START N`
+abbrev pub IsDrill : List (List ℕ) → ℕ → ℕ → Type 0
+IsDrill words start steps = IsNumbered (codes "drill") words start steps
+
+-- a form that says which log is generated
+abbrev pub NamesGenerated : List (List ℕ) → ℕ → ℕ → Type 0
+NamesGenerated words start steps = IsGenerate words start steps ⊎ IsDrill words start steps
 
 -- the words match the form, with what stands in its places
 abbrev pub Matches : List (List ℕ) → Form → Type 0
@@ -53,6 +65,7 @@ Matches words (forms.Enforce signature policy save) =
 Matches words (forms.Check signature policy) = IsCheck words signature.now policy.now
 Matches words (forms.Audit signature policy) = IsAudit words signature.now policy.now
 Matches words (forms.Generate start steps) = IsGenerate words start steps
+Matches words (forms.Drill start steps) = IsDrill words start steps
 
 -- the words match no form
 pub record MatchNoForm (words : List (List ℕ)) : Type 0 where
@@ -61,3 +74,4 @@ pub record MatchNoForm (words : List (List ℕ)) : Type 0 where
   pub check : (signature policy : List ℕ) → IsCheck words signature policy → ⊥
   pub audit : (signature policy : List ℕ) → IsAudit words signature policy → ⊥
   pub generate : (start steps : ℕ) → IsGenerate words start steps → ⊥
+  pub drill : (start steps : ℕ) → IsDrill words start steps → ⊥

@@ -125,8 +125,8 @@ pub fn enforce_log<G: Gate, R: Sink>(
     }
 }
 
-// The laws of enforcers on which the run of a log rests.
-fn enforcer_laws()
+/// The laws of enforcers on which the run of a log rests.
+pub fn enforcer_laws()
     ensures { Laws }
 {
     laws::course();

@@ -5,6 +5,7 @@
 
 mod auditing;
 mod checking;
+mod drilling;
 mod endings;
 mod files;
 mod generating;

@@ -22,6 +22,7 @@ ghost use Rattle.formula_reader.specs.Resolution.{rules_of};
 
 use crate::auditing::{audit_log, finish_of, write_verdict};
 use crate::checking::give_check;
+use crate::drilling::give_drill;
 use crate::endings::{Ending, Finish};
 use crate::files::{read_policy, read_signature};
 use crate::generating::give_log;
@@ -39,8 +40,9 @@ use trace_audit::laws::{verdict_is_of_policy, verdict_is_one};
 /// Does what the words ask for: `enforce SIG POLICY` takes the log from the gate and gives the
 /// enforced log to it, and with `--save FILE` behind it saves the state at the end of the input, in place
 /// of giving what is still owed then; `check SIG POLICY` gives what is to be said of the policy,
-/// `audit SIG POLICY` takes a whole log and gives the verdict on it, `gen START N` gives a generated log.
-/// The report says each action that `enforce` takes, and why a run ends early.
+/// `audit SIG POLICY` takes a whole log and gives the verdict on it, `gen START N` gives a generated log,
+/// `drill START N` enforces one and gives counts. The report says each action that `enforce` takes, and why a run ends
+/// early.
 pub fn run<G: Gate, F: Files, R: Sink>(
     alloc: Global,
     words: &[String],
@@ -98,6 +100,10 @@ fn perform<G: Gate, F: Files, R: Sink>(
         Some(Form::Audit { signature, policy }) => audit(alloc, signature, policy, gate, files),
         Some(Form::Generate { start, steps }) => {
             give_log(alloc, start, steps, gate)?;
+            Ok(Finish::Done)
+        }
+        Some(Form::Drill { start, steps }) => {
+            give_drill(alloc, start, steps, gate)?;
             Ok(Finish::Done)
         }
         None => Err(Ending::Refused(Refusal::Words)),

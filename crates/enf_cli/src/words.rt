@@ -38,6 +38,11 @@ pub enum Form<'a> {
         start: u32,
         steps: u32,
     },
+    /// `drill START N`
+    Drill {
+        start: u32,
+        steps: u32,
+    },
 }
 
 /// The words behind the program's name, which need not be UTF-8. A word that is not matches no form.
@@ -116,6 +121,10 @@ fn form_of_three<'a>(command: &str, first: &'a str, second: &'a str) -> Option<F
             policy: second,
         }),
         "gen" => Some(Form::Generate {
+            start: read_number(first, MOST_START)?,
+            steps: read_number(second, MOST_STEPS)?,
+        }),
+        "drill" => Some(Form::Drill {
             start: read_number(first, MOST_START)?,
             steps: read_number(second, MOST_STEPS)?,
         }),

@@ -1,8 +1,10 @@
-//! The limits of the definitions, which are those of the code, what is said of small policies, and fronts of a report.
+//! The limits of the definitions, which are those of the code, what is said of small policies and of a drill, and
+//! fronts of a report.
 ghost use Rattle.std.specs.Prelude.{◌≡◌, ◌≢◌, ◌∷◌, ◌++◌, [], codes};
 ghost use Rattle.enf_cli.specs.Actions.{IsFrontOf};
 ghost use Rattle.enf_cli.specs.Cases.{erase, erase_ranked, other_ranked};
 ghost use Rattle.enf_cli.specs.Checking.{check_text};
+ghost use Rattle.enf_cli.specs.Drilling.{drill_line};
 ghost use Rattle.enf_cli.specs.Limits.{most_log_bytes, most_read_bytes};
 ghost use Rattle.enf_cli.specs.declared.intake.TheConstants.{MOST_LOG_BYTES, MOST_READ_BYTES};
 ghost use Rattle.log_gen.specs.Samples.{sample_entries};
@@ -45,6 +47,15 @@ pub fn checked()
         ≡ codes "transparent no\nhorizon 0\nsuppress consent\ncause use\n" }
     ensures order { check_text sample_entries [] other_ranked
         ≢ codes "transparent no\nhorizon 0\ncause use\nsuppress consent\n" }
+{}
+
+/// The line of a drill.
+pub fn drilled()
+    ensures { drill_line (record {
+      tally = record { steps = 2; inserted = 1; caused = 2; suppressed = 1 };
+      kept = 1;
+      pending = 20;
+    }) ≡ codes "steps 2 inserted 1 caused 2 suppressed 1 kept 1 pending 20\n" }
 {}
 
 /// What a report that was cut may have: of the last piece something may be missing, and of no other.

@@ -1,4 +1,4 @@
-//! Generated logs: their bytes are worked out by the program in docs/DEVELOPING.md.
+//! Generated logs, and drills with them: the bytes come from scripts/generated.py and scripts/drilled.py.
 use super::calm::{Outcome, words_of};
 use crate::refusals::Status;
 use crate::run::run;
@@ -27,10 +27,11 @@ fn generated(alloc: Global, line: &str, writes: &[Turn]) -> Result<Outcome, NoMe
 }
 
 #[test]
-fn short_logs_are_given(rt: HostRuntime) -> Result<(), Fail> {
+fn logs_and_counts_are_given(rt: HostRuntime) -> Result<(), Fail> {
     let alloc = rt.alloc();
     let two =
         b"@6 delete(\"u11\") consent(\"u11\");\n@8 use(\"u6\") lock(\"u15\") lock(\"u12\");\n";
+    let drilled = b"steps 2 inserted 1 caused 2 suppressed 1 kept 1 pending 2\n";
     for (line, writes, status, output) in [
         ("gen 0 0", [].as_slice(), Status::Done, b"".as_slice()),
         (
@@ -46,6 +47,25 @@ fn short_logs_are_given(rt: HostRuntime) -> Result<(), Fail> {
             &[Turn::Take(9), Turn::Fail],
             Status::WriteFault,
             &two[..9],
+        ),
+        (
+            "drill 0 0",
+            &[],
+            Status::Done,
+            b"steps 0 inserted 0 caused 0 suppressed 0 kept 0 pending 0\n",
+        ),
+        ("drill 1 2", &[Turn::Take(3)], Status::Done, drilled),
+        (
+            "drill 1 2",
+            &[Turn::Take(9), Turn::Fail],
+            Status::WriteFault,
+            &drilled[..9],
+        ),
+        (
+            "drill 1 200000",
+            &[],
+            Status::Done,
+            b"steps 200000 inserted 84365 caused 99751 suppressed 3920 kept 16 pending 6\n",
         ),
     ] {
         let outcome = generated(alloc, line, writes)?;

@@ -33,6 +33,7 @@ fn words_and_missing_files_are_told(rt: HostRuntime) -> Result<(), Fail> {
         ("gen 4294967297 1", Status::Words, USAGE),
         ("gen 1 1000001", Status::Words, USAGE),
         ("gen 00000000001 2", Status::Words, USAGE),
+        ("drill 1 1000001", Status::Words, USAGE),
         ("enforce missing pol", Status::ReadFault, b"read fault\n"),
         ("enforce sig missing", Status::ReadFault, b"read fault\n"),
         ("check missing pol", Status::ReadFault, b"read fault\n"),

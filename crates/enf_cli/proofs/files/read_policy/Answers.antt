@@ -1,19 +1,14 @@
-use Rattle.std.proofs.Common.{◌≡◌, List, [], ◌∷◌, ℕ, Ok, Err, ap, map, refl, subst}
-use Rattle.enf_formula.specs.Formulas.{Formula, tree_of}
+use Rattle.std.proofs.Common.{List, ℕ, Ok, Err, refl, subst}
+use Rattle.enf_formula.specs.Formulas.{Formula}
 use Rattle.enforce_types.specs.Accepted.{IsAccepted, IsTyped, RefusesPolicy}
 use Rattle.enforce_types.specs.Typed.{Typed, typed_of}
 use Rattle.formula_reader.specs.Reading.{GivesTextAnswer, IsTextAnswer}
-use Rattle.formula_reader.specs.Resolution.{formulas as read_formulas, rule_of, rules_of}
-use Rattle.formula_reader.specs.declared.policies.Rule.{Rule as ReadRule}
+use Rattle.formula_reader.specs.Resolution.{rules_of}
 use Rattle.signature.specs.declared.entries.NameEntry.{NameEntry}
 use Rattle.enf_cli.specs.Files.{IsShort}
 use Rattle.enf_cli.specs.Policies.{formulas}
+use Rattle.enf_cli.proofs.FileLemmas.{same_formulas}
 use Rattle.enf_cli.proofs.files.read_policy.Goals as goal
-
--- the formulas of rules are those of the rules as they were read
-same_formulas : (rules : List ReadRule) → read_formulas rules ≡ formulas (map rule_of rules)
-same_formulas [] = refl
-same_formulas (rule ∷ rules) = ap (λ (fs : List Formula). tree_of rule.formula ∷ fs) (same_formulas rules)
 
 is_accepted : (entries : List NameEntry) (policy : List Formula) (typed : Typed) → IsTyped entries policy typed → IsAccepted entries policy
 is_accepted entries policy typed t = (typed.plans, typed.guards, t.planned, t.accepted)
