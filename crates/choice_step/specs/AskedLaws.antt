@@ -13,8 +13,8 @@ use Rattle.choice_step.specs.Choosing.{Acts, ActsFrom, all_events}
 abbrev pub IsAmongAll : (events more : List Event) → Type 0
 IsAmongAll events more = (event : Event) → Contains events event → Contains more event
 
-acted_once : (plans : List Plan) (k : LiteralKind) (event : Event) (before after : List Event) → Acts plans k event before after
-    → IsAmongAll after (before ++ event ∷ [])
+acted_once : (plans : List Plan) (k : LiteralKind) (event : Event) (before after : List Event)
+    → Acts plans k event before after → IsAmongAll after (before ++ event ∷ [])
 acted_once plans kind.Cause event before after acts e there = subst (λ (l : List Event). Contains l e) acts.2 there
 acted_once plans kind.Suppress event before after acts e there =
     let taken = acts.1 in
@@ -32,9 +32,13 @@ acted_among plans before (action ∷ actions) after (between, acts, more) event 
     (λ front. ⊎_elim
     (λ old. Contains-append_left before (action.event ∷ map (λ (a : Action). a.event) actions) event old)
     (λ new. Contains-append_right before (action.event ∷ map (λ (a : Action). a.event) actions) event
-    (⊎_elim (λ (same : action.event ≡ event). subst (Contains (action.event ∷ map (λ (a : Action). a.event) actions)) same (here action.event (map (λ (a : Action). a.event) actions)))
+    (⊎_elim (λ (same : action.event ≡ event).
+    subst (Contains (action.event ∷ map (λ (a : Action). a.event) actions)) same
+    (here action.event (map (λ (a : Action). a.event) actions)))
     (λ none. absurd (none_in_nil event none)) (first_or_later event action.event [] new)))
-    (Contains-append before (action.event ∷ []) event (acted_once plans action.kind action.event before between acts event front)))
+    (Contains-append before (action.event ∷ []) event
+    (acted_once plans action.kind action.event before between acts event front)))
     (λ acted. Contains-append_right before (action.event ∷ map (λ (a : Action). a.event) actions) event
     (later event action.event (map (λ (a : Action). a.event) actions) acted))
-    (Contains-append between (map (λ (a : Action). a.event) actions) event (acted_among plans between actions after more event there))
+    (Contains-append between (map (λ (a : Action). a.event) actions) event
+    (acted_among plans between actions after more event there))

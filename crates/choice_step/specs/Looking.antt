@@ -58,7 +58,8 @@ pub record IsRootLeaf (plans : List Plan) (events : List Event) (leaf : Plan) : 
   pub reached : IsReachedBy events plan leaf
 
 -- or from a part of the node of a pending instance
-pub record IsWaitingLeaf (plans : List Plan) (pending : List Instance) (events : List Event) (leaf : Plan) : Type 0 where
+pub record IsWaitingLeaf (plans : List Plan) (pending : List Instance) (events : List Event) (leaf : Plan)
+    : Type 0 where
   pub instance : Instance
   pub waits : Contains pending instance
   pub node : Plan

@@ -192,8 +192,8 @@ pub record IsState (entries : List NameEntry) (rules : List Rule) (signature pol
   pub text : IsSavedText signature policy plans
       (all_operators (map (λ (guard : Formula × List VarId). guard.0) guards)) at.trace at.clock state
 
--- at a save: the log was taken to its end, what went out is good so far, each action has its line on the report, and the
--- state behind it stands under the name of its file, which alone has changed
+-- at a save: the log was taken to its end, what went out is good so far, each action has its line on the report, and
+-- the state behind it stands under the name of its file, which alone has changed
 pub record IsSaved (entries : List NameEntry) (rules : List Rule) (signature policy file : List ℕ)
     (files : List ℕ → Contents) (told : Option (List ℕ → Contents)) (gate gate' : Stream)
     (taken given said : List ℕ) : Type 0 where

@@ -203,8 +203,8 @@ pub record DrainsRun {Gate : Type 0} (call : Call Gate) (report : Stream) : Type
       (seen_of call.after.gate report)
   pub files : LeavesFiles call
 
--- the state is to be saved to a file: the whole log was taken, nothing is left behind its accepted records, and what was
--- given is what is owed to them so far
+-- the state is to be saved to a file: the whole log was taken, nothing is left behind its accepted records, and what
+-- was given is what is owed to them so far
 pub record PausesRun {Gate : Type 0} (call : Call Gate) (report : Stream) (file : List ℕ) : Type 0 where
   pub setting : Setting
   pub asks : AsksToEnforce call (Some file) setting

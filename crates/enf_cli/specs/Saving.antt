@@ -19,8 +19,8 @@ use Rattle.enf_cli.specs.Owed.{Setting}
 use Rattle.enf_cli.specs.Seen.{Seen}
 pub use Rattle.enf_cli.specs.Headline.{IsState}
 
--- the text of what is kept of the enforcer, under the bytes of a signature and of a policy, was written to the file, and
--- the write ended so
+-- the text of what is kept of the enforcer, under the bytes of a signature and of a policy, was written to the file,
+-- and the write ended so
 pub record WritesState (enforcer : Enforcing) (signature policy file : List ℕ) (ended : Result (Unit {0}) IoRefusal)
     (before after : FileView) : Type 0 where
   pub kept : Snapshot

@@ -51,7 +51,8 @@ AreServed plans inserted trace = AllByRecursion (λ i. is_forced_at inserted (ti
 
 -- an instance of the node stays, or not, and what this part begins comes behind it. One with a deadline that is forced
 -- does not stay, and counts as served
-pub record WillBecome (now : Now) (node : Plan) (i : Instance) (forced stays : Bool) (begins : Option Plan) : Type 0 where
+pub record WillBecome (now : Now) (node : Plan) (i : Instance) (forced stays : Bool) (begins : Option Plan)
+    : Type 0 where
   pub becomes : (trace : List Step) → IsNowOf now trace → (forced ≡ true → IsServed trace node i)
       → (begun : List Instance) → BegunFor trace i begins begun
       → BecomesAt trace node i (cond stays (i ∷ []) [] ++ begun)
@@ -67,8 +68,8 @@ abbrev pub BecomeAll : List Plan → (inserted : Bool) → List Instance → Lis
 BecomeAll plans inserted pending trace after =
     AreServed plans inserted trace pending → Gathers (After plans trace) pending after
 
--- at a step at a time and a position, with these events: the instance is the one that waits, or is begun for it, whatever
--- the guards say
+-- at a step at a time and a position, with these events: the instance is the one that waits, or is begun for it,
+-- whatever the guards say
 abbrev pub ComesAt : List Event → (time position : ℕ) → List Plan → (inserted : Bool) → Instance → Instance → Type 0
 ComesAt events time position plans inserted i j = AtNode (node_of plans i) (λ node.
     ((i ≡ j) × (has_deadline node ≡ true → is_forced_at inserted time i ≡ false))

@@ -36,7 +36,8 @@ pub struct Becoming<'a> {
     pub begins: Option<&'a Plan>,
 }
 
-// What an instance of the node becomes. One that is forced at an inserted step is served there, so that nothing is asked.
+// What an instance of the node becomes. One that is forced at an inserted step is served there, so that nothing is
+// asked.
 pub fn becoming_of<'a>(
     alloc: Global,
     node: &'a Plan,

@@ -11,10 +11,12 @@ module _ {T : Type 0} where
       → Contains (places (front ++ entry ∷ back)) q
   in_more [] back entry q there = later q entry.place (places back) there
   in_more (f ∷ front) back entry q there =
-      ⊎_elim (λ same. (0, omega arith, same)) (λ on. later q f.place (places (front ++ entry ∷ back)) (in_more front back entry q on))
+      ⊎_elim (λ same. (0, omega arith, same))
+      (λ on. later q f.place (places (front ++ entry ∷ back)) (in_more front back entry q on))
       (first_or_later q f.place (places (front ++ back)) there)
 
-  pub without_placed : (front back : List (Entry T)) (entry : Entry T) → ArePlaced (front ++ entry ∷ back) → ArePlaced (front ++ back)
+  pub without_placed : (front back : List (Entry T)) (entry : Entry T) → ArePlaced (front ++ entry ∷ back)
+      → ArePlaced (front ++ back)
   without_placed [] back entry order = order.1
   without_placed (f ∷ front) back entry order =
       ((λ q there. order.0 q (in_more front back entry q there)), without_placed front back entry order.1)
