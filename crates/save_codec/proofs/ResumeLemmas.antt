@@ -23,6 +23,7 @@ keeps_bounds s lines state form is = record {
   small = small_position state (subst AreLines (sym is.told) form);
   kept = is.kept;
   pending = is.pending;
+  due = is.due;
   lines = subst (IsWithin s) (sym is.told) is.within;
 }
 

@@ -14,7 +14,7 @@ use Rattle.obligations.specs.declared.instances.Instance.{Instance}
 use Rattle.save_codec.specs.Bounds.{AgreesWith, DueFits, IsFirstUnfit, IsWithin, RowFits, Setting, kept_of}
 use Rattle.save_codec.specs.Judged.{AreInstancesOf, AreNumbers, BreaksAt, DuesFit, FitsBehind, IsStateOf, IsUnfit, IsUnfitLine, IsUnfitNumber, RowsFit, refusal_at}
 use Rattle.save_codec.specs.LineParts.{clock_from, due_in, last_from, line_of_due, line_of_row, position_from, row_in}
-use Rattle.save_codec.specs.Saved.{row_line}
+use Rattle.save_codec.specs.Saved.{due_line, row_line}
 use Rattle.save_codec.specs.declared.judging.Unfit.{Unfit}
 use Rattle.save_codec.specs.declared.judging.Unfit.TheVariants.{At, NoMemory}
 use Rattle.save_codec.specs.declared.limits.TheConstants.{MOST_STATE_TIME}
@@ -205,6 +205,16 @@ rows_told (r ∷ rows) = ap (λ l. line_of_row r ∷ l) (rows_told rows)
 kept_lines : (rows : List RowLine) (kept : List KeptRow) → kept ≡ map kept_of rows → map row_line kept ≡ map line_of_row rows
 kept_lines rows kept are = ap (map row_line) are ∙ rows_told rows
 
+due_in_time : (s : Setting) (c p : ℕ) (dues : List DueLine) (pending : List Instance) → map due_line pending ≡ map line_of_due dues → DuesFit s c p dues → AllByRecursion (λ i. i.high ≤ MOST_STATE_TIME) pending
+due_in_time s c p [] [] told fit = tt
+due_in_time s c p [] (i ∷ pending) told fit = absurd cc
+due_in_time s c p (d ∷ dues) [] told fit = absurd cc
+due_in_time s c p (d ∷ dues) (i ∷ pending) told fit =
+    let first : due_line i ≡ line_of_due d = cc told in
+    let high : i.high ≡ d.high = cc first in
+    let behind : map due_line pending ≡ map line_of_due dues = cc told in
+    (omega (arith, high, fit.0.high), due_in_time s c p dues pending behind fit.1)
+
 pub is_state : (s : Setting) (c : ℕ) (l : Option ℕ) (p : ℕ) (rows : List RowLine) (dues : List DueLine) (kept : List KeptRow) (pending : List Instance) → AreNumbers c l p → kept ≡ map kept_of rows → RowsFit s l rows
     → AreInstancesOf s c p dues pending → IsStateOf s (whole c l p rows dues true) (record { clock = c; last = l; position = p; kept = kept; pending = pending })
 is_state s c l p rows dues kept pending n are fit instances = record {
@@ -214,6 +224,7 @@ is_state s c l p rows dues kept pending n are fit instances = record {
   position = n.position;
   kept = subst (AreWithinBounds (all_operators s.guards) l) (sym are) fit.1;
   pending = All-from_recursion (CanBePending s.plans c p) pending instances.can;
+  due = All-from_recursion (λ i. i.high ≤ MOST_STATE_TIME) pending (due_in_time s c p dues pending instances.told instances.fit);
   within = keep_is_within s c l p rows dues true (record { clock = n.clock; last = n.last; position = n.position; rows_fit = fit; dues_fit = instances.fit });
 }
 

@@ -136,6 +136,7 @@ pub record IsStateOf (s : Setting) (lines : List Line) (state : Snapshot) : Type
   pub position : (state.last ≡ None) ↔ (state.position ≡ 0)
   pub kept : AreWithinBounds (all_operators s.guards) state.last state.kept
   pub pending : All (CanBePending s.plans state.clock state.position) state.pending
+  pub due : All (λ i. i.high ≤ MOST_STATE_TIME) state.pending
   pub within : IsWithin s lines
 
 -- this is the first line that breaks the bounds

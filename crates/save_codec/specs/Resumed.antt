@@ -35,6 +35,7 @@ pub record KeepsBounds (s : Setting) (state : Snapshot) : Type 0 where
   pub small : state.position < 2 ^ 63
   pub kept : AreWithinBounds (all_operators s.guards) state.last state.kept
   pub pending : All (CanBePending s.plans state.clock state.position) state.pending
+  pub due : All (λ i. i.high ≤ MOST_STATE_TIME) state.pending
   pub lines : IsWithin s (lines_of state)
 
 -- the bytes are a saved text, but for another signature or policy
