@@ -1,6 +1,6 @@
 //! Policies enforced on logs: what is done at each step, and the step that goes out; or what is pending.
-ghost use Rattle.std.specs.Prelude.{◌<◌, ◌^◌, OnOk};
-ghost use Rattle.enf_cases.specs.Enforcing.{IsFurther, IsNew};
+ghost use Rattle.std.specs.Prelude.{◌≤◌, ◌<◌, ◌^◌, IfOk, OnOk};
+ghost use Rattle.enf_cases.specs.Enforcing.{IsFurther, IsNew, IsResumedFrom, IsStanding, StaysStanding};
 ghost use Rattle.formula_reader.specs.Resolution.{rules_of};
 ghost use Rattle.formula_reader.specs.WellFormed.{IsWellFormedPolicy};
 
@@ -11,6 +11,7 @@ use crate::{policies, typing};
 use choice_step::Action;
 use enf_value::{Duplicate, Event, EventSet, Value};
 use enforce_types::TypedPolicy;
+use enforcer_core::laws::kept_can_be_taken_up;
 use enforcer_core::{Enforcer, OutStep, StepOut, StepRefusal};
 use formula_reader::{Policy, read_policy};
 use log_stream::{Found, LogItem, LogMode, LogReader};
@@ -20,12 +21,14 @@ use std::alloc::Global;
 use valuations::Valuation;
 
 /// What is told of an enforcer: for each step that goes out what was done at it, as `+` or `-`, the event, `/`, the
-/// number of the leaf and a blank, and the step with a blank; or behind each record, and the drain behind the last one,
-/// what is pending.
+/// number of the leaf and a blank, and the step with a blank; behind each record, and the drain behind the last one,
+/// what is pending; or the steps of one that is made anew of what is kept of it, before the first record and behind
+/// each.
 #[derive(Clone, Copy)]
 pub enum Told {
     Steps,
     Pending,
+    Resumed,
 }
 
 // How many records are taken at most, and the greatest time of one.
@@ -86,8 +89,8 @@ fn answer_typed(
     log: &[u8],
     out: &mut Output,
 ) -> Result<(), CaseError> {
-    let mut enforcer = Enforcer::new(alloc, typed)?;
-    enforce(alloc, told, names, log, &mut enforcer, out)
+    let enforcer = resumed(alloc, told, Enforcer::new(alloc, typed)?)?;
+    enforce(alloc, told, names, log, enforcer, out)
 }
 
 fn enforce(
@@ -95,10 +98,11 @@ fn enforce(
     told: Told,
     names: &Signature,
     log: &[u8],
-    enforcer: &mut Enforcer,
+    enforcer: Enforcer,
     out: &mut Output,
 ) -> Result<(), CaseError>
-    requires { IsNew enforcer.old }
+    requires fresh { IsNew enforcer }
+    requires stands { IsStanding enforcer }
 {
     let mut reader = LogReader::new(alloc, names.duplicate(alloc)?, LogMode::Input);
     reader.feed(log)?;
@@ -110,16 +114,18 @@ fn take_records(
     told: Told,
     names: &Signature,
     reader: &mut LogReader,
-    enforcer: &mut Enforcer,
+    enforcer: Enforcer,
     out: &mut Output,
 ) -> Result<(), CaseError>
-    requires { IsNew enforcer.old }
+    requires fresh { IsNew enforcer }
+    requires stands { IsStanding enforcer }
 {
+    let mut enforcer = enforcer;
     for taken in 0..MOST_RECORDS {
         let _before = taken;
         match reader.next_record(alloc) {
-            Ok(Found::Item(item)) => take(alloc, told, names, item, enforcer, out)?,
-            Ok(Found::Pending) => return drain(alloc, told, names, enforcer, out),
+            Ok(Found::Item(item)) => enforcer = take(alloc, told, names, item, enforcer, out)?,
+            Ok(Found::Pending) => return drain(alloc, told, names, &mut enforcer, out),
             Err(_) => return Err(CaseError::Malformed),
         }
     }
@@ -131,15 +137,41 @@ fn take(
     told: Told,
     names: &Signature,
     item: LogItem,
-    enforcer: &mut Enforcer,
+    enforcer: Enforcer,
     out: &mut Output,
-) -> Result<(), CaseError>
-    requires { enforcer.old.position < 2 ^ 63 }
-    ensures { OnOk result (IsFurther enforcer.old enforcer.new) }
+) -> Result<Enforcer, CaseError>
+    requires room { enforcer.position < 2 ^ 63 }
+    requires stands { IsStanding enforcer }
+    ensures further { IfOk result (IsFurther enforcer) }
+    ensures stands { IfOk result IsStanding }
 {
-    let made = made_of(alloc, item, enforcer)?;
+    let mut enforcer = enforcer;
+    let made = made_of(alloc, item, &mut enforcer)?;
     print_made(told, names, &made, enforcer.pending(), out);
-    Ok(())
+    resumed(alloc, told, enforcer)
+}
+
+// The enforcer, made anew of what is kept of it where it is to be.
+fn resumed(alloc: Global, told: Told, enforcer: Enforcer) -> Result<Enforcer, CaseError>
+    requires stands { IsStanding enforcer }
+    requires in_time { enforcer.clock ≤ MOST_TIME }
+    ensures { IfOk result (IsResumedFrom enforcer) }
+{
+    match told {
+        Told::Steps | Told::Pending => Ok(enforcer),
+        Told::Resumed => made_anew(alloc, enforcer),
+    }
+}
+
+fn made_anew(alloc: Global, enforcer: Enforcer) -> Result<Enforcer, CaseError>
+    requires stands { IsStanding enforcer }
+    requires in_time { enforcer.clock ≤ MOST_TIME }
+    ensures { IfOk result (IsResumedFrom enforcer) }
+{
+    kept_can_be_taken_up();
+    let snapshot = enforcer.snapshot(alloc)?;
+    let policy = enforcer.into_policy();
+    Ok(Enforcer::from_snapshot(alloc, policy, snapshot)?)
 }
 
 // Lets out what is still owed behind the log.
@@ -168,7 +200,8 @@ fn drained(alloc: Global, enforcer: &mut Enforcer) -> Result<StepOut, CaseError>
 
 fn made_of(alloc: Global, item: LogItem, enforcer: &mut Enforcer) -> Result<StepOut, CaseError>
     requires { enforcer.old.position < 2 ^ 63 }
-    ensures { OnOk result (IsFurther enforcer.old enforcer.new) }
+    ensures further { OnOk result (IsFurther enforcer.old enforcer.new) }
+    ensures stands { OnOk result (StaysStanding enforcer.old enforcer.new) }
 {
     match item {
         LogItem::Step { time, events, .. } => take_step(alloc, time, events, enforcer),
@@ -183,7 +216,8 @@ fn take_step(
     enforcer: &mut Enforcer,
 ) -> Result<StepOut, CaseError>
     requires { enforcer.old.position < 2 ^ 63 }
-    ensures { OnOk result (IsFurther enforcer.old enforcer.new) }
+    ensures further { OnOk result (IsFurther enforcer.old enforcer.new) }
+    ensures stands { OnOk result (StaysStanding enforcer.old enforcer.new) }
 {
     if time > MOST_TIME {
         return Err(CaseError::Malformed);
@@ -196,7 +230,8 @@ fn take_step(
 
 fn take_tick(alloc: Global, time: u64, enforcer: &mut Enforcer) -> Result<StepOut, CaseError>
     requires { enforcer.old.position < 2 ^ 63 }
-    ensures { OnOk result (IsFurther enforcer.old enforcer.new) }
+    ensures further { OnOk result (IsFurther enforcer.old enforcer.new) }
+    ensures stands { OnOk result (StaysStanding enforcer.old enforcer.new) }
 {
     if time > MOST_TIME {
         return Err(CaseError::Malformed);
@@ -222,7 +257,7 @@ fn print_made(
     out: &mut Output,
 ) {
     match told {
-        Told::Steps => print_steps(names, made.steps.as_slice(), out),
+        Told::Steps | Told::Resumed => print_steps(names, made.steps.as_slice(), out),
         Told::Pending => print_pending(pending, out),
     }
 }

@@ -42,7 +42,7 @@ pub enum Kind {
     Long,
 }
 
-static KINDS: [(&[u8], Kind); 30] = [
+static KINDS: [(&[u8], Kind); 31] = [
     (b"text", Kind::Text),
     (b"value", Kind::Value),
     (b"compare", Kind::Compare),
@@ -55,6 +55,7 @@ static KINDS: [(&[u8], Kind); 30] = [
     (b"begun", Kind::Begun),
     (b"steps", Kind::Enforced(Told::Steps)),
     (b"pending", Kind::Enforced(Told::Pending)),
+    (b"resumed", Kind::Enforced(Told::Resumed)),
     (b"log", Kind::Log(LogMode::Input)),
     (b"trace", Kind::Log(LogMode::TraceLog)),
     (b"arguments", Kind::Arguments),
