@@ -7,7 +7,7 @@ use crate::parts::find;
 use crate::running::Way;
 use crate::{
     arguments, audits, beginnings, cursor_lists, enforcing, evaluations, event_sets, guards, holds,
-    intervals, logs, long_runs, past, policies, reports, signatures, tables, typing, values,
+    intervals, logs, long_runs, past, policies, reports, saved, signatures, tables, typing, values,
     window_runs,
 };
 use log_stream::LogMode;
@@ -39,10 +39,11 @@ pub enum Kind {
     Holds,
     Report,
     Audit,
+    Saved,
     Long,
 }
 
-static KINDS: [(&[u8], Kind); 31] = [
+static KINDS: [(&[u8], Kind); 32] = [
     (b"text", Kind::Text),
     (b"value", Kind::Value),
     (b"compare", Kind::Compare),
@@ -73,6 +74,7 @@ static KINDS: [(&[u8], Kind); 31] = [
     (b"holds", Kind::Holds),
     (b"report", Kind::Report),
     (b"audit", Kind::Audit),
+    (b"saved", Kind::Saved),
     (b"long", Kind::Long),
 ];
 
@@ -112,6 +114,7 @@ pub fn answer_kind(
         Kind::Holds => holds::answer(alloc, input, out),
         Kind::Report => reports::answer(alloc, input, out),
         Kind::Audit => audits::answer(alloc, input, out),
+        Kind::Saved => saved::answer(alloc, input, out),
         Kind::Long => long_runs::answer(alloc, input, out),
     }
 }

@@ -25,6 +25,7 @@ mod past;
 mod policies;
 mod reports;
 mod running;
+mod saved;
 mod signatures;
 mod tables;
 mod typing;
