@@ -3,22 +3,22 @@ use Rattle.std.proofs.Common.{◌≡◌, ◌↔◌, ℕ, zero, suc, ◌<◌, ◌
 use Rattle.std.specs.List.{AllByRecursion}
 use Rattle.std.proofs.lemmas.Bool.{cases_order}
 use Rattle.enf_value.specs.ListLaws.{here, later, first_or_later, none_in_nil, Contains-append}
-use Rattle.sleepers.specs.declared.places.Turn.{Turn}
-use Rattle.sleepers.specs.Order.{turn, Place, IsTurnBefore, IsBefore, AreInOrder, WasMade, places_from, Change, places_of, places_behind}
+use Rattle.sleepers.specs.declared.places.Beginning.{Beginning}
+use Rattle.sleepers.specs.Order.{beginning, Place, BeginsBefore, IsBefore, AreInOrder, WasMade, places_from, Change, places_of, places_behind}
 
 -- ---- a strict order
 
-turn_not_itself : (t : Turn) → IsTurnBefore t t → ⊥
-turn_not_itself t before = ⊎_elim (λ b. omega (arith, b)) (λ b. let c = b.1 in omega (arith, c)) before
+beginning_not_itself : (t : Beginning) → BeginsBefore t t → ⊥
+beginning_not_itself t before = ⊎_elim (λ b. omega (arith, b)) (λ b. let c = b.1 in omega (arith, c)) before
 
-turn_on : (r s t : Turn) → IsTurnBefore r s → IsTurnBefore s t → IsTurnBefore r t
-turn_on r s t a b =
+beginning_on : (r s t : Beginning) → BeginsBefore r s → BeginsBefore s t → BeginsBefore r t
+beginning_on r s t a b =
     ⊎_elim (λ x. ⊎_elim (λ y. inl (omega (arith, x, y))) (λ y. let e = y.0 in inl (omega (arith, x, e))) b)
     (λ x. let d = x.0 in let u = x.1 in ⊎_elim (λ y. inl (omega (arith, d, y))) (λ y. let e = y.0 in let w = y.1 in inr (omega (arith, d, e), omega (arith, u, w))) b) a
 
 pub not_itself : (p : Place) → IsBefore p p → ⊥
 not_itself [] before = before
-not_itself (t ∷ p) before = ⊎_elim (turn_not_itself t) (λ b. not_itself p b.1) before
+not_itself (t ∷ p) before = ⊎_elim (beginning_not_itself t) (λ b. not_itself p b.1) before
 
 pub before_on : (p q r : Place) → IsBefore p q → IsBefore q r → IsBefore p r
 before_on p q [] a b = b
@@ -26,19 +26,19 @@ before_on [] q (t ∷ r) a b = tt
 before_on (s ∷ p) [] (t ∷ r) a b = absurd a
 before_on (s ∷ p) (u ∷ q) (t ∷ r) a b =
     ⊎_elim
-    (λ x. ⊎_elim (λ y. inl (turn_on s u t x y)) (λ y. inl (subst (λ (w : Turn). IsTurnBefore s w) y.0 x)) b)
-    (λ x. ⊎_elim (λ y. inl (subst (λ (w : Turn). IsTurnBefore w t) (sym x.0) y)) (λ y. inr (x.0 ∙ y.0, before_on p q r x.1 y.1)) b) a
+    (λ x. ⊎_elim (λ y. inl (beginning_on s u t x y)) (λ y. inl (subst (λ (w : Beginning). BeginsBefore s w) y.0 x)) b)
+    (λ x. ⊎_elim (λ y. inl (subst (λ (w : Beginning). BeginsBefore w t) (sym x.0) y)) (λ y. inr (x.0 ∙ y.0, before_on p q r x.1 y.1)) b) a
 
 pub not_back : (p q : Place) → IsBefore p q → IsBefore q p → ⊥
 not_back p q a b = not_itself p (before_on p q p a b)
 
-same_turn : (s t : Turn) → s.number ≡ t.number → s.among ≡ t.among → s ≡ t
-same_turn s t number among = λ i. record { number = number i; among = among i }
+same_beginning : (s t : Beginning) → s.number ≡ t.number → s.among ≡ t.among → s ≡ t
+same_beginning s t number among = λ i. record { number = number i; among = among i }
 
-turn_order : (s t : Turn) → (s ≡ t) ⊎ (IsTurnBefore s t ⊎ IsTurnBefore t s)
-turn_order s t =
+beginning_order : (s t : Beginning) → (s ≡ t) ⊎ (BeginsBefore s t ⊎ BeginsBefore t s)
+beginning_order s t =
     ⊎_elim
-    (λ e. ⊎_elim (λ f. inl (same_turn s t e f)) (λ o. ⊎_elim (λ l. inr (inl (inr (e, l)))) (λ l. inr (inr (inr (sym e, l)))) o) (cases_order s.among t.among))
+    (λ e. ⊎_elim (λ f. inl (same_beginning s t e f)) (λ o. ⊎_elim (λ l. inr (inl (inr (e, l)))) (λ l. inr (inr (inr (sym e, l)))) o) (cases_order s.among t.among))
     (λ o. ⊎_elim (λ l. inr (inl (inl l))) (λ l. inr (inr (inl l))) o) (cases_order s.number t.number)
 
 place_order : (p q : Place) → (p ≡ q) ⊎ (IsBefore p q ⊎ IsBefore q p)
@@ -48,7 +48,7 @@ place_order (s ∷ p) [] = inr (inr tt)
 place_order (s ∷ p) (t ∷ q) =
     ⊎_elim
     (λ e. ⊎_elim (λ f. inl (λ i. e i ∷ f i)) (λ o. ⊎_elim (λ b. inr (inl (inr (e, b)))) (λ b. inr (inr (inr (sym e, b)))) o) (place_order p q))
-    (λ o. ⊎_elim (λ b. inr (inl (inl b))) (λ b. inr (inr (inl b))) o) (turn_order s t)
+    (λ o. ⊎_elim (λ b. inr (inl (inl b))) (λ b. inr (inr (inl b))) o) (beginning_order s t)
 
 -- of two places that differ one stands before the other
 pub before_else : (p q : Place) → (IsBefore p q → ⊥) → (p ≡ q → ⊥) → IsBefore q p
@@ -84,66 +84,66 @@ joined (p ∷ ps) qs a b across = (
 
 -- ---- places that go on from others
 
--- at a turn that comes before those of the other
-goes_before : (p q : Place) (m k : ℕ) → IsBefore p q → AllByRecursion (λ (u : Turn). m < u.number) q → IsBefore (p ++ turn m k ∷ []) q
+-- at a beginning that comes before those of the other
+goes_before : (p q : Place) (m k : ℕ) → IsBefore p q → AllByRecursion (λ (u : Beginning). m < u.number) q → IsBefore (p ++ beginning m k ∷ []) q
 goes_before p [] m k before above = before
 goes_before [] (t ∷ q) m k before above = inl (inl above.0)
 goes_before (s ∷ p) (t ∷ q) m k before above = ⊎_elim (λ b. inl b) (λ b. inr (b.0, goes_before p q m k b.1 above.1)) before
 
 -- the other goes on
-before_goes : (p q : Place) (t : Turn) → IsBefore p q → IsBefore p (q ++ t ∷ [])
+before_goes : (p q : Place) (t : Beginning) → IsBefore p q → IsBefore p (q ++ t ∷ [])
 before_goes p [] t before = absurd before
 before_goes [] (u ∷ q) t before = tt
 before_goes (s ∷ p) (u ∷ q) t before = ⊎_elim (λ b. inl b) (λ b. inr (b.0, before_goes p q t b.1)) before
 
-front_before : (p : Place) (t : Turn) → IsBefore p (p ++ t ∷ [])
+front_before : (p : Place) (t : Beginning) → IsBefore p (p ++ t ∷ [])
 front_before [] t = tt
 front_before (s ∷ p) t = inr (refl, front_before p t)
 
-next_before : (p : Place) (m j k : ℕ) → j < k → IsBefore (p ++ turn m j ∷ []) (p ++ turn m k ∷ [])
+next_before : (p : Place) (m j k : ℕ) → j < k → IsBefore (p ++ beginning m j ∷ []) (p ++ beginning m k ∷ [])
 next_before [] m j k less = inl (inr (refl, less))
 next_before (s ∷ p) m j k less = inr (refl, next_before p m j k less)
 
 -- those that are begun at one place
-pub from_is : (place : Place) (m k count : ℕ) (q : Place) → Contains (places_from place m k count) q → (j : ℕ) × (k ≤ j) × (place ++ turn m j ∷ [] ≡ q)
+pub from_is : (place : Place) (m k count : ℕ) (q : Place) → Contains (places_from place m k count) q → (j : ℕ) × (k ≤ j) × (place ++ beginning m j ∷ [] ≡ q)
 from_is place m k zero q there = absurd (none_in_nil q there)
 from_is place m k (suc count) q there =
     ⊎_elim (λ e. (k, omega arith, e)) (λ on. let more = from_is place m (suc k) count q on in let least = more.1 in (more.0, omega (arith, least), more.2))
-    (first_or_later q (place ++ turn m k ∷ []) (places_from place m (suc k) count) there)
+    (first_or_later q (place ++ beginning m k ∷ []) (places_from place m (suc k) count) there)
 
 pub from_in_order : (place : Place) (m k count : ℕ) → AreInOrder (places_from place m k count)
 from_in_order place m k zero = tt
 from_in_order place m k (suc count) = (
   (λ q there.
       let (j, least, is) = from_is place m (suc k) count q there in
-      subst (λ (z : Place). IsBefore (place ++ turn m k ∷ []) z) is (next_before place m k j (omega (arith, least)))),
+      subst (λ (z : Place). IsBefore (place ++ beginning m k ∷ []) z) is (next_before place m k j (omega (arith, least)))),
   from_in_order place m (suc k) count,
 )
 
 -- what becomes of an entry is the entry's place, or goes on from it
 stays_is : (place : Place) (m count : ℕ) (stays : Bool) (q : Place) → Contains (cond stays (place ∷ []) [] ++ places_from place m 0 count) q
-    → (place ≡ q) ⊎ ((j : ℕ) × (place ++ turn m j ∷ [] ≡ q))
+    → (place ≡ q) ⊎ ((j : ℕ) × (place ++ beginning m j ∷ [] ≡ q))
 stays_is place m count true q there = ⊎_elim (λ e. inl e) (λ on. let f = from_is place m 0 count q on in inr (f.0, f.2)) (first_or_later q place (places_from place m 0 count) there)
 stays_is place m count false q there = let f = from_is place m 0 count q there in inr (f.0, f.2)
 
 of_in_order : (place : Place) (m count : ℕ) (stays : Bool) → AreInOrder (cond stays (place ∷ []) [] ++ places_from place m 0 count)
 of_in_order place m count true = (
-  (λ q there. let (j, least, is) = from_is place m 0 count q there in subst (λ (z : Place). IsBefore place z) is (front_before place (turn m j))),
+  (λ q there. let (j, least, is) = from_is place m 0 count q there in subst (λ (z : Place). IsBefore place z) is (front_before place (beginning m j))),
   from_in_order place m 0 count,
 )
 of_in_order place m count false = from_in_order place m 0 count
 
-goes : (first m : ℕ) (p q : Place) (k : ℕ) → WasMade first m p → WasMade first m q → IsBefore p q → IsBefore (p ++ turn m k ∷ []) q
+goes : (first m : ℕ) (p q : Place) (k : ℕ) → WasMade first m p → WasMade first m q → IsBefore p q → IsBefore (p ++ beginning m k ∷ []) q
 goes first m [] q k made other before = absurd made
 goes first m (s ∷ p) [] k made other before = absurd other
 goes first m (s ∷ p) (t ∷ q) k made other before = ⊎_elim (λ b. inl b) (λ b. inr (b.0, goes_before p q m k b.1 other.1)) before
 
--- p and all that goes on from it at the turn come before q and all that goes on from that
+-- p and all that goes on from it at the beginning come before q and all that goes on from that
 across_places : (first m : ℕ) (p q : Place) → WasMade first m p → WasMade first m q → IsBefore p q → (a b : Place)
-    → (p ≡ a) ⊎ ((j : ℕ) × (p ++ turn m j ∷ [] ≡ a)) → (q ≡ b) ⊎ ((j : ℕ) × (q ++ turn m j ∷ [] ≡ b)) → IsBefore a b
+    → (p ≡ a) ⊎ ((j : ℕ) × (p ++ beginning m j ∷ [] ≡ a)) → (q ≡ b) ⊎ ((j : ℕ) × (q ++ beginning m j ∷ [] ≡ b)) → IsBefore a b
 across_places first m p q made other before a b one two =
     let front : IsBefore a q = ⊎_elim (λ e. subst (λ (z : Place). IsBefore z q) e before) (λ g. subst (λ (z : Place). IsBefore z q) g.1 (goes first m p q g.0 made other before)) one in
-    ⊎_elim (λ e. subst (λ (z : Place). IsBefore a z) e front) (λ g. subst (λ (z : Place). IsBefore a z) g.1 (before_goes a q (turn m g.0) front)) two
+    ⊎_elim (λ e. subst (λ (z : Place). IsBefore a z) e front) (λ g. subst (λ (z : Place). IsBefore a z) g.1 (before_goes a q (beginning m g.0) front)) two
 
 behind_is : (m : ℕ) (changes : List Change) (q : Place) → Contains (places_behind m changes) q → (c : Change) × Contains changes c × Contains (places_of m c) q
 behind_is m [] q there = absurd (none_in_nil q there)
@@ -173,11 +173,11 @@ behind_in_order first m (c ∷ changes) order made =
     (stays_is c.place m c.begun c.stays p one) (stays_is d.place m d.begun d.stays q found.2))
 
 -- what is begun anew comes last
-before_new : (first m : ℕ) (p : Place) (k : ℕ) → WasMade first m p → (a : Place) → (p ≡ a) ⊎ ((j : ℕ) × (p ++ turn m j ∷ [] ≡ a)) → IsBefore a (turn first k ∷ [])
+before_new : (first m : ℕ) (p : Place) (k : ℕ) → WasMade first m p → (a : Place) → (p ≡ a) ⊎ ((j : ℕ) × (p ++ beginning m j ∷ [] ≡ a)) → IsBefore a (beginning first k ∷ [])
 before_new first m [] k made a one = absurd made
 before_new first m (t ∷ p) k made a one =
     let below = made.0 in
-    ⊎_elim (λ e. subst (λ (z : Place). IsBefore z (turn first k ∷ [])) e (inl (inl below))) (λ g. subst (λ (z : Place). IsBefore z (turn first k ∷ [])) g.1 (inl (inl below))) one
+    ⊎_elim (λ e. subst (λ (z : Place). IsBefore z (beginning first k ∷ [])) e (inl (inl below))) (λ g. subst (λ (z : Place). IsBefore z (beginning first k ∷ [])) g.1 (inl (inl below))) one
 
 pub steps_keep_order : (first m count : ℕ) (changes : List Change) → AreInOrder (map (λ (c : Change). c.place) changes)
     → AllByRecursion (λ (c : Change). WasMade first m c.place) changes → AreInOrder (places_behind m changes ++ places_from [] first 0 count)

@@ -7,10 +7,10 @@ use Rattle.sleepers.proofs.EntryLemmas.{in_fewer, in_places}
 use Rattle.sleepers.specs.EntryLaws.{fewer_placed}
 use Rattle.sleepers.proofs.OrderLemmas.{from_in_order, from_is, not_back, not_itself, steps_keep_order}
 use Rattle.sleepers.specs.Entries.{ArePlaced, HasOneMore, IsFree, places}
-use Rattle.sleepers.specs.Order.{AreInOrder, Change, IsBefore, Place, WasMade, places_behind, places_from, turn}
+use Rattle.sleepers.specs.Order.{AreInOrder, Change, IsBefore, Place, WasMade, places_behind, places_from, beginning}
 use Rattle.sleepers.specs.Steps.{CanPutIn, GoesOn, IsInOrder, IsOneOr, IsStep, Outcome, PutsIn, TakesOut, begun, behind, gone}
 use Rattle.sleepers.specs.declared.entries.Entry.{Entry}
-use Rattle.sleepers.specs.declared.places.Turn.{Turn}
+use Rattle.sleepers.specs.declared.places.Beginning.{Beginning}
 
 -- ---- lists
 
@@ -249,19 +249,19 @@ module _ {T : Type 0} where
 
 module _ (first after : ℕ) where
   -- a place that goes on now was not made before
-  not_made : (p q : Place) (j : ℕ) → WasMade first after p → WasMade first after q → p ++ turn after j ∷ [] ≡ q → ⊥
+  not_made : (p q : Place) (j : ℕ) → WasMade first after p → WasMade first after q → p ++ beginning after j ∷ [] ≡ q → ⊥
   not_made [] q j one two same = one
   not_made (s ∷ p) [] j one two same = two
   not_made (s ∷ p) (t ∷ q) j one two same =
-      let above = last_holds (λ (u : Turn). after < u.number) p (turn after j) (subst (AllByRecursion (λ (u : Turn). after < u.number)) (sym (ap (λ l. drop 1 l) same)) two.1) in
+      let above = last_holds (λ (u : Beginning). after < u.number) p (beginning after j) (subst (AllByRecursion (λ (u : Beginning). after < u.number)) (sym (ap (λ l. drop 1 l) same)) two.1) in
       omega (arith, above)
 
-  not_first : (q : Place) (j : ℕ) → WasMade first after q → turn first j ∷ [] ≡ q → ⊥
+  not_first : (q : Place) (j : ℕ) → WasMade first after q → beginning first j ∷ [] ≡ q → ⊥
   not_first q j made same = let below = (subst (WasMade first after) (sym same) made).0 in omega (arith, below)
 
 module _ {T : Type 0} (first after : ℕ) where
   begun_place : (outcomes : List (Outcome T)) (x : Entry T) → AllByRecursion (GoesOn after) outcomes → Contains (begun outcomes) x
-      → (o : Outcome T) × Contains outcomes o × ((j : ℕ) × (o.entry.place ++ turn after j ∷ [] ≡ x.place))
+      → (o : Outcome T) × Contains outcomes o × ((j : ℕ) × (o.entry.place ++ beginning after j ∷ [] ≡ x.place))
   begun_place outcomes x on there =
       let (o, among, has) = begun_is outcomes x there in
       let goes = AllByRecursion-contains (GoesOn after) outcomes o on among in
@@ -269,7 +269,7 @@ module _ {T : Type 0} (first after : ℕ) where
       (o, among, (f.0, f.2))
 
   anew_place : (anew : List (Entry T)) (x : Entry T) → places anew ≡ places_from [] first 0 (length anew) → Contains anew x
-      → (j : ℕ) × (turn first j ∷ [] ≡ x.place)
+      → (j : ℕ) × (beginning first j ∷ [] ≡ x.place)
   anew_place anew x are there =
       let f = from_is [] first 0 (length anew) x.place (subst (λ (l : List Place). Contains l x.place) are (in_places anew x there)) in (f.0, f.2)
 
@@ -285,7 +285,7 @@ module _ {T : Type 0} (first after : ℕ) where
       let (y, there, at) = in_map (λ (e : Entry T). e.place) (begun outcomes) q back in
       let (u, has, goes) = begun_place outcomes y on.1 there in
       let in_rest = of_map entry_of outcomes u has in
-      let same = same_place all o.entry u.entry order (among o.entry (here o.entry (map entry_of outcomes))) (among u.entry (later u.entry o.entry (map entry_of outcomes) in_rest)) (front_same o.entry.place u.entry.place (turn after f.0) (turn after goes.0) (f.2 ∙ sym at ∙ sym goes.1)) in
+      let same = same_place all o.entry u.entry order (among o.entry (here o.entry (map entry_of outcomes))) (among u.entry (later u.entry o.entry (map entry_of outcomes) in_rest)) (front_same o.entry.place u.entry.place (beginning after f.0) (beginning after goes.0) (f.2 ∙ sym at ∙ sym goes.1)) in
       once.0 (subst (λ (e : Entry T). Contains (map entry_of outcomes) e) (sym same) in_rest)))
 
   made_in : (all : List (Entry T)) (x : Entry T) → AllByRecursion (λ (e : Entry T). WasMade first after e.place) all → Contains all x → WasMade first after x.place
@@ -307,23 +307,23 @@ module _ {T : Type 0} (first after : ℕ) (Q : Entry T → Type 0) (all : List (
       (λ b.
       let (o, has, goes) = begun_place first after outcomes x step.go_on b in
       not_made first after o.entry.place y.place goes.0 (made_in first after all o.entry step.made (in_all o.entry (of_map entry_of outcomes o has))) made (goes.1 ∙ sym at))
-      (λ a. let f = anew_place first after anew x step.first_turn a in not_first first after y.place f.0 made (f.1 ∙ sym at))
+      (λ a. let f = anew_place first after anew x step.first_beginning a in not_first first after y.place f.0 made (f.1 ∙ sym at))
       (Contains-append (begun outcomes) anew x there)
 
   new_once : HasNoRepeats (places (begun outcomes ++ anew))
   new_once =
       subst HasNoRepeats (sym (map_append (λ (e : Entry T). e.place) (begun outcomes) anew))
       (apart_once (places (begun outcomes)) (places anew) (begun_once first after all outcomes step.placed step.go_on in_all step.looked_at.once)
-      (subst HasNoRepeats (sym step.first_turn) (order_once (places_from [] first 0 (length anew)) (from_in_order [] first 0 (length anew)))) (λ q front back.
+      (subst HasNoRepeats (sym step.first_beginning) (order_once (places_from [] first 0 (length anew)) (from_in_order [] first 0 (length anew)))) (λ q front back.
       let (x, in_begun, at) = in_map (λ (e : Entry T). e.place) (begun outcomes) q front in
       let (o, has, goes) = begun_place first after outcomes x step.go_on in_begun in
       let (y, in_anew, here_too) = in_map (λ (e : Entry T). e.place) anew q back in
-      let f = anew_place first after anew y step.first_turn in_anew in
+      let f = anew_place first after anew y step.first_beginning in_anew in
       not_alone o.entry.place (made_in first after all o.entry step.made (in_all o.entry (of_map entry_of outcomes o has))) goes.0 f.0 (goes.1 ∙ at ∙ sym here_too ∙ sym f.1)))
     where
-      not_alone : (p : Place) → WasMade first after p → (j k : ℕ) → p ++ turn after j ∷ [] ≡ turn first k ∷ [] → ⊥
+      not_alone : (p : Place) → WasMade first after p → (j k : ℕ) → p ++ beginning after j ∷ [] ≡ beginning first k ∷ [] → ⊥
       not_alone [] made j k same = made
-      not_alone (s ∷ p) made j k same = omega (arith, ap length same, length-append p (turn after j ∷ []))
+      not_alone (s ∷ p) made j k same = omega (arith, ap length same, length-append p (beginning after j ∷ []))
 
   pub can_put_in : CanPutIn (begun outcomes ++ anew) left
   can_put_in = can_put (begun outcomes ++ anew) left new_free new_once
@@ -383,7 +383,7 @@ module _ {T : Type 0} (first m : ℕ) (Q : Entry T → Type 0) (all : List (Entr
       let changes = change_places first m every ∙ ap places entries in
       let made = subst (AllByRecursion (λ (e : Entry T). WasMade first m e.place)) (sym entries) step.made in
       let front = behind_places first m every on in
-      let back = step.first_turn in
+      let back = step.first_beginning in
       subst AreInOrder (sym (map_append (λ (e : Entry T). e.place) (behind every) anew ∙ (λ i. front i ++ back i)))
       (steps_keep_order first m (length anew) (map (change_of first m) every) (subst AreInOrder (sym changes) step.placed) (changes_made first m every made))
 

@@ -1,23 +1,23 @@
--- Places, and lists in their order. A place is made once: what is begun at one goes on from it with a later turn, and
--- of those that go on from one place the later come first.
+-- Places, and lists in their order. A place is made once: what is begun at one goes on from it with a later beginning,
+-- and of those that go on from one place the later come first.
 use Rattle.std.specs.Prelude.{◌≡◌, ◌↔◌, ℕ, zero, suc, ◌<◌, Bool, cond, ◌⊎◌, List, [], ◌∷◌, ◌++◌, Contains, map}
 use Rattle.std.specs.List.{AllByRecursion}
-use Rattle.sleepers.specs.declared.places.Turn.{Turn}
+use Rattle.sleepers.specs.declared.places.Beginning.{Beginning}
 
-abbrev pub turn : (number among : ℕ) → Turn
-turn number among = record { number = number; among = among }
+abbrev pub beginning : (number among : ℕ) → Beginning
+beginning number among = record { number = number; among = among }
 
 abbrev pub Place : Type 0
-Place = List Turn
+Place = List Beginning
 
-abbrev pub IsTurnBefore : Turn → Turn → Type 0
-IsTurnBefore s t = (s.number < t.number) ⊎ ((s.number ≡ t.number) × (s.among < t.among))
+abbrev pub BeginsBefore : Beginning → Beginning → Type 0
+BeginsBefore s t = (s.number < t.number) ⊎ ((s.number ≡ t.number) × (s.among < t.among))
 
--- by the first turn that differs; a front stands before what goes on with it
+-- by the first beginning that differs; a front stands before what goes on with it
 abbrev pub IsBefore : Place → Place → Type 0
 IsBefore p [] = ⊥
 IsBefore [] (t ∷ q) = Unit {0}
-IsBefore (s ∷ p) (t ∷ q) = IsTurnBefore s t ⊎ ((s ≡ t) × IsBefore p q)
+IsBefore (s ∷ p) (t ∷ q) = BeginsBefore s t ⊎ ((s ≡ t) × IsBefore p q)
 
 -- each stands before all that come later
 abbrev pub AreInOrder : List Place → Type 0
@@ -26,15 +26,15 @@ AreInOrder (p ∷ ps) = ((q : Place) → Contains ps q → IsBefore p q) × AreI
 
 -- ---- what comes at a step
 
--- a place that was made before: its first turn is below one number, and each later one above another
+-- a place that was made before: its first beginning is below one number, and each later one above another
 abbrev pub WasMade : (first later : ℕ) → Place → Type 0
 WasMade first later [] = ⊥
 WasMade first later (t ∷ place) = (t.number < first) × AllByRecursion (λ u. later < u.number) place
 
--- the places of so many that are begun at one turn, counted from k on
+-- the places of so many that are begun at one beginning, counted from k on
 abbrev pub places_from : Place → (number k count : ℕ) → List Place
 places_from place number k zero = []
-places_from place number k (suc count) = (place ++ turn number k ∷ []) ∷ places_from place number (suc k) count
+places_from place number k (suc count) = (place ++ beginning number k ∷ []) ∷ places_from place number (suc k) count
 
 -- what becomes of an entry: whether it stays, and how many are begun for it
 pub record Change : Type 0 where

@@ -45,7 +45,7 @@ module _ {T : Type 0} where
   behind [] = []
   behind (o ∷ outcomes) = (cond o.stays (o.entry ∷ []) [] ++ o.begun) ++ behind outcomes
 
-  -- what is begun for an entry goes on from its place at one turn
+  -- what is begun for an entry goes on from its place at one beginning
   abbrev pub GoesOn : (later : ℕ) → Outcome T → Type 0
   GoesOn later o = places o.begun ≡ places_from o.entry.place later 0 (length o.begun)
 
@@ -57,7 +57,7 @@ module _ {T : Type 0} where
     pub looked_at : IsAllBut Q all (map (λ o. o.entry) outcomes)
     pub go_on : AllByRecursion (GoesOn later) outcomes
     pub taken_out : TakesOut (gone outcomes) all left
-    pub first_turn : places anew ≡ places_from [] first 0 (length anew)
+    pub first_beginning : places anew ≡ places_from [] first 0 (length anew)
 
   -- an outcome is one of these, or that of an entry that stays and for which nothing is begun
   abbrev pub IsOneOr : (Entry T → Type 0) → List (Outcome T) → Outcome T → Type 0

@@ -11,5 +11,5 @@ pub mod worked_cases;
 
 pub use entries::Entry;
 pub use patterns::{Pattern, Patterns};
-pub use places::{Place, Turn};
+pub use places::{Beginning, Place};
 pub use sleeping::Sleepers;

@@ -9,7 +9,7 @@ ghost use Rattle.sleepers.specs.Order.{IsBefore};
 ghost use Rattle.sleepers.specs.Sleeping.{AreMarks, StartsBefore, StartsMarked, StartsUnmarked, marked};
 
 use crate::entries::Entry;
-use crate::places::{Turn, is_before};
+use crate::places::{Beginning, is_before};
 use cursor_list::CursorList;
 use enf_value::{Event, NoMemory};
 use std::alloc::Global;
@@ -149,7 +149,7 @@ impl<T: Drop> Sleepers<T> {
 }
 
 // Puts the cursor behind the entries that stand before the place.
-fn seek<T>(list: &mut CursorList<Entry<T>>, place: &[Turn])
+fn seek<T>(list: &mut CursorList<Entry<T>>, place: &[Beginning])
     ensures items { items list.new ≡ items list.old }
     ensures front { AllByRecursion (λ entry. IsBefore entry.place place.now) list.new.before }
     ensures back { StartsBefore list.new.after place.now → ⊥ }
@@ -161,7 +161,7 @@ fn seek<T>(list: &mut CursorList<Entry<T>>, place: &[Turn])
 }
 
 // Whether the entry behind the cursor stands before the place.
-fn starts_before<T>(list: &CursorList<Entry<T>>, place: &[Turn]) -> bool
+fn starts_before<T>(list: &CursorList<Entry<T>>, place: &[Beginning]) -> bool
     ensures { IsTrue result ↔ StartsBefore list.now.after place.now }
 {
     match list.peek() {

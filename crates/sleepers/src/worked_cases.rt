@@ -1,19 +1,19 @@
 //! Worked cases of the definitions, each a clause of a function with an empty body.
 ghost use Rattle.std.specs.Prelude.{◌≡◌, ℕ, [], ◌∷◌, true, false};
 ghost use Rattle.sleepers.specs.Entries.{AllBut, IsAllBut};
-ghost use Rattle.sleepers.specs.Order.{AreInOrder, IsBefore, turn};
+ghost use Rattle.sleepers.specs.Order.{AreInOrder, IsBefore, beginning};
 ghost use Rattle.sleepers.specs.Sleeping.{marked};
 
-/// Which of two places comes first: that of an earlier turn, and a front before what goes on with it.
+/// Which of two places comes first: that of an earlier beginning, and a front before what goes on with it.
 pub fn places()
-    ensures earlier { IsBefore (turn 1 4 ∷ []) (turn 2 0 ∷ []) }
-    ensures begun_with_it { IsBefore (turn 2 0 ∷ []) (turn 2 1 ∷ []) }
-    ensures front { IsBefore (turn 2 0 ∷ []) (turn 2 0 ∷ turn 9 5 ∷ []) }
-    ensures goes_on { IsBefore (turn 2 0 ∷ turn 9 5 ∷ []) (turn 2 1 ∷ []) }
-    ensures not_itself { IsBefore (turn 2 0 ∷ []) (turn 2 0 ∷ []) → ⊥ }
-    ensures not_its_front { IsBefore (turn 2 0 ∷ turn 9 5 ∷ []) (turn 2 0 ∷ []) → ⊥ }
-    ensures falling { AreInOrder ((turn 2 0 ∷ []) ∷ (turn 1 0 ∷ []) ∷ []) → ⊥ }
-    ensures repeated { AreInOrder ((turn 2 0 ∷ []) ∷ (turn 2 0 ∷ []) ∷ []) → ⊥ }
+    ensures earlier { IsBefore (beginning 1 4 ∷ []) (beginning 2 0 ∷ []) }
+    ensures begun_with_it { IsBefore (beginning 2 0 ∷ []) (beginning 2 1 ∷ []) }
+    ensures front { IsBefore (beginning 2 0 ∷ []) (beginning 2 0 ∷ beginning 9 5 ∷ []) }
+    ensures goes_on { IsBefore (beginning 2 0 ∷ beginning 9 5 ∷ []) (beginning 2 1 ∷ []) }
+    ensures not_itself { IsBefore (beginning 2 0 ∷ []) (beginning 2 0 ∷ []) → ⊥ }
+    ensures not_its_front { IsBefore (beginning 2 0 ∷ beginning 9 5 ∷ []) (beginning 2 0 ∷ []) → ⊥ }
+    ensures falling { AreInOrder ((beginning 2 0 ∷ []) ∷ (beginning 1 0 ∷ []) ∷ []) → ⊥ }
+    ensures repeated { AreInOrder ((beginning 2 0 ∷ []) ∷ (beginning 2 0 ∷ []) ∷ []) → ⊥ }
 {}
 
 /// All of a list but the ones.
