@@ -25,7 +25,8 @@ abbrev rule : List ℕ → List (List ℕ) → Rule
 rule name vars = record { name = name; formula = True 0; vars = vars; place = 0 }
 
 abbrev pub rules : List Rule
-rules = rule (codes "consent") (codes "u" ∷ []) ∷ rule (codes "erase") (codes "u" ∷ []) ∷ rule (codes "raise") [] ∷ []
+rules = rule (codes "consent") (codes "u" ∷ []) ∷ rule (codes "erase") (codes "u" ∷ [])
+    ∷ rule (codes "raise") [] ∷ []
 
 abbrev pub on : ℕ → List Value → Event
 on name args = record { name = record { 0 = name }; args = args }

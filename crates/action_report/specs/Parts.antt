@@ -1,5 +1,6 @@
 -- The parts of a report line.
-use Rattle.std.specs.Prelude.{◌≡◌, ℕ, Bool, true, false, List, [], ◌∷◌, ◌++◌, Option, Some, IsTrue, decimal}
+use Rattle.std.specs.Prelude.{◌≡◌, ℕ, Bool, true, false, List, [], ◌∷◌}
+use Rattle.std.specs.Prelude.{◌++◌, Option, Some, IsTrue, decimal}
 use Rattle.std.specs.List.{flat_map}
 use Rattle.enf_value.specs.Names.{is_word_byte}
 use Rattle.enf_value.specs.Spelling.{spelled}

@@ -1,5 +1,6 @@
 //! The bindings that a line tells.
-ghost use Rattle.std.specs.Prelude.{◌≡◌, ◌++◌, [], ℕ, List, IfOk, IfSome, Some, codes, map, slice_get, true};
+ghost use Rattle.std.specs.Prelude.{◌≡◌, ◌++◌, [], ℕ, List, IfOk, IfSome, Some};
+ghost use Rattle.std.specs.Prelude.{codes, map, slice_get, true};
 ghost use Rattle.std.specs.List.{AllByRecursion};
 ghost use Rattle.enf_value.specs.Valuations.{Valuation as Bound, bindings as bindings_of};
 ghost use Rattle.enf_value.specs.ValueTokens.{IsNoDigit, IsValue};
@@ -45,7 +46,8 @@ impl Cursor<'_> {
         requires { IsRising (bindings_of valuation.old) scope.now }
         ensures binds { IfOk result (AddsBindings scope.now (bindings_of valuation.old) (bindings_of valuation.new)) }
         ensures again { (values : List (AnyVariable × AnyValue)) (rest : List ℕ)
-            → map (λ binding. binding.0) values ≡ scope.now → AllByRecursion (λ binding. IsValue binding.1) values
+            → map (λ binding. binding.0) values ≡ scope.now
+            → AllByRecursion (λ binding. IsValue binding.1) values
             → IsNoDigit rest → self.old.rest.now ≡ bindings_text vars.now values ++ rest
             → IfOk result (λ all. (all ≡ true)
             × (bindings_of valuation.new ≡ bindings_of valuation.old ++ values) × (self.new.rest.now ≡ rest)) }
@@ -75,7 +77,8 @@ pub(crate) fn read_valuation(
     requires { AllByRecursion (λ plan. IsScoped plan []) (map plan_of plans.now) }
     ensures told { IfOk result (λ found. IfSome found (TellsBindings (map plan_of plans.now) cause)) }
     ensures again { (scope : List AnyVariable) (v : Bound) (rest : List ℕ)
-        → StandIn (map plan_of plans.now) cause.rule cause.node cause.leaf scope → BindsJust scope v → IsNoDigit rest
+        → StandIn (map plan_of plans.now) cause.rule cause.node cause.leaf scope
+        → BindsJust scope v → IsNoDigit rest
         → cursor.old.rest.now
         ≡ bindings_text (variables (slice_get (rules_of policy.now) cause.rule)) (bindings_of v) ++ rest
         → IfOk result (λ found. found ≡ Some v) }

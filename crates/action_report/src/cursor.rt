@@ -1,5 +1,6 @@
 //! What is left of a line, and the parts that are taken from its front.
-ghost use Rattle.std.specs.Prelude.{◌≡◌, ◌++◌, ◌<◌, ◌^◌, ℕ, List, IfOk, IfSome, IsTrue, Some, decimal, true};
+ghost use Rattle.std.specs.Prelude.{◌≡◌, ◌++◌, ◌<◌, ◌^◌, ℕ, List, IfOk, IfSome};
+ghost use Rattle.std.specs.Prelude.{IsTrue, Some, decimal, true};
 ghost use Rattle.enf_value.specs.Names.{is_word};
 ghost use Rattle.enf_value.specs.Spelling.{spelled};
 ghost use Rattle.enf_value.specs.ValueTokens.{EndsBefore, IsNoDigit, IsValue};
@@ -33,7 +34,8 @@ impl<'a> Cursor<'a> {
 
     // Takes the letters, digits and `_` that stand next.
     pub fn word(&mut self) -> &'a [u8]
-        ensures { (word rest : List ℕ) → IsTrue (is_word word) → EndsWord rest → self.old.rest.now ≡ word ++ rest
+        ensures { (word rest : List ℕ) → IsTrue (is_word word) → EndsWord rest
+            → self.old.rest.now ≡ word ++ rest
             → (result.now ≡ word) × (self.new.rest.now ≡ rest) }
     {
         let word = ByteKind::Word.front(self.rest);

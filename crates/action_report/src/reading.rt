@@ -1,5 +1,6 @@
 //! The action that a line tells.
-ghost use Rattle.std.specs.Prelude.{◌≡◌, ◌++◌, ◌<◌, ◌^◌, [], ℕ, List, IfErr, IfOk, IfSome, Some, codes, length, map};
+ghost use Rattle.std.specs.Prelude.{◌≡◌, ◌++◌, ◌<◌, ◌^◌, [], ℕ, List, IfErr, IfOk, IfSome, Some};
+ghost use Rattle.std.specs.Prelude.{codes, length, map};
 ghost use Rattle.std.specs.Prelude.{position};
 ghost use Rattle.std.specs.List.{AllByRecursion};
 ghost use Rattle.std.specs.Str.{bytes_eq};

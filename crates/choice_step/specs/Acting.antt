@@ -62,7 +62,8 @@ pub record IsFoundFrom (plans : List Plan) (pending : List Instance) (past : Pas
   pub literals_are : AreLiteralsBehind plans pending past given literals
 
 -- and for what was found, beginning with its action
-abbrev pub ActsFor : List Plan → Past → (time position : ℕ) → Action → (rule : ℕ) → List Literal → (before : List Event)
+abbrev pub ActsFor : List Plan → Past → (time position : ℕ) → Action → (rule : ℕ) → List Literal
+    → (before : List Event)
     → List Action → (after : List Event) → List Action → Type 0
 ActsFor plans past time position action rule literals before actions after all =
     (pending : List Instance) (inserted : Bool) (given : List Event) → NothingClashes plans
@@ -72,7 +73,8 @@ ActsFor plans past time position action rule literals before actions after all =
     × GoesOn plans pending past inserted time position given before (action ∷ more) after
 
 -- where just those of the literals are missing at a root that are still wanted, nothing is left that is
-abbrev pub LeavesNothing : Past → (time position rule : ℕ) → List Literal → (before after : List Event) → Type 0
+abbrev pub LeavesNothing : Past → (time position rule : ℕ) → List Literal
+    → (before after : List Event) → Type 0
 LeavesNothing past time position rule literals before after =
     (plans : List Plan) (pending : List Instance) (inserted : Bool) (given : List Event) → NothingClashes plans
     → AllCanBeAsked plans pending past → AreLiteralsBehind plans pending past given literals
@@ -80,7 +82,8 @@ LeavesNothing past time position rule literals before after =
     → WillBeLeft plans pending past inserted time position after rule []
 
 -- where nothing is missing before the one place, nothing is before the other behind what was done for what was found
-abbrev pub StaysMet : List Plan → Past → (time position : ℕ) → Action → (rule : ℕ) → List Literal → (from : Place)
+abbrev pub StaysMet : List Plan → Past → (time position : ℕ) → Action → (rule : ℕ)
+    → List Literal → (from : Place)
     → (before after : List Event) → Place → Type 0
 StaysMet plans past time position action rule literals from before after place =
     (pending : List Instance) (inserted : Bool) (given : List Event) → NothingClashes plans

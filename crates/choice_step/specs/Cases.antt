@@ -85,7 +85,8 @@ second_due_at_5 = record { rule = 1; node = 0; valuation = no_values; origin = 0
 -- a step at time 5 behind one without events at time 0, where that is pending
 abbrev pub ChoosesDue : (inserted : Bool) → (before : List Event) → List Action → (after : List Event) → Type 0
 ChoosesDue inserted before actions after =
-    Decides (p_in_time ∷ []) (record { time = 0; events = [] } ∷ []) (due_at_5 ∷ []) inserted 5 before actions after
+    Decides (p_in_time ∷ []) (record { time = 0; events = [] } ∷ []) (due_at_5 ∷ []) inserted
+    5 before actions after
 
 abbrev pub for_due : Action
 for_due = record {
@@ -192,7 +193,8 @@ for_second_at time position = record {
 }
 
 abbrev pub q_at_3 : ActedStep
-q_at_3 = record { kind = Inserted; step = record { time = 3; events = event_q ∷ [] }; actions = for_second_at 3 1 ∷ [] }
+q_at_3 = record
+    { kind = Inserted; step = record { time = 3; events = event_q ∷ [] }; actions = for_second_at 3 1 ∷ [] }
 
 abbrev pub p_at_5 : ActedStep
 p_at_5 = record {

@@ -1,5 +1,6 @@
 -- What the choice loop does at one step: as long as something is missing, it acts for the first that misses something.
-use Rattle.std.specs.Prelude.{◌≡◌, ◌==◌, ◌&&◌, ℕ, suc, Bool, List, [], ◌∷◌, ◌++◌, ◌⊎◌, map}
+use Rattle.std.specs.Prelude.{◌≡◌, ◌==◌, ◌&&◌, ℕ, suc, Bool, List, []}
+use Rattle.std.specs.Prelude.{◌∷◌, ◌++◌, ◌⊎◌, map}
 use Rattle.std.specs.List.{AllByRecursion}
 use Rattle.enf_value.specs.Membership.{TakesOut}
 use Rattle.enf_value.specs.Valuations.{no_values}
@@ -44,7 +45,8 @@ abbrev pub MissesNothing : List Plan → (inserted : Bool) → List Step → Can
 MissesNothing plans inserted trace asked = Misses plans inserted trace asked []
 
 -- of those that are asked, the first that misses something, and the first literal that it misses
-abbrev pub IsFirst : List Plan → (inserted : Bool) → List Step → List Candidate → Candidate → Literal → Type 0
+abbrev pub IsFirst : List Plan → (inserted : Bool) → List Step → List Candidate
+    → Candidate → Literal → Type 0
 IsFirst plans inserted trace [] asked literal = ⊥
 IsFirst plans inserted trace (next ∷ others) asked literal =
     ((next ≡ asked) × (rest : List Literal) × Misses plans inserted trace next (literal ∷ rest))

@@ -1,6 +1,7 @@
 -- What goes out for the records of a log, and at its end: inserted steps at the deadlines that pass, and the steps of
 -- the records, each as the choice loop decides it.
-use Rattle.std.specs.Prelude.{◌≡◌, ℕ, ◌<◌, Bool, true, false, List, [], ◌∷◌, ◌++◌, Option, None, Some, Contains, map}
+use Rattle.std.specs.Prelude.{◌≡◌, ℕ, ◌<◌, Bool, true, false, List, [], ◌∷◌, ◌++◌, Option, None}
+use Rattle.std.specs.Prelude.{Some, Contains, map}
 use Rattle.enf_value.specs.declared.events.Event.{Event}
 use Rattle.enf_value.specs.declared.steps.Step.{Step}
 use Rattle.trace_meaning.specs.OutSteps as out
@@ -65,7 +66,8 @@ pub record IsLeastDeadline (plans : List Plan) (pending : List Instance) (deadli
 -- no pending deadline is passed
 abbrev pub NoneIsPassed : List Plan → List Instance → (until : Option ℕ) → Type 0
 NoneIsPassed plans pending until =
-    (i : Instance) (deadline : ℕ) → Contains pending i → HasDeadline plans i deadline → IsPassed until deadline → ⊥
+    (i : Instance) (deadline : ℕ) → Contains pending i → HasDeadline plans i deadline
+    → IsPassed until deadline → ⊥
 
 -- behind a trace, at each deadline that is passed, least first, a step without events of its own is inserted, until
 -- none is left; what it begins takes part

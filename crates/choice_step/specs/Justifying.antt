@@ -20,7 +20,8 @@ use Rattle.choice_step.specs.Follows.{ActedStep, IsLeastDeadline, is_inserted}
 
 -- from some events of a step of a kind behind a trace on, each of the actions is justified at the step as it stood
 -- before it
-abbrev pub AreJustified : List Plan → List Step → StepKind → (time : ℕ) → (before : List Event) → List Action → Type 0
+abbrev pub AreJustified : List Plan → List Step → StepKind → (time : ℕ) → (before : List Event)
+    → List Action → Type 0
 AreJustified plans trace kind time before [] = Unit {0}
 AreJustified plans trace kind time before (action ∷ actions) =
     IsJustified plans trace kind (record { time = time; events = before }) action
@@ -57,7 +58,8 @@ abbrev pub WillBeJustified : List Plan → List Instance → Past → (inserted 
     → (before : List Event) → List Action → Type 0
 WillBeJustified plans pending past inserted time position before actions = (guards : List (Formula × List VarId))
     (trace : List Step) (kind : StepKind) → AreWellFormed plans guards → IsTrace trace → PastStands trace past
-    → length trace ≡ position → IsReady plans trace time → Pend plans trace pending → is_inserted kind ≡ inserted
+    → length trace ≡ position → IsReady plans trace time → Pend plans trace pending
+    → is_inserted kind ≡ inserted
     → AreJustified plans trace kind time before actions
 
 -- a step that is inserted at the least deadline of what is pending is needed

@@ -1,5 +1,6 @@
 -- The statements of laws on what is done at a step and on what goes out.
-use Rattle.std.specs.Prelude.{◌≡◌, ℕ, ◌+◌, ◌≤◌, Bool, IsTrue, List, [], ◌∷◌, ◌++◌, Option, map, All, Contains}
+use Rattle.std.specs.Prelude.{◌≡◌, ℕ, ◌+◌, ◌≤◌, Bool, IsTrue, List, [], ◌∷◌, ◌++◌, Option}
+use Rattle.std.specs.Prelude.{map, All, Contains}
 use Rattle.std.specs.List.{AllByRecursion}
 use Rattle.enf_value.specs.Membership.{HasNoRepeats}
 use Rattle.enf_value.specs.declared.events.Event.{Event}
@@ -36,7 +37,8 @@ abbrev pub SomeDecision : Type 0
 SomeDecision = (guards : List (Formula × List VarId)) (plans : List Plan) (trace : List Step)
     (pending : List Instance) (inserted : Bool) (time : ℕ) (before : List Event) → NothingClashes plans
     → CanAskRoots guards plans → AllByRecursion (CanAskOf guards plans) pending → HasNoRepeats before
-    → (actions : List Action) × (after : List Event) × Decides plans trace pending inserted time before actions after
+    → (actions : List Action) × (after : List Event)
+    × Decides plans trace pending inserted time before actions after
 
 -- the step that is left has no repeats, where it had none
 abbrev pub DecidedIsDistinct : Type 0
@@ -58,7 +60,8 @@ AreDistinct records = AllByRecursion (λ step. HasNoRepeats step.events) (record
 -- nor for the records of a log, nor where all that is pending is served
 abbrev pub FollowsIsOne : Type 0
 FollowsIsOne = (plans : List Plan) (trace : List Step) (records : List Record) (out others : List ActedStep)
-    → AreDistinct records → Follows plans trace records out → Follows plans trace records others → out ≡ others
+    → AreDistinct records → Follows plans trace records out
+    → Follows plans trace records others → out ≡ others
 
 abbrev pub DrainIsOne : Type 0
 DrainIsOne = (plans : List Plan) (trace : List Step) (out others : List ActedStep)
@@ -83,14 +86,16 @@ SomeInserts = (guards : List (Formula × List VarId)) (plans : List Plan) (reach
 -- and there is what goes out for the records of a log
 abbrev pub SomeFollows : Type 0
 SomeFollows = (guards : List (Formula × List VarId)) (plans : List Plan) (reach : List Instance → ℕ)
-    (trace : List Step) (records : List Record) → NothingClashes plans → PlansStand plans → CanAskRoots guards plans
+    (trace : List Step) (records : List Record) → NothingClashes plans → PlansStand plans
+    → CanAskRoots guards plans
     → IsReach plans reach → AreDistinct records → (out : List ActedStep) × Follows plans trace records out
 
 -- actions are lawful changes where the names that plans cause can be caused, and those that they suppress can be
 -- suppressed
 abbrev pub ActionsAreLawful : Type 0
 ActionsAreLawful = (plans : List Plan) (causable suppressible : NameId → Bool) (before : List Event)
-    (actions : List Action) (after : List Event) → ((name : NameId) → IsCaused plans name → IsTrue (causable name))
+    (actions : List Action) (after : List Event)
+    → ((name : NameId) → IsCaused plans name → IsTrue (causable name))
     → ((name : NameId) → IsSuppressed plans name → IsTrue (suppressible name))
     → ActsFrom plans before actions after → Leads causable suppressible (map change_of actions) before after
 

@@ -1,5 +1,6 @@
 -- What is found at a step: the action for the first that misses something.
-use Rattle.std.specs.Prelude.{◌≡◌, ◌⊎◌, ℕ, ◌<◌, ◌≤◌, Bool, List, [], ◌∷◌, Option, None, Some, Contains, length, map}
+use Rattle.std.specs.Prelude.{◌≡◌, ◌⊎◌, ℕ, ◌<◌, ◌≤◌, Bool, List, [], ◌∷◌, Option, None}
+use Rattle.std.specs.Prelude.{Some, Contains, length, map}
 use Rattle.std.specs.Prelude.{slice_get, take}
 use Rattle.std.specs.List.{AllByRecursion, flat_map}
 use Rattle.enf_value.specs.Valuations.{no_values}
@@ -84,7 +85,8 @@ pub record IsWantedAt (plans : List Plan) (pending : List Instance) (events orde
 
 -- the same behind each trace of so many steps for which the past state stands, at a step with these events at a time
 -- that is not earlier
-abbrev pub WillFind : List Plan → List Instance → Past → (inserted : Bool) → (time position : ℕ) → List Event
+abbrev pub WillFind : List Plan → List Instance → Past → (inserted : Bool)
+    → (time position : ℕ) → List Event
     → Option Action → Type 0
 WillFind plans pending past inserted time position events found = (trace : List Step) → PastStands trace past
     → length trace ≡ position → last_time trace ≤ time
@@ -108,7 +110,8 @@ RootMisses plans inserted trace rule literals = RootsAreMet plans inserted trace
     → Missing trace plan no_values literals)
 
 -- nor, where there are such literals, by the pending instances
-abbrev pub WasFound : List Plan → List Instance → (inserted : Bool) → List Step → (rule : ℕ) → List Literal → Type 0
+abbrev pub WasFound : List Plan → List Instance → (inserted : Bool) → List Step → (rule : ℕ)
+    → List Literal → Type 0
 WasFound plans pending inserted trace rule literals = 0 < length literals
     → AllByRecursion (MissesNothing plans inserted trace) (map Waiting pending)
     × RootMisses plans inserted trace rule literals
@@ -136,13 +139,15 @@ AreLiteralsBehind plans pending past events literals =
     (literal : Literal) → Contains literals literal → IsLiteralBehind plans pending past events literal
 
 -- behind each trace for which the past state stands
-abbrev pub WillBeMetBefore : List Plan → List Instance → Past → (inserted : Bool) → (time position : ℕ) → List Event
+abbrev pub WillBeMetBefore : List Plan → List Instance → Past → (inserted : Bool)
+    → (time position : ℕ) → List Event
     → Place → Type 0
 WillBeMetBefore plans pending past inserted time position events place = (trace : List Step)
     → PastStands trace past → length trace ≡ position → last_time trace ≤ time
     → NothingBefore plans pending inserted (with_step trace time events) place
 
-abbrev pub WillHaveFound : List Plan → List Instance → Past → (inserted : Bool) → (time position : ℕ) → List Event
+abbrev pub WillHaveFound : List Plan → List Instance → Past → (inserted : Bool)
+    → (time position : ℕ) → List Event
     → (rule : ℕ) → List Literal → Type 0
 WillHaveFound plans pending past inserted time position events rule literals = (trace : List Step)
     → PastStands trace past → length trace ≡ position → last_time trace ≤ time
@@ -160,7 +165,8 @@ pub record IsLeftAt (plans : List Plan) (pending : List Instance) (inserted : Bo
   pub those : AreThose (IsStillWanted trace) literals left
   pub missing : Missing trace plan no_values left
 
-abbrev pub WillBeLeft : List Plan → List Instance → Past → (inserted : Bool) → (time position : ℕ) → List Event
+abbrev pub WillBeLeft : List Plan → List Instance → Past → (inserted : Bool)
+    → (time position : ℕ) → List Event
     → (rule : ℕ) → List Literal → Type 0
 WillBeLeft plans pending past inserted time position events rule literals = (trace : List Step)
     → PastStands trace past → length trace ≡ position → last_time trace ≤ time

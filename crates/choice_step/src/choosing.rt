@@ -1,5 +1,6 @@
 //! The choice loop: what is added at a step and taken out, so that nothing is missing there.
-ghost use Rattle.std.specs.Prelude.{◌≡◌, ◌<◌, ◌≤◌, ◌^◌, false, IfNone, IfOk, IfSome, IsTrue, None, OnOk, length, map};
+ghost use Rattle.std.specs.Prelude.{◌≡◌, ◌<◌, ◌≤◌, ◌^◌, false, IfNone, IfOk, IfSome, IsTrue, None};
+ghost use Rattle.std.specs.Prelude.{OnOk, length, map};
 ghost use Rattle.std.specs.List.{AllByRecursion};
 ghost use Rattle.choice_step.specs.Situations.{CanDecide, Finds, IsFound, IsMetBefore, Leads, NoneIsWoken};
 ghost use Rattle.choice_step.specs.Choosing.{ActsFrom, AreAsked, WillDecide};

@@ -1,5 +1,6 @@
 //! Who is the first at a step that misses something, and the action for that one.
-ghost use Rattle.std.specs.Prelude.{◌≡◌, ◌≤◌, ◌^◌, List, [], IfOk, IfSome, OnOk, Some, Contains, length, map};
+ghost use Rattle.std.specs.Prelude.{◌≡◌, ◌≤◌, ◌^◌, List, [], IfOk, IfSome, OnOk};
+ghost use Rattle.std.specs.Prelude.{Some, Contains, length, map};
 ghost use Rattle.std.specs.Prelude.{slice_get};
 ghost use Rattle.std.specs.Option.{option_map};
 ghost use Rattle.std.specs.List.{AllByRecursion};
@@ -243,7 +244,8 @@ pub fn action_of_root(
     time: u64,
     position: u64,
 ) -> Result<Action, NoMemory>
-    ensures { IfOk result (λ action. (plan : AnyPlan) → action ≡ action_at time position (Root rule plan) literal.now) }
+    ensures { IfOk result
+        (λ action. (plan : AnyPlan) → action ≡ action_at time position (Root rule plan) literal.now) }
 {
     let event = literal.event.duplicate(alloc)?;
     Ok(Action {

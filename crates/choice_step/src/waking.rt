@@ -73,7 +73,8 @@ impl Wakes {
     pub(crate) fn next_awake(&self, from: usize, all: &[Event], events: &StepEvents<'_>) -> usize
         requires same { all.now ≡ events.now }
         ensures behind { from ≤ result }
-        ensures asleep { (rule : ℕ) → from ≤ rule → rule < result → HasNoneOf (slice_get self.now rule) events.now }
+        ensures asleep { (rule : ℕ) → from ≤ rule → rule < result
+            → HasNoneOf (slice_get self.now rule) events.now }
     {
         if all.len() > MOST_SEARCHED || self.triggers.len() < FEW_RULES {
             return self.next_by_rule(from, all, events);
@@ -84,7 +85,8 @@ impl Wakes {
     // The same by a search for the name of each event.
     fn next_by_name(&self, from: usize, all: &[Event]) -> usize
         ensures behind { from ≤ result }
-        ensures asleep { (rule : ℕ) → from ≤ rule → rule < result → HasNoneOf (slice_get self.now rule) all.now }
+        ensures asleep { (rule : ℕ) → from ≤ rule → rule < result
+            → HasNoneOf (slice_get self.now rule) all.now }
     {
         let last = self.triggers.len();
         if last < from {
@@ -98,7 +100,8 @@ impl Wakes {
     fn next_by_rule(&self, from: usize, all: &[Event], events: &StepEvents<'_>) -> usize
         requires same { all.now ≡ events.now }
         ensures behind { from ≤ result }
-        ensures asleep { (rule : ℕ) → from ≤ rule → rule < result → HasNoneOf (slice_get self.now rule) events.now }
+        ensures asleep { (rule : ℕ) → from ≤ rule → rule < result
+            → HasNoneOf (slice_get self.now rule) events.now }
     {
         let mut rule = from;
         while rule < self.triggers.len() && self.sleeps(rule, all, events) {

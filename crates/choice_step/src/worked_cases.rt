@@ -25,7 +25,8 @@ pub fn choices()
         (event_p ∷ event_p ∷ []) → ⊥ }
     ensures caused_last { Chooses (p_is_there ∷ []) (event_q ∷ []) (for_root kind.Cause event_p 0 ∷ [])
         (event_q ∷ event_p ∷ []) }
-    ensures suppressed { Chooses (q_is_not ∷ []) (event_q ∷ event_p ∷ []) (for_root kind.Suppress event_q 0 ∷ [])
+    ensures suppressed { Chooses (q_is_not ∷ []) (event_q ∷ event_p ∷ [])
+        (for_root kind.Suppress event_q 0 ∷ [])
         (event_p ∷ []) }
     ensures by_rules_in_order { Chooses (p_is_there ∷ q_is_not ∷ []) (event_q ∷ [])
         (for_root kind.Cause event_p 0 ∷ for_root kind.Suppress event_q 1 ∷ []) (event_p ∷ []) }
@@ -36,7 +37,8 @@ pub fn choices()
 
 /// What is done for one event that is wanted twice, and which events are left where one is taken out.
 pub fn choices_of_events()
-    ensures owed_twice { Chooses (p_is_there ∷ p_is_there ∷ []) [] (for_root kind.Cause event_p 0 ∷ []) (event_p ∷ []) }
+    ensures owed_twice { Chooses (p_is_there ∷ p_is_there ∷ []) []
+        (for_root kind.Cause event_p 0 ∷ []) (event_p ∷ []) }
     ensures order_is_kept { Chooses (q_is_not ∷ []) (event_r ∷ event_q ∷ event_p ∷ [])
         (for_root kind.Suppress event_q 0 ∷ []) (event_r ∷ event_p ∷ []) }
     ensures no_neighbour_is_dropped { Chooses (q_is_not ∷ []) (event_r ∷ event_q ∷ event_p ∷ [])
@@ -65,10 +67,12 @@ pub fn woken_choices()
 pub fn forced_choices()
     ensures forced { ChoosesDue true [] (for_due ∷ []) (event_p ∷ []) }
     ensures pending_before_roots { ChoosesDueAndRoot (for_due ∷ for_second_root ∷ []) (event_p ∷ event_q ∷ []) }
-    ensures not_roots_first { ChoosesDueAndRoot (for_second_root ∷ for_due ∷ []) (event_q ∷ event_p ∷ []) → ⊥ }
+    ensures not_roots_first { ChoosesDueAndRoot (for_second_root ∷ for_due ∷ [])
+        (event_q ∷ event_p ∷ []) → ⊥ }
     ensures not_at_a_system_step { ChoosesDue false [] [] [] }
     ensures as_they_were_begun { ChoosesDueTwice (for_due ∷ for_second_at 5 1 ∷ []) (event_p ∷ event_q ∷ []) }
-    ensures not_the_later_first { ChoosesDueTwice (for_second_at 5 1 ∷ for_due ∷ []) (event_q ∷ event_p ∷ []) → ⊥ }
+    ensures not_the_later_first { ChoosesDueTwice (for_second_at 5 1 ∷ for_due ∷ [])
+        (event_q ∷ event_p ∷ []) → ⊥ }
 {
     follows_is_one();
 }
@@ -95,8 +99,10 @@ pub fn choices_of_pending()
 pub fn deadlines_in_order()
     ensures least { IsLeastDeadline p_and_q (due_at_5 ∷ second_due_at_3 ∷ []) 3 }
     ensures not_the_first_rules { IsLeastDeadline p_and_q (due_at_5 ∷ second_due_at_3 ∷ []) 5 → ⊥ }
-    ensures both { GoesForBoth (StepRecord empty_at_0.step ∷ Tick 6 ∷ []) (empty_at_0 ∷ q_at_3 ∷ p_at_5 ∷ []) }
-    ensures not_one_alone { GoesForBoth (StepRecord empty_at_0.step ∷ Tick 6 ∷ []) (empty_at_0 ∷ q_at_3 ∷ []) → ⊥ }
+    ensures both { GoesForBoth (StepRecord empty_at_0.step ∷ Tick 6 ∷ [])
+        (empty_at_0 ∷ q_at_3 ∷ p_at_5 ∷ []) }
+    ensures not_one_alone { GoesForBoth (StepRecord empty_at_0.step ∷ Tick 6 ∷ [])
+        (empty_at_0 ∷ q_at_3 ∷ []) → ⊥ }
     ensures not_turned { GoesForBoth (StepRecord empty_at_0.step ∷ Tick 6 ∷ [])
         (empty_at_0 ∷ p_at_5 ∷ q_at_3 ∷ []) → ⊥ }
 {
@@ -118,7 +124,8 @@ pub fn deadlines_of_inserted()
 /// Deadlines that pass, and such as do not.
 pub fn deadlines()
     ensures not_at_its_time { GoesFor (StepRecord empty_at_0.step ∷ Tick 5 ∷ []) (empty_at_0 ∷ []) }
-    ensures too_early { GoesFor (StepRecord empty_at_0.step ∷ Tick 5 ∷ []) (empty_at_0 ∷ served_at_5 ∷ []) → ⊥ }
+    ensures too_early { GoesFor (StepRecord empty_at_0.step ∷ Tick 5 ∷ [])
+        (empty_at_0 ∷ served_at_5 ∷ []) → ⊥ }
     ensures behind_it { GoesFor (StepRecord empty_at_0.step ∷ Tick 6 ∷ []) (empty_at_0 ∷ served_at_5 ∷ []) }
     ensures not_left_out { GoesFor (StepRecord empty_at_0.step ∷ Tick 6 ∷ []) (empty_at_0 ∷ []) → ⊥ }
     ensures before_the_step { GoesFor (StepRecord empty_at_0.step ∷ StepRecord q_at_7.step ∷ [])

@@ -26,7 +26,8 @@ impl<'a, T> Model for Walk<'a, T> {
 
     ghost invariant = { λ walk.
         (walk.passed ≤ walk.nodes.now.len)
-        × (walk.passed < walk.nodes.now.len → walk.at.ptr ≡ place_of (links_of walk.nodes.now.blocks) walk.passed) };
+        × (walk.passed < walk.nodes.now.len
+        → walk.at.ptr ≡ place_of (links_of walk.nodes.now.blocks) walk.passed) };
 }
 
 impl<'a, T> Walk<'a, T> {

@@ -26,7 +26,8 @@ HoldAlike queue other = (deadline : ℕ) → held queue deadline ≡ held other 
 
 -- that determines them
 abbrev pub OneQueue : Type 0
-OneQueue = (queue other : List (ℕ × ℕ)) → IsQueue queue → IsQueue other → HoldAlike queue other → queue ≡ other
+OneQueue = (queue other : List (ℕ × ℕ)) → IsQueue queue → IsQueue other
+    → HoldAlike queue other → queue ≡ other
 
 -- a deadline stands in the list as often as it is held
 abbrev pub EntriesAreHeld : Type 0
@@ -112,7 +113,8 @@ count_entries (pair ∷ pairs) deadline queue =
     (cases_eq pair.0 deadline)
 
 -- of queues that begin with these pairs, the first deadline of one is not below that of the other
-not_below : (pair other : ℕ × ℕ) (pairs others : List (ℕ × ℕ)) → IsQueue (pair ∷ pairs) → IsQueue (other ∷ others)
+not_below : (pair other : ℕ × ℕ) (pairs others : List (ℕ × ℕ)) → IsQueue (pair ∷ pairs)
+    → IsQueue (other ∷ others)
     → HoldAlike (pair ∷ pairs) (other ∷ others) → pair.0 < other.0 → ⊥
 not_below pair other pairs others queue behind alike below =
     let none : held (other ∷ others) pair.0 ≡ 0 =
@@ -144,8 +146,10 @@ one_queue (first ∷ pairs) (pair ∷ others) queue other alike =
     ) in
     let rest = one_queue pairs others (queue_behind first pairs queue) (queue_behind pair others other) (λ deadline.
     ⊎_elim (λ here. subst (λ d. held pairs d ≡ held others d) here
-    (held_behind first pairs queue ∙ sym (subst (λ d. held others d ≡ 0) (sym same) (held_behind pair others other))))
+    (held_behind first pairs queue
+    ∙ sym (subst (λ d. held others d ≡ 0) (sym same) (held_behind pair others other))))
     (λ else. sym (held_other first pairs deadline else) ∙ alike deadline
     ∙ held_other pair others deadline (λ there. else (same ∙ there)))
     (cases_eq first.0 deadline)) in
-    ap (λ d. (d, first.1) ∷ pairs) same ∙ ap (λ n. (pair.0, n) ∷ pairs) count ∙ ap (λ behind. pair ∷ behind) rest
+    ap (λ d. (d, first.1) ∷ pairs) same ∙ ap (λ n. (pair.0, n) ∷ pairs) count
+    ∙ ap (λ behind. pair ∷ behind) rest

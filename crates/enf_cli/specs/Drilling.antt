@@ -1,5 +1,6 @@
 -- A drill: a generated log is enforced under the sample policy, what goes out is counted, and one line says the counts.
-use Rattle.std.specs.Prelude.{◌≡◌, ◌⊎◌, ℕ, ◌+◌, ◌*◌, ◌^◌, ◌≤◌, Bool, true, false, List, [], ◌++◌}
+use Rattle.std.specs.Prelude.{◌≡◌, ◌⊎◌, ℕ, ◌+◌, ◌*◌, ◌^◌, ◌≤◌, Bool}
+use Rattle.std.specs.Prelude.{true, false, List, [], ◌++◌}
 use Rattle.std.specs.Prelude.{Option, codes, count_by, decimal, length, map, sum_by}
 use Rattle.choice_step.specs.Follows.{ActedStep, is_inserted, steps_of}
 use Rattle.enf_formula.specs.Formulas.{Formula}

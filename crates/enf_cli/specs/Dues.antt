@@ -1,5 +1,6 @@
 -- Where each status must come, of every gate and files that tell.
-use Rattle.std.specs.Prelude.{◌≡◌, ◌≢◌, ℕ, ◌-◌, ◌<◌, List, length, take, Option, None, Some, ◌⊎◌}
+use Rattle.std.specs.Prelude.{◌≡◌, ◌≢◌, ℕ, ◌-◌, ◌<◌, List, length, take}
+use Rattle.std.specs.Prelude.{Option, None, Some, ◌⊎◌}
 use Rattle.enf_io.specs.Contents.{Contents, Holds}
 use Rattle.enf_io.specs.Exchange.{Exchange, left}
 use Rattle.formula_reader.specs.Resolution.{Rule}
@@ -31,7 +32,8 @@ TellBytes None name bytes = ⊥
 TellBytes (Some files) name bytes = files name ≡ Holds bytes
 
 -- the words are of a form that names a signature, which files tell, and a policy
-pub record AsksSignature {Gate : Type 0} (IsForm : List (List ℕ) → List ℕ → List ℕ → Type 0) (call : Call Gate)
+pub record AsksSignature {Gate : Type 0}
+    (IsForm : List (List ℕ) → List ℕ → List ℕ → Type 0) (call : Call Gate)
     (entries : List NameEntry) : Type 0 where
   pub signature_file : List ℕ
   pub policy_file : List ℕ
@@ -156,7 +158,8 @@ MeetsWriteFault call =
 
 -- a run may break off by a fault or want of memory
 abbrev pub BreaksOff : Status → Type 0
-BreaksOff status = (status ≡ statuses.ReadFault) ⊎ ((status ≡ statuses.WriteFault) ⊎ (status ≡ statuses.NoMemory))
+BreaksOff status =
+    (status ≡ statuses.ReadFault) ⊎ ((status ≡ statuses.WriteFault) ⊎ (status ≡ statuses.NoMemory))
 
 -- a run ends with this status, unless it breaks off
 abbrev pub Comes : Status → Status → Type 0

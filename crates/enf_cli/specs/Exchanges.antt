@@ -1,5 +1,6 @@
 -- What a run takes from its gate and gives to it.
-use Rattle.std.specs.Prelude.{◌≡◌, ℕ, ◌+◌, ◌<◌, ◌≤◌, List, [], ◌∷◌, ◌++◌, length, map, Option}
+use Rattle.std.specs.Prelude.{◌≡◌, ℕ, ◌+◌, ◌<◌, ◌≤◌, List, [], ◌∷◌}
+use Rattle.std.specs.Prelude.{◌++◌, length, map, Option}
 use Rattle.enf_io.specs.Exchange.{Exchange}
 use Rattle.enf_io.specs.Since.{AtEachMark, GrewWhereTold, OfCalls, taken_bytes}
 use Rattle.enf_cli.specs.Limits.{most_log_bytes, most_read_bytes}

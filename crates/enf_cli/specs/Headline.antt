@@ -1,6 +1,7 @@
 -- The headline, in its own words over definitions of the crates below: what becomes of a log that a run enforces, where
 -- the files tell an accepted policy, and the gate and the report tell what goes through them.
-use Rattle.std.specs.Prelude.{◌≡◌, ◌≢◌, ◌⊎◌, ℕ, ◌+◌, ◌<◌, ◌≤◌, IsTrue, List, [], ◌∷◌, ◌++◌, length, map, codes}
+use Rattle.std.specs.Prelude.{◌≡◌, ◌≢◌, ◌⊎◌, ℕ, ◌+◌, ◌<◌, ◌≤◌, IsTrue, List, []}
+use Rattle.std.specs.Prelude.{◌∷◌, ◌++◌, length, map, codes}
 use Rattle.std.specs.Prelude.{decimal, Option, None, Some, Ok}
 use Rattle.std.specs.List.{flat_map}
 use Rattle.enf_io.specs.Contents.{Contents, Holds, with_contents}
@@ -136,7 +137,8 @@ text_of_log_refusal log.NoMemory = codes "no memory"
 
 -- why the rest of so many bytes is refused, in these words: by the reader of logs; since the input ends within a
 -- record; since its time is below the clock; or since no more may be taken
-abbrev pub IsRefusedFor : List NameEntry → (clock count : ℕ) → (rest : List ℕ) → Stream → (words : List ℕ) → Type 0
+abbrev pub IsRefusedFor : List NameEntry → (clock count : ℕ) → (rest : List ℕ) → Stream
+    → (words : List ℕ) → Type 0
 IsRefusedFor entries clock count rest gate words =
     ((why : LogRefusal) × Refuses entries Input rest why × (words ≡ text_of_log_refusal why))
     ⊎ ((IsTruncated rest × MetEnd count gate × (words ≡ codes "truncated"))
@@ -151,10 +153,12 @@ IsFront line front = (missing : List ℕ) × (line ≡ front ++ missing)
 
 -- how the log ended, by the status: nothing of it is left, or its next record is refused, or a read failed; and the
 -- last line of the report
-abbrev pub EndsWithStatus : List NameEntry → (read : List LogItem) → (taken rest last : List ℕ) → (gate gate' : Stream)
+abbrev pub EndsWithStatus : List NameEntry → (read : List LogItem) → (taken rest last : List ℕ)
+    → (gate gate' : Stream)
     → Status → Type 0
 EndsWithStatus entries read taken rest last gate gate' statuses.Done =
-    (behind_blanks rest ≡ []) × MetEnd (length taken) gate' × (gate'.read_faults ≡ gate.read_faults) × (last ≡ [])
+    (behind_blanks rest ≡ []) × MetEnd (length taken) gate'
+    × (gate'.read_faults ≡ gate.read_faults) × (last ≡ [])
 EndsWithStatus entries read taken rest last gate gate' statuses.Record =
     (words : List ℕ) × IsRefusedFor entries (clock_after 0 (records_of read)) (length taken) rest gate' words
     × (gate'.read_faults ≡ gate.read_faults)

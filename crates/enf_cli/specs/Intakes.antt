@@ -1,5 +1,6 @@
 -- The intake of a log: what it holds, and what a turn does to it in which no record is taken.
-use Rattle.std.specs.Prelude.{◌≡◌, ℕ, ◌+◌, ◌-◌, ◌<◌, ◌≤◌, List, [], ◌++◌, length, Option, None, Some, ◌⊎◌}
+use Rattle.std.specs.Prelude.{◌≡◌, ℕ, ◌+◌, ◌-◌, ◌<◌, ◌≤◌, List, [], ◌++◌, length, Option}
+use Rattle.std.specs.Prelude.{None, Some, ◌⊎◌}
 use Rattle.enf_io.specs.Counts.{one_more}
 use Rattle.enf_io.specs.Exchange.{Exchange, IsAtEnd, Marked, Took}
 use Rattle.enf_io.specs.Streams.{Stream}
@@ -133,7 +134,8 @@ pub record TakesMore (entries : List NameEntry) (mode : LogMode) (intake intake'
   pub reads : after.read_faults ≡ before.read_faults
 
 -- a turn ended the log: the record at the front is refused, or none is whole and the intake was ended
-abbrev pub EndsTurn : List NameEntry → LogMode → (clock : ℕ) → Intake → (before after : Stream) → Verdict → Type 0
+abbrev pub EndsTurn : List NameEntry → LogMode → (clock : ℕ) → Intake
+    → (before after : Stream) → Verdict → Type 0
 EndsTurn entries mode clock intake before after verdict =
     ((why : RecordRefusal) × (verdict ≡ verdicts.Refused why)
     × RefusesNext entries mode intake.reader.rest clock why × IsLeft before after)

@@ -192,7 +192,8 @@ Meets call report (refusals.Signature why) = RefusesSignatureFile call report wh
 Meets call report (refusals.Policy why) = RefusesPolicyFile call report why
 Meets call report (refusals.Record number why) =
     RefusesRecord call report number why ⊎ RefusesAudited call report number why
-Meets call report refusals.ReadFault = MissesFile call report ⊎ (BreaksOffLog call report ⊎ BreaksOffAudit call report)
+Meets call report refusals.ReadFault =
+    MissesFile call report ⊎ (BreaksOffLog call report ⊎ BreaksOffAudit call report)
 
 -- no state is to be saved: the whole log was taken, nothing is left behind its accepted records, and what was given is
 -- what is owed to them in all

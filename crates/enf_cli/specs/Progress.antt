@@ -1,5 +1,6 @@
 -- What one turn of the run of a log does.
-use Rattle.std.specs.Prelude.{◌≡◌, ℕ, ◌+◌, ◌-◌, ◌^◌, ◌<◌, ◌≤◌, List, [], ◌∷◌, length}
+use Rattle.std.specs.Prelude.{◌≡◌, ℕ, ◌+◌, ◌-◌, ◌^◌, ◌<◌, ◌≤◌}
+use Rattle.std.specs.Prelude.{List, [], ◌∷◌, length}
 use Rattle.std.specs.Prelude.{Option, None, Some, ◌⊎◌, Ok, Bool, true, false}
 use Rattle.enforcer_core.specs.Answered.{Answered, ChangesLawfully}
 use Rattle.enforcer_core.specs.Enforcers.{Enforcing, acted_steps, plans_of}
@@ -108,7 +109,8 @@ pub record LeavesItem (next : Record) (why : RecordRefusal) (from to : Moment) :
   pub enforcer : to.enforcer ≡ from.enforcer
   pub seen : to.seen ≡ from.seen
 
-abbrev pub AnswersItem : List NameEntry → List Rule → Record → Option RecordRefusal → Moment → Moment → Type 0
+abbrev pub AnswersItem : List NameEntry → List Rule → Record → Option RecordRefusal
+    → Moment → Moment → Type 0
 AnswersItem entries rules next None from to = TakesItem entries rules next from to
 AnswersItem entries rules next (Some why) from to = LeavesItem next why from to
 
@@ -177,7 +179,8 @@ pub record EnforcesLater (entries : List NameEntry) (log log' : Enforcement) (be
   pub enforcer : log'.enforcer ≡ log.enforcer
   pub nothing : WritesNothing before after
 
-abbrev pub AnswersTurn : List NameEntry → List Rule → Option Verdict → Enforcement → Enforcement → Seen → Seen → Type 0
+abbrev pub AnswersTurn : List NameEntry → List Rule → Option Verdict → Enforcement → Enforcement
+    → Seen → Seen → Type 0
 AnswersTurn entries rules None log log' before after =
     EnforcesOne entries rules log log' before after ⊎ EnforcesLater entries log log' before after
 AnswersTurn entries rules (Some verdict) log log' before after =

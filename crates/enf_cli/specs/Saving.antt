@@ -28,7 +28,8 @@ pub record WritesState (enforcer : Enforcing) (signature policy file : List ℕ)
   pub written : WritesFile file (saved_text signature policy kept) ended before after
 
 -- how a save ends: with the text under the file's name, with a fault of that write, or with nothing done
-abbrev pub SavesState : Enforcing → (signature policy file : List ℕ) → FileView → FileView → Result (Unit {0}) Cut
+abbrev pub SavesState : Enforcing → (signature policy file : List ℕ) → FileView → FileView
+    → Result (Unit {0}) Cut
     → Type 0
 SavesState enforcer signature policy file before after (Ok done) =
     WritesState enforcer signature policy file (Ok tt) before after
@@ -37,7 +38,8 @@ SavesState enforcer signature policy file before after (Err cuts.WriteFault) =
 SavesState enforcer signature policy file before after (Err cuts.NoMemory) = after ≡ before
 
 -- where no file is named for it, nothing is saved
-abbrev pub SavesWhereAsked : (saved : Option (List ℕ)) → Enforcing → (signature policy : List ℕ) → FileView → FileView
+abbrev pub SavesWhereAsked : (saved : Option (List ℕ)) → Enforcing
+    → (signature policy : List ℕ) → FileView → FileView
     → Result (Unit {0}) Cut → Type 0
 SavesWhereAsked None enforcer signature policy before after result = (result ≡ Ok tt) × (after ≡ before)
 SavesWhereAsked (Some file) enforcer signature policy before after result =
@@ -61,7 +63,8 @@ pub record RunsRefused (saved : Option (List ℕ)) (s : Setting) (why : Refusal)
   pub same : files' ≡ files
 
 -- how the run of a log ends that is to save its state, or not
-abbrev pub RunsSo : (saved : Option (List ℕ)) → (signature policy : List ℕ) → Setting → (files files' : FileView)
+abbrev pub RunsSo : (saved : Option (List ℕ)) → (signature policy : List ℕ) → Setting
+    → (files files' : FileView)
     → (before after : Seen) → Result (Unit {0}) Ending → Type 0
 RunsSo saved signature policy s files files' before after (Ok done) =
     RunsWhole saved signature policy s files files' before after (Ok tt)

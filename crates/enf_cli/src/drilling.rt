@@ -1,6 +1,7 @@
 //! A drill: a generated log is enforced under the sample policy, step by step as it is generated. What goes out is
 //! counted and let go, so that no more is held than an enforcer holds.
-ghost use Rattle.std.specs.Prelude.{◌≡◌, ◌++◌, ◌+◌, ◌*◌, ◌∷◌, ◌<◌, ◌≤◌, ◌^◌, ℕ, []};
+ghost use Rattle.std.specs.Prelude.{◌≡◌, ◌++◌, ◌+◌, ◌*◌, ◌∷◌, ◌<◌};
+ghost use Rattle.std.specs.Prelude.{◌≤◌, ◌^◌, ℕ, []};
 ghost use Rattle.std.specs.Prelude.{IfErr, IfOk, OnOk, false, if◌then◌else◌, length};
 ghost use Rattle.choice_step.specs.Follows.{is_inserted};
 ghost use Rattle.enforce_types.specs.PolicyPlans.{ArePlanned};

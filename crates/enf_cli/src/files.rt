@@ -115,7 +115,8 @@ fn refusal_of(
 
 // What is said of a refusal of the reader of policies.
 fn policy_refusal_of(why: formula_reader::PolicyRefusal) -> Result<PolicyRefusal, NoMemory>
-    ensures { IfOk result (λ refusal. (entries : List NameEntry) (bytes : List ℕ) → length bytes ≤ MOST_FILE_BYTES
+    ensures { IfOk result
+        (λ refusal. (entries : List NameEntry) (bytes : List ℕ) → length bytes ≤ MOST_FILE_BYTES
         → GivesTextAnswer entries bytes (Err why) → IsRefusedPolicy entries refusal bytes) }
 {
     match why {

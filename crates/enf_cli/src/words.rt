@@ -1,5 +1,6 @@
 //! The words of the command line.
-ghost use Rattle.std.specs.Prelude.{◌≡◌, ◌==◌, ℕ, ◌⊎◌, ◌∷◌, [], IfErr, IfSome, IfNone, slice_index};
+ghost use Rattle.std.specs.Prelude.{◌≡◌, ◌==◌, ℕ, ◌⊎◌, ◌∷◌, []};
+ghost use Rattle.std.specs.Prelude.{IfErr, IfSome, IfNone, slice_index};
 ghost use Rattle.enf_cli.specs.Words.{IsNumber, MatchNoForm, Matches, texts};
 ghost use Rattle.enf_cli.specs.declared.endings.Cut.TheVariants.{NoMemory as OutOfMemory};
 ghost use Rattle.enf_cli.specs.declared.endings.Ending.TheVariants as ending;

@@ -52,11 +52,13 @@ two_steps = at_time 0 (event_q ∷ []) ∷ at_time 3 (event_p ∷ []) ∷ []
 
 -- q() at time 0, p() at 1, nothing at 2, p() at 3
 abbrev pub broken_after : List Step
-broken_after = at_time 0 (event_q ∷ []) ∷ at_time 1 (event_p ∷ []) ∷ at_time 2 [] ∷ at_time 3 (event_p ∷ []) ∷ []
+broken_after =
+    at_time 0 (event_q ∷ []) ∷ at_time 1 (event_p ∷ []) ∷ at_time 2 [] ∷ at_time 3 (event_p ∷ []) ∷ []
 
 -- p() at time 0, nothing at 1, p() at 2, q() at 3
 abbrev pub broken_before : List Step
-broken_before = at_time 0 (event_p ∷ []) ∷ at_time 1 [] ∷ at_time 2 (event_p ∷ []) ∷ at_time 3 (event_q ∷ []) ∷ []
+broken_before =
+    at_time 0 (event_p ∷ []) ∷ at_time 1 [] ∷ at_time 2 (event_p ∷ []) ∷ at_time 3 (event_q ∷ []) ∷ []
 
 -- q() at time 4, then p() at time 4
 abbrev pub at_one_time : List Step
@@ -117,7 +119,8 @@ p_with_q = at_time 0 (event_p_of (Num (pos 1)) ∷ event_q_of (Num (pos 1)) ∷ 
 
 -- p(1) q(1) p("a") at time 0
 abbrev pub p_without_q : List Step
-p_without_q = at_time 0 (event_p_of (Num (pos 1)) ∷ event_q_of (Num (pos 1)) ∷ event_p_of (Text (97 ∷ [])) ∷ []) ∷ []
+p_without_q =
+    at_time 0 (event_p_of (Num (pos 1)) ∷ event_q_of (Num (pos 1)) ∷ event_p_of (Text (97 ∷ [])) ∷ []) ∷ []
 
 -- p(1) q(2) at time 0
 abbrev pub p_then_q : List Step

@@ -1,7 +1,8 @@
 -- Satisfaction of a formula on a finite trace at a position under a valuation (Basin, Klaedtke, Müller and Zălinescu,
 -- JACM 62(2), 2015; reading it over finite traces is this project's choice). Each "some" and each `exists` is
 -- classical: it says that its denial is false.
-use Rattle.std.specs.Prelude.{◌≡◌, ℕ, ◌+◌, ◌-◌, ◌<◌, ◌≤◌, ◌<ℤ◌, ◌≤ℤ◌, ℤ, List, length, Option, None, Some, Contains}
+use Rattle.std.specs.Prelude.{◌≡◌, ℕ, ◌+◌, ◌-◌, ◌<◌, ◌≤◌, ◌<ℤ◌, ◌≤ℤ◌, ℤ, List}
+use Rattle.std.specs.Prelude.{length, Option, None, Some, Contains}
 use Rattle.enf_value.specs.Data.{step_at}
 use Rattle.enf_value.specs.declared.steps.Step.{Step}
 use Rattle.enf_value.specs.Membership.{IsIn}
@@ -41,7 +42,8 @@ elapsed trace from to = (step_at trace to).time - (step_at trace from).time
 -- some j at or before i, at a distance in the interval, has G, and each position after j up to i has F
 abbrev pub HeldSince : List Step → ℕ → Interval → (ℕ → Type 0) → (ℕ → Type 0) → Type 0
 HeldSince trace i interval F G =
-    Classically ((j : ℕ) × (j ≤ i) × IsIn interval (elapsed trace j i) × G j × ((k : ℕ) → j < k → k ≤ i → F k))
+    Classically ((j : ℕ) × (j ≤ i) × IsIn interval (elapsed trace j i) × G j
+    × ((k : ℕ) → j < k → k ≤ i → F k))
 
 -- some j at or after i, at a distance in the interval, has G, and each position from i before j has F
 abbrev pub HoldsUntil : List Step → ℕ → Interval → (ℕ → Type 0) → (ℕ → Type 0) → Type 0
@@ -73,7 +75,8 @@ Sat trace i v (Prev place interval f) = (0 < i) × IsIn interval (elapsed trace 
 Sat trace i v (Next place interval f) =
     (i + 1 < length trace) × IsIn interval (elapsed trace i (i + 1)) × Sat trace (i + 1) v f
 Sat trace i v (Once place interval f) = HeldSince trace i interval Anywhere (λ j. Sat trace j v f)
-Sat trace i v (Historically place interval f) = HeldSince trace i interval Anywhere (λ j. Sat trace j v f → ⊥) → ⊥
+Sat trace i v (Historically place interval f) =
+    HeldSince trace i interval Anywhere (λ j. Sat trace j v f → ⊥) → ⊥
 Sat trace i v (Since place interval f g) = HeldSince trace i interval (λ k. Sat trace k v f) (λ j. Sat trace j v g)
 Sat trace i v (Eventually place interval f) = HoldsUntil trace i interval Anywhere (λ j. Sat trace j v f)
 Sat trace i v (Always place interval f) = HoldsUntil trace i interval Anywhere (λ j. Sat trace j v f → ⊥) → ⊥

@@ -1,6 +1,7 @@
 -- What is so of a formula whose variables are in scope and whose quantifiers bind new ones: its free variables are in
 -- scope, and no quantifier binds a variable that is in scope where it stands.
-use Rattle.std.proofs.Common.{◌≡◌, zero, suc, List, [], ◌∷◌, ◌++◌, Contains, inl, inr, ⊎_elim, ◌⊎◌, arith, subst}
+use Rattle.std.proofs.Common.{◌≡◌, zero, suc, List, [], ◌∷◌, ◌++◌, Contains, inl, inr, ⊎_elim}
+use Rattle.std.proofs.Common.{◌⊎◌, arith, subst}
 use Rattle.std.proofs.lemmas.List.Elements.{Contains-append_cases, Contains-append_left}
 use Rattle.std.proofs.lemmas.List.Elements.{Contains-append_right}
 use Rattle.std.proofs.lemmas.Map.Keys.{sorted_head, sorted_tail}
@@ -17,7 +18,8 @@ use Rattle.enf_formula.specs.Formulas.{Exists, Forall, Prev, Next, Once, Histori
 use Rattle.enf_formula.specs.FreeVariables.{IsFree}
 use Rattle.enf_formula.specs.Scopes.{AreInScope, AreNew, IsInScope, IsScoped}
 
-variable_in_scope : (scope : List VarId) (t : Term) (x : VarId) → IsInScope scope t → t ≡ Var x → Contains scope x
+variable_in_scope : (scope : List VarId) (t : Term) (x : VarId) → IsInScope scope t
+    → t ≡ Var x → Contains scope x
 variable_in_scope scope t x h is = subst (IsInScope scope) is h
 
 in_terms : (scope : List VarId) (terms : List Term) (x : VarId)
@@ -77,7 +79,8 @@ above_none x y (z ∷ ys) h (zero, below, is) same =
 above_none x y (z ∷ ys) h (suc k, below, is) same = above_none x y ys h.1 (k, omega arith, is) same
 
 -- new variables are none of those in scope
-pub new_apart : (scope xs : List VarId) → AreNew scope xs → (x : VarId) → Contains xs x → Contains scope x → ⊥
+pub new_apart : (scope xs : List VarId) → AreNew scope xs → (x : VarId) → Contains xs x
+    → Contains scope x → ⊥
 new_apart [] xs h x new (k, below, is) = absurd (omega arith)
 new_apart (y ∷ scope) xs h x new (zero, below, is) =
     above_none x y (scope ++ xs) (sorted_head variable_cmp y (scope ++ xs) h) (Contains-append_right scope xs x new) is

@@ -1,5 +1,6 @@
 -- What is known of the adapters over std: which call of the outside each of theirs is, and how errors are counted.
-use Rattle.std.specs.Prelude.{◌≡◌, ℕ, ◌==◌, List, [], ◌∷◌, false, None, Result, Ok, Err, if◌then◌else◌}
+use Rattle.std.specs.Prelude.{◌≡◌, ℕ, ◌==◌, List, [], ◌∷◌, false, None}
+use Rattle.std.specs.Prelude.{Result, Ok, Err, if◌then◌else◌}
 use Rattle.std.specs.IoError.{error_kind}
 use Rattle.std.specs.declared.io.Error.{Error}
 use Rattle.std.specs.declared.io.ErrorKind.{ErrorKind}
@@ -66,7 +67,8 @@ pub record IsOneCall {A B : Type 0} (gives : A → Type 0) (made : A → B) (res
   pub told : result ≡ made answer
 
 -- a file that one call opened is asked by one call more; where it was not opened, that is the answer
-abbrev pub AsksFile : {F T : Type 0} → (F → Result T Error → F → Type 0) → Result F Error → Result T Error → Type 0
+abbrev pub AsksFile : {F T : Type 0} → (F → Result T Error → F → Type 0) → Result F Error
+    → Result T Error → Type 0
 AsksFile {F = F} asks (Ok file) answer = (after : F) × asks file answer after
 AsksFile asks (Err error) answer = answer ≡ Err error
 

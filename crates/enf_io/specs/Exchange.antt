@@ -1,5 +1,6 @@
 -- What a device tells of its bytes, and what a read or a write does to it.
-use Rattle.std.specs.Prelude.{◌≡◌, ℕ, ◌+◌, List, [], ◌∷◌, ◌++◌, length, take, drop, Option, IfSome}
+use Rattle.std.specs.Prelude.{◌≡◌, ℕ, ◌+◌, List, [], ◌∷◌, ◌++◌, length}
+use Rattle.std.specs.Prelude.{take, drop, Option, IfSome}
 use Rattle.std.specs.Option.{option_map}
 
 -- a device's whole input, how many bytes of it were taken, the bytes given to it, and its marks: for each read,

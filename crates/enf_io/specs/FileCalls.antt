@@ -1,5 +1,6 @@
 -- All that is seen of files, and what a call does to it.
-use Rattle.std.specs.Prelude.{◌≡◌, ℕ, ◌≤◌, List, length, Bool, IsTrue, Option, IfSome, Result, IfOk, OnOk, IsErrOf}
+use Rattle.std.specs.Prelude.{◌≡◌, ℕ, ◌≤◌, List, length, Bool, IsTrue, Option}
+use Rattle.std.specs.Prelude.{IfSome, Result, IfOk, OnOk, IsErrOf}
 use Rattle.std.specs.Option.{option_map}
 use Rattle.std.specs.declared.vec.Vec.{Vec}
 use Rattle.std.specs.declared.alloc.Global.{Global}
@@ -23,11 +24,13 @@ pub record CountsFor {T : Type 0} (name : List ℕ) (result : Result T IoRefusal
   pub at_most : (other : List ℕ) → after other ≤ faults_after result (before other)
 
 -- a read of up to so many bytes under a name
-pub record ReadsFile (name : List ℕ) (most : ℕ) (result : Result (Vec ℕ Global) IoRefusal) (before after : FileView)
+pub record ReadsFile (name : List ℕ) (most : ℕ) (result : Result (Vec ℕ Global) IoRefusal)
+    (before after : FileView)
     : Type 0 where
   pub within : IfOk result (λ bytes. length bytes.items ≤ most)
   pub gives : IfOk result (λ bytes. IfSome before.contents (λ files. Gives (files name) most bytes.items))
-  pub missing : IsTrue before.is_calm → IsErrOf result Failed → IfSome before.contents (λ files. files name ≡ Missing)
+  pub missing : IsTrue before.is_calm → IsErrOf result Failed
+      → IfSome before.contents (λ files. files name ≡ Missing)
   pub contents : after.contents ≡ before.contents
   pub calm : after.is_calm ≡ before.is_calm
   pub reads : CountsFor name result before.read_faults after.read_faults

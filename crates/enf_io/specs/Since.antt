@@ -1,5 +1,6 @@
 -- What any number of calls do to a device, from a view before them to a view after.
-use Rattle.std.specs.Prelude.{◌≡◌, ℕ, ◌-◌, ◌≤◌, List, [], ◌++◌, length, take, drop, map, All, ⊤, Option, None, Some}
+use Rattle.std.specs.Prelude.{◌≡◌, ℕ, ◌-◌, ◌≤◌, List, [], ◌++◌, length, take, drop, map, All, ⊤}
+use Rattle.std.specs.Prelude.{Option, None, Some}
 use Rattle.enf_io.specs.Exchange.{Exchange, left}
 use Rattle.enf_io.specs.Streams.{Stream}
 

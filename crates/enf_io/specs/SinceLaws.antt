@@ -1,5 +1,6 @@
 -- What a caller needs of many calls: each call adds to what the calls before it did.
-use Rattle.std.proofs.Common.{◌≡◌, ℕ, ◌-◌, ◌≤◌, List, [], ◌∷◌, ◌++◌, length, take, drop, map, refl, sym, ap}
+use Rattle.std.proofs.Common.{◌≡◌, ℕ, ◌-◌, ◌≤◌, List, [], ◌∷◌, ◌++◌, length, take, drop}
+use Rattle.std.proofs.Common.{map, refl, sym, ap}
 use Rattle.std.proofs.Common.{◌∙◌, subst, arith, append_assoc, append-nil, length-append, length-drop}
 use Rattle.std.specs.Prelude.{All, Option, None, Some, IfSome, Result, Ok, Err}
 use Rattle.std.specs.Option.{option_map}
@@ -53,11 +54,13 @@ Grew-trans x y z first second = record {
   taken = omega (arith, first.taken, second.taken);
   given = (
     first.given.0 ++ second.given.0,
-    second.given.1 ∙ ap (λ l. l ++ second.given.0) first.given.1 ∙ append_assoc x.given first.given.0 second.given.0,
+    second.given.1 ∙ ap (λ l. l ++ second.given.0) first.given.1
+        ∙ append_assoc x.given first.given.0 second.given.0,
   );
   marks = (
     first.marks.0 ++ second.marks.0,
-    second.marks.1 ∙ ap (λ l. l ++ second.marks.0) first.marks.1 ∙ append_assoc x.marks first.marks.0 second.marks.0,
+    second.marks.1 ∙ ap (λ l. l ++ second.marks.0) first.marks.1
+        ∙ append_assoc x.marks first.marks.0 second.marks.0,
     All-append (IsBetween x z) first.marks.0 second.marks.0
         (between-to x y z second.taken (given_grew y z second) first.marks.0 first.marks.2)
         (between-from x y z first.taken (given_grew x y first) second.marks.0 second.marks.2),
@@ -135,7 +138,8 @@ Later-trans x y z first second = record {
   writes = omega (arith, first.writes, second.writes);
 }
 
-pub faults_after-later : {T : Type 0} (result : Result T IoRefusal) (count : ℕ) → count ≤ faults_after result count
+pub faults_after-later : {T : Type 0} (result : Result T IoRefusal) (count : ℕ)
+    → count ≤ faults_after result count
 faults_after-later (Ok value) count = omega arith
 faults_after-later (Err Failed) count = omega arith
 faults_after-later (Err NoMemory) count = omega arith
@@ -177,7 +181,8 @@ Later-Writes bytes (Err NoMemory) before after w = record {
 }
 
 -- an exchange by its parts
-exchange_of : {i j : List ℕ} {t u : ℕ} {g h : List ℕ} {m n : List (ℕ × ℕ)} → i ≡ j → t ≡ u → g ≡ h → m ≡ n
+exchange_of : {i j : List ℕ} {t u : ℕ} {g h : List ℕ} {m n : List (ℕ × ℕ)} → i ≡ j
+    → t ≡ u → g ≡ h → m ≡ n
     → ◌≡◌ {A = Exchange}
     (record { input = i; taken = t; given = g; marks = m }) (record { input = j; taken = u; given = h; marks = n })
 exchange_of p q r s = λ k. record { input = p k; taken = q k; given = r k; marks = s k }
@@ -190,7 +195,8 @@ pub since-given : (x y : Exchange) (bytes : List ℕ) → Grew x y
 since-given x y bytes grew =
     exchange_of refl refl (drop-append-le (length x.given) y.given bytes (given_grew x y grew)) refl
 
-pub since-taken : (x y : Exchange) (count : ℕ) → Grew x y → since x (with_taken count y) ≡ with_taken count (since x y)
+pub since-taken : (x y : Exchange) (count : ℕ) → Grew x y
+    → since x (with_taken count y) ≡ with_taken count (since x y)
 since-taken x y count grew = exchange_of refl (omega (arith, grew.taken)) refl refl
 
 marks_grew : (x y : Exchange) → Grew x y → length x.marks ≤ length y.marks
@@ -200,7 +206,8 @@ pub since-mark : (x y : Exchange) → Grew x y → since x (with_mark y) ≡ wit
 since-mark x y grew =
     let relative : ℕ × ℕ → ℕ × ℕ = λ mark. (mark.0 - x.taken, mark.1 - length x.given) in
     exchange_of refl refl refl
-    (ap (map relative) (drop-append-le (length x.marks) y.marks ((y.taken, length y.given) ∷ []) (marks_grew x y grew))
+    (ap (map relative)
+    (drop-append-le (length x.marks) y.marks ((y.taken, length y.given) ∷ []) (marks_grew x y grew))
     ∙ map-append relative (drop (length x.marks) y.marks) ((y.taken, length y.given) ∷ [])
     ∙ ap (λ n. map relative (drop (length x.marks) y.marks) ++ (y.taken - x.taken, n) ∷ [])
     (sym (length-drop (length x.given) y.given)))
@@ -275,7 +282,8 @@ OfCalls-marked P first before after grew marked told =
     of_calls_by P with_mark first before after since-mark grew marked told
 
 -- what a read takes is what is left to take
-next_of_calls : (bytes : List ℕ) (first before : Option Exchange) (P : Exchange → Type 0) → GrewWhereTold first before
+next_of_calls : (bytes : List ℕ) (first before : Option Exchange) (P : Exchange → Type 0)
+    → GrewWhereTold first before
     → IfSome before (λ x. take (length bytes) (left x) ≡ bytes)
     → OfCalls (λ x. take (length bytes) (left x) ≡ bytes → P x) first before → OfCalls P first before
 next_of_calls bytes None before P grew next told = tt
@@ -284,7 +292,8 @@ next_of_calls bytes (Some x) (Some y) P grew next told = told (ap (take (length 
 
 pub OfCalls-took : (P : Exchange → Type 0) (bytes : List ℕ) (first before after : Option Exchange)
     → GrewWhereTold first before → Took bytes before after
-    → OfCalls (λ x. take (length bytes) (left x) ≡ bytes → P (with_taken (length bytes) (with_mark x))) first before
+    → OfCalls (λ x. take (length bytes) (left x) ≡ bytes
+    → P (with_taken (length bytes) (with_mark x))) first before
     → OfCalls P first after
 OfCalls-took P bytes first before after grew took told =
     of_calls_by P (λ x. with_taken (length bytes) (with_mark x)) first before after

@@ -1,5 +1,6 @@
 //! Files over memory of which some calls fail.
-ghost use Rattle.std.specs.Prelude.{◌≡◌, ◌≢◌, ◌==◌, OnOk, OnErr, IfOk, IsErrOf, List, [], None, Some, ℕ, true, false};
+ghost use Rattle.std.specs.Prelude.{◌≡◌, ◌≢◌, ◌==◌, OnOk, OnErr, IfOk, IsErrOf, List, [], None, Some};
+ghost use Rattle.std.specs.Prelude.{ℕ, true, false};
 ghost use Rattle.std.specs.List.{list_any};
 ghost use Rattle.enf_io.specs.Counts.{faults_after, one_more};
 ghost use Rattle.enf_io.specs.Contents.{Holds, with_contents};

@@ -1,5 +1,6 @@
 //! A gate over memory whose reads and writes follow turns.
-ghost use Rattle.std.specs.Prelude.{◌≡◌, ◌<◌, ◌≤◌, IfOk, IsErrOf, List, [], None, Some, length, take, min};
+ghost use Rattle.std.specs.Prelude.{◌≡◌, ◌<◌, ◌≤◌, IfOk, IsErrOf, List, [], None};
+ghost use Rattle.std.specs.Prelude.{Some, length, take, min};
 ghost use Rattle.enf_io.specs.Mem.{MemExchange, after_read, after_write, mem_stream, rest_of};
 ghost use Rattle.enf_io.specs.Streams.{Stream, Reads, Writes};
 ghost use Rattle.enf_io.specs.Turns.{next_turn, read_by, write_by};

@@ -53,11 +53,13 @@ event_eq-Decides a b =
 abbrev pub has_event : List Event → Event → Bool
 has_event events event = list_any (event_eq event) events
 
-pub has_event-Decides : (events : List Event) (event : Event) → Decides (has_event events event) (Contains events event)
+pub has_event-Decides : (events : List Event) (event : Event)
+    → Decides (has_event events event) (Contains events event)
 has_event-Decides events event = list_any-Decides event_eq event_eq-Decides events event
 
 -- an event that cannot be missing from a list is there
-pub Contains-stable : (events : List Event) (event : Event) → ((Contains events event → ⊥) → ⊥) → Contains events event
+pub Contains-stable : (events : List Event) (event : Event) → ((Contains events event → ⊥) → ⊥)
+    → Contains events event
 Contains-stable events event h = by (has_event events event) (has_event-Decides events event)
   where
     by : (b : Bool) → Decides b (Contains events event) → Contains events event

@@ -22,13 +22,15 @@ IsUnrefused Stands IsSentence front (token ∷ rest) =
     IsClear Stands front token × IsUnrefused Stands IsSentence (front ++ token ∷ []) rest
 
 -- the answer to the tokens of a text: a tree of them, or the first refusal
-abbrev pub IsAnswer : {A R T : Type 0} → (A → List T → Type 0) → (R → List T → T → Type 0) → (List T → Type 0)
+abbrev pub IsAnswer : {A R T : Type 0} → (A → List T → Type 0)
+    → (R → List T → T → Type 0) → (List T → Type 0)
     → (ended : R) → List T → Result A R → Type 0
 IsAnswer Is Stands IsSentence ended tokens (Ok tree) = Is tree tokens
 IsAnswer Is Stands IsSentence ended tokens (Err refusal) = IsFirst Stands IsSentence ended refusal [] tokens
 
 -- exactly one answer
-abbrev pub HasOneAnswer : {A R T : Type 0} → (A → List T → Type 0) → (R → List T → T → Type 0) → (List T → Type 0)
+abbrev pub HasOneAnswer : {A R T : Type 0} → (A → List T → Type 0)
+    → (R → List T → T → Type 0) → (List T → Type 0)
     → (ended : R) → List T → Type 0
 HasOneAnswer {A = A} {R = R} Is Stands IsSentence ended tokens =
     (answer : Result A R) × IsAnswer Is Stands IsSentence ended tokens answer
@@ -37,9 +39,11 @@ HasOneAnswer {A = A} {R = R} Is Stands IsSentence ended tokens =
 -- what makes the answer one: a refusal at most at a token, which can be told; a tree at most, exactly where nothing is
 -- refused
 pub record IsJudgement {A R T : Type 0}
-    (Is : A → List T → Type 0) (Stands : R → List T → T → Type 0) (IsSentence : List T → Type 0) : Type 0 where
+    (Is : A → List T → Type 0) (Stands : R → List T → T → Type 0)
+    (IsSentence : List T → Type 0) : Type 0 where
   pub one_refusal : (x y : R) (front : List T) (token : T) → Stands x front token → Stands y front token → x ≡ y
-  pub told : (front : List T) (token : T) → ((refusal : R) × Stands refusal front token) ⊎ IsClear Stands front token
+  pub told : (front : List T) (token : T)
+      → ((refusal : R) × Stands refusal front token) ⊎ IsClear Stands front token
   pub ends : (front : List T) → IsSentence front ⊎ (IsSentence front → ⊥)
   pub one_tree : (x y : A) (tokens : List T) → Is x tokens → Is y tokens → x ≡ y
   pub clear : (tree : A) (tokens : List T) → Is tree tokens → IsUnrefused Stands IsSentence [] tokens

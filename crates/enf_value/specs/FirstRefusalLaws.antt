@@ -49,7 +49,8 @@ module _ {R T : Type 0} (Stands : R → List T → T → Type 0) (IsSentence : L
 -- so a text has exactly one answer
 pub answer_is_one : {A R T : Type 0}
     (Is : A → List T → Type 0) (Stands : R → List T → T → Type 0) (IsSentence : List T → Type 0)
-    → IsJudgement Is Stands IsSentence → (ended : R) (tokens : List T) → HasOneAnswer Is Stands IsSentence ended tokens
+    → IsJudgement Is Stands IsSentence → (ended : R) (tokens : List T)
+    → HasOneAnswer Is Stands IsSentence ended tokens
 answer_is_one {A = A} {R = R} Is Stands IsSentence judgement ended tokens =
     by (first_or_unrefused Stands IsSentence ended judgement.told judgement.ends [] tokens)
   where

@@ -1,5 +1,6 @@
 -- Being in a list, and what holds of each of its items.
-use Rattle.std.specs.Prelude.{◌≡◌, ℕ, zero, suc, Bool, true, false, cond, ◌⊎◌, List, [], ◌∷◌, ◌++◌, Some, Contains}
+use Rattle.std.specs.Prelude.{◌≡◌, ℕ, zero, suc, Bool, true, false, cond, ◌⊎◌, List, [], ◌∷◌}
+use Rattle.std.specs.Prelude.{◌++◌, Some, Contains}
 use Rattle.std.specs.List.{AllByRecursion, find, slice_get}
 use Rattle.std.proofs.Common.{inl, inr, ⊎_elim, refl, subst, arith}
 use Rattle.std.proofs.lemmas.Option.{same_Some, none-some}
@@ -24,7 +25,8 @@ there_from_get [] k x e = absurd (none-some x e)
 there_from_get (y ∷ ys) zero x e = (0, omega arith, same_Some y x e)
 there_from_get (y ∷ ys) (suc k) x e = later x y ys (there_from_get ys k x e)
 
-pub Contains-append : {X : Type 0} (xs ys : List X) (x : X) → Contains (xs ++ ys) x → Contains xs x ⊎ Contains ys x
+pub Contains-append : {X : Type 0} (xs ys : List X) (x : X) → Contains (xs ++ ys) x
+    → Contains xs x ⊎ Contains ys x
 Contains-append [] ys x there = inr there
 Contains-append (y ∷ xs) ys x there =
     ⊎_elim (λ same. inl (
@@ -66,7 +68,8 @@ AllByRecursion-weaker P Q [] weaker each = tt
 AllByRecursion-weaker P Q (x ∷ xs) weaker each = (weaker x each.0, AllByRecursion-weaker P Q xs weaker each.1)
 
 -- the first item that passes a test is one of the list
-pub AllByRecursion-find : {X : Type 0} (P : X → Type 0) (test : X → Bool) (xs : List X) (x : X) → AllByRecursion P xs
+pub AllByRecursion-find : {X : Type 0} (P : X → Type 0) (test : X → Bool) (xs : List X)
+    (x : X) → AllByRecursion P xs
     → find test xs ≡ Some x → P x
 AllByRecursion-find P test [] x each found = absurd (none-some x found)
 AllByRecursion-find {X = X} P test (y ∷ ys) x each found =

@@ -1,5 +1,6 @@
 -- Differences of times in an interval, and lists without repeats.
-use Rattle.std.specs.Prelude.{◌≡◌, ℕ, ◌≤◌, Bool, true, false, List, [], ◌∷◌, ◌++◌, Option, None, Some, Contains}
+use Rattle.std.specs.Prelude.{◌≡◌, ℕ, ◌≤◌, Bool, true, false, List, [], ◌∷◌}
+use Rattle.std.specs.Prelude.{◌++◌, Option, None, Some, Contains}
 use Rattle.enf_value.specs.declared.intervals.Interval.{Interval}
 
 -- no more than the end, where there is one

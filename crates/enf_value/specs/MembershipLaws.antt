@@ -14,7 +14,8 @@ HasNoRepeats-push (y ∷ ys) x distinct absent = (
 )
 
 -- no item stands before itself
-pub HasNoRepeats-middle : {X : Type 0} (xs ys : List X) (x : X) → HasNoRepeats (xs ++ x ∷ ys) → Contains xs x → ⊥
+pub HasNoRepeats-middle : {X : Type 0} (xs ys : List X) (x : X)
+    → HasNoRepeats (xs ++ x ∷ ys) → Contains xs x → ⊥
 HasNoRepeats-middle [] ys x distinct there = omega (arith, there.1)
 HasNoRepeats-middle {X = X} (first ∷ xs) ys x distinct there =
     by there.0 there.1 there.2 (HasNoRepeats-middle xs ys x distinct.1)

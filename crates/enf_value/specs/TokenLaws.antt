@@ -1,5 +1,6 @@
 -- The laws of tokens.
-use Rattle.std.specs.Prelude.{◌≡◌, ℕ, pos, negsuc, zero, suc, ◌+◌, ◌-◌, ◌<◌, ◌==◌, Bool, true, false, ◌||◌, List, []}
+use Rattle.std.specs.Prelude.{◌≡◌, ℕ, pos, negsuc, zero, suc, ◌+◌, ◌-◌, ◌<◌, ◌==◌, Bool, true}
+use Rattle.std.specs.Prelude.{false, ◌||◌, List, []}
 use Rattle.std.specs.Prelude.{◌∷◌, ◌++◌}
 use Rattle.std.specs.Prelude.{length, map}
 use Rattle.std.specs.Prelude.{Option, None, Some, IsTrue, decimal, refl, take_while, if◌then◌else◌}
@@ -76,7 +77,8 @@ AreCut place bytes [] = IsLastGap bytes
 AreCut place bytes ((at, Wrong) ∷ rest) =
     (text : List ℕ) × StandsAt place bytes at text × IsWrongAt text × (rest ≡ [])
 AreCut place bytes ((at, token) ∷ rest) =
-    (piece behind : List ℕ) × StandsAt place bytes at (piece ++ behind) × IsLongest piece behind token × IsProper token
+    (piece behind : List ℕ) × StandsAt place bytes at (piece ++ behind)
+    × IsLongest piece behind token × IsProper token
     × AreCut (at + length piece) behind rest
 
 -- so is each text

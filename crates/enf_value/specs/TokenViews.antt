@@ -1,5 +1,6 @@
 -- The tokens that the reader gives, as the definition has them.
-use Rattle.std.specs.Prelude.{◌≡◌, ◌≢◌, ℕ, ◌+◌, ◌==◌, Bool, false, ◌||◌, ◌&&◌, List, [], ◌∷◌, drop, length, Option}
+use Rattle.std.specs.Prelude.{◌≡◌, ◌≢◌, ℕ, ◌+◌, ◌==◌, Bool, false, ◌||◌, ◌&&◌, List, []}
+use Rattle.std.specs.Prelude.{◌∷◌, drop, length, Option}
 use Rattle.std.specs.Prelude.{Some, None}
 use Rattle.std.specs.Char.{is_ascii_digit}
 use Rattle.enf_value.specs.Tokens.{Token, Word, Digits, Negative, Text, Mark, Wrong, Placed, begins, is_blank}

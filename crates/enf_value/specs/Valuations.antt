@@ -88,7 +88,8 @@ to_value-from_value (Text text) = refl
 
 -- a value is stored as a number or a list of bytes
 abbrev pub value_code : Coded Value
-value_code = code_by (ℤ ⊎ List ℕ) (coded⊎ coded_ℤ (coded_list coded_ℕ)) from_value to_value to_value-from_value
+value_code =
+    code_by (ℤ ⊎ List ℕ) (coded⊎ coded_ℤ (coded_list coded_ℕ)) from_value to_value to_value-from_value
 
 -- and a valuation as its bindings
 abbrev pub valuation_code : Coded Valuation

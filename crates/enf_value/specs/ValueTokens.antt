@@ -1,6 +1,7 @@
 -- The tokens of values, as they stand in policies, logs, reports and saved states: what is written, and the value for
 -- which it stands.
-use Rattle.std.specs.Prelude.{◌≡◌, ◌≢◌, ℕ, ◌+◌, ◌^◌, ◌<◌, ◌≤◌, ◌==◌, ℤ, pos, negsuc, neg_ℤ, ◌⊎◌, List, [], ◌∷◌, ◌++◌}
+use Rattle.std.specs.Prelude.{◌≡◌, ◌≢◌, ℕ, ◌+◌, ◌^◌, ◌<◌, ◌≤◌, ◌==◌, ℤ, pos}
+use Rattle.std.specs.Prelude.{negsuc, neg_ℤ, ◌⊎◌, List, [], ◌∷◌, ◌++◌}
 use Rattle.std.specs.Prelude.{length, drop, Option, Some, None, if◌then◌else◌}
 use Rattle.std.specs.Str.Parse.{IsNumeral, digits_value}
 use Rattle.enf_value.specs.Spelling.{spelled}
@@ -94,7 +95,8 @@ PrintedIsToken =
 -- at each place one token begins at most, and it stands for one value
 abbrev pub OneTokenAtPlace : Type 0
 OneTokenAtPlace =
-    (bytes : List ℕ) (at m n : ℕ) (a b : Value) → TokenAt bytes at m a → TokenAt bytes at n b → (a ≡ b) × (m ≡ n)
+    (bytes : List ℕ) (at m n : ℕ) (a b : Value) → TokenAt bytes at m a
+    → TokenAt bytes at n b → (a ≡ b) × (m ≡ n)
 
 -- it is the longest: no longer piece of the bytes from there on is a token of any value
 abbrev pub TokenIsLongest : Type 0

@@ -54,10 +54,12 @@ pub fn worked_cases()
     ensures comment { tokens (codes "a #(" ++ 10 ∷ codes ")#;")
         ≡ (0, token.Word (codes "a")) ∷ (5, token.Mark mark.CloseParen) ∷ [] }
     ensures least { tokens (codes "-9223372036854775808") ≡ (0, token.Negative 9223372036854775808) ∷ [] }
-    ensures too_great { tokens (codes "a 9223372036854775808 b") ≡ (0, token.Word (codes "a")) ∷ (2, token.Wrong) ∷ [] }
+    ensures too_great { tokens (codes "a 9223372036854775808 b") ≡ (0, token.Word (codes "a"))
+        ∷ (2, token.Wrong) ∷ [] }
     ensures text { tokens (34 ∷ codes "a#" ++ 92 ∷ 110 ∷ 34 ∷ codes "b")
         ≡ (0, token.Text (codes "a#" ++ 10 ∷ [])) ∷ (6, token.Word (codes "b")) ∷ [] }
-    ensures no_quote { tokens (codes "a" ++ 34 ∷ codes "b c") ≡ (0, token.Word (codes "a")) ∷ (1, token.Wrong) ∷ [] }
+    ensures no_quote { tokens (codes "a" ++ 34 ∷ codes "b c") ≡ (0, token.Word (codes "a"))
+        ∷ (1, token.Wrong) ∷ [] }
     ensures wrong_escape { tokens (34 ∷ 92 ∷ codes "x" ++ 34 ∷ []) ≡ (0, token.Wrong) ∷ [] }
     ensures wrong_byte { tokens (codes "!;") ≡ (0, token.Wrong) ∷ [] }
 {}

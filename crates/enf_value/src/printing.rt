@@ -1,5 +1,6 @@
 //! The canonical texts of values and of numbers.
-ghost use Rattle.std.specs.Prelude.{◌≡◌, ◌++◌, ◌∷◌, ◌<◌, ◌≤◌, [], IfOk, IsTrue, OnOk, OnErr, decimal, length, take};
+ghost use Rattle.std.specs.Prelude.{◌≡◌, ◌++◌, ◌∷◌, ◌<◌, ◌≤◌, [], IfOk, IsTrue, OnOk, OnErr};
+ghost use Rattle.std.specs.Prelude.{decimal, length, take};
 ghost use Rattle.std.specs.Fmt.{signed_decimal};
 ghost use Rattle.std.specs.List.{flat_map};
 ghost use Rattle.enf_value.specs.Spelling.{spelled, escaped, quoted, AppendsPart};

@@ -1,5 +1,6 @@
 //! The tokens of values, read where they begin.
-ghost use Rattle.std.specs.Prelude.{◌≡◌, ◌≢◌, ◌<◌, ◌≤◌, ◌+◌, ◌==◌, ◌^◌, ℕ, ℤ, pos};
+ghost use Rattle.std.specs.Prelude.{◌≡◌, ◌≢◌, ◌<◌, ◌≤◌, ◌+◌, ◌==◌};
+ghost use Rattle.std.specs.Prelude.{◌^◌, ℕ, ℤ, pos};
 ghost use Rattle.std.specs.Prelude.{List, length, take, drop, slice_index};
 ghost use Rattle.std.specs.Prelude.{IfOk, IfSome, IfNone, if◌then◌else◌};
 ghost use Rattle.std.specs.Char.{is_ascii_digit};
@@ -151,7 +152,8 @@ fn text_token(
     ensures some { (bytes : List ℕ) → slice_index bytes 0 ≡ 34 → WrittenAt (drop 1 bytes) quote text.now
         → IfOk result (λ found. IfSome found (λ read. TokenAt bytes 0 read.1 (Text read.0))) }
     ensures none { (bytes : List ℕ) → WrittenAt (drop 1 bytes) quote text.now
-        → IfOk result (λ found. IfNone found ((other : List ℕ) (end : ℕ) → TokenAt bytes 0 end (Text other) → ⊥)) }
+        → IfOk result
+        (λ found. IfNone found ((other : List ℕ) (end : ℕ) → TokenAt bytes 0 end (Text other) → ⊥)) }
 {
     match TextValue::from_bytes(alloc, text) {
         Ok(text) => Ok(Some((text, quote + 2))),
@@ -166,7 +168,8 @@ fn text_token(
 fn read_written(alloc: Global, bytes: &[u8]) -> Result<Option<(Vec<u8>, usize)>, NoMemory>
     ensures some { IfOk result (λ found. IfSome found (λ read. WrittenAt bytes.now read.1 read.0.items)) }
     ensures within { IfOk result (λ found. IfSome found (λ read. read.1 < length bytes.now)) }
-    ensures none { IfOk result (λ found. IfNone found ((text : List ℕ) (end : ℕ) → WrittenAt bytes.now end text → ⊥)) }
+    ensures none { IfOk result
+        (λ found. IfNone found ((text : List ℕ) (end : ℕ) → WrittenAt bytes.now end text → ⊥)) }
 {
     let mut text = Vec::new(alloc);
     let mut escape = false;

@@ -1,5 +1,6 @@
 //! The tokens of signatures and policies, each read where it begins.
-ghost use Rattle.std.specs.Prelude.{◌≡◌, ◌<◌, ◌≤◌, ◌+◌, ◌-◌, ◌∷◌, [], false, true, IfOk, IfSome, IfNone, drop};
+ghost use Rattle.std.specs.Prelude.{◌≡◌, ◌<◌, ◌≤◌, ◌+◌, ◌-◌, ◌∷◌, [], false, true, IfOk};
+ghost use Rattle.std.specs.Prelude.{IfSome, IfNone, drop};
 ghost use Rattle.std.specs.Prelude.{length, slice_index};
 ghost use Rattle.enf_value.specs.Tokens.{IsProper, is_blank, mark_text, tokens_at};
 ghost use Rattle.enf_value.specs.Names.{is_word_start};
@@ -67,7 +68,8 @@ pub fn next_token(
     ensures some { IfOk result
         (λ found. IfSome found (λ next. tokens_at bytes.now at ≡ placed_of next ∷ tokens_at bytes.now next.end)) }
     ensures proper { IfOk result (λ found. IfSome found (λ next. IsProper (token_of next.token))) }
-    ensures within { IfOk result (λ found. IfSome found (λ next. (at < next.end) × (next.end ≤ length bytes.now))) }
+    ensures within { IfOk result
+        (λ found. IfSome found (λ next. (at < next.end) × (next.end ≤ length bytes.now))) }
     ensures placed { IfOk result (λ found. IfSome found (λ next. next.place < length bytes.now)) }
     ensures none { IfOk result (λ found. IfNone found (tokens_at bytes.now at ≡ [])) }
 {

@@ -1,5 +1,6 @@
 -- What is answered for a formula that is to be made true or false, and the rules for formulas that need two answers.
-use Rattle.std.specs.Prelude.{◌≡◌, ℕ, zero, suc, Bool, true, false, List, [], ◌++◌, Option, None, Some, Result}
+use Rattle.std.specs.Prelude.{◌≡◌, ℕ, zero, suc, Bool, true, false, List, []}
+use Rattle.std.specs.Prelude.{◌++◌, Option, None, Some, Result}
 use Rattle.std.specs.Prelude.{Ok, Err, Contains}
 use Rattle.enf_value.specs.declared.terms.VarId.{VarId}
 use Rattle.enf_formula.specs.Formulas.{Formula, And, Not}
@@ -42,8 +43,10 @@ pub data OverOne (one : Answer → Type 0) (node : Plan → Plan) (answer : Answ
 pub data OverTwo (first second : Answer → Type 0) (node : Plan → Plan → Plan) (answer : Answer) : Type 0 where
   made : (left right : Plan) → first (Ok left) → second (Ok right) → answer ≡ Ok (node left right)
       → OverTwo first second node answer
-  first_refused : (refusal : Refusal) → first (Err refusal) → answer ≡ Err refusal → OverTwo first second node answer
-  second_refused : (left : Plan) (refusal : Refusal) → first (Ok left) → second (Err refusal) → answer ≡ Err refusal
+  first_refused : (refusal : Refusal) → first (Err refusal) → answer ≡ Err refusal
+      → OverTwo first second node answer
+  second_refused : (left : Plan) (refusal : Refusal) → first (Ok left) → second (Err refusal)
+      → answer ≡ Err refusal
       → OverTwo first second node answer
 
 -- an interval has an end of at least 1, or the formula is refused before its operands are looked at
@@ -67,7 +70,8 @@ pub data OneOfTwo (scope : List VarId) (l r : Formula) (left right : Answer → 
       → left (Err refusal) → answer ≡ Err refusal → OneOfTwo scope l r left right answer
   right_refused : (refusal : Refusal) → right (Err refusal) → (IsTest r (Contains scope) → ⊥)
       → answer ≡ Err refusal → OneOfTwo scope l r left right answer
-  right_test : (refusal : Refusal) (plan : Plan) → right (Err refusal) → IsTest r (Contains scope) → left (Ok plan)
+  right_test : (refusal : Refusal) (plan : Plan) → right (Err refusal)
+      → IsTest r (Contains scope) → left (Ok plan)
       → answer ≡ Ok (TestOr 0 0 r plan) → OneOfTwo scope l r left right answer
   both_refused : (refusal other : Refusal) → right (Err refusal) → IsTest r (Contains scope) → left (Err other)
       → answer ≡ Err other → OneOfTwo scope l r left right answer
@@ -104,7 +108,8 @@ pub data Implication (place arrow : ℕ) (scope xs : List VarId) (g h : Formula)
       → Implication place arrow scope xs g h down_g up_h answer
   test_unguarded : (refusal : Refusal) (plan : Plan) → up_h (scope ++ xs) (Err refusal)
       → IsTest h (Contains (scope ++ xs)) → down_g (scope ++ xs) (Ok plan) → (Guards scope xs g → ⊥)
-      → (xs ≡ [] → ⊥) → answer ≡ Err (Unguarded place) → Implication place arrow scope xs g h down_g up_h answer
+      → (xs ≡ [] → ⊥) → answer ≡ Err (Unguarded place)
+      → Implication place arrow scope xs g h down_g up_h answer
   test : (refusal : Refusal) (plan : Plan) → up_h (scope ++ xs) (Err refusal)
       → IsTest h (Contains (scope ++ xs)) → down_g (scope ++ xs) (Ok plan) → (Guards scope xs g → ⊥)
       → xs ≡ [] → answer ≡ Ok (TestOr 0 0 h plan) → Implication place arrow scope xs g h down_g up_h answer

@@ -1,5 +1,6 @@
 //! Plans for the rules of a policy.
-ghost use Rattle.std.specs.Prelude.{◌≡◌, ◌+◌, ◌<◌, ◌≤◌, ◌^◌, ◌++◌, ◌∷◌, [], All, IfErr, IfOk, OnOk, length, map};
+ghost use Rattle.std.specs.Prelude.{◌≡◌, ◌+◌, ◌<◌, ◌≤◌, ◌^◌, ◌++◌, ◌∷◌, [], All};
+ghost use Rattle.std.specs.Prelude.{IfErr, IfOk, OnOk, length, map};
 ghost use Rattle.enf_formula.specs.Shape.{size_of};
 ghost use Rattle.plan_terms.specs.Guards.{guards_in, guards_of, GuardsAreSafe};
 ghost use Rattle.enforce_types.specs.Numbering.{node_count, guard_count, numbered};

@@ -94,7 +94,8 @@ pub fn quantified()
     ensures none_unguarded { MadeTrue (tree.Forall 1 (x ∷ []) (tree.Not 2 (soon 3 (p_x_at 4)))) (unguarded 1) }
     ensures no_range { MadeTrue (tree.Forall 1 (x ∷ []) (tree.Equal 2 (Var x) (Var x))) (unguarded 1) }
     ensures range_too_small { MadeTrue (tree.Forall 1 (x ∷ []) (tree.Implies 3 (p_at 2) (q_x_at 4))) (unguarded 1) }
-    ensures first_of_nested { MadeTrue (tree.Forall 1 (x ∷ []) (tree.Forall 2 (y ∷ []) (p_x_y_at 3))) (unguarded 1) }
+    ensures first_of_nested { MadeTrue
+        (tree.Forall 1 (x ∷ []) (tree.Forall 2 (y ∷ []) (p_x_y_at 3))) (unguarded 1) }
     ensures refused_before_unguarded { MadeTrue
         (tree.Forall 1 (x ∷ []) (tree.Implies 3 (p_at 2) (soon 4 (p_x_at 5)))) (not_enforceable 5) }
 {}

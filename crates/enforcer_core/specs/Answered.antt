@@ -1,5 +1,6 @@
 -- When each answer of a call at a time comes, and what it leaves.
-use Rattle.std.specs.Prelude.{◌≡◌, ℕ, ◌+◌, ◌<◌, ◌≤◌, Bool, true, false, IsTrue, List, [], ◌∷◌, length, Result, Ok, Err}
+use Rattle.std.specs.Prelude.{◌≡◌, ℕ, ◌+◌, ◌<◌, ◌≤◌, Bool, true, false, IsTrue, List, []}
+use Rattle.std.specs.Prelude.{◌∷◌, length, Result, Ok, Err}
 use Rattle.enf_value.specs.declared.events.NameId.{NameId}
 use Rattle.trace_meaning.specs.Lawful.{Lawful}
 use Rattle.trace_meaning.specs.OutSteps.{IsWithin}

@@ -1,5 +1,6 @@
 -- Why inserted steps end: up to when something can be owed, which never grows at the steps that serve it.
-use Rattle.std.specs.Prelude.{◌≡◌, ◌&&◌, ℕ, ◌+◌, ◌*◌, ◌<◌, ◌≤◌, Bool, false, true, cond, count_by, nat_eq}
+use Rattle.std.specs.Prelude.{◌≡◌, ◌&&◌, ℕ, ◌+◌, ◌*◌, ◌<◌, ◌≤◌, Bool}
+use Rattle.std.specs.Prelude.{false, true, cond, count_by, nat_eq}
 use Rattle.std.specs.Prelude.{List, [], ◌∷◌, ◌++◌, map, All, Option, None, Some, Contains}
 use Rattle.std.specs.List.{AllByRecursion}
 use Rattle.enf_value.specs.Data.{IsTrace}
@@ -40,7 +41,8 @@ reach_of ranks plans pending = greatest (map (λ i. reach_at ranks plans i.high 
 
 -- no deadline is behind that
 abbrev pub DeadlinesAreWithinReach : Type 0
-DeadlinesAreWithinReach = (ranks : List ℕ) (plans : List Plan) (pending : List Instance) (i : Instance) (deadline : ℕ)
+DeadlinesAreWithinReach =
+    (ranks : List ℕ) (plans : List Plan) (pending : List Instance) (i : Instance) (deadline : ℕ)
     → Contains pending i → HasDeadline plans i deadline → deadline ≤ reach_of ranks plans pending
 
 -- where the least deadline is served, each deadline behind that step is later, and nothing is owed for longer than it
@@ -99,7 +101,8 @@ AnyCountsFall = (typed : Typed) (trace : List Step) (pending after : List Instan
 
 -- what is pending behind a trace is owed within the horizon of its last time
 abbrev pub ReachIsWithinHorizon : Type 0
-ReachIsWithinHorizon = (typed : Typed) (trace : List Step) (pending : List Instance) (clock : ℕ) → WorkTogether typed
+ReachIsWithinHorizon =
+    (typed : Typed) (trace : List Step) (pending : List Instance) (clock : ℕ) → WorkTogether typed
     → IsTrace trace → Pend typed.plans trace pending → last_time trace ≤ clock
     → reach_of typed.ranked.ranks typed.plans pending ≤ clock + typed.ranked.horizon
 
@@ -139,5 +142,6 @@ LedStaysInReach = (typed : Typed) (pending after : List Instance) (time position
     (inserted : Bool) → WorkTogether typed → NoneIsOver typed.plans pending time
     → LeadsAt events time position typed.plans inserted pending after
     → NoneIsOver typed.plans after time
-    × ((most : ℕ) → reach_of typed.ranked.ranks typed.plans pending ≤ most → time + typed.ranked.horizon ≤ most
+    × ((most : ℕ) → reach_of typed.ranked.ranks typed.plans pending ≤ most
+    → time + typed.ranked.horizon ≤ most
     → reach_of typed.ranked.ranks typed.plans after ≤ most)

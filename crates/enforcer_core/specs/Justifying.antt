@@ -52,7 +52,8 @@ DrainIsJustified = (typed : Typed) (trace : List Step) (clock : ℕ) (out : List
 abbrev pub CourseIsJustified : Type 0
 CourseIsJustified = (entries : List NameEntry) (policy : List Formula) (guards : List (Formula × List VarId))
     (start : Enforcing) (trace : List Step) (records : List Record) (out : List ActedStep) (now : Enforcing)
-    → ArePlanned entries policy (plans_of start) guards → WorkTogether (typed_of start.policy) → AreDistinct records
+    → ArePlanned entries policy (plans_of start) guards
+    → WorkTogether (typed_of start.policy) → AreDistinct records
     → Course start trace records out now → IsJustifiedByPolicy entries policy trace records out
 
 -- and with what a drain lets out, as its contract says its Ok, all of it is

@@ -1,5 +1,6 @@
 -- What an enforcer does at the deadlines that are passed.
-use Rattle.std.specs.Prelude.{ℕ, ◌+◌, ◌<◌, ◌≤◌, List, [], ◌∷◌, ◌++◌, All, length, Option, None, Some, Contains}
+use Rattle.std.specs.Prelude.{ℕ, ◌+◌, ◌<◌, ◌≤◌, List, [], ◌∷◌, ◌++◌, All, length, Option}
+use Rattle.std.specs.Prelude.{None, Some, Contains}
 use Rattle.enf_value.specs.declared.steps.Step.{Step}
 use Rattle.trace_meaning.specs.Records.{Record, time_of}
 use Rattle.obligations.specs.Waiting.{IsLeastOf}
@@ -15,7 +16,8 @@ use Rattle.enforcer_core.specs.Stands.{KeepsStanding, Stands}
 pub record StaysWithin (until : Option ℕ) (before after : Enforcing) : Type 0 where
   pub rises : before.clock ≤ after.clock
   pub reach : reach_in after ≤ reach_in before
-  pub in_time : (limit : ℕ) → before.clock ≤ limit → ((deadline : ℕ) → IsPassed until deadline → deadline < limit)
+  pub in_time : (limit : ℕ) → before.clock ≤ limit
+      → ((deadline : ℕ) → IsPassed until deadline → deadline < limit)
       → after.clock ≤ limit
   pub in_reach : (limit : ℕ) → before.clock ≤ limit → reach_in before < limit → after.clock ≤ limit
 

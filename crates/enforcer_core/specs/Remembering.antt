@@ -1,5 +1,6 @@
 -- What is remembered of the steps that went out, and how a step goes out and is remembered.
-use Rattle.std.specs.Prelude.{◌≡◌, ℕ, ◌+◌, ◌≤◌, ◌^◌, Bool, List, ◌∷◌, [], ◌++◌, Option, length, map}
+use Rattle.std.specs.Prelude.{◌≡◌, ℕ, ◌+◌, ◌≤◌, ◌^◌, Bool, List, ◌∷◌}
+use Rattle.std.specs.Prelude.{[], ◌++◌, Option, length, map}
 use Rattle.std.specs.List.{AllByRecursion}
 use Rattle.enf_value.specs.Membership.{HasNoRepeats}
 use Rattle.enf_value.specs.declared.events.Event.{Event}
@@ -53,7 +54,8 @@ pub record Remembers (plans : List Plan) (r : Remembered) (trace : List Step) : 
 
 -- for each trace that is remembered, what is pending goes where a step with these events at a time leads it, if those
 -- of it that are forced are served there
-abbrev pub PendingGoes : List Plan → Remembered → (inserted : Bool) → (time : ℕ) → List Event → (after : List Instance)
+abbrev pub PendingGoes : List Plan → Remembered → (inserted : Bool) → (time : ℕ) → List Event
+    → (after : List Instance)
     → Type 0
 PendingGoes plans before inserted time events after = (trace : List Step) → Remembers plans before trace
     → last_time trace ≤ time

@@ -1,5 +1,6 @@
 //! The enforcer.
-ghost use Rattle.std.specs.Prelude.{◌≡◌, ◌≢◌, ◌≤◌, ◌<◌, ◌+◌, ◌-◌, ℕ, List, [], ◌∷◌, false};
+ghost use Rattle.std.specs.Prelude.{◌≡◌, ◌≢◌, ◌≤◌, ◌<◌, ◌+◌, ◌-◌, ℕ};
+ghost use Rattle.std.specs.Prelude.{List, [], ◌∷◌, false};
 ghost use Rattle.std.specs.Prelude.{All, Contains, IfOk, Err, length};
 ghost use Rattle.enforce_types.specs.Typed.{WorkTogether, typed_of};
 ghost use Rattle.enf_value.specs.declared.steps.Step.{Step};

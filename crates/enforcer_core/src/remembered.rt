@@ -1,5 +1,6 @@
 //! What is remembered of the steps that went out.
-ghost use Rattle.std.specs.Prelude.{◌≡◌, ◌+◌, ◌^◌, ◌<◌, ◌≤◌, ℕ, [], IfOk, IsTrue, OnErr, OnOk, map};
+ghost use Rattle.std.specs.Prelude.{◌≡◌, ◌+◌, ◌^◌, ◌<◌, ◌≤◌, ℕ, [], IfOk};
+ghost use Rattle.std.specs.Prelude.{IsTrue, OnErr, OnOk, map};
 ghost use Rattle.choice_step.specs.Follows.{is_inserted as is_of_deadline};
 ghost use Rattle.plan_terms.specs.Plans.{plan_of};
 ghost use Rattle.plan_terms.specs.Triggers.{guard_triggers};
@@ -72,7 +73,8 @@ impl Remembered {
         requires room { self.old.position + 1 < 2 ^ 64 }
         requires in_time { time ≤ MOST_TIME }
         ensures decided { IfOk result (λ o. IsDecided (map plan_of plans.now) self.old kind time events o self.new) }
-        ensures can { OnOk result ((later : ℕ) → time ≤ later → CanGoOn (map plan_of plans.now) self.new later) }
+        ensures can { OnOk result
+            ((later : ℕ) → time ≤ later → CanGoOn (map plan_of plans.now) self.new later) }
     {
         traces_grow();
         trace_grows();
@@ -113,7 +115,8 @@ impl Remembered {
         requires room { self.old.position + 1 < 2 ^ 64 }
         requires in_time { time ≤ MOST_TIME }
         ensures decided { IfOk result (λ o. IsDecided (map plan_of plans.now) self.old kind time events o self.new) }
-        ensures can { OnOk result ((later : ℕ) → time ≤ later → CanGoOn (map plan_of plans.now) self.new later) }
+        ensures can { OnOk result
+            ((later : ℕ) → time ≤ later → CanGoOn (map plan_of plans.now) self.new later) }
     {
         traces_grow();
         trace_grows();

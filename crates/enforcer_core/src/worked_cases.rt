@@ -10,7 +10,8 @@ ghost use Rattle.enforcer_core.specs.Ending.{CountsFall, of_class, reach_of};
 pub fn reaches()
     ensures nothing { reach_of (0 ∷ 1 ∷ []) (each_soon ∷ []) [] ≡ 0 }
     ensures one { reach_of (0 ∷ 1 ∷ []) (each_soon ∷ []) (due_by 31 ∷ []) ≡ 211 }
-    ensures the_greatest { reach_of (0 ∷ 1 ∷ []) (each_soon ∷ []) (due_by 31 ∷ due_by 40 ∷ due_by 35 ∷ []) ≡ 220 }
+    ensures the_greatest { reach_of (0 ∷ 1 ∷ []) (each_soon ∷ [])
+        (due_by 31 ∷ due_by 40 ∷ due_by 35 ∷ []) ≡ 220 }
     ensures no_deadline { reach_of (0 ∷ 0 ∷ []) (then_always_q ∷ []) (due_by 31 ∷ []) ≡ 0 }
     ensures counted { of_class (0 ∷ 1 ∷ []) (each_soon ∷ []) 6 (due_by 31 ∷ due_by 40 ∷ []) ≡ 2 }
     ensures of_no_other_class { of_class (0 ∷ 1 ∷ []) (each_soon ∷ []) 5 (due_by 31 ∷ []) ≡ 0 }

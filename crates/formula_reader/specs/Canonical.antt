@@ -1,5 +1,6 @@
 -- The canonical text of a rule.
-use Rattle.std.specs.Prelude.{ℕ, Bool, true, false, List, [], ◌∷◌, ◌++◌, Option, None, Some, codes, decimal, slice_get}
+use Rattle.std.specs.Prelude.{ℕ, Bool, true, false, List, [], ◌∷◌, ◌++◌, Option}
+use Rattle.std.specs.Prelude.{None, Some, codes, decimal, slice_get}
 use Rattle.std.specs.List.{flat_map}
 use Rattle.std.specs.Option.{option_map, unwrap_or}
 use Rattle.enf_formula.specs.Formulas.{Formula, True, False, Atom, Equal, Less, AtMost, Not, And, Or, Implies, Exists}
@@ -70,7 +71,8 @@ abbrev pub infix_text : (left operator right : List ℕ) → List ℕ
 infix_text left operator right = left ++ (codes " " ++ (operator ++ (codes " " ++ right)))
 
 -- a quantifier with its variables
-abbrev pub quantified_text : (vars : List (List ℕ)) → (word : List ℕ) → List VarId → (operand : List ℕ) → List ℕ
+abbrev pub quantified_text : (vars : List (List ℕ)) → (word : List ℕ) → List VarId
+    → (operand : List ℕ) → List ℕ
 quantified_text vars word xs operand = word ++
     (separated (variable_text vars) (codes ", ") xs ++ (codes ". " ++ operand))
 

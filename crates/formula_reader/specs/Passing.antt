@@ -1,5 +1,6 @@
 -- How the reader passes points: with the sorts of the variables so far, at their numbers.
-use Rattle.std.specs.Prelude.{◌≡◌, ◌≢◌, ℕ, length, List, [], ◌∷◌, ◌++◌, Option, None, Some, Result, Ok, Err}
+use Rattle.std.specs.Prelude.{◌≡◌, ◌≢◌, ℕ, length, List, [], ◌∷◌, ◌++◌, Option, None, Some}
+use Rattle.std.specs.Prelude.{Result, Ok, Err}
 use Rattle.std.specs.Prelude.{slice_index_or, slice_set}
 use Rattle.enf_value.specs.declared.terms.Term.{Term}
 use Rattle.enf_value.specs.declared.terms.Term.TheVariants.{Var}

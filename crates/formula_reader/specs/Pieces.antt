@@ -38,7 +38,8 @@ term_piece vars (Const value) = Some (value_token value)
 -- pieces with a separator between them
 abbrev pub separated_pieces : {A : Type 0} → (A → Piece) → (separator : List Piece) → List A → List Piece
 separated_pieces piece separator [] = []
-separated_pieces piece separator (first ∷ rest) = piece first ∷ flat_map (λ item. separator ++ piece item ∷ []) rest
+separated_pieces piece separator (first ∷ rest) =
+    piece first ∷ flat_map (λ item. separator ++ piece item ∷ []) rest
 
 -- the end of an interval
 abbrev pub end_piece : Option ℕ → Piece
@@ -75,10 +76,12 @@ abbrev pub infix_pieces : (left operator right : List Piece) → List Piece
 infix_pieces left operator right = left ++ (blank ∷ (operator ++ (blank ∷ right)))
 
 -- a quantifier with its variables
-abbrev pub quantified_pieces : (vars : List (List ℕ)) → (quantifier : List ℕ) → List VarId → (operand : List Piece) →
+abbrev pub quantified_pieces : (vars : List (List ℕ)) → (quantifier : List ℕ) → List VarId
+    → (operand : List Piece) →
     List Piece
 quantified_pieces vars quantifier xs operand =
-    word quantifier ∷ blank ∷ separated_pieces (λ x. word (variable_text vars x)) (mark marks.Comma ∷ blank ∷ []) xs
+    word quantifier ∷ blank
+    ∷ separated_pieces (λ x. word (variable_text vars x)) (mark marks.Comma ∷ blank ∷ []) xs
     ++ mark marks.Dot ∷ blank ∷ operand
 
 -- a formula

@@ -1,6 +1,7 @@
 -- What the second pass looks at, in the order of the text: event names, variables where a quantifier binds them, and
 -- terms.
-use Rattle.std.specs.Prelude.{ℕ, ◌+◌, Bool, false, List, [], ◌∷◌, ◌++◌, Option, None, Some, length, map, slice_get}
+use Rattle.std.specs.Prelude.{ℕ, ◌+◌, Bool, false, List, [], ◌∷◌, ◌++◌, Option}
+use Rattle.std.specs.Prelude.{None, Some, length, map, slice_get}
 use Rattle.std.specs.List.{find}
 use Rattle.std.specs.Option.{option_map, option_and_then}
 use Rattle.std.specs.Str.{bytes_eq}
@@ -65,9 +66,11 @@ abbrev pub use_of : (names : List (List ℕ)) → (scope : List VarId) → Synta
 use_of names scope term wanted = Use (place_of term) (term_in names scope term) wanted
 
 -- each argument wants the sort of its column
-abbrev pub argument_points : (names : List (List ℕ)) → (scope : List VarId) → List Sort → List SyntaxTerm → List Point
+abbrev pub argument_points : (names : List (List ℕ)) → (scope : List VarId) → List Sort
+    → List SyntaxTerm → List Point
 argument_points names scope sorts [] = []
-argument_points names scope [] (term ∷ terms) = use_of names scope term Nothing ∷ argument_points names scope [] terms
+argument_points names scope [] (term ∷ terms) =
+    use_of names scope term Nothing ∷ argument_points names scope [] terms
 argument_points names scope (sort ∷ sorts) (term ∷ terms) =
     use_of names scope term (This sort) ∷ argument_points names scope sorts terms
 
@@ -123,7 +126,8 @@ points entries names scope (Atom place name terms) =
 points entries names scope (Equal place s t) =
     use_of names scope s Nothing ∷ use_of names scope t (SortOf (term_in names scope s)) ∷ []
 points entries names scope (Less place s t) = use_of names scope s (This Int) ∷ use_of names scope t (This Int) ∷ []
-points entries names scope (AtMost place s t) = use_of names scope s (This Int) ∷ use_of names scope t (This Int) ∷ []
+points entries names scope (AtMost place s t) =
+    use_of names scope s (This Int) ∷ use_of names scope t (This Int) ∷ []
 points entries names scope (Not place f) = points entries names scope f
 points entries names scope (And place f g) =
     points entries names scope f ++ points entries (names ++ bound_names f) scope g

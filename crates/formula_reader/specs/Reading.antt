@@ -24,7 +24,8 @@ Follows entries (Ok rules) answer = IsAnswer entries rules answer
 Follows entries (Err refusal) answer = answer ≡ Err (of_first_pass refusal)
 
 -- the answer to a text: what follows the answer of the first pass to it
-pub record IsTextAnswer (entries : List NameEntry) (bytes : List ℕ) (answer : Result (List Rule) PolicyRefusal) : Type 0
+pub record IsTextAnswer (entries : List NameEntry) (bytes : List ℕ)
+    (answer : Result (List Rule) PolicyRefusal) : Type 0
   where
     pub passed : Result (List syntax.Rule) SyntaxRefusal
     pub read : first_pass.IsAnswer bytes passed

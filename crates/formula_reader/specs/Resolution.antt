@@ -37,7 +37,8 @@ terms_in names scope terms = with_all (map (term_in names scope) terms)
 
 -- a formula under a signature, where the rule has bound variables with these names before it and those in scope are
 -- these; none where a name is not in the signature or a variable not in scope
-abbrev pub formula_in : List NameEntry → (names : List (List ℕ)) → (scope : List VarId) → Formula → Option tree.Formula
+abbrev pub formula_in : List NameEntry → (names : List (List ℕ)) → (scope : List VarId)
+    → Formula → Option tree.Formula
 formula_in entries names scope (True place) = Some (tree.True place)
 formula_in entries names scope (False place) = Some (tree.False place)
 formula_in entries names scope (Atom place name terms) =

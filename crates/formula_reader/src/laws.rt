@@ -70,7 +70,8 @@ pub fn first_of_text()
 
 /// The canonical text of a rule is spelled by these tokens, with a blank for each blank.
 pub fn text_is_spelled()
-    ensures { (entries : List NameEntry) (rule : Rule) → printed (rule_pieces entries rule) ≡ rule_text entries rule }
+    ensures { (entries : List NameEntry) (rule : Rule)
+        → printed (rule_pieces entries rule) ≡ rule_text entries rule }
 {}
 
 /// The canonical text of a rule is cut into these tokens at their places, where its names are words and its values and
@@ -85,7 +86,8 @@ pub fn text_is_cut()
 /// A rule under a signature, written back by its texts, is the rule of the syntax tree that it came from, but for the
 /// places of its variables and terms.
 pub fn rule_is_written_back()
-    ensures { (entries : List NameEntry) (rule : SyntaxRule) (resolved : Rule) → rule_in entries rule ≡ Some resolved
+    ensures { (entries : List NameEntry) (rule : SyntaxRule) (resolved : Rule)
+        → rule_in entries rule ≡ Some resolved
         → rule_back entries resolved ≡ rule_plain rule }
 {}
 

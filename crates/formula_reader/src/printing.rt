@@ -1,5 +1,6 @@
 //! The canonical text of a rule.
-ghost use Rattle.std.specs.Prelude.{◌≡◌, ◌++◌, ◌∷◌, [], Option, codes, decimal, OnErr, OnOk, slice_index_or};
+ghost use Rattle.std.specs.Prelude.{◌≡◌, ◌++◌, ◌∷◌, [], Option, codes};
+ghost use Rattle.std.specs.Prelude.{decimal, OnErr, OnOk, slice_index_or};
 ghost use Rattle.std.specs.List.{flat_map};
 ghost use Rattle.enf_formula.specs.Formulas as tree;
 ghost use Rattle.enf_value.specs.Spelling.{AppendsPart, spelled};
@@ -95,7 +96,8 @@ impl Printer<'_> {
 
     fn print_variables(&self, variables: &[VarId], out: &mut Vec<u8>) -> Result<(), NoMemory>
         ensures ok { OnOk result
-            (out.new.items ≡ out.old.items ++ separated (variable_text self.now.vars.now) (codes ", ") variables.now) }
+            (out.new.items ≡ out.old.items
+            ++ separated (variable_text self.now.vars.now) (codes ", ") variables.now) }
         ensures err { OnErr result
             (AppendsPart (separated (variable_text self.now.vars.now) (codes ", ") variables.now) out.old.items
             out.new.items) }

@@ -1,5 +1,6 @@
 //! The second pass of the reader: from a syntax tree to the tree under a signature.
-ghost use Rattle.std.specs.Prelude.{◌≡◌, ◌≢◌, ◌∷◌, ◌++◌, [], length, map, List, Result, None, Some, IfErr, IfOk};
+ghost use Rattle.std.specs.Prelude.{◌≡◌, ◌≢◌, ◌∷◌, ◌++◌, [], length, map, List, Result, None};
+ghost use Rattle.std.specs.Prelude.{Some, IfErr, IfOk};
 ghost use Rattle.std.specs.Prelude.{OnErr, OnOk};
 ghost use Rattle.enf_formula.specs.Formulas as tree;
 ghost use Rattle.policy_syntax.specs.Trees.{formula_of, rule_of as syntax_rule_of, rules_of as syntax_rules_of};
@@ -186,7 +187,8 @@ impl Resolver<'_> {
         variables: &mut Variables,
         bindings: &[Binding],
     ) -> Result<Vars, PolicyRefusal>
-        ensures value { IfOk result (λ bound. bound ≡ variables_from (length variables.old.names.items) bindings.now) }
+        ensures value { IfOk result
+            (λ bound. bound ≡ variables_from (length variables.old.names.items) bindings.now) }
         ensures ok { OnOk result (Binds self.now.signature.now variables.old variables.new bindings.now) }
         ensures err { IfErr result (λ refusal. Refuses refusal (pass_with self.now.signature.now variables.old
             (binders_with variables.old bindings.now))) }
@@ -205,7 +207,8 @@ impl Resolver<'_> {
         formula: &SyntaxFormula,
     ) -> Result<Formula, PolicyRefusal>
         ensures value { IfOk result (λ resolved.
-            formula_with self.now.signature.now variables.old (formula_of formula.now) ≡ Some (tree.tree_of resolved)) }
+            formula_with self.now.signature.now variables.old (formula_of formula.now)
+            ≡ Some (tree.tree_of resolved)) }
         ensures ok { OnOk result (Passes self.now.signature.now variables.old variables.new
             (points_with self.now.signature.now variables.old (formula_of formula.now))
             (bound_names (formula_of formula.now))) }
@@ -341,7 +344,8 @@ impl Resolver<'_> {
         bindings: &[Binding],
         formula: &SyntaxFormula,
     ) -> Result<(Vars, Box<Formula>), PolicyRefusal>
-        ensures vars { IfOk result (λ bound. bound.0 ≡ variables_from (length variables.old.names.items) bindings.now) }
+        ensures vars { IfOk result
+            (λ bound. bound.0 ≡ variables_from (length variables.old.names.items) bindings.now) }
         ensures value { IfOk result
             (λ bound. body_in self.now.signature.now variables.old bindings.now (formula_of formula.now)
             ≡ Some (tree.tree_of bound.1.value)) }
@@ -381,7 +385,8 @@ impl Resolver<'_> {
 
     fn resolve_rules(&self, rules: &[SyntaxRule]) -> Result<Rules, PolicyRefusal>
         ensures value { IfOk result
-            (λ resolved. rules_in self.now.signature.now (map syntax_rule_of rules.now) ≡ Some (map rule_of resolved)) }
+            (λ resolved. rules_in self.now.signature.now (map syntax_rule_of rules.now)
+            ≡ Some (map rule_of resolved)) }
         ensures ok { OnOk result (policy_refusal self.now.signature.now (map syntax_rule_of rules.now) ≡ None) }
         ensures err { IfErr result (λ refusal. refusal ≢ OutOfMemory
             → policy_refusal self.now.signature.now (map syntax_rule_of rules.now) ≡ Some refusal) }

@@ -1,5 +1,6 @@
 //! The variables of a rule, as far as the rule was read.
-ghost use Rattle.std.specs.Prelude.{◌≡◌, ◌≢◌, ◌∷◌, ◌++◌, [], length, slice_get, None, Some, IfErr, IfOk, OnOk};
+ghost use Rattle.std.specs.Prelude.{◌≡◌, ◌≢◌, ◌∷◌, ◌++◌, [], length, slice_get, None, Some};
+ghost use Rattle.std.specs.Prelude.{IfErr, IfOk, OnOk};
 ghost use Rattle.formula_reader.specs.Passing.{IsFresh, known_in, term_with, variable_with, with_sort};
 ghost use Rattle.formula_reader.specs.Points.{is_named, numbered, place_of};
 ghost use Rattle.formula_reader.specs.Sorts.{binder_refusal, sort_of};

@@ -46,7 +46,8 @@ pub fn sorts()
     ensures later_place { IsRefused (Forall 1 (bind_x 2 ∷ []) (And 5 (num 3 (x 4 ∷ [])) (txt 6 (x 7 ∷ []))))
         (refused.SortClash 7) }
     // forall x. two(x,x)
-    ensures within_an_event { IsRefused (Forall 1 (bind_x 2 ∷ []) (two 3 (x 4 ∷ x 5 ∷ []))) (refused.SortClash 5) }
+    ensures within_an_event { IsRefused (Forall 1 (bind_x 2 ∷ []) (two 3 (x 4 ∷ x 5 ∷ [])))
+        (refused.SortClash 5) }
     ensures less_wants_int { IsRefused (Less 2 (letter 1) (one 3)) (refused.SortClash 1) }
     ensures at_most_wants_int { IsRefused (AtMost 2 (one 1) (letter 3)) (refused.SortClash 3) }
     // forall x. x < 1 and txt(x)
@@ -115,10 +116,12 @@ pub fn levels()
         (0 ∷ 0 ∷ 0 ∷ 0 ∷ 0 ∷ 1 ∷ 0 ∷ 1 ∷ 2 ∷ 2 ∷ 3 ∷ 2 ∷ 3 ∷ 3 ∷ 4 ∷ 2 ∷ 0 ∷ []) }
     // rule r: go() since[2,*] (not go());
     ensures interval { HasLevels (tree.Since 0 from_on said_go (tree.Not 0 said_go))
-        (0 ∷ 0 ∷ 0 ∷ 0 ∷ 0 ∷ 1 ∷ 0 ∷ 0 ∷ 0 ∷ 0 ∷ 0 ∷ 0 ∷ 1 ∷ 2 ∷ 3 ∷ 3 ∷ 4 ∷ 2 ∷ 0 ∷ []) }
+        (0 ∷ 0 ∷ 0 ∷ 0 ∷ 0 ∷ 1 ∷ 0 ∷ 0 ∷ 0 ∷ 0 ∷ 0 ∷ 0 ∷ 1 ∷ 2 ∷ 3
+        ∷ 3 ∷ 4 ∷ 2 ∷ 0 ∷ []) }
     // rule r: forall x. (num(x) and (once[2,5] go()));
     ensures nested { HasLevels (tree.Forall 0 (var 0 ∷ []) (tree.And 0 said_num (tree.Once 0 within said_go)))
-        (0 ∷ 0 ∷ 0 ∷ 0 ∷ 1 ∷ 1 ∷ 1 ∷ 2 ∷ 2 ∷ 3 ∷ 3 ∷ 2 ∷ 3 ∷ 4 ∷ 5 ∷ 5 ∷ 5 ∷ 5 ∷ 5 ∷ 5 ∷ 5 ∷ 6 ∷ 4 ∷ 2 ∷ 0 ∷ []) }
+        (0 ∷ 0 ∷ 0 ∷ 0 ∷ 1 ∷ 1 ∷ 1 ∷ 2 ∷ 2 ∷ 3 ∷ 3 ∷ 2 ∷ 3 ∷ 4 ∷ 5 ∷ 5 ∷ 5 ∷ 5 ∷ 5
+        ∷ 5 ∷ 5 ∷ 6 ∷ 4 ∷ 2 ∷ 0 ∷ []) }
 {}
 
 /// What a policy that was read is.

@@ -19,7 +19,8 @@ of_nothing name causable suppressible =
 abbrev pub sample_entries : List NameEntry
 sample_entries =
     of_text (codes "request") false false ∷ of_text (codes "consent") false false ∷ of_text (codes "use") false true
-    ∷ of_text (codes "delete") true false ∷ of_text (codes "unlock") true false ∷ of_text (codes "lock") false false
+    ∷ of_text (codes "delete") true false ∷ of_text (codes "unlock") true false
+    ∷ of_text (codes "lock") false false
     ∷ of_text (codes "note") true true ∷ of_nothing (codes "alarm") true false
     ∷ of_nothing (codes "ping") true false ∷ of_nothing (codes "pong") true false ∷ []
 

@@ -1,5 +1,6 @@
 -- Laws of generated steps: how many draws they make, how far their times go, and what one step more adds.
-use Rattle.std.proofs.Common.{◌≡◌, ℕ, zero, suc, ◌+◌, ◌*◌, ◌≤◌, [], ◌∷◌, ◌++◌, ap, ◌∙◌, add-one, arith}
+use Rattle.std.proofs.Common.{◌≡◌, ℕ, zero, suc, ◌+◌, ◌*◌, ◌≤◌, [], ◌∷◌, ◌++◌, ap}
+use Rattle.std.proofs.Common.{◌∙◌, add-one, arith}
 use Rattle.std.proofs.lemmas.List.{map-append}
 use Rattle.trace_meaning.specs.Records.{StepRecord}
 use Rattle.log_gen.specs.Generated.{first_draw, generated, generated_records, generated_step, time_before}
@@ -16,7 +17,8 @@ early start (suc step) = omega (arith, early start step)
 
 -- one record more
 pub records_more : (start made : ℕ)
-    → generated_records start (made + 1) ≡ generated_records start made ++ StepRecord (generated_step start made) ∷ []
+    → generated_records start (made + 1) ≡ generated_records start made
+    ++ StepRecord (generated_step start made) ∷ []
 records_more start made =
     ap (generated_records start) (add-one made)
     ∙ map-append (λ step. StepRecord step) (generated start made) (generated_step start made ∷ [])

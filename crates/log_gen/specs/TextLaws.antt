@@ -1,12 +1,14 @@
 -- What a caller needs of a text that is made line by line: what one line more adds, and that it is a front of the
 -- whole.
-use Rattle.std.proofs.Common.{◌≡◌, ℕ, zero, suc, ◌+◌, ◌-◌, ◌≤◌, List, [], ◌∷◌, ◌++◌, sym, ap, ◌∙◌, arith, add-one}
+use Rattle.std.proofs.Common.{◌≡◌, ℕ, zero, suc, ◌+◌, ◌-◌, ◌≤◌, List, [], ◌∷◌, ◌++◌}
+use Rattle.std.proofs.Common.{sym, ap, ◌∙◌, arith, add-one}
 use Rattle.std.proofs.Common.{append_assoc}
 use Rattle.std.proofs.lemmas.List.{append-nil}
 use Rattle.std.proofs.lemmas.List.Concat.{flat_map-append}
 use Rattle.log_gen.specs.Generated.{generated, generated_line, generated_step, generated_text, sample_line}
 
-text_suc : (start made : ℕ) → generated_text start (suc made) ≡ generated_text start made ++ generated_line start made
+text_suc : (start made : ℕ)
+    → generated_text start (suc made) ≡ generated_text start made ++ generated_line start made
 text_suc start made =
     flat_map-append sample_line (generated start made) (generated_step start made ∷ [])
     ∙ ap (λ t. generated_text start made ++ t) (append-nil (generated_line start made))

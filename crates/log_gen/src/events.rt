@@ -1,5 +1,6 @@
 //! The events of a generated step.
-ghost use Rattle.std.specs.Prelude.{◌≡◌, ◌+◌, ◌*◌, ◌<◌, ◌^◌, ◌%◌, ◌++◌, IfOk, OnOk, [], codes, decimal};
+ghost use Rattle.std.specs.Prelude.{◌≡◌, ◌+◌, ◌*◌, ◌<◌, ◌^◌, ◌%◌, ◌++◌, IfOk};
+ghost use Rattle.std.specs.Prelude.{OnOk, [], codes, decimal};
 ghost use Rattle.log_gen.specs.Draws.{Drawn, draw};
 ghost use Rattle.log_gen.specs.Generated.{drawn_event, drawn_events, drawn_number, event_count};
 ghost use Rattle.log_stream.specs.Judgement.{put, put_all};

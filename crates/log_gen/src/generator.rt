@@ -1,5 +1,6 @@
 //! A generated log, step by step.
-ghost use Rattle.std.specs.Prelude.{◌≡◌, ◌++◌, ◌+◌, ◌<◌, ◌≤◌, IfOk, OnOk, OnErr, Ok, true, false};
+ghost use Rattle.std.specs.Prelude.{◌≡◌, ◌++◌, ◌+◌, ◌<◌, ◌≤◌, IfOk, OnOk};
+ghost use Rattle.std.specs.Prelude.{OnErr, Ok, true, false};
 ghost use Rattle.enf_value.specs.Spelling.{AppendsPart};
 ghost use Rattle.log_gen.specs.Generated.{AnswersStep, Progress, first_draw, generated_line, generated_step};
 ghost use Rattle.log_gen.specs.Generated.{generated_text, time_before};

@@ -1,5 +1,6 @@
 -- What a record says under a signature, or why it is refused.
-use Rattle.std.specs.Prelude.{◌≡◌, ℕ, ◌==◌, nat_lt, Bool, true, false, List, [], ◌∷◌, ◌++◌, length, map, Option, None}
+use Rattle.std.specs.Prelude.{◌≡◌, ℕ, ◌==◌, nat_lt, Bool, true, false, List, [], ◌∷◌, ◌++◌}
+use Rattle.std.specs.Prelude.{length, map, Option, None}
 use Rattle.std.specs.Prelude.{Some, Result, Ok, Err, unwrap_or, slice_get, if◌then◌else◌}
 use Rattle.std.specs.Option.{option_map, option_and_then, option_or}
 use Rattle.enf_value.specs.Decided.{has_event}

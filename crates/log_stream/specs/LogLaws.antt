@@ -1,5 +1,6 @@
 -- What a caller needs of a log that comes in pieces: what is read of it so far, as each piece and each record comes.
-use Rattle.std.proofs.Common.{◌≡◌, ℕ, ◌+◌, ◌<◌, ◌≤◌, ◌==◌, ◌&&◌, suc, zero, Bool, true, false, List}
+use Rattle.std.proofs.Common.{◌≡◌, ℕ, ◌+◌, ◌<◌, ◌≤◌, ◌==◌, ◌&&◌, suc}
+use Rattle.std.proofs.Common.{zero, Bool, true, false, List}
 use Rattle.std.proofs.Common.{[], ◌∷◌, ◌++◌, length, take, drop, Option, None, Some, Ok, Err}
 use Rattle.std.proofs.Common.{if◌then◌else◌, refl, sym, ap, subst, ◌∙◌, arith, length-append, length-drop}
 use Rattle.std.specs.Option.{option_map}
@@ -43,7 +44,8 @@ behind_some [] more some = absurd (omega arith)
 behind_some (byte ∷ rest) more some = refl
 
 -- an end that is found stays found, whatever follows
-pub end_stays : (scan : Scan) (k : ℕ) (bytes more : List ℕ) (n : ℕ) → length_to_end scan (take k bytes) ≡ Some n
+pub end_stays : (scan : Scan) (k : ℕ) (bytes more : List ℕ) (n : ℕ)
+    → length_to_end scan (take k bytes) ≡ Some n
     → (length_to_end scan (take k (bytes ++ more)) ≡ Some n) × (0 < n) × (n ≤ length bytes)
 end_stays scan zero bytes more n e = cc
 end_stays scan (suc k) [] more n e = cc
@@ -97,7 +99,8 @@ BeginsWith-append entries mode text item rest more (n, whole, answer, is) =
       n,
       s.whole,
       subst (λ l. IsAnswer entries mode l (Ok item)) (sym (bytes_stay text more n s)) answer,
-      ap (λ l. l ++ more) is ∙ sym (drop-append-le n (behind_blanks text) more s.within) ∙ ap (drop n) (sym s.behind),
+      ap (λ l. l ++ more) is ∙ sym (drop-append-le n (behind_blanks text) more s.within)
+          ∙ ap (drop n) (sym s.behind),
     )
 
 -- a refusal stands, whatever follows
@@ -211,7 +214,8 @@ behind-shorter (byte ∷ text) = by (is_blank byte) (behind-shorter text)
     by false h = omega arith
 
 -- behind a record less is left, so that reading on ends
-pub BeginsWith-shorter : (entries : List NameEntry) (mode : LogMode) (text : List ℕ) (item : LogItem) (rest : List ℕ)
+pub BeginsWith-shorter : (entries : List NameEntry) (mode : LogMode) (text : List ℕ)
+    (item : LogItem) (rest : List ℕ)
     → BeginsWith entries mode text item rest → length rest < length text
 BeginsWith-shorter entries mode text item rest (n, whole, answer, is) =
     let e = end_stays Outside MOST_RECORD_BYTES (behind_blanks text) [] n whole in

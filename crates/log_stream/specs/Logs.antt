@@ -1,5 +1,6 @@
 -- A log as a whole: where its records begin and end, what they are, and its first refusal.
-use Rattle.std.specs.Prelude.{◌≡◌, ℕ, ◌+◌, ◌<◌, ◌≤◌, ◌==◌, ◌&&◌, Bool, true, false, List, [], ◌∷◌, ◌⊎◌, length, take}
+use Rattle.std.specs.Prelude.{◌≡◌, ℕ, ◌+◌, ◌<◌, ◌≤◌, ◌==◌, ◌&&◌, Bool, true, false, List}
+use Rattle.std.specs.Prelude.{[], ◌∷◌, ◌⊎◌, length, take}
 use Rattle.std.specs.Prelude.{drop, Option, None, Some, Ok, Err, if◌then◌else◌}
 use Rattle.std.specs.Option.{option_map}
 use Rattle.enf_value.specs.Tokens.{is_blank}
@@ -55,7 +56,8 @@ behind_record text n = drop n (behind_blanks text)
 -- the record at the front is this item
 abbrev pub BeginsWith : List NameEntry → LogMode → List ℕ → LogItem → List ℕ → Type 0
 BeginsWith entries mode text item rest =
-    (n : ℕ) × HasRecord text n × IsAnswer entries mode (record_bytes text n) (Ok item) × (rest ≡ behind_record text n)
+    (n : ℕ) × HasRecord text n × IsAnswer entries mode (record_bytes text n) (Ok item)
+    × (rest ≡ behind_record text n)
 
 -- the record at the front is refused, whatever follows the text
 abbrev pub Refuses : List NameEntry → LogMode → List ℕ → LogRefusal → Type 0

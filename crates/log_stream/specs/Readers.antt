@@ -44,4 +44,5 @@ ReadsNext before (Err refusal) after =
 -- the end: nothing is left, or a record was begun and not ended
 abbrev pub EndsAt : Reader → Result Unit LogRefusal → Reader → Type 0
 EndsAt before (Ok done) after = (before.refused ≡ None) × (behind_blanks before.rest ≡ []) × (after ≡ before)
-EndsAt before (Err refusal) after = RefusesOnce before refusal ((refusal ≡ Truncated) × IsTruncated before.rest) after
+EndsAt before (Err refusal) after =
+    RefusesOnce before refusal ((refusal ≡ Truncated) × IsTruncated before.rest) after

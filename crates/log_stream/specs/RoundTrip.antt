@@ -21,7 +21,8 @@ use Rattle.log_stream.specs.declared.limits.TheConstants.{MOST_EVENTS, MOST_RECO
 -- values of the program, one for each column and of its sort
 abbrev pub FitColumns : List Sort → List Value → Type 0
 FitColumns [] [] = Unit {0}
-FitColumns (sort ∷ sorts) (value ∷ values) = IsTrue (has_sort sort value) × IsValue value × FitColumns sorts values
+FitColumns (sort ∷ sorts) (value ∷ values) =
+    IsTrue (has_sort sort value) × IsValue value × FitColumns sorts values
 FitColumns [] (value ∷ values) = ⊥
 FitColumns (sort ∷ sorts) [] = ⊥
 
@@ -44,4 +45,5 @@ abbrev pub IsReadAgain : Type 0
 IsReadAgain =
     (entries : List NameEntry) (mode : LogMode) (kind : StepKind) (time : ℕ) (events : List Event) (rest : List ℕ)
     → IsSignature entries → IsRead mode kind → IsWithinLimits entries kind time events
-    → BeginsWith entries mode (step_line (names entries) kind time events ++ rest) (Step kind time events) (10 ∷ rest)
+    → BeginsWith entries mode (step_line (names entries) kind time events ++ rest)
+    (Step kind time events) (10 ∷ rest)

@@ -1,5 +1,6 @@
 -- How far a scan for a record's end has come.
-use Rattle.std.specs.Prelude.{◌≡◌, ℕ, ◌+◌, ◌-◌, ◌<◌, ◌≤◌, false, List, [], ◌∷◌, length, take, drop, Option, None, Some}
+use Rattle.std.specs.Prelude.{◌≡◌, ℕ, ◌+◌, ◌-◌, ◌<◌, ◌≤◌, false, List, [], ◌∷◌, length}
+use Rattle.std.specs.Prelude.{take, drop, Option, None, Some}
 use Rattle.std.specs.Prelude.{Ok, slice_index}
 use Rattle.std.specs.Option.{option_map}
 use Rattle.enf_value.specs.Tokens.{is_blank}

@@ -1,5 +1,6 @@
 -- What has come of a record behind its tokens, one after another, and where nothing can follow.
-use Rattle.std.specs.Prelude.{◌≡◌, ℕ, ◌+◌, ◌≤◌, ◌==◌, nat_lt, List, [], ◌∷◌, ◌++◌, length, map, take}
+use Rattle.std.specs.Prelude.{◌≡◌, ℕ, ◌+◌, ◌≤◌, ◌==◌, nat_lt, List, [], ◌∷◌, ◌++◌}
+use Rattle.std.specs.Prelude.{length, map, take}
 use Rattle.std.specs.Prelude.{Option, None, Some}
 use Rattle.std.specs.Prelude.{Err, Ok, Result, if◌then◌else◌}
 use Rattle.std.specs.List.{flat_map}
@@ -29,8 +30,10 @@ pub data State : Type 0 where
   Ticking : State
   Ticked : (time : ℕ) → State
   Events : (kind : StepKind) → (time : ℕ) → (events : List WrittenEvent) → State
-  Named : (kind : StepKind) → (time : ℕ) → (events : List WrittenEvent) → (place : ℕ) → (name : List ℕ) → State
-  Opened : (kind : StepKind) → (time : ℕ) → (events : List WrittenEvent) → (place : ℕ) → (name : List ℕ) → State
+  Named : (kind : StepKind) → (time : ℕ) → (events : List WrittenEvent) → (place : ℕ)
+      → (name : List ℕ) → State
+  Opened : (kind : StepKind) → (time : ℕ) → (events : List WrittenEvent) → (place : ℕ)
+      → (name : List ℕ) → State
   Valued : (kind : StepKind) → (time : ℕ) → (events : List WrittenEvent) → (place : ℕ) → (name : List ℕ)
       → (args : List WrittenArgument) → State
   Comma : (kind : StepKind) → (time : ℕ) → (events : List WrittenEvent) → (place : ℕ) → (name : List ℕ)
@@ -116,7 +119,8 @@ Judges entries written (Ok event) = (event_refusal entries written ≡ None) × 
 Judges entries written (Err refusal) = event_refusal entries written ≡ Some refusal
 
 -- the event that is read, and where the next token is
-abbrev pub ReadsEvent : List NameEntry → List ℕ → (from : ℕ) → Result Event LogRefusal → (to : ℕ) → Type 0
+abbrev pub ReadsEvent : List NameEntry → List ℕ → (from : ℕ)
+    → Result Event LogRefusal → (to : ℕ) → Type 0
 ReadsEvent entries bytes from event to =
     (written : WrittenEvent) × Leads bytes from (event_tokens written) to × Judges entries written event
 
@@ -153,7 +157,8 @@ sorted_event number row None = Ok (record { name = record { 0 = number }; args =
 sorted_event number row (Some place) = Err (SortClash place)
 
 -- the event of a name, by its number and entry, with its arguments, or its refusal at its place
-abbrev pub JudgesEvent : Option (ℕ × NameEntry) → List Value → Option ℕ → ℕ → Result Event LogRefusal → Type 0
+abbrev pub JudgesEvent : Option (ℕ × NameEntry) → List Value → Option ℕ → ℕ
+    → Result Event LogRefusal → Type 0
 JudgesEvent None row clashes place event = event ≡ Err (UnknownName place)
 JudgesEvent (Some found) row clashes place event =
     event ≡ (if length row == length found.1.sorts then sorted_event found.0 row clashes else Err (Arity place))

@@ -1,5 +1,6 @@
 -- The tokens of a record, each where it stands, and the blanks between them.
-use Rattle.std.specs.Prelude.{◌≡◌, ◌≢◌, ℕ, ◌+◌, ◌<◌, ◌≤◌, false, pos, List, [], ◌∷◌, length, drop, take_while}
+use Rattle.std.specs.Prelude.{◌≡◌, ◌≢◌, ℕ, ◌+◌, ◌<◌, ◌≤◌, false, pos, List, [], ◌∷◌}
+use Rattle.std.specs.Prelude.{length, drop, take_while}
 use Rattle.std.specs.Prelude.{slice_index, IsTrue}
 use Rattle.enf_value.specs.ValueTokens.{TokenAt}
 use Rattle.enf_value.specs.declared.values.Value.{Value}
@@ -20,7 +21,8 @@ abbrev pub StandsAt : List ℕ → (at end : ℕ) → Token → Type 0
 StandsAt bytes at end (Mark byte) = (at < length bytes) × (slice_index bytes at ≡ byte) × (end ≡ at + 1)
 StandsAt bytes at end (Time time) = TokenAt bytes at end (Num (pos time)) × (slice_index bytes at ≢ 45)
 StandsAt bytes at end (Name place name) =
-    (place ≡ at) × IsTrue (is_word name) × (name ≡ take_while is_word_byte (drop at bytes)) × (end ≡ at + length name)
+    (place ≡ at) × IsTrue (is_word name) × (name ≡ take_while is_word_byte (drop at bytes))
+    × (end ≡ at + length name)
 StandsAt bytes at end (Argument place value) = (place ≡ at) × TokenAt bytes at end value
 
 -- blanks alone stand from a place to another, and none stands there

@@ -79,4 +79,5 @@ pub record IsBad (mode : LogMode) (bytes : List ℕ) (place : ℕ) : Type 0 wher
   pub leads : Leads bytes 0 front place
   pub begins : CanBegin mode front
   pub unfinished : place ≡ length bytes → IsSentence mode front → ⊥
-  pub stuck : (token : Token) (end : ℕ) → StandsAt bytes place end token → CanBegin mode (front ++ token ∷ []) → ⊥
+  pub stuck : (token : Token) (end : ℕ) → StandsAt bytes place end token
+      → CanBegin mode (front ++ token ∷ []) → ⊥

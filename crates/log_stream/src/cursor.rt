@@ -1,5 +1,6 @@
 //! The tokens of a record, each read where it is wanted, with the blanks behind it.
-ghost use Rattle.std.specs.Prelude.{◌≡◌, ◌<◌, ◌≤◌, ◌∷◌, [], ℕ, List, IfNone, IfOk, IfSome, length, take_while};
+ghost use Rattle.std.specs.Prelude.{◌≡◌, ◌<◌, ◌≤◌, ◌∷◌, [], ℕ, List, IfNone};
+ghost use Rattle.std.specs.Prelude.{IfOk, IfSome, length, take_while};
 ghost use Rattle.std.specs.List.{prefix_len};
 ghost use Rattle.enf_value.specs.Kinds.{has};
 ghost use Rattle.enf_value.specs.Tokens.{is_blank};
@@ -83,7 +84,8 @@ pub(crate) fn name_at(bytes: &[u8], at: usize) -> Option<(&[u8], usize)>
     requires { at ≤ length bytes.now }
     ensures some { IfSome result (λ read. Leads bytes.now at (Name at read.0.now ∷ []) read.1) }
     ensures within { IfSome result (λ read. (at < read.1) × (read.1 ≤ length bytes.now)) }
-    ensures none { IfNone result ((place end : ℕ) (name : List ℕ) → StandsAt bytes.now at end (Name place name) → ⊥) }
+    ensures none { IfNone result
+        ((place end : ℕ) (name : List ℕ) → StandsAt bytes.now at end (Name place name) → ⊥) }
 {
     let name = word_front(&bytes[at..]);
     if name.is_empty() || name[0].is_ascii_digit() {
@@ -99,7 +101,8 @@ pub(crate) fn value_at(
     at: usize,
 ) -> Result<Option<(Value, usize)>, NoMemory>
     requires { at ≤ length bytes.now }
-    ensures some { IfOk result (λ found. IfSome found (λ read. Leads bytes.now at (Argument at read.0 ∷ []) read.1)) }
+    ensures some { IfOk result
+        (λ found. IfSome found (λ read. Leads bytes.now at (Argument at read.0 ∷ []) read.1)) }
     ensures within { IfOk result (λ found. IfSome found (λ read. (at < read.1) × (read.1 ≤ length bytes.now))) }
     ensures none { IfOk result (λ found. IfNone found ((place end : ℕ) (value : AnyValue)
         → StandsAt bytes.now at end (Argument place value) → ⊥)) }

@@ -21,7 +21,8 @@ pub fn one_answer()
 /// Bytes have one list of whole records, however they came.
 pub fn one_list_of_records()
     ensures { (entries : List NameEntry) (mode : LogMode) (bytes : List ℕ) (items others : List LogItem)
-        → AreWholeRecords entries mode bytes items → AreWholeRecords entries mode bytes others → items ≡ others }
+        → AreWholeRecords entries mode bytes items
+        → AreWholeRecords entries mode bytes others → items ≡ others }
 {
     one_token_at_place();
 }

@@ -1,5 +1,6 @@
 //! A log that comes in pieces, read record by record.
-ghost use Rattle.std.specs.Prelude.{◌≡◌, ◌≤◌, ◌++◌, [], IfNone, IfSome, None, Ok, OnErr, OnOk, drop, length};
+ghost use Rattle.std.specs.Prelude.{◌≡◌, ◌≤◌, ◌++◌, [], IfNone, IfSome, None, Ok};
+ghost use Rattle.std.specs.Prelude.{OnErr, OnOk, drop, length};
 ghost use Rattle.log_stream.specs.Logs.{IsPending};
 ghost use Rattle.log_stream.specs.Readers.{EndsAt, ReadsNext, fed};
 ghost use Rattle.log_stream.specs.Scanning.{StandsWhole, lasting};

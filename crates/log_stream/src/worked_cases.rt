@@ -35,7 +35,8 @@ pub fn ends()
 pub fn judgement()
     ensures passes { judged sample (Line System 7 (written 3 (codes "ping") [] ∷ []))
         ≡ Ok (Step System 7 (event 0 [] ∷ [])) }
-    ensures repeats { judged sample (Line System 7 (written 3 (codes "ping") [] ∷ written 10 (codes "ping") [] ∷ []))
+    ensures repeats { judged sample
+        (Line System 7 (written 3 (codes "ping") [] ∷ written 10 (codes "ping") [] ∷ []))
         ≡ Ok (Step System 7 (event 0 [] ∷ [])) }
     ensures unknown { judged sample (Line System 7 (written 3 (codes "pong") [] ∷ written 10 (codes "two") [] ∷ []))
         ≡ Err (UnknownName 3) }

@@ -51,7 +51,8 @@ IsKnownNow events tables f bound v value = IsArgument events value ⊎ (IsTabled
     ⊎ (IsConstant value f ⊎ IsBoundValue bound v value))
 
 -- each value of a row is such a one
-abbrev pub HasKnownValues : List Event → List Relation → Formula → List VarId → Valuation → Relation → Type 0
+abbrev pub HasKnownValues : List Event → List Relation → Formula → List VarId
+    → Valuation → Relation → Type 0
 HasKnownValues events tables f bound v t = (row : List Value) → Contains t.rows row → (value : Value)
     → Contains row value → IsKnownNow events tables f bound v value
 

@@ -22,7 +22,8 @@ pub record AreRowsAt (trace : List Step) (i : ℕ) (v : Valuation) (xs : List Va
     (rows : List (List Value)) : Type 0 where
   pub fit : All (λ row. length row ≡ length xs) rows
   pub rise : IsStrictlySortedBy row_cmp rows
-  pub are : (row : List Value) → length row ≡ length xs → Contains rows row ↔ Sat trace i (with_values xs row v) f
+  pub are : (row : List Value) → length row ≡ length xs
+      → Contains rows row ↔ Sat trace i (with_values xs row v) f
 
 -- distinct variables that are free in the formula and not bound
 pub record AreTold (f : Formula) (bound xs : List VarId) : Type 0 where

@@ -10,7 +10,8 @@ both : (a b : Bool) → IsTrue a → IsTrue b → IsTrue (a && b)
 both true b first second = second
 both false b first second = first
 
-pub safe_past : (m : Option (List VarId)) (f : Formula) (B : VarId → Type 0) → SafeBelow m f B → IsTrue (is_past f)
+pub safe_past : (m : Option (List VarId)) (f : Formula) (B : VarId → Type 0)
+    → SafeBelow m f B → IsTrue (is_past f)
 safe_past None (True place) B safe = refl
 safe_past None (False place) B safe = refl
 safe_past None (Atom place name terms) B safe = refl

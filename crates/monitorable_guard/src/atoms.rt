@@ -1,5 +1,6 @@
 //! Atoms and comparisons: the valuations under which they hold, and whether they hold under one.
-ghost use Rattle.std.specs.Prelude.{◌≡◌, ◌↔◌, ◌⊎◌, ◌<ℤ◌, ◌≤ℤ◌, OnOk, IsSome, IsTrue, Contains};
+ghost use Rattle.std.specs.Prelude.{◌≡◌, ◌↔◌, ◌⊎◌, ◌<ℤ◌, ◌≤ℤ◌, OnOk};
+ghost use Rattle.std.specs.Prelude.{IsSome, IsTrue, Contains};
 ghost use Rattle.enf_value.specs.Valuations.{value_of};
 ghost use Rattle.enf_value.specs.declared.terms.Term.TheVariants.{Var as Variable};
 ghost use Rattle.enf_value.specs.declared.terms.VarId.{VarId as AnyVariable};

@@ -1,5 +1,6 @@
 //! What it takes to evaluate a formula, decided.
-ghost use Rattle.std.specs.Prelude.{◌≡◌, ◌≤◌, ◌↔◌, ◌⊎◌, [], ◌∷◌, length, IfOk, IsTrue, Contains};
+ghost use Rattle.std.specs.Prelude.{◌≡◌, ◌≤◌, ◌↔◌, ◌⊎◌, [], ◌∷◌};
+ghost use Rattle.std.specs.Prelude.{length, IfOk, IsTrue, Contains};
 ghost use Rattle.enf_formula.specs.Formulas.{tree_of};
 ghost use Rattle.enf_value.specs.declared.terms.VarId.{VarId as Variable};
 ghost use Rattle.monitorable_guard.specs.Evaluation.{FitOperators};

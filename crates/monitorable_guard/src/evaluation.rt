@@ -1,5 +1,6 @@
 //! The valuations under which a formula holds at a step, and whether it holds under one.
-ghost use Rattle.std.specs.Prelude.{◌≡◌, ◌↔◌, ◌<◌, ◌^◌, ◌⊎◌, ℕ, List, [], OnOk, IfOk, IsTrue, Contains, drop, length};
+ghost use Rattle.std.specs.Prelude.{◌≡◌, ◌↔◌, ◌<◌, ◌^◌, ◌⊎◌, ℕ, List, [], OnOk, IfOk};
+ghost use Rattle.std.specs.Prelude.{IsTrue, Contains, drop, length};
 ghost use Rattle.enf_formula.specs.Formulas as tree;
 ghost use Rattle.enf_formula.specs.Formulas.{tree_of};
 ghost use Rattle.enf_value.specs.Valuations.{Valuation as Bound};

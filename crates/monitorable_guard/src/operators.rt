@@ -1,5 +1,6 @@
 //! The outermost operators on the past, and the variables that are open.
-ghost use Rattle.std.specs.Prelude.{◌≡◌, ◌<◌, ◌^◌, ◌↔◌, IfOk, IsTrue, Contains, filter, is_none, length, List};
+ghost use Rattle.std.specs.Prelude.{◌≡◌, ◌<◌, ◌^◌, ◌↔◌, IfOk, IsTrue, Contains};
+ghost use Rattle.std.specs.Prelude.{filter, is_none, length, List};
 ghost use Rattle.enf_value.specs.Valuations.{value_at};
 ghost use Rattle.enf_formula.specs.Formulas.{tree_of};
 ghost use Rattle.enf_value.specs.declared.terms.VarId.{VarId as Variable};

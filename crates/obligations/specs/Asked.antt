@@ -1,5 +1,6 @@
 -- What it takes to ask a plan at a step, and what a step stands for.
-use Rattle.std.specs.Prelude.{◌≡◌, ◌↔◌, ◌⊎◌, ℕ, ◌<◌, List, [], map, length, None, Some, slice_get, Contains}
+use Rattle.std.specs.Prelude.{◌≡◌, ◌↔◌, ◌⊎◌, ℕ, ◌<◌, List, [], map}
+use Rattle.std.specs.Prelude.{length, None, Some, slice_get, Contains}
 use Rattle.std.specs.Prelude.{IsSome}
 use Rattle.enf_value.specs.Data.{step_at}
 use Rattle.enf_value.specs.Valuations.{Valuation, value_at}

@@ -32,7 +32,8 @@ IsNext plan = ⊥
 
 -- the deadline of an instance of the node, if it has one, is not over; one of `next` was begun at the last position
 abbrev pub IsInTime : Plan → (clock position : ℕ) → Instance → Type 0
-IsInTime node clock position i = (has_deadline node ≡ true → clock ≤ i.high) × (IsNext node → i.origin + 1 ≡ position)
+IsInTime node clock position i =
+    (has_deadline node ≡ true → clock ≤ i.high) × (IsNext node → i.origin + 1 ≡ position)
 
 -- it was begun at an earlier position; its window begins no earlier than its interval, and is as wide
 pub record CanWait (node : Plan) (clock position : ℕ) (i : Instance) : Type 0 where

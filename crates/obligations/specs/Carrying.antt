@@ -1,5 +1,6 @@
 -- What of pending instances goes on behind a step, and what is begun for them, whatever trace the step stands for.
-use Rattle.std.specs.Prelude.{◌≡◌, ◌⊎◌, ℕ, ◌+◌, ◌==◌, ◌&&◌, Bool, true, false, cond, List, [], ◌∷◌, ◌++◌, Option, None}
+use Rattle.std.specs.Prelude.{◌≡◌, ◌⊎◌, ℕ, ◌+◌, ◌==◌, ◌&&◌, Bool, true, false, cond, List, []}
+use Rattle.std.specs.Prelude.{◌∷◌, ◌++◌, Option, None}
 use Rattle.std.specs.Prelude.{Some, IfSome, Contains, slice_get}
 use Rattle.std.specs.List.{AllByRecursion}
 use Rattle.enf_value.specs.declared.events.Event.{Event}
@@ -70,7 +71,8 @@ BecomeAll plans inserted pending trace after =
 
 -- at a step at a time and a position, with these events: the instance is the one that waits, or is begun for it,
 -- whatever the guards say
-abbrev pub ComesAt : List Event → (time position : ℕ) → List Plan → (inserted : Bool) → Instance → Instance → Type 0
+abbrev pub ComesAt : List Event → (time position : ℕ) → List Plan → (inserted : Bool)
+    → Instance → Instance → Type 0
 ComesAt events time position plans inserted i j = AtNode (node_of plans i) (λ node.
     ((i ≡ j) × (has_deadline node ≡ true → is_forced_at inserted time i ≡ false))
     ⊎ ((part : Plan) × HasPart node part × IsBegunUnder events time position i.rule part j))
@@ -81,7 +83,8 @@ RootComesAt events time position plans j = (rule : ℕ) × (plan : Plan) × (sli
     × IsBegunUnder events time position rule plan j
 
 -- what a step leaves pending of what was pending, whatever the guards say
-abbrev pub LeadsAt : List Event → (time position : ℕ) → List Plan → (inserted : Bool) → (before after : List Instance)
+abbrev pub LeadsAt : List Event → (time position : ℕ) → List Plan → (inserted : Bool)
+    → (before after : List Instance)
     → Type 0
 LeadsAt events time position plans inserted before after = (j : Instance) → Contains after j
     → ((i : Instance) × Contains before i × ComesAt events time position plans inserted i j)

@@ -21,7 +21,8 @@ counted p (y ∷ xs) x there passes =
     (λ behind. let rest = counted p xs x behind passes in omega (arith, both, rest)) (first_or_later x y xs there)
 
 -- and where one is counted, one is there
-one_there : {X : Type 0} (p : X → Bool) (xs : List X) → 0 < count_by p xs → (x : X) × Contains xs x × (p x ≡ true)
+one_there : {X : Type 0} (p : X → Bool) (xs : List X) → 0 < count_by p xs
+    → (x : X) × Contains xs x × (p x ≡ true)
 one_there {X} p [] some = absurd (omega (arith, some))
 one_there {X} p (y ∷ xs) some = by (p y) refl (λ more. one_there p xs more)
   where
@@ -40,7 +41,8 @@ same_number x y is = grind (arith, is)
 is_same : (x y : ℕ) → x ≡ y → (x == y) ≡ true
 is_same x y same = grind (arith, same)
 
-due_at : (b : Bool) (high deadline : ℕ) → b ≡ true → high ≡ deadline → is_time (cond b (Some high) None) deadline ≡ true
+due_at : (b : Bool) (high deadline : ℕ) → b ≡ true → high ≡ deadline
+    → is_time (cond b (Some high) None) deadline ≡ true
 due_at true high deadline it same = is_same high deadline same
 due_at false high deadline it same = absurd (false≢true it)
 
@@ -88,7 +90,8 @@ deadline_is_listed plans pending i deadline keeps there has =
 
 pub listed_is_deadline : ListedIsDeadline
 listed_is_deadline plans pending deadline keeps there =
-    let some = counted (λ entry. entry == deadline) pending.deadlines deadline there (is_same deadline deadline refl) in
+    let some = counted (λ entry. entry == deadline) pending.deadlines deadline there
+    (is_same deadline deadline refl) in
     let same = keeps deadline in
     let found = one_there (is_due plans deadline) pending.instances (omega (arith, some, same)) in
     (found.0, found.1, has_from_due plans found.0 deadline found.2)

@@ -24,7 +24,8 @@ WellFormedCanBeAsked = (plans : List Plan) (guards : List (Formula × List VarId
 -- and with copies of them,
 abbrev pub CanBeAsked : Type 0
 CanBeAsked = (plans : List Plan) (guards : List BoundFormula) (placed : List PlacedGuard)
-    → AreWellFormed plans (guards_of guards) → AreCopies guards placed → CanAskRoots (map placed_guard placed) plans
+    → AreWellFormed plans (guards_of guards) → AreCopies guards placed
+    → CanAskRoots (map placed_guard placed) plans
 
 -- and their nodes stand in them
 abbrev pub WellFormedStand : Type 0

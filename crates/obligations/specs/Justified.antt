@@ -1,5 +1,6 @@
 -- Why something is done at a step, and why a step is inserted: for what is owed and was otherwise lost.
-use Rattle.std.specs.Prelude.{◌≡◌, ◌⊎◌, ℕ, ◌+◌, ◌<◌, List, [], ◌∷◌, ◌++◌, IsTrue, Some, length}
+use Rattle.std.specs.Prelude.{◌≡◌, ◌⊎◌, ℕ, ◌+◌, ◌<◌, List, [], ◌∷◌}
+use Rattle.std.specs.Prelude.{◌++◌, IsTrue, Some, length}
 use Rattle.enf_value.specs.Data.{step_at}
 use Rattle.enf_value.specs.Valuations.{Valuation, no_values, values_of}
 use Rattle.enf_value.specs.declared.steps.Step.{Step}

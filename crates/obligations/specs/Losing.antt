@@ -1,5 +1,6 @@
 -- That what is pending is owed, and what is missed of it is lost.
-use Rattle.std.specs.Prelude.{◌≡◌, ℕ, ◌+◌, ◌<◌, Bool, true, cond, List, [], ◌∷◌, ◌++◌, length, Contains, Some}
+use Rattle.std.specs.Prelude.{◌≡◌, ℕ, ◌+◌, ◌<◌, Bool, true, cond, List, []}
+use Rattle.std.specs.Prelude.{◌∷◌, ◌++◌, length, Contains, Some}
 use Rattle.enf_value.specs.Data.{IsTrace}
 use Rattle.enf_value.specs.Valuations.{Valuation}
 use Rattle.enf_value.specs.declared.steps.Step.{Step}
@@ -20,7 +21,8 @@ use Rattle.obligations.specs.declared.literals.Literal.{Literal}
 abbrev pub PendingIsOwed : Type 0
 PendingIsOwed = (plans : List Plan) (trace : List Step) (clock : ℕ) (pending : List Instance) (i : Instance)
     (node : Plan) → PlansStand plans → IsTrace trace → IsClean plans trace → Pend plans trace pending
-    → Contains pending i → node_of plans i ≡ Some node → IsOwed plans trace clock i.rule node i.valuation i.origin
+    → Contains pending i → node_of plans i ≡ Some node
+    → IsOwed plans trace clock i.rule node i.valuation i.origin
 
 -- and was begun before
 abbrev pub PendingIsEarlier : Type 0
@@ -59,7 +61,9 @@ MissedIsServed = (plans : List Plan) (rule : ℕ) (trace : List Step) (clock : �
 abbrev pub MissedIsServedPending : Type 0
 MissedIsServedPending = (plans : List Plan) (trace : List Step) (step : Step) (clock : ℕ) (pending : List Instance)
     (i : Instance) (node : Plan) (forced : Bool) (literals : List Literal) (literal : Literal) → PlansStand plans
-    → IsTrace (trace ++ step ∷ []) → IsClean plans trace → Pend plans trace pending → NoneIsOver plans pending step.time
-    → Contains pending i → node_of plans i ≡ Some node → EndsInTime node → (forced ≡ true → step.time ≡ i.high)
+    → IsTrace (trace ++ step ∷ []) → IsClean plans trace → Pend plans trace pending
+    → NoneIsOver plans pending step.time
+    → Contains pending i → node_of plans i ≡ Some node → EndsInTime node
+    → (forced ≡ true → step.time ≡ i.high)
     → MissingOf plans (trace ++ step ∷ []) i forced literals → Contains literals literal
     → Serves (trace ++ step ∷ []) clock (obligation node i.valuation i.origin) literal

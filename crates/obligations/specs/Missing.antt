@@ -1,5 +1,6 @@
 -- What a plan misses at the last position of a trace: the literals that are wanted there and are not so.
-use Rattle.std.specs.Prelude.{◌≡◌, ℕ, zero, suc, List, [], ◌∷◌, ◌++◌, ◌⊎◌, Option, None, Some, Contains}
+use Rattle.std.specs.Prelude.{◌≡◌, ℕ, zero, suc, List, [], ◌∷◌, ◌++◌}
+use Rattle.std.specs.Prelude.{◌⊎◌, Option, None, Some, Contains}
 use Rattle.enf_value.specs.Data.{step_at}
 use Rattle.enf_value.specs.Valuations.{Valuation, values_of, with_values}
 use Rattle.enf_value.specs.declared.events.Event.{Event}
@@ -41,7 +42,8 @@ HasSome P = (first : Literal) × (rest : List Literal) × P (first ∷ rest)
 -- nothing where one side misses nothing, else what the right side misses
 abbrev pub MissesEither : (left right : List Literal → Type 0) → List Literal → Type 0
 MissesEither left right literals =
-    (left [] × (literals ≡ [])) ⊎ (right [] × (literals ≡ [])) ⊎ (HasSome left × HasSome right × right literals)
+    (left [] × (literals ≡ [])) ⊎ (right [] × (literals ≡ []))
+    ⊎ (HasSome left × HasSome right × right literals)
 
 -- nothing where the window begins at once and the right side misses nothing, else what the left side misses
 abbrev pub MissesUntil : (low : ℕ) → (left right : List Literal → Type 0) → List Literal → Type 0

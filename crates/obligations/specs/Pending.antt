@@ -1,5 +1,6 @@
 -- What is pending behind a trace: what its steps began and left open.
-use Rattle.std.specs.Prelude.{◌≡◌, ℕ, zero, suc, ◌<◌, ◌≤◌, Bool, true, false, List, [], ◌∷◌, ◌++◌, ◌⊎◌, length, take}
+use Rattle.std.specs.Prelude.{◌≡◌, ℕ, zero, suc, ◌<◌, ◌≤◌, Bool, true, false, List, [], ◌∷◌}
+use Rattle.std.specs.Prelude.{◌++◌, ◌⊎◌, length, take}
 use Rattle.std.specs.Prelude.{Option, None, Some, All}
 use Rattle.enf_value.specs.Valuations.{Valuation, no_values}
 use Rattle.enf_value.specs.declared.steps.Step.{Step}
@@ -110,7 +111,8 @@ HasDeadline plans i deadline =
 
 -- no deadline of these is below a time
 abbrev pub NoneIsOver : List Plan → List Instance → (time : ℕ) → Type 0
-NoneIsOver plans pending time = All (λ i. (deadline : ℕ) → HasDeadline plans i deadline → time ≤ deadline) pending
+NoneIsOver plans pending time =
+    All (λ i. (deadline : ℕ) → HasDeadline plans i deadline → time ≤ deadline) pending
 
 -- at the last position of a trace, in front of which this was pending, nothing is missing of a rule root or of an
 -- instance, where none counts as forced, and no deadline was over

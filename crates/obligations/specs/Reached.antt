@@ -1,5 +1,6 @@
 -- Where in a plan is what is missed and begun at a step: below guards that are triggered there.
-use Rattle.std.specs.Prelude.{◌≡◌, ℕ, suc, ◌+◌, ◌<◌, List, [], ◌∷◌, ◌++◌, length, Contains, Option, Some, slice_get}
+use Rattle.std.specs.Prelude.{◌≡◌, ℕ, suc, ◌+◌, ◌<◌, List, [], ◌∷◌, ◌++◌, length, Contains}
+use Rattle.std.specs.Prelude.{Option, Some, slice_get}
 use Rattle.std.proofs.Common.{subst, ⊎_elim, arith, refl}
 use Rattle.enf_value.specs.Data.{step_at}
 use Rattle.enf_value.specs.ListLaws.{Contains-append, here, later, none_in_nil}
@@ -48,9 +49,11 @@ IsBegunIn trace rule plan i = (node : Plan) × IsReached trace plan node × IsBe
 
 -- ---- what is gathered
 
-pub Gathers-contains : {X Y : Type 0} (P : X → List Y → Type 0) (xs : List X) (ys : List Y) (y : Y) → Gathers P xs ys
+pub Gathers-contains : {X Y : Type 0} (P : X → List Y → Type 0) (xs : List X) (ys : List Y)
+    (y : Y) → Gathers P xs ys
     → Contains ys y → (x : X) × Contains xs x × (some : List Y) × P x some × Contains some y
-Gathers-contains {Y = Y} P [] ys y none there = absurd (none_in_nil y (subst (λ (l : List Y). Contains l y) none there))
+Gathers-contains {Y = Y} P [] ys y none there =
+    absurd (none_in_nil y (subst (λ (l : List Y). Contains l y) none there))
 Gathers-contains {Y = Y} P (x ∷ xs) ys y (first, rest, holds, others, are) there =
     ⊎_elim (λ front. (x, here x xs, first, holds, front))
     (λ back. let o = Gathers-contains P xs rest y others back in (o.0, later o.0 x xs o.1, o.2, o.3, o.4))
@@ -96,7 +99,8 @@ BegunIsReached = (trace : List Step) (rule : ℕ) (plan : Plan) (v : Valuation) 
 
 -- a node that is reached is one of the plan's, and the instance that it begins names it
 abbrev pub ReachedIsInside : Type 0
-ReachedIsInside = (events : List Event) (plan node : Plan) → IsReachedBy events plan node → Contains (nodes plan) node
+ReachedIsInside =
+    (events : List Event) (plan node : Plan) → IsReachedBy events plan node → Contains (nodes plan) node
 
 abbrev pub BegunIsNamed : Type 0
 BegunIsNamed = (plans : List Plan) (events : List Event) (time position rule : ℕ) (plan node : Plan) (i : Instance)

@@ -42,7 +42,8 @@ AreMetBy-wider : (events more : List Event) → ((event : Event) → Contains ev
 AreMetBy-wider events more wider None met = tt
 AreMetBy-wider events more wider (Some names) met = (met.0, wider met.0 met.1, met.2)
 
-pub IsReachedBy-wider : (events more : List Event) → ((event : Event) → Contains events event → Contains more event)
+pub IsReachedBy-wider : (events more : List Event)
+    → ((event : Event) → Contains events event → Contains more event)
     → (plan end : Plan) → IsReachedBy events plan end → IsReachedBy more plan end
 IsReachedBy-wider events more wider (Cause node place name terms) end is = is
 IsReachedBy-wider events more wider (Suppress node place name terms) end is = is

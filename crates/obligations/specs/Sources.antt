@@ -44,5 +44,6 @@ MissedAreOwn = (guards : List (Formula × List VarId)) (trace : List Step) (plan
 -- and each that an instance misses is its node's
 abbrev pub MissedOfAreOwn : Type 0
 MissedOfAreOwn = (guards : List (Formula × List VarId)) (plans : List Plan) (trace : List Step) (i : Instance)
-    (forced : Bool) (literals : List Literal) (node : Plan) → CanAskOf guards plans i → node_of plans i ≡ Some node
+    (forced : Bool) (literals : List Literal) (node : Plan) → CanAskOf guards plans i
+    → node_of plans i ≡ Some node
     → MissingOf plans trace i forced literals → AllByRecursion (IsOwn guards trace node i.valuation) literals

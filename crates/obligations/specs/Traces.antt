@@ -41,7 +41,8 @@ NothingIsPending = (plans : List Plan) (trace : List Step) (pending : List Insta
 -- with one step more, what is pending goes where that step leads it
 abbrev pub PendGrows : Type 0
 PendGrows = (plans : List Plan) (trace : List Step) (step : Step) (before after : List Instance)
-    → Pend plans trace before → Goes plans (trace ++ step ∷ []) before after → Pend plans (trace ++ step ∷ []) after
+    → Pend plans trace before → Goes plans (trace ++ step ∷ []) before after
+    → Pend plans (trace ++ step ∷ []) after
 
 -- and the trace is clean where the step is
 abbrev pub CleanGrows : Type 0

@@ -72,7 +72,8 @@ IsStillWanted trace literal = Changes literal.kind literal.event (step_at trace 
 abbrev pub AreThose : {X : Type 0} → (X → Type 0) → (all those : List X) → Type 0
 AreThose P [] those = those ≡ []
 AreThose {X} P (x ∷ all) those =
-    (P x × (more : List X) × AreThose P all more × (those ≡ x ∷ more)) ⊎ ((P x → ⊥) × AreThose P all those)
+    (P x × (more : List X) × AreThose P all more × (those ≡ x ∷ more))
+    ⊎ ((P x → ⊥) × AreThose P all those)
 
 -- a plan without such choices misses after the action what it missed, but for what is no longer wanted
 abbrev pub UnreadLeavesRest : Type 0

@@ -1,5 +1,6 @@
 //! What a pending instance becomes behind a step.
-ghost use Rattle.std.specs.Prelude.{◌≡◌, ◌≤◌, ◌∷◌, [], false, true, Contains, IfOk, IfSome, List, OnOk, Some, map};
+ghost use Rattle.std.specs.Prelude.{◌≡◌, ◌≤◌, ◌∷◌, [], false, true, Contains, IfOk, IfSome, List};
+ghost use Rattle.std.specs.Prelude.{OnOk, Some, map};
 ghost use Rattle.std.specs.List.{AllByRecursion};
 ghost use Rattle.std.specs.Option.{option_copied, option_map};
 ghost use Rattle.enf_value.specs.declared.steps.Step.{Step};

@@ -1,5 +1,6 @@
 //! What is pending, carried over a step.
-ghost use Rattle.std.specs.Prelude.{◌≡◌, ◌+◌, ◌<◌, ◌≤◌, ◌^◌, ℕ, ◌++◌, ◌∷◌, [], cond, IfOk, List, OnOk, length, map};
+ghost use Rattle.std.specs.Prelude.{◌≡◌, ◌+◌, ◌<◌, ◌≤◌, ◌^◌, ℕ, ◌++◌, ◌∷◌, []};
+ghost use Rattle.std.specs.Prelude.{cond, IfOk, List, OnOk, length, map};
 ghost use Rattle.std.specs.Prelude.{Contains, take};
 ghost use Rattle.std.specs.List.{AllByRecursion};
 ghost use Rattle.deadline_queue.specs.Queues.{IsQueue, held};

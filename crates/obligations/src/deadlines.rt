@@ -1,5 +1,6 @@
 //! The deadlines of instances, in the queue of those that are pending.
-ghost use Rattle.std.specs.Prelude.{◌≡◌, ◌+◌, ◌<◌, ◌≤◌, ◌^◌, ℕ, OnOk, [], ◌∷◌, length, map};
+ghost use Rattle.std.specs.Prelude.{◌≡◌, ◌+◌, ◌<◌, ◌≤◌, ◌^◌, ℕ, OnOk};
+ghost use Rattle.std.specs.Prelude.{[], ◌∷◌, length, map};
 ghost use Rattle.deadline_queue.specs.Queues.{IsQueue, held};
 ghost use Rattle.plan_terms.specs.Plans.{plan_of};
 ghost use Rattle.obligations.specs.Waiting.{count_due, deadline_of};

@@ -47,7 +47,8 @@ pub fn missing_now()
 /// What the rows of a guard miss, in rising order.
 pub fn missing_of_rows()
     ensures in_order { Missing (at_5 two_and_one) (each_q 0) no_values (cause q_of_1 1 ∷ cause q_of_2 1 ∷ []) }
-    ensures not_falling { Missing (at_5 two_and_one) (each_q 0) no_values (cause q_of_2 1 ∷ cause q_of_1 1 ∷ []) → ⊥ }
+    ensures not_falling { Missing (at_5 two_and_one) (each_q 0) no_values
+        (cause q_of_2 1 ∷ cause q_of_1 1 ∷ []) → ⊥ }
     ensures one_is_there { Missing (at_5 (q_of_1 ∷ two_and_one)) (each_q 0) no_values (cause q_of_2 1 ∷ []) }
     ensures no_row { Missing (at_5 []) (each_q 0) no_values [] }
     ensures one_row { Missing (at_5 (p_of_1 ∷ [])) (each_q 0) no_values (cause q_of_1 1 ∷ []) }
@@ -172,7 +173,8 @@ pub fn pending_becomes()
     ensures until_waits { Becomes (then_at 4 []) (no_q_until_p 0 2) (waiting 0 3 6 ∷ []) }
     ensures always_stays_from_the_start { Becomes (then_at 3 (event_p ∷ [])) (always_p 0 2) (waiting 0 3 6 ∷ []) }
     ensures always_not_dropped { Becomes (then_at 6 (event_p ∷ [])) (always_p 0 2) [] → ⊥ }
-    ensures until_not_left_open { Becomes (then_at 3 (event_p ∷ [])) (no_q_until_p 0 2) (waiting 0 3 6 ∷ []) → ⊥ }
+    ensures until_not_left_open { Becomes (then_at 3 (event_p ∷ [])) (no_q_until_p 0 2)
+        (waiting 0 3 6 ∷ []) → ⊥ }
     ensures until_not_met_early { Becomes (then_at 2 (event_p ∷ [])) (no_q_until_p 0 2) [] → ⊥ }
     ensures next_does_not_stay { Becomes (then_at 2 (event_p ∷ [])) (next_p 0) (waiting 0 3 6 ∷ []) → ⊥ }
 {}
@@ -217,9 +219,11 @@ pub fn pending()
     ensures nothing_at_first { Pends [] (soon_p 0 0) [] }
     ensures begun { Pends (at_5 []) (soon_p 0 0) (begun_at_5 0 5 15 ∷ []) }
     ensures kept_before_begun { Pends (at_time 1 [] ∷ at_5 []) (soon_p 0 0)
-        (waiting 0 1 11 ∷ record { rule = 0; node = 0; valuation = no_values; origin = 1; low = 5; high = 15 } ∷ []) }
+        (waiting 0 1 11
+        ∷ record { rule = 0; node = 0; valuation = no_values; origin = 1; low = 5; high = 15 } ∷ []) }
     ensures met { Pends (at_5 (event_p ∷ [])) (soon_p 0 0) [] }
-    ensures two_rules { Pend (next_p 0 ∷ always_p 0 1 ∷ []) (at_5 []) (begun_at_5 0 5 15 ∷ second_at_5 0 6 15 ∷ []) }
+    ensures two_rules { Pend (next_p 0 ∷ always_p 0 1 ∷ []) (at_5 [])
+        (begun_at_5 0 5 15 ∷ second_at_5 0 6 15 ∷ []) }
     ensures rules_not_turned { Pend (next_p 0 ∷ always_p 0 1 ∷ []) (at_5 [])
         (second_at_5 0 6 15 ∷ begun_at_5 0 5 15 ∷ []) → ⊥ }
 {}

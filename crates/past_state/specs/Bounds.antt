@@ -29,7 +29,8 @@ HaveTime rows r time = Contains rows (kept_row r.window (pair r.row time))
 pub record IsKeepable (fs : List Formula) (last : ℕ) (rows : List KeptRow) (r : KeptRow) : Type 0 where
   pub operator : Formula
   pub numbered : slice_get fs r.window ≡ Some operator
-  pub long : (columns : List VarId) → AreFreeVariables (kept_operand operator) columns → length r.row ≡ length columns
+  pub long : (columns : List VarId) → AreFreeVariables (kept_operand operator) columns
+      → length r.row ≡ length columns
   pub timely : IsTimely operator last (HaveTime rows r) r.time
 
 -- the rows can be kept for the operators at the last time; none before the first step

@@ -26,7 +26,8 @@ everywhere v = Anywhere
 
 -- what a window is told at the step that comes behind the trace: of the rows that are kept just those survive for
 -- which F holds there, and just those are right for which G holds there
-pub record AreTablesOf (trace : List Step) (window : Window) (F G : Valuation → ℕ → Type 0) (survivors : Survivors)
+pub record AreTablesOf (trace : List Step) (window : Window) (F G : Valuation → ℕ → Type 0)
+    (survivors : Survivors)
     (right : Relation) : Type 0 where
   pub right_columns : right.columns ≡ window.columns
   pub survives : (v : Valuation) → Binds v window.columns → Keeps window window.last v
@@ -48,18 +49,22 @@ OnceStands trace interval g = WindowStands trace interval everywhere (satisfied 
 -- then stands for the longer trace
 abbrev pub SinceAnswers : Type 0
 SinceAnswers = (trace : List Step) (step : Step) (place : ℕ) (interval : Interval) (f g : Formula) (window : Window)
-    (survivors : Survivors) (right : Relation) → IsTrue (is_past f) → IsTrue (is_past g) → last_time trace ≤ step.time
+    (survivors : Survivors) (right : Relation) → IsTrue (is_past f) → IsTrue (is_past g)
+    → last_time trace ≤ step.time
     → SinceStands trace interval f g window
-    → AreTablesOf trace window (satisfied (trace ++ step ∷ []) f) (satisfied (trace ++ step ∷ []) g) survivors right
+    → AreTablesOf trace window (satisfied (trace ++ step ∷ []) f)
+    (satisfied (trace ++ step ∷ []) g) survivors right
     → (v : Valuation) → Binds v window.columns
     → AnswersBy window step.time (Survives survivors) right v
     ↔ Sat (trace ++ step ∷ []) (length trace) v (Since place interval f g)
 
 abbrev pub SinceGoesOn : Type 0
 SinceGoesOn = (trace : List Step) (step : Step) (interval : Interval) (f g : Formula) (window : Window)
-    (survivors : Survivors) (right : Relation) → IsTrue (is_past f) → IsTrue (is_past g) → last_time trace ≤ step.time
+    (survivors : Survivors) (right : Relation) → IsTrue (is_past f) → IsTrue (is_past g)
+    → last_time trace ≤ step.time
     → SinceStands trace interval f g window
-    → AreTablesOf trace window (satisfied (trace ++ step ∷ []) f) (satisfied (trace ++ step ∷ []) g) survivors right
+    → AreTablesOf trace window (satisfied (trace ++ step ∷ []) f)
+    (satisfied (trace ++ step ∷ []) g) survivors right
     → (after : Window) → IsCommittedBy window step.time (Survives survivors) right after
     → SinceStands (trace ++ step ∷ []) interval f g after
 

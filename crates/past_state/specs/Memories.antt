@@ -62,7 +62,8 @@ AreStepTables events tables (memories.Since window left left_tables right) t =
 -- the tables have the columns of what is kept
 abbrev pub FitMemory : Memory → StepTables → Type 0
 FitMemory (memories.Prev slot operand) t = t.right.columns ≡ slot.columns
-FitMemory (memories.Once window right) t = SurvivorsFit window.columns t.surviving × (t.right.columns ≡ window.columns)
+FitMemory (memories.Once window right) t =
+    SurvivorsFit window.columns t.surviving × (t.right.columns ≡ window.columns)
 FitMemory (memories.Since window left left_tables right) t =
     SurvivorsFit window.columns t.surviving × (t.right.columns ≡ window.columns)
 
@@ -82,7 +83,8 @@ given_by (memories.Since window left left_tables right) time t = given window ti
 abbrev pub IsCommittedTo : Memory → ℕ → StepTables → Memory → Type 0
 IsCommittedTo (memories.Prev slot operand) time t m = m ≡ memories.Prev (with_last slot time t.right) operand
 IsCommittedTo (memories.Once window right) time t m =
-    (after : Window) × IsCommittedBy window time (Survives t.surviving) t.right after × (m ≡ memories.Once after right)
+    (after : Window) × IsCommittedBy window time (Survives t.surviving) t.right after
+    × (m ≡ memories.Once after right)
 IsCommittedTo (memories.Since window left left_tables right) time t m =
     (after : Window) × IsCommittedBy window time (Survives t.surviving) t.right after
     × (m ≡ memories.Since after left left_tables right)

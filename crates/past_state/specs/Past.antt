@@ -1,5 +1,6 @@
 -- Past states, and their tables at a step.
-use Rattle.std.specs.Prelude.{◌≡◌, ◌↔◌, ◌⊎◌, ℕ, ◌+◌, ◌≤◌, List, [], ◌∷◌, ◌++◌, length, map, reverse, drop, All, IsTrue}
+use Rattle.std.specs.Prelude.{◌≡◌, ◌↔◌, ◌⊎◌, ℕ, ◌+◌, ◌≤◌, List, [], ◌∷◌, ◌++◌}
+use Rattle.std.specs.Prelude.{length, map, reverse, drop, All, IsTrue}
 use Rattle.std.specs.Prelude.{Bool, Contains, IsSome, Some, slice_get}
 use Rattle.enf_value.specs.Valuations.{Valuation, value_at}
 use Rattle.enf_value.specs.declared.events.Event.{Event}
@@ -132,7 +133,8 @@ tables_of g tables = drop g.start tables.stack
 -- holds by its tables, under a valuation of its free variables, where it is satisfied at the step
 abbrev pub GuardsWillHold : Past → ℕ → List Event → PastTables → Type 0
 GuardsWillHold past time events tables = (trace : List Step) (step : Step) → step.time ≡ time
-    → step.events ≡ events → last_time trace ≤ time → PastStands trace past → (number : ℕ) (g : PlacedGuard)
+    → step.events ≡ events → last_time trace ≤ time → PastStands trace past
+    → (number : ℕ) (g : PlacedGuard)
     → IsGuard tables.guards number g → (v : Valuation)
     → ((x : VarId) → IsFree x (formula_of g) → IsSome (value_at v x))
     → HoldsNow events (tables_of g tables) v (formula_of g)

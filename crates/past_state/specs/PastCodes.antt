@@ -13,7 +13,8 @@ use Rattle.past_state.specs.declared.operators.OperatorState.{OperatorState}
 abbrev pub past_code : Coded Past
 past_code =
     code_by (List PlacedGuard × List OperatorState) (coded× (coded_list placed.the_row.coded) (coded_list
-    operator.the_row.coded)) (λ p. (p.guards, p.operators)) (λ p. record { guards = p.0; operators = p.1 }) (λ _. refl)
+    operator.the_row.coded)) (λ p. (p.guards, p.operators))
+    (λ p. record { guards = p.0; operators = p.1 }) (λ _. refl)
 
 abbrev pub tables_code : Coded PastTables
 tables_code =

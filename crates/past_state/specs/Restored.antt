@@ -1,5 +1,6 @@
 -- What is made again, window by window.
-use Rattle.std.specs.Prelude.{◌≡◌, ◌↔◌, ℕ, ◌+◌, List, [], ◌∷◌, All, Contains, Option, Some, length, reverse, Vec}
+use Rattle.std.specs.Prelude.{◌≡◌, ◌↔◌, ℕ, ◌+◌, List, [], ◌∷◌, All, Contains, Option, Some}
+use Rattle.std.specs.Prelude.{length, reverse, Vec}
 use Rattle.std.specs.Prelude.{slice_get}
 use Rattle.std.specs.declared.alloc.Global.{Global}
 use Rattle.enf_formula.specs.Formulas.{Formula}
@@ -50,7 +51,8 @@ pub record IsRestoredSlot (slot : Slot) (last : Option ℕ) (pairs : List KeptPa
   pub is_slot : IsSlot after
   pub stores : (p : KeptPair) → Contains (pairs_of_last after.last) p ↔ Contains pairs p
 
-pub record IsRestoredWindow (window : Window) (last : Option ℕ) (pairs : List KeptPair) (after : Window) : Type 0 where
+pub record IsRestoredWindow (window : Window) (last : Option ℕ) (pairs : List KeptPair)
+    (after : Window) : Type 0 where
   pub interval_is : after.interval ≡ window.interval
   pub columns_are : after.columns ≡ window.columns
   pub last_is : after.last ≡ start last
@@ -58,7 +60,8 @@ pub record IsRestoredWindow (window : Window) (last : Option ℕ) (pairs : List 
   pub stores : ArePairsOf after pairs
 
 -- the operator of this number keeps just the rows of its window
-pub record IsOneRestored (last : Option ℕ) (rows : List KeptRow) (window : ℕ) (o after : OperatorState) : Type 0 where
+pub record IsOneRestored (last : Option ℕ) (rows : List KeptRow) (window : ℕ)
+    (o after : OperatorState) : Type 0 where
   pub taken_is : after.taken ≡ o.taken
   pub same : IsSameMemory o.memory after.memory
   pub whole : IsWhole after.memory

@@ -16,5 +16,6 @@ WillStandFor fs last rows past = (trace : List Step) → IsLastTime trace last �
 
 -- what has to be kept of a trace is within the bounds at its last time
 abbrev pub KeptAreWithinBounds : Type 0
-KeptAreWithinBounds = (trace : List Step) (last : Option ℕ) (fs : List Formula) (rows : List KeptRow) → IsTrace trace
+KeptAreWithinBounds =
+    (trace : List Step) (last : Option ℕ) (fs : List Formula) (rows : List KeptRow) → IsTrace trace
     → IsLastTime trace last → AreRowsRising rows → AreKeptOf trace fs rows → AreWithinBounds fs last rows

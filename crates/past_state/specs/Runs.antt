@@ -36,7 +36,8 @@ AreInsideOut before (f ∷ fs) = ((more : List Formula) × (before ≡ inner f +
     × AreInsideOut (f ∷ drop (length (inner f)) before) fs
 
 -- each operator takes the tables of its operands' operators off the stack, and puts the one that it gives on it
-abbrev pub Runs : List Event → ℕ → List Relation → List OperatorState → List StepTables → List Relation → Type 0
+abbrev pub Runs : List Event → ℕ → List Relation → List OperatorState → List StepTables
+    → List Relation → Type 0
 Runs events time stack [] [] final = stack ≡ final
 Runs events time stack [] (t ∷ steps) final = ⊥
 Runs events time stack (o ∷ operators) [] final = ⊥

@@ -1,5 +1,6 @@
 -- Past states as lists of rows: the number of a window or slot, a row that it keeps, and a time.
-use Rattle.std.specs.Prelude.{◌≡◌, ◌↔◌, ◌⊎◌, ℕ, ◌-◌, ◌<◌, List, All, Contains, Some, length, reverse, slice_get}
+use Rattle.std.specs.Prelude.{◌≡◌, ◌↔◌, ◌⊎◌, ℕ, ◌-◌, ◌<◌, List, All}
+use Rattle.std.specs.Prelude.{Contains, Some, length, reverse, slice_get}
 use Rattle.enf_value.specs.Valuations.{Valuation}
 use Rattle.enf_value.specs.declared.steps.Step.{Step}
 use Rattle.enf_value.specs.declared.terms.VarId.{VarId}

@@ -1,5 +1,6 @@
 -- What the windows and slots are for by their numbers, and the first row that breaks their bounds.
-use Rattle.std.specs.Prelude.{◌≡◌, ℕ, suc, ◌+◌, ◌-◌, ◌<◌, ◌≤◌, List, [], ◌∷◌, ◌++◌, map, length, take}
+use Rattle.std.specs.Prelude.{◌≡◌, ℕ, suc, ◌+◌, ◌-◌, ◌<◌, ◌≤◌, List, [], ◌∷◌, ◌++◌}
+use Rattle.std.specs.Prelude.{map, length, take}
 use Rattle.std.specs.Prelude.{Option, None, Some, slice_get}
 use Rattle.enf_value.specs.declared.intervals.Interval.{Interval}
 use Rattle.enf_value.specs.declared.terms.VarId.{VarId}
@@ -68,7 +69,8 @@ Joins f last Alone time = ⊥
 pub record FitsIn (fs : List Formula) (last : ℕ) (Alone : Type 0) (r : KeptRow) : Type 0 where
   pub operator : Formula
   pub numbered : slice_get fs r.window ≡ Some operator
-  pub long : (columns : List VarId) → AreFreeVariables (kept_operand operator) columns → length r.row ≡ length columns
+  pub long : (columns : List VarId) → AreFreeVariables (kept_operand operator) columns
+      → length r.row ≡ length columns
   pub joins : Joins operator last Alone r.time
 
 -- rows that can be kept can be so with this one behind the last of them

@@ -1,5 +1,6 @@
 //! Questions to operators on the past at a step, each answered by a look-up in what is kept.
-ghost use Rattle.std.specs.Prelude.{◌≡◌, ◌↔◌, ◌≤◌, ◌<◌, IsTrue, IfOk, drop, get_or, length, reverse};
+ghost use Rattle.std.specs.Prelude.{◌≡◌, ◌↔◌, ◌≤◌, ◌<◌, IsTrue, IfOk};
+ghost use Rattle.std.specs.Prelude.{drop, get_or, length, reverse};
 ghost use Rattle.enf_value.specs.Valuations.{Valuation as Bound};
 ghost use Rattle.valuations.specs.Tables.{AgreesWhereBound, Has, IsTable};
 ghost use Rattle.past_state.specs.LazyTables.{CanAskEach, tables_at};

@@ -1,5 +1,6 @@
 //! What is kept for the operators on the past of a formula, before the first step.
-ghost use Rattle.std.specs.Prelude.{◌≡◌, [], ◌∷◌, ◌⊎◌, ◌++◌, IfOk, IfSome, All, ℕ, length, reverse, Contains};
+ghost use Rattle.std.specs.Prelude.{◌≡◌, [], ◌∷◌, ◌⊎◌, ◌++◌, IfOk, IfSome, All};
+ghost use Rattle.std.specs.Prelude.{ℕ, length, reverse, Contains};
 ghost use Rattle.enf_formula.specs.Formulas as tree;
 ghost use Rattle.enf_formula.specs.Formulas.{tree_of};
 ghost use Rattle.enf_formula.specs.FreeVariables.{IsFree};

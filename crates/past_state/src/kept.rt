@@ -1,5 +1,6 @@
 //! What a past state keeps, as rows that can be written down.
-ghost use Rattle.std.specs.Prelude.{◌≡◌, ◌↔◌, ◌++◌, ◌≤◌, ◌^◌, IfOk, OnOk, Contains, length, map};
+ghost use Rattle.std.specs.Prelude.{◌≡◌, ◌↔◌, ◌++◌, ◌≤◌, ◌^◌, IfOk};
+ghost use Rattle.std.specs.Prelude.{OnOk, Contains, length, map};
 ghost use Rattle.past_state.specs.Saved.{kept_row};
 ghost use Rattle.windows.specs.KeptPairs.{AreRising};
 ghost use Rattle.windows.specs.declared.kept.KeptPair.{KeptPair as Pair};

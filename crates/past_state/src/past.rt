@@ -1,5 +1,6 @@
 //! What the operators on the past of guards remember.
-ghost use Rattle.std.specs.Prelude.{◌≡◌, ◌↔◌, ◌≤◌, ℕ, List, [], None, IfOk, OnOk, All, Contains, IsTrue};
+ghost use Rattle.std.specs.Prelude.{◌≡◌, ◌↔◌, ◌≤◌, ℕ, List, [], None, IfOk};
+ghost use Rattle.std.specs.Prelude.{OnOk, All, Contains, IsTrue};
 ghost use Rattle.valuations.specs.Scopes.{bound_in};
 ghost use Rattle.valuations.specs.Tables.{IsTable};
 

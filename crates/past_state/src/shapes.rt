@@ -1,5 +1,6 @@
 //! What the windows and slots keep rows of, by their numbers, and whether rows can be kept in them.
-ghost use Rattle.std.specs.Prelude.{◌≡◌, ◌↔◌, ◌∷◌, ◌++◌, [], List, Some, All, IfErr, IfOk, IfNone, IfSome, IsTrue};
+ghost use Rattle.std.specs.Prelude.{◌≡◌, ◌↔◌, ◌∷◌, ◌++◌, [], List, Some, All, IfErr, IfOk};
+ghost use Rattle.std.specs.Prelude.{IfNone, IfSome, IsTrue};
 ghost use Rattle.std.specs.Prelude.{OnOk, map};
 ghost use Rattle.std.specs.Option.{option_copied};
 ghost use Rattle.enf_formula.specs.Formulas.{tree_of};

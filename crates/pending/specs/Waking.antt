@@ -1,5 +1,6 @@
 -- Which events can change what is pending, and what sleeps while no event of a step is one.
-use Rattle.std.specs.Prelude.{◌≡◌, zero, suc, ◌≤◌, false, List, [], ◌∷◌, ◌++◌, Option, None, Some, map}
+use Rattle.std.specs.Prelude.{◌≡◌, zero, suc, ◌≤◌, false, List, [], ◌∷◌}
+use Rattle.std.specs.Prelude.{◌++◌, Option, None, Some, map}
 use Rattle.enf_value.specs.Data.{step_at}
 use Rattle.enf_value.specs.Valuations.{Valuation, value_of}
 use Rattle.enf_value.specs.declared.events.NameId.{NameId}

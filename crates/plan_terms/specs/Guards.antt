@@ -1,5 +1,6 @@
 -- The guards and tests of plans: each with the variables in scope where it stands, in a list by their numbers.
-use Rattle.std.specs.Prelude.{◌≡◌, ◌⊎◌, List, [], ◌∷◌, ◌++◌, map, Some, slice_get, IsTrue, Contains}
+use Rattle.std.specs.Prelude.{◌≡◌, ◌⊎◌, List, [], ◌∷◌, ◌++◌, map}
+use Rattle.std.specs.Prelude.{Some, slice_get, IsTrue, Contains}
 use Rattle.std.specs.List.{flat_map}
 use Rattle.enf_value.specs.declared.terms.VarId.{VarId}
 use Rattle.enf_formula.specs.Formulas.{Formula, tree_of}

@@ -36,7 +36,8 @@ has_number number plan = nat_eq (number_of plan) number
 
 -- the nodes are numbered in pre-order from 0
 abbrev pub IsNumbered : Plan → Type 0
-IsNumbered plan = (number : ℕ) (node : Plan) → slice_get (nodes plan) number ≡ Some node → number_of node ≡ number
+IsNumbered plan =
+    (number : ℕ) (node : Plan) → slice_get (nodes plan) number ≡ Some node → number_of node ≡ number
 
 -- the node is an operator on the future
 abbrev pub is_future : Plan → Bool

@@ -1,5 +1,6 @@
 -- What a trace owes to the rules: the roots of their plans at each position, and what these lead to.
-use Rattle.std.specs.Prelude.{◌≡◌, ℕ, ◌+◌, ◌<◌, ◌≤◌, false, List, [], ◌∷◌, ◌++◌, ◌⊎◌, length, All, Some, slice_get}
+use Rattle.std.specs.Prelude.{◌≡◌, ℕ, ◌+◌, ◌<◌, ◌≤◌, false, List, [], ◌∷◌, ◌++◌}
+use Rattle.std.specs.Prelude.{◌⊎◌, length, All, Some, slice_get}
 use Rattle.std.specs.List.{AllByRecursion}
 use Rattle.enf_value.specs.Membership.{IsIn}
 use Rattle.enf_value.specs.Valuations.{Valuation, no_values, with_values}
@@ -35,7 +36,8 @@ abbrev pub WasLost : List Step → (clock low high : ℕ) → Plan → Valuation
 WasLost trace clock low high node v from position =
     (i : ℕ) → IsAhead trace low high from i → i < position → IsLost trace clock node v i
 
-abbrev pub IsStillLost : List Step → (clock low high : ℕ) → Plan → Valuation → (from position : ℕ) → Type 0
+abbrev pub IsStillLost : List Step → (clock low high : ℕ) → Plan → Valuation
+    → (from position : ℕ) → Type 0
 IsStillLost trace clock low high node v from position =
     (i : ℕ) → IsAhead trace low high from i → i ≤ position → IsLost trace clock node v i
 
@@ -63,12 +65,14 @@ LeadsTo trace clock (Always node place low high body) v j next =
 LeadsTo trace clock (Eventually node place low high body) v j next =
     (k : ℕ) × IsAhead trace low high j k × WasLost trace clock low high body v j k × (obligation body v k ≡ next)
 LeadsTo trace clock (Until node place low high left right) v j next =
-    ((k : ℕ) × IsAhead trace low high j k × WasLost trace clock low high right v j k × (obligation right v k ≡ next))
+    ((k : ℕ) × IsAhead trace low high j k × WasLost trace clock low high right v j k
+    × (obligation right v k ≡ next))
     ⊎ ((k : ℕ) × IsAhead trace 0 high j k × IsStillLost trace clock low high right v j k
     × (obligation left v k ≡ next))
 
 -- one leads to another through these, each of which leads to the next
-abbrev pub LeadsThrough : List Step → (clock : ℕ) → (from : Obligation) → List Obligation → (to : Obligation) → Type 0
+abbrev pub LeadsThrough : List Step → (clock : ℕ) → (from : Obligation) → List Obligation
+    → (to : Obligation) → Type 0
 LeadsThrough trace clock from [] to = from ≡ to
 LeadsThrough trace clock from (next ∷ others) to =
     LeadsTo trace clock from.node from.valuation from.position next × LeadsThrough trace clock next others to
@@ -98,7 +102,8 @@ LeadsOn = (trace more : List Step) (clock later : ℕ) (from : Obligation) (move
 -- so what is owed stays owed
 abbrev pub OwedStaysOwed : Type 0
 OwedStaysOwed = (plans : List Plan) (trace more : List Step) (clock later rule : ℕ) (node : Plan) (v : Valuation)
-    (position : ℕ) → ((root : Plan) → slice_get plans rule ≡ Some root → AllByRecursion GuardLooksBack (nodes root))
+    (position : ℕ)
+    → ((root : Plan) → slice_get plans rule ≡ Some root → AllByRecursion GuardLooksBack (nodes root))
     → All (λ step. clock ≤ step.time) more → clock ≤ later → IsOwed plans trace clock rule node v position
     → IsOwed plans (trace ++ more) later rule node v position
 

@@ -111,7 +111,8 @@ AtEach-from_nodes R (Until node place low high left right) scope each =
     (each.0, AtEach-from_nodes R left scope rest.0, AtEach-from_nodes R right scope rest.1)
 AtEach-from_nodes R (Next node place high body) scope each = (each.0, AtEach-from_nodes R body scope each.1)
 
-pub AtEach-nodes : (R : Plan → Type 0) (plan : Plan) (scope : List VarId) → AtEach (λ node inner. R node) plan scope
+pub AtEach-nodes : (R : Plan → Type 0) (plan : Plan) (scope : List VarId)
+    → AtEach (λ node inner. R node) plan scope
     → AllByRecursion R (nodes plan)
 AtEach-nodes R (Cause node place name terms) scope each = (each, tt)
 AtEach-nodes R (Suppress node place name terms) scope each = (each, tt)

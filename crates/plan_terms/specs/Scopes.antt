@@ -43,7 +43,8 @@ abbrev pub AtEach : (Plan → List VarId → Type 0) → Plan → (scope : List 
 AtEach P (Cause node place name terms) scope = P (Cause node place name terms) scope
 AtEach P (Suppress node place name terms) scope = P (Suppress node place name terms) scope
 AtEach P (Both node left right) scope = P (Both node left right) scope × AtEach P left scope × AtEach P right scope
-AtEach P (Either node left right) scope = P (Either node left right) scope × AtEach P left scope × AtEach P right scope
+AtEach P (Either node left right) scope =
+    P (Either node left right) scope × AtEach P left scope × AtEach P right scope
 AtEach P (TestOr node guard test body) scope = P (TestOr node guard test body) scope × AtEach P body scope
 AtEach P (Guarded node xs guard test body) scope =
     P (Guarded node xs guard test body) scope × AtEach P body (scope ++ xs)

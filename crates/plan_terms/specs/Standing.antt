@@ -40,4 +40,5 @@ PlansStandIn = (guards : List (Formula × List VarId)) (plans : List Plan) (rule
 -- and the node that is found by a number
 abbrev pub FoundStandIn : Type 0
 FoundStandIn = (guards : List (Formula × List VarId)) (plans : List Plan) (rule number : ℕ) (node : Plan)
-    → AllByRecursion (IsWellFormed guards) plans → node_in plans rule number ≡ Some node → StandsIn plans rule node
+    → AllByRecursion (IsWellFormed guards) plans → node_in plans rule number ≡ Some node
+    → StandsIn plans rule node

@@ -87,7 +87,8 @@ pub fn guards()
     ensures safe { GuardsAreSafe each_soon [] }
     ensures tells_nothing { GuardsAreSafe (plan.Guarded 0 (x ∷ []) 0 formula_p cause_q_x) [] → ⊥ }
     ensures no_test { GuardsAreSafe (plan.TestOr 0 0 formula_p_x cause_q_x) [] → ⊥ }
-    ensures looks_ahead { GuardsAreSafe (plan.TestOr 0 0 (tree.Eventually 0 (within 0 5) formula_p) cause_q_x) [] → ⊥ }
+    ensures looks_ahead { GuardsAreSafe
+        (plan.TestOr 0 0 (tree.Eventually 0 (within 0 5) formula_p) cause_q_x) [] → ⊥ }
     ensures fresh { IsFresh (some_p y, x ∷ []) }
     ensures bound_in_scope { IsFresh (some_p x, x ∷ []) → ⊥ }
     ensures bound_and_free { IsFresh (tree.And 0 formula_p_x (some_p x), []) → ⊥ }
@@ -128,7 +129,8 @@ pub fn ends_later()
     ensures until { EndsLater (plan.Until 0 1 0 0 cause_q_x cause_q_x) → ⊥ }
     ensures next { EndsLater (plan.Next 0 1 0 cause_q_x) → ⊥ }
     ensures all { AllEndLater (each_soon ∷ wait_and_choice ∷ []) }
-    ensures one_ends_at_once { AllEndLater (each_soon ∷ plan.Always 0 1 0 5 (plan.Next 1 2 0 cause_q_x) ∷ []) → ⊥ }
+    ensures one_ends_at_once { AllEndLater
+        (each_soon ∷ plan.Always 0 1 0 5 (plan.Next 1 2 0 cause_q_x) ∷ []) → ⊥ }
 {}
 
 /// Plans with their guards.
@@ -137,7 +139,8 @@ pub fn well_formed()
     ensures one { AreWellFormed (each_soon ∷ []) guards_soon }
     ensures guard_of_none { AreWellFormed [] guards_soon → ⊥ }
     ensures not_numbered { AreWellFormed (twice_one ∷ []) [] → ⊥ }
-    ensures clash { NothingClashes (plan.Both 0 (plan.Cause 1 3 name_q []) (plan.Suppress 2 5 name_q []) ∷ []) → ⊥ }
+    ensures clash { NothingClashes
+        (plan.Both 0 (plan.Cause 1 3 name_q []) (plan.Suppress 2 5 name_q []) ∷ []) → ⊥ }
 {}
 
 /// What a node leads to at a position: sides, and the bodies of tests, guards and `next`.

@@ -1,5 +1,6 @@
 -- The grammar as a deterministic automaton over a stack of what is still to come, and the first refusal by it.
-use Rattle.std.specs.Prelude.{ℕ, ◌+◌, nat_le, nat_lt, Bool, true, false, ◌&&◌, ◌||◌, if◌then◌else◌, List, [], ◌∷◌, ◌++◌}
+use Rattle.std.specs.Prelude.{ℕ, ◌+◌, nat_le, nat_lt, Bool, true, false, ◌&&◌, ◌||◌, if◌then◌else◌}
+use Rattle.std.specs.Prelude.{List, [], ◌∷◌, ◌++◌}
 use Rattle.std.specs.Prelude.{length, Option, None, Some, Result, Ok, Err}
 use Rattle.std.specs.List.{list_any}
 use Rattle.std.specs.Str.{bytes_eq}
@@ -208,7 +209,8 @@ abbrev pub state : Stack → (nodes : ℕ) → (names : List (List ℕ)) → Sta
 state stack nodes names = record { stack = stack; nodes = nodes; names = names }
 
 -- the state behind a lexeme, or its refusal, where this is left of the item that it begins
-abbrev pub offered : Item → Stack → (nodes : ℕ) → (names : List (List ℕ)) → (place : ℕ) → Lexeme → Option Stack
+abbrev pub offered : Item → Stack → (nodes : ℕ) → (names : List (List ℕ)) → (place : ℕ)
+    → Lexeme → Option Stack
     → Result State SyntaxRefusal
 offered next rest nodes names place lexeme None = Err (Syntax place)
 offered next rest nodes names place lexeme (Some left) =
@@ -218,7 +220,8 @@ offered next rest nodes names place lexeme (Some left) =
     else Ok (state (left ++ rest) (nodes_after next.kind nodes lexeme) (names_after next.kind names lexeme)))
 
 -- the same from a settled stack
-abbrev pub step : Stack → (nodes : ℕ) → (names : List (List ℕ)) → (place : ℕ) → Lexeme → Result State SyntaxRefusal
+abbrev pub step : Stack → (nodes : ℕ) → (names : List (List ℕ)) → (place : ℕ) → Lexeme
+    → Result State SyntaxRefusal
 step [] nodes names place lexeme = Err (Syntax place)
 step (next ∷ rest) nodes names place lexeme =
     offered next rest nodes names place lexeme (offer next.kind next.level next.scope place lexeme)
@@ -228,7 +231,8 @@ then_judged judged (Ok after) = judged after
 then_judged judged (Err refusal) = Some refusal
 
 -- the first refusal of lexemes of a text that ends at a place, if there is one
-unfoldable pub judge : (end : ℕ) → Stack → (nodes : ℕ) → (names : List (List ℕ)) → List Placed → Option SyntaxRefusal
+unfoldable pub judge : (end : ℕ) → Stack → (nodes : ℕ) → (names : List (List ℕ)) → List Placed
+    → Option SyntaxRefusal
 judge end stack nodes names [] = if accepts stack then None else Some (Syntax end)
 judge end stack nodes names (placed ∷ rest) =
     then_judged (λ (after : State). judge end after.stack after.nodes after.names rest)

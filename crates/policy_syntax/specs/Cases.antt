@@ -1,5 +1,6 @@
 -- Worked cases of the grammar and of its refusals: texts with their trees, and texts that are none.
-use Rattle.std.specs.Prelude.{ℕ, pos, List, [], ◌∷◌, ◌++◌, codes, Option, Some, None, Err, flat_map, replicate}
+use Rattle.std.specs.Prelude.{ℕ, pos, List, [], ◌∷◌, ◌++◌, codes, Option}
+use Rattle.std.specs.Prelude.{Some, None, Err, flat_map, replicate}
 use Rattle.enf_value.specs.declared.intervals.Interval.{Interval}
 use Rattle.enf_value.specs.declared.values.Value.TheVariants as values
 use Rattle.policy_syntax.specs.Lexemes.{lexemes}

@@ -1,5 +1,6 @@
 -- What a part of the reader does to what is to come, whatever comes behind it.
-use Rattle.std.specs.Prelude.{◌≡◌, ◌≢◌, ◌⊎◌, ℕ, nat_le, nat_lt, if◌then◌else◌, List, [], ◌∷◌, ◌++◌, length}
+use Rattle.std.specs.Prelude.{◌≡◌, ◌≢◌, ◌⊎◌, ℕ, nat_le, nat_lt, if◌then◌else◌, List, []}
+use Rattle.std.specs.Prelude.{◌∷◌, ◌++◌, length}
 use Rattle.std.specs.Prelude.{Option, None, Some, Result, Ok, Err}
 use Rattle.enf_value.specs.declared.limits.TheConstants.{MOST_NAME_BYTES}
 use Rattle.policy_syntax.specs.Automaton.{Stack, judge, start}
@@ -21,12 +22,14 @@ judge_from names stack parts = judge parts.cursor.end stack parts.nodes names pa
 -- it is the same before and after
 unfoldable pub Continues : (from to : Stack) → (old new : Parts) → Type 0
 Continues from to old new =
-    (names : List (List ℕ)) (below : Stack) → judge_from names (from ++ below) old ≡ judge_from names (to ++ below) new
+    (names : List (List ℕ)) (below : Stack)
+    → judge_from names (from ++ below) old ≡ judge_from names (to ++ below) new
 
 -- it is this one, unless there was no memory
 unfoldable pub Refuses : (from : Stack) → Parts → SyntaxRefusal → Type 0
 Refuses from old refusal =
-    refusal ≢ NoMemory → (names : List (List ℕ)) (below : Stack) → judge_from names (from ++ below) old ≡ Some refusal
+    refusal ≢ NoMemory → (names : List (List ℕ)) (below : Stack)
+    → judge_from names (from ++ below) old ≡ Some refusal
 
 -- a part was read, behind which another is to come; or it is refused
 abbrev pub Follows : {A : Type 0} → (from to : Stack) → (old new : Parts) → Result A SyntaxRefusal → Type 0

@@ -1,5 +1,6 @@
 -- The grammar of policies by its nonterminals: the phrases of each, the lexemes that spell a phrase, and its tree.
-use Rattle.std.specs.Prelude.{◌≢◌, ℕ, ◌+◌, pos, neg_ℤ, nat_le, ◌&&◌, List, [], ◌∷◌, length, Option, Some, None, Bool}
+use Rattle.std.specs.Prelude.{◌≢◌, ℕ, ◌+◌, pos, neg_ℤ, nat_le, ◌&&◌, List, [], ◌∷◌, length}
+use Rattle.std.specs.Prelude.{Option, Some, None, Bool}
 use Rattle.std.specs.Prelude.{true, false, map}
 use Rattle.enf_value.specs.declared.intervals.Interval.{Interval}
 use Rattle.enf_value.specs.declared.values.Value.TheVariants as values
@@ -84,7 +85,8 @@ mutual
   pub data UnaryPhrase : Type 0 where
     Negation : (place : ℕ) → UnaryPhrase → UnaryPhrase
     Before : prefixes.Prefix → (place : ℕ) → IntervalPhrase → UnaryPhrase → UnaryPhrase
-    Quantified : quantifiers.Quantifier → (place : ℕ) → VariablesPhrase → (dot : ℕ) → FormulaPhrase → UnaryPhrase
+    Quantified : quantifiers.Quantifier → (place : ℕ) → VariablesPhrase → (dot : ℕ)
+        → FormulaPhrase → UnaryPhrase
     Primary : PrimaryPhrase → UnaryPhrase
 
   -- primary = "(" formula ")" | "true" | "false" | NAME "(" .. ")" | term ( "=" | "<" | "<=" ) term

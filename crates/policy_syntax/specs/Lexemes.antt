@@ -1,5 +1,6 @@
 -- The tokens of a policy by what they are for.
-use Rattle.std.specs.Prelude.{◌≡◌, ◌<◌, ◌≤◌, ◌^◌, ℕ, Bool, true, false, ◌||◌, Option, Some, None, List, [], ◌∷◌, length}
+use Rattle.std.specs.Prelude.{◌≡◌, ◌<◌, ◌≤◌, ◌^◌, ℕ, Bool, true, false, ◌||◌, Option, Some}
+use Rattle.std.specs.Prelude.{None, List, [], ◌∷◌, length}
 use Rattle.std.specs.Prelude.{map, codes, if◌then◌else◌}
 use Rattle.std.specs.Str.{bytes_eq}
 use Rattle.enf_value.specs.declared.limits.TheConstants.{MOST_FILE_BYTES}

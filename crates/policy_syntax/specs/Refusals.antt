@@ -1,5 +1,6 @@
 -- Why a text is no policy: the first refusal by place, said by what could still follow.
-use Rattle.std.specs.Prelude.{◌≡◌, ℕ, ◌+◌, ◌<◌, ◌≤◌, nat_lt, Bool, true, false, IsTrue, List, [], ◌∷◌, ◌++◌}
+use Rattle.std.specs.Prelude.{◌≡◌, ℕ, ◌+◌, ◌<◌, ◌≤◌, nat_lt, Bool, true, false}
+use Rattle.std.specs.Prelude.{IsTrue, List, [], ◌∷◌, ◌++◌}
 use Rattle.std.specs.Prelude.{length, map, reverse, Contains}
 use Rattle.std.specs.Prelude.{Result, Ok, Err, if◌then◌else◌}
 use Rattle.enf_value.specs.FirstRefusal as first
@@ -23,7 +24,8 @@ IsSentence front = (rules : List RulePhrase) × PolicyFits rules × (policy_fold
 -- some policy begins with the lexemes
 abbrev pub CanBegin : List Placed → Type 0
 CanBegin front =
-    (rules : List RulePhrase) × (rest : List Placed) × PolicyFits rules × (policy_fold spell rules [] ≡ front ++ rest)
+    (rules : List RulePhrase) × (rest : List Placed) × PolicyFits rules
+    × (policy_fold spell rules [] ≡ front ++ rest)
 
 -- ---- what stands behind a lexeme: the kinds of those before it, from the last to the first
 
@@ -78,7 +80,8 @@ wants_end _ = false
 
 -- whether it is the second end of an interval, and below the first
 abbrev pub is_below_first : List Lexeme → Lexeme → Bool
-is_below_first (Symbol symbols.Comma ∷ Digits low ∷ Symbol symbols.OpenBracket ∷ before) (Digits high) = nat_lt high low
+is_below_first (Symbol symbols.Comma ∷ Digits low ∷ Symbol symbols.OpenBracket ∷ before)
+    (Digits high) = nat_lt high low
 is_below_first _ _ = false
 
 -- it is the name of a rule that stands there already
@@ -123,12 +126,14 @@ IsBehindName front lexeme = (lexeme ≡ Symbol symbols.OpenParen) × IsTrue (end
 -- a level above 40, or makes 17 variables in scope
 pub data Passes (front : List Placed) (place : ℕ) (lexeme : Lexeme) : ℕ → Type 0 where
   Rules : IsTrue (is_rule lexeme) → MOST_RULES ≤ rules_behind (behind front) → Passes front place lexeme place
-  Long : (name : List ℕ) → lexeme ≡ Name name → MOST_NAME_BYTES < length name → Passes front place lexeme place
+  Long : (name : List ℕ) → lexeme ≡ Name name → MOST_NAME_BYTES < length name
+      → Passes front place lexeme place
   End : (end : ℕ) → lexeme ≡ Digits end → IsTrue (wants_end (behind front)) → MOST_INTERVAL_END < end
       → Passes front place lexeme place
   Nodes : IsTrue (is_operator lexeme) → MOST_NODES ≤ nodes_behind (behind front) → Passes front place lexeme place
   Event : (before : List Placed) (at : ℕ) (name : List ℕ) → lexeme ≡ Symbol symbols.OpenParen
-      → front ≡ before ++ (at, Name name) ∷ [] → MOST_NODES ≤ nodes_behind (behind front) → Passes front place lexeme at
+      → front ≡ before ++ (at, Name name) ∷ [] → MOST_NODES ≤ nodes_behind (behind front)
+      → Passes front place lexeme at
   Level : (level scope : ℕ) → IsDeep front (place, lexeme) level scope → (IsBehindName front lexeme → ⊥)
       → MOST_LEVEL < level → Passes front place lexeme place
   Scope : (level scope : ℕ) → IsDeep front (place, lexeme) level scope → (IsBehindName front lexeme → ⊥)

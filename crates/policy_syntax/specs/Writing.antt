@@ -1,6 +1,7 @@
 -- How a tree is written: its lexemes, each with its level. An operand that is neither an event nor `true` nor `false`
 -- stands in parentheses. Each function says what stands before the rest.
-use Rattle.std.specs.Prelude.{◌≡◌, ◌≢◌, ◌≤◌, ℕ, ◌+◌, Bool, true, false, List, [], ◌∷◌, Option, None, Some}
+use Rattle.std.specs.Prelude.{◌≡◌, ◌≢◌, ◌≤◌, ℕ, ◌+◌, Bool, true, false, List, [], ◌∷◌}
+use Rattle.std.specs.Prelude.{Option, None, Some}
 use Rattle.std.specs.Prelude.{IsTrue, map}
 use Rattle.std.specs.List.{AllByRecursion}
 use Rattle.enf_value.specs.Names.{is_word}
@@ -59,7 +60,8 @@ stands_alone (Atom place name terms) = true
 stands_alone f = false
 
 -- what is written at a level; in parentheses, which lift it, where it does not stand alone
-abbrev pub enclosed : (alone : Bool) → (ℕ → List Leveled → List Leveled) → (level : ℕ) → List Leveled → List Leveled
+abbrev pub enclosed : (alone : Bool) → (ℕ → List Leveled → List Leveled) → (level : ℕ)
+    → List Leveled → List Leveled
 enclosed true written level rest = written level rest
 enclosed false written level rest =
     (level, Symbol symbol.OpenParen) ∷ written (level + 1) ((level + 1, Symbol symbol.CloseParen) ∷ rest)

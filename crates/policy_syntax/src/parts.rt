@@ -1,5 +1,6 @@
 //! The parts of a policy that hold no formula: names, terms, lists of them, and intervals.
-ghost use Rattle.std.specs.Prelude.{◌≡◌, ◌≢◌, ◌↔◌, ℕ, List, [], ◌∷◌, ◌+◌, ◌≤◌, false, true, length, IfOk, IsTrue};
+ghost use Rattle.std.specs.Prelude.{◌≡◌, ◌≢◌, ◌↔◌, ℕ, List, [], ◌∷◌, ◌+◌, ◌≤◌};
+ghost use Rattle.std.specs.Prelude.{false, true, length, IfOk, IsTrue};
 ghost use Rattle.std.specs.Result.{IfErr};
 ghost use Rattle.policy_syntax.specs.Automaton.{BehindArgument, BehindConstant, BehindName, BehindVariable};
 ghost use Rattle.policy_syntax.specs.Automaton.{BoundVariable, CloseInterval, NextArgument, OpenInterval, Operand};

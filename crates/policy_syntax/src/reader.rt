@@ -1,5 +1,6 @@
 //! The reader of policies: formulas by recursive descent, a function for each nonterminal of the grammar.
-ghost use Rattle.std.specs.Prelude.{◌≡◌, ◌≢◌, ◌+◌, ◌≤◌, List, [], ◌∷◌, Result, false, length, IfOk};
+ghost use Rattle.std.specs.Prelude.{◌≡◌, ◌≢◌, ◌+◌, ◌≤◌, List, [], ◌∷◌};
+ghost use Rattle.std.specs.Prelude.{Result, false, length, IfOk};
 ghost use Rattle.std.specs.Str.{bytes_eq};
 ghost use Rattle.policy_syntax.specs.Automaton.{Operand, and_on, formula_on, infix_on, item, or_on};
 ghost use Rattle.policy_syntax.specs.Following.{Follows, JudgesRule};
@@ -305,7 +306,8 @@ fn with_infix(
     left: Box<SyntaxFormula>,
     right: Box<SyntaxFormula>,
 ) -> SyntaxFormula
-    ensures { formula_of result ≡ infix_tree operator place interval (formula_of left.value) (formula_of right.value) }
+    ensures { formula_of result
+        ≡ infix_tree operator place interval (formula_of left.value) (formula_of right.value) }
 {
     match operator {
         Infix::Since => SyntaxFormula::Since(place, interval, left, right),

@@ -12,7 +12,8 @@ use Rattle.rank_check.specs.Roles.{AreNamesBelow}
 -- the names that trigger guards are among the first so many
 abbrev pub AreTriggersBelow : ℕ → List Plan → Type 0
 AreTriggersBelow most plans = (node : Plan) (names : List NameId) (name : NameId)
-    → Contains (flat_map nodes plans) node → guard_triggers node ≡ Some names → Contains names name → name.0 < most
+    → Contains (flat_map nodes plans) node → guard_triggers node ≡ Some names
+    → Contains names name → name.0 < most
 
 -- plans over the first so many names, within the limits of policies: no plan has too many nodes, and each interval ends
 -- in time

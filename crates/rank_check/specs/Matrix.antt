@@ -1,5 +1,6 @@
 -- Edges between the names of a signature, as a square of marks.
-use Rattle.std.specs.Prelude.{◌≡◌, ◌⊎◌, ℕ, ◌+◌, ◌*◌, ◌<◌, Bool, false, IsTrue, List, slice_index_or}
+use Rattle.std.specs.Prelude.{◌≡◌, ◌⊎◌, ℕ, ◌+◌, ◌*◌, ◌<◌, Bool}
+use Rattle.std.specs.Prelude.{false, IsTrue, List, slice_index_or}
 use Rattle.enf_value.specs.declared.events.NameId.{NameId}
 use Rattle.rank_check.specs.Chains.{Reaches}
 

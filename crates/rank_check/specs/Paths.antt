@@ -1,5 +1,6 @@
 -- Paths down a plan, and from which events what is met on them follows.
-use Rattle.std.specs.Prelude.{◌≡◌, ◌⊎◌, Bool, true, false, IsTrue, List, [], ◌∷◌, Option, None, Some, Contains}
+use Rattle.std.specs.Prelude.{◌≡◌, ◌⊎◌, Bool, true, false, IsTrue, List, []}
+use Rattle.std.specs.Prelude.{◌∷◌, Option, None, Some, Contains}
 use Rattle.std.specs.Option.{option_or}
 use Rattle.enf_value.specs.declared.events.NameId.{NameId}
 use Rattle.plan_terms.specs.Nodes.{nodes}
@@ -23,7 +24,8 @@ below (Next node place high body) = body ∷ []
 -- from the first node these nodes, one below the other, lead down to the last, which is not among them
 abbrev pub IsPath : Plan → List Plan → Plan → Type 0
 IsPath start [] end = start ≡ end
-IsPath start (node ∷ path) end = (start ≡ node) × (next : Plan) × Contains (below node) next × IsPath next path end
+IsPath start (node ∷ path) end =
+    (start ≡ node) × (next : Plan) × Contains (below node) next × IsPath next path end
 
 -- what a node begins anew at later positions: the body of `always`, and the left side of `until`
 abbrev pub begun_by : Plan → List Plan
@@ -33,7 +35,8 @@ begun_by plan = []
 
 -- where paths start: at the root, and where something begins anew
 abbrev pub IsStart : Plan → Plan → Type 0
-IsStart plan start = (plan ≡ start) ⊎ ((node : Plan) × Contains (nodes plan) node × Contains (begun_by node) start)
+IsStart plan start =
+    (plan ≡ start) ⊎ ((node : Plan) × Contains (nodes plan) node × Contains (begun_by node) start)
 
 -- the triggers of the first guard on a path that has some
 abbrev pub path_triggers : List Plan → Option (List NameId)

@@ -1,5 +1,6 @@
 -- What a policy does to the events of a name.
-use Rattle.std.specs.Prelude.{ℕ, ◌<◌, ◌⊎◌, Bool, true, false, IsTrue, List, Option, None, Some, slice_index_or}
+use Rattle.std.specs.Prelude.{ℕ, ◌<◌, ◌⊎◌, Bool, true, false, IsTrue, List}
+use Rattle.std.specs.Prelude.{Option, None, Some, slice_index_or}
 use Rattle.enf_value.specs.declared.events.NameId.{NameId}
 use Rattle.plan_terms.specs.Changes.{IsCaused, IsSuppressed}
 use Rattle.plan_terms.specs.Plans.{Plan}

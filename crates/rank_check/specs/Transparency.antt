@@ -49,7 +49,8 @@ OwedNodesHold = (plans : List Plan) (trace longer : List Step) (clock rule : ℕ
 abbrev pub RootsAreNotLost : Type 0
 RootsAreNotLost = (guards : List (Formula × List VarId)) (plans : List Plan) (trace : List Step) (clock rule : ℕ)
     (node : Plan) (position : ℕ) → AreWellFormed plans guards → Good (map formula_for plans) trace clock
-    → node_in plans rule 0 ≡ Some node → position < length trace → IsLost trace clock node no_values position → ⊥
+    → node_in plans rule 0 ≡ Some node → position < length trace
+    → IsLost trace clock node no_values position → ⊥
 
 -- and, under transparent plans, no operator on the future that is owed is lost,
 abbrev pub OwedNodesAreNotLost : Type 0

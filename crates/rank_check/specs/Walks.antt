@@ -1,7 +1,8 @@
 -- One walk over a plan: which nodes it meets where no trigger was met since the last start, and which events it meets
 -- below which triggers. The path from an earlier start ends with that from a later one and has its triggers, so that it
 -- is enough to know whether the last start is without any.
-use Rattle.std.specs.Prelude.{◌≡◌, ◌⊎◌, ℕ, Bool, true, false, List, [], ◌∷◌, ◌++◌, Option, None, Some, Contains}
+use Rattle.std.specs.Prelude.{◌≡◌, ◌⊎◌, ℕ, Bool, true, false, List, [], ◌∷◌}
+use Rattle.std.specs.Prelude.{◌++◌, Option, None, Some, Contains}
 use Rattle.std.specs.Option.{option_or}
 use Rattle.enf_value.specs.declared.events.NameId.{NameId}
 use Rattle.plan_terms.specs.Plans.{Plan, Cause, Suppress, Both, Either, TestOr, Guarded, Eventually, Always}

@@ -1,5 +1,6 @@
 //! Names on cycles of edges, and ranks where there are none.
-ghost use Rattle.std.specs.Prelude.{◌≡◌, ◌↔◌, suc, ◌<◌, ◌≤◌, false, length, IfNone, IfOk, IfSome, IsTrue};
+ghost use Rattle.std.specs.Prelude.{◌≡◌, ◌↔◌, suc, ◌<◌, ◌≤◌, false, length};
+ghost use Rattle.std.specs.Prelude.{IfNone, IfOk, IfSome, IsTrue};
 ghost use Rattle.enf_value.specs.declared.events.NameId.{NameId as Name};
 ghost use Rattle.rank_check.specs.Chains.{EndsIn, IsOnCycle, IsRank, IsRankWithin};
 ghost use Rattle.rank_check.specs.Horizon.{greatest, rank_in};

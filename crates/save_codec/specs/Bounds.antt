@@ -1,5 +1,6 @@
 -- The bounds of saved states, line by line.
-use Rattle.std.specs.Prelude.{◌≡◌, ◌↔◌, ℕ, ◌+◌, ◌<◌, ◌≤◌, ◌^◌, List, Option, None, Some, length, map, slice_get, take}
+use Rattle.std.specs.Prelude.{◌≡◌, ◌↔◌, ℕ, ◌+◌, ◌<◌, ◌≤◌, ◌^◌, List, Option, None, Some}
+use Rattle.std.specs.Prelude.{length, map, slice_get, take}
 use Rattle.std.specs.List.{AllByRecursion, flat_map}
 use Rattle.enf_value.specs.declared.terms.VarId.{VarId}
 use Rattle.enf_formula.specs.Formulas.{Formula}
@@ -42,7 +43,8 @@ AgreesWith last line = Unit {0}
 abbrev pub HasSorts : Setting → RowLine → Type 0
 HasSorts s r = (guard : ℕ) (operator : Formula) (columns : List VarId)
     → slice_get (numbered_operators 0 s.guards) r.window ≡ Some (guard, operator)
-    → AreFreeVariables (kept_operand operator) columns → FitTold (GuardTells s.entries s.plans guard) columns r.values
+    → AreFreeVariables (kept_operand operator) columns
+    → FitTold (GuardTells s.entries s.plans guard) columns r.values
 
 -- besides, a window's number has 32 bits
 pub record RowFits (s : Setting) (r : RowLine) : Type 0 where
@@ -51,7 +53,8 @@ pub record RowFits (s : Setting) (r : RowLine) : Type 0 where
 
 -- what the plan of a rule tells
 abbrev pub RuleTells : List NameEntry → List Plan → (rule : ℕ) → VarId → Sort → Type 0
-RuleTells entries plans rule x sort = (plan : Plan) × (slice_get plans rule ≡ Some plan) × PlanTells entries plan x sort
+RuleTells entries plans rule x sort =
+    (plan : Plan) × (slice_get plans rule ≡ Some plan) × PlanTells entries plan x sort
 
 -- an instance is one of an operator on the future, has values for the variables in scope there, of the sorts that are
 -- known, and can wait at the clock; the numbers of rules and nodes have 32 bits
@@ -64,7 +67,8 @@ pub record DueFits (s : Setting) (clock position : ℕ) (d : DueLine) : Type 0 w
   pub sorts : FitTold (RuleTells s.entries s.plans d.rule) scope d.values
   pub low : d.low ≤ MOST_STATE_TIME
   pub high : d.high ≤ MOST_STATE_TIME
-  pub waits : (i : Instance) → i.origin ≡ d.origin → i.low ≡ d.low → i.high ≡ d.high → CanWait node clock position i
+  pub waits : (i : Instance) → i.origin ≡ d.origin → i.low ≡ d.low → i.high ≡ d.high
+      → CanWait node clock position i
 
 -- the lines, or the first of them, keep the bounds. The last time is missing where the position is 0; then there is no
 -- row and no instance

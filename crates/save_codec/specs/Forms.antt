@@ -1,5 +1,6 @@
 -- The grammar of saved texts.
-use Rattle.std.specs.Prelude.{◌≡◌, ℕ, Bool, true, false, List, [], ◌∷◌, ◌++◌, Option, None, Some, IsTrue}
+use Rattle.std.specs.Prelude.{◌≡◌, ℕ, Bool, true, false, List, [], ◌∷◌}
+use Rattle.std.specs.Prelude.{◌++◌, Option, None, Some, IsTrue}
 use Rattle.save_codec.specs.Lines.{IsLine, head_text, lines_text}
 use Rattle.save_codec.specs.declared.lines.Line.{Line}
 use Rattle.save_codec.specs.declared.lines.Line.TheVariants.{Clock, Last, Position, Row, Due, End}

@@ -1,5 +1,6 @@
 -- What is known of the variables of rules and of windows, and what rows and instances are taken.
-use Rattle.std.specs.Prelude.{◌≡◌, ◌↔◌, ◌⊎◌, ℕ, ◌+◌, ◌<◌, ◌≤◌, ◌^◌, Bool, true, false, List, [], ◌∷◌, ◌++◌, Option}
+use Rattle.std.specs.Prelude.{◌≡◌, ◌↔◌, ◌⊎◌, ℕ, ◌+◌, ◌<◌, ◌≤◌, ◌^◌, Bool, true}
+use Rattle.std.specs.Prelude.{false, List, [], ◌∷◌, ◌++◌, Option}
 use Rattle.std.specs.Prelude.{None, Some, All, map, length, take}
 use Rattle.std.specs.List.{AllByRecursion}
 use Rattle.enf_value.specs.declared.terms.VarId.{VarId}
@@ -80,7 +81,8 @@ pub record IsFitting (s : Setting) (rows : List RowLine) (fitting : Fitting) : T
 
 -- rows keep the bounds
 abbrev pub RowsFit : Setting → (last : Option ℕ) → List RowLine → Type 0
-RowsFit s last rows = AllByRecursion (RowFits s) rows × AreWithinBounds (all_operators s.guards) last (map kept_of rows)
+RowsFit s last rows =
+    AllByRecursion (RowFits s) rows × AreWithinBounds (all_operators s.guards) last (map kept_of rows)
 
 -- so do instances
 abbrev pub DuesFit : Setting → (clock position : ℕ) → List DueLine → Type 0

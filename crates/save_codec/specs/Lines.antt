@@ -1,5 +1,6 @@
 -- The lines of a saved text, and what stands before them.
-use Rattle.std.specs.Prelude.{ℕ, ◌<◌, ◌^◌, List, ◌∷◌, ◌++◌, Option, None, Some, codes, decimal, length}
+use Rattle.std.specs.Prelude.{ℕ, ◌<◌, ◌^◌, List, ◌∷◌, ◌++◌, Option, None}
+use Rattle.std.specs.Prelude.{Some, codes, decimal, length}
 use Rattle.std.specs.List.{AllByRecursion, flat_map}
 use Rattle.enf_value.specs.Spelling.{spelled}
 use Rattle.enf_value.specs.ValueTokens.{IsValue}

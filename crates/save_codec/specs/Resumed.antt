@@ -1,5 +1,6 @@
 -- The answer to a saved text.
-use Rattle.std.specs.Prelude.{◌≡◌, ◌↔◌, ℕ, ◌<◌, ◌≤◌, ◌^◌, List, All, None, Result, Ok, Err, map}
+use Rattle.std.specs.Prelude.{◌≡◌, ◌↔◌, ℕ, ◌<◌, ◌≤◌, ◌^◌, List, All}
+use Rattle.std.specs.Prelude.{None, Result, Ok, Err, map}
 use Rattle.monitorable_guard.specs.Guards.{BoundFormula}
 use Rattle.signature.specs.Refusals.{IsAnswer}
 use Rattle.plan_terms.specs.Plans.{plan_of}

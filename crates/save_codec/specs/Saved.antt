@@ -29,7 +29,8 @@ due_line i = Due i.rule i.node i.origin i.low i.high (values_in i.valuation)
 -- the clock, the last time, the position, the rows, the instances and the end
 abbrev pub lines_of : Snapshot → List Line
 lines_of s =
-    Clock s.clock ∷ Last s.last ∷ Position s.position ∷ (map row_line s.kept ++ (map due_line s.pending ++ End ∷ []))
+    Clock s.clock ∷ Last s.last ∷ Position s.position
+    ∷ (map row_line s.kept ++ (map due_line s.pending ++ End ∷ []))
 
 -- what is saved under the bytes of a signature and of a policy
 abbrev pub saved_text : (signature policy : List ℕ) → Snapshot → List ℕ
@@ -62,7 +63,8 @@ pub record IsSnapshotOf (plans : List Plan) (operators : List Formula) (trace : 
   pub pending : Pend plans trace s.pending
 
 -- the bytes are the saved text of a trace and a clock
-abbrev pub IsSavedText : (signature policy : List ℕ) → List Plan → List Formula → List Step → (clock : ℕ) → List ℕ
+abbrev pub IsSavedText : (signature policy : List ℕ) → List Plan → List Formula → List Step
+    → (clock : ℕ) → List ℕ
     → Type 0
 IsSavedText signature policy plans operators trace clock bytes =
     (s : Snapshot) × IsSnapshotOf plans operators trace clock s × (bytes ≡ saved_text signature policy s)

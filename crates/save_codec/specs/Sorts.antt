@@ -1,5 +1,6 @@
 -- The sorts of a rule's variables, as far as its plan tells them.
-use Rattle.std.specs.Prelude.{◌≡◌, ◌⊎◌, ℕ, Bool, false, List, [], ◌∷◌, Option, None, Some, Contains, IsTrue, nat_eq}
+use Rattle.std.specs.Prelude.{◌≡◌, ◌⊎◌, ℕ, Bool, false, List, [], ◌∷◌, Option}
+use Rattle.std.specs.Prelude.{None, Some, Contains, IsTrue, nat_eq}
 use Rattle.std.specs.Prelude.{slice_get}
 use Rattle.std.specs.List.{list_any}
 use Rattle.enf_value.specs.declared.events.NameId.{NameId}

@@ -1,5 +1,6 @@
 //! What is left of a text, and the parts that are taken from its front.
-ghost use Rattle.std.specs.Prelude.{◌≡◌, ◌++◌, ◌<◌, ◌≤◌, ℕ, List, IfOk, IfSome, IsTrue, decimal, length, false, true};
+ghost use Rattle.std.specs.Prelude.{◌≡◌, ◌++◌, ◌<◌, ◌≤◌, ℕ, List, IfOk, IfSome, IsTrue, decimal};
+ghost use Rattle.std.specs.Prelude.{length, false, true};
 ghost use Rattle.std.specs.List.{AllByRecursion};
 ghost use Rattle.enf_value.specs.Spelling.{spelled};
 ghost use Rattle.enf_value.specs.ValueTokens.{EndsBefore, IsNoDigit, IsValue};

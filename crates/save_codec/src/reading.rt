@@ -130,7 +130,8 @@ impl Cursor<'_> {
     pub fn line(&mut self, alloc: Global, written: &mut Vec<u8>) -> Result<Option<Line>, NoMemory>
         ensures told { IfOk result (λ found. IfSome found
             (λ line. IsReadLine self.old.rest.now line self.new.rest.now)) }
-        ensures again { (line : AnyLine) (rest : List ℕ) → IsLine line → self.old.rest.now ≡ line_text line ++ rest
+        ensures again { (line : AnyLine) (rest : List ℕ) → IsLine line
+            → self.old.rest.now ≡ line_text line ++ rest
             → IfOk result (λ found. found ≡ Some line) }
     {
         let Some(line) = read_loosely(alloc, self.rest)? else {

@@ -1,5 +1,6 @@
 //! The state of a text.
-ghost use Rattle.std.specs.Prelude.{◌≡◌, ◌↔◌, ◌+◌, ◌<◌, ◌≤◌, ◌^◌, List, None, Ok, IfErr, IfNone, IfOk, IfSome, IsTrue};
+ghost use Rattle.std.specs.Prelude.{◌≡◌, ◌↔◌, ◌+◌, ◌<◌, ◌≤◌, ◌^◌, List, None, Ok, IfErr};
+ghost use Rattle.std.specs.Prelude.{IfNone, IfOk, IfSome, IsTrue};
 ghost use Rattle.std.specs.Prelude.{[], length, map};
 ghost use Rattle.std.specs.List.{AllByRecursion};
 ghost use Rattle.signature.specs.Refusals.{IsAnswer};

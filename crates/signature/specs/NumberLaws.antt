@@ -1,5 +1,6 @@
 -- The laws of the numbers of names.
-use Rattle.std.specs.Prelude.{◌≡◌, ℕ, zero, suc, Bool, true, false, cond, List, [], ◌∷◌, length, Option, Some}
+use Rattle.std.specs.Prelude.{◌≡◌, ℕ, zero, suc, Bool, true, false, cond, List}
+use Rattle.std.specs.Prelude.{[], ◌∷◌, length, Option, Some}
 use Rattle.std.specs.Prelude.{Contains}
 use Rattle.std.specs.Prelude.{position, slice_get}
 use Rattle.std.specs.List.{position_or_len}

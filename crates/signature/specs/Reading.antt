@@ -1,5 +1,6 @@
 -- What the reader does at a token: the next state, or the refusal.
-use Rattle.std.specs.Prelude.{◌≡◌, ℕ, ◌+◌, ◌<◌, ◌≤◌, ◌==◌, nat_lt, Bool, true, false, List, [], ◌∷◌, ◌++◌, length}
+use Rattle.std.specs.Prelude.{◌≡◌, ℕ, ◌+◌, ◌<◌, ◌≤◌, ◌==◌, nat_lt, Bool, true, false, List}
+use Rattle.std.specs.Prelude.{[], ◌∷◌, ◌++◌, length}
 use Rattle.std.specs.Prelude.{codes}
 use Rattle.std.specs.Prelude.{Option, None, Some, Result, Ok, Err, IsTrue, if◌then◌else◌}
 use Rattle.std.specs.Str.{bytes_eq}
@@ -90,7 +91,8 @@ taken entries part place token =
     taken_by place (next entries part token) (limit_refusal entries part place token)
 
 -- what a call took, unless there was no memory
-abbrev pub Takes : List NameEntry → Part → ℕ → Token → List NameEntry → Result Part SignatureRefusal → Type 0
+abbrev pub Takes : List NameEntry → Part → ℕ → Token → List NameEntry
+    → Result Part SignatureRefusal → Type 0
 Takes old part place token new (Ok after) = taken old part place token ≡ Ok (new, after)
 Takes old part place token new (Err NoMemory) = Unit {0}
 Takes old part place token new (Err refusal) = taken old part place token ≡ Err refusal

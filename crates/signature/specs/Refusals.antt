@@ -1,5 +1,6 @@
 -- Why a text is no signature: the first refusal by place, said by what could still follow.
-use Rattle.std.specs.Prelude.{◌≡◌, ℕ, ◌<◌, ◌≤◌, List, [], ◌∷◌, ◌++◌, length, Some, Result, Err, IsTrue}
+use Rattle.std.specs.Prelude.{◌≡◌, ℕ, ◌<◌, ◌≤◌, List, [], ◌∷◌, ◌++◌}
+use Rattle.std.specs.Prelude.{length, Some, Result, Err, IsTrue}
 use Rattle.enf_value.specs.FirstRefusal as first
 use Rattle.enf_value.specs.Names.{is_name}
 use Rattle.enf_value.specs.Tokens.{Token, Word, Mark, Placed, kinds}
@@ -34,7 +35,8 @@ pub record IsNextSort (front : List Token) (token : Token)
 -- the token passes a limit: it is one name too many, one sort too many, or a name that is too long
 abbrev pub Passes : SignatureLimit → List Token → Token → Type 0
 Passes Names front token =
-    (entries : List NameEntry) × (name : List ℕ) × IsNextName front token entries name × (length entries ≡ MOST_NAMES)
+    (entries : List NameEntry) × (name : List ℕ) × IsNextName front token entries name
+    × (length entries ≡ MOST_NAMES)
 Passes Arity front token =
     (entries : List NameEntry) × (name : List ℕ) × (sorts : List Sort) × (sort : Sort)
     × IsNextSort front token entries name sorts sort × (length sorts ≡ MOST_COLUMNS)

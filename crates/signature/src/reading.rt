@@ -70,7 +70,8 @@ fn take_name(
 }
 
 fn take_open(name: TextValue, token: Token<'_>, place: Place) -> Result<Part, SignatureRefusal>
-    ensures { (entries : List NameEntry) → Takes entries (Part.Name name) place (token_of token.entry) entries result }
+    ensures { (entries : List NameEntry)
+        → Takes entries (Part.Name name) place (token_of token.entry) entries result }
 {
     match token {
         Token::Mark(Mark::OpenParen) => Ok(Part::Open(name)),
@@ -101,7 +102,8 @@ fn take_first_sort(
     token: Token<'_>,
     place: Place,
 ) -> Result<Part, SignatureRefusal>
-    ensures { (entries : List NameEntry) → Takes entries (Part.Open name) place (token_of token.entry) entries result }
+    ensures { (entries : List NameEntry)
+        → Takes entries (Part.Open name) place (token_of token.entry) entries result }
 {
     match token {
         Token::Word(word) => push_sort(name, Sorts::new(alloc), word, place),

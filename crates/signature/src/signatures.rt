@@ -1,5 +1,6 @@
 //! The names of a log: a few are searched, more of them are found without a look at the others.
-ghost use Rattle.std.specs.Prelude.{◌≡◌, ◌≤◌, ◌++◌, ◌∷◌, [], Contains, IfNone, IfOk, IfSome, List, OnErr, OnOk};
+ghost use Rattle.std.specs.Prelude.{◌≡◌, ◌≤◌, ◌++◌, ◌∷◌, [], Contains, IfNone, IfOk, IfSome};
+ghost use Rattle.std.specs.Prelude.{List, OnErr, OnOk};
 ghost use Rattle.std.specs.Prelude.{Result, Some, Vec as AnyVec, length, position, slice_get, ℕ};
 ghost use Rattle.std.specs.Map.{keys_of};
 ghost use Rattle.std.specs.Str.{bytes_eq};
@@ -115,7 +116,8 @@ impl Signature {
         ensures found { IfSome result
             (λ name. option_map (λ entry. entry.text) (slice_get self.now name.0) ≡ Some text.now) }
         ensures only { (name : NameNumber)
-            → option_map (λ entry. entry.text) (slice_get self.now name.0) ≡ Some text.now → result ≡ Some name }
+            → option_map (λ entry. entry.text) (slice_get self.now name.0) ≡ Some text.now
+            → result ≡ Some name }
         ensures none { IfNone result (Contains (names self.now) text.now → ⊥) }
     {
         let number = index_of(&self.entries, text)?;

@@ -44,7 +44,8 @@ module _ {X : Type 0} where
   abbrev pub AllBut : (X → Type 0) → (all rest : List X) → Type 0
   AllBut Q [] rest = rest ≡ []
   AllBut Q (x ∷ xs) rest =
-      ((others : List X) × (Q x → ⊥) × AllBut Q xs others × (rest ≡ x ∷ others)) ⊎ (Q x × AllBut Q xs rest)
+      ((others : List X) × (Q x → ⊥) × AllBut Q xs others × (rest ≡ x ∷ others))
+      ⊎ (Q x × AllBut Q xs rest)
 
   -- the same in any order, each once
   pub record IsAllBut (Q : X → Type 0) (all rest : List X) : Type 0 where

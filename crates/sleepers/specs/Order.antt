@@ -1,6 +1,7 @@
 -- Places, and lists in their order. A place is made once: what is begun at one goes on from it with a later beginning,
 -- and of those that go on from one place the later come first.
-use Rattle.std.specs.Prelude.{◌≡◌, ◌↔◌, ℕ, zero, suc, ◌<◌, Bool, cond, ◌⊎◌, List, [], ◌∷◌, ◌++◌, Contains, map}
+use Rattle.std.specs.Prelude.{◌≡◌, ◌↔◌, ℕ, zero, suc, ◌<◌, Bool, cond, ◌⊎◌, List, [], ◌∷◌}
+use Rattle.std.specs.Prelude.{◌++◌, Contains, map}
 use Rattle.std.specs.List.{AllByRecursion}
 use Rattle.sleepers.specs.declared.places.Beginning.{Beginning}
 

@@ -1,5 +1,6 @@
 -- A step over entries: those that are awake stay or go, and others that were begun for them are put in.
-use Rattle.std.specs.Prelude.{◌≡◌, ℕ, Bool, true, cond, ◌⊎◌, List, [], ◌∷◌, ◌++◌, Contains, length, map}
+use Rattle.std.specs.Prelude.{◌≡◌, ℕ, Bool, true, cond, ◌⊎◌, List, []}
+use Rattle.std.specs.Prelude.{◌∷◌, ◌++◌, Contains, length, map}
 use Rattle.std.specs.List.{AllByRecursion}
 use Rattle.enf_value.specs.declared.events.Event.{Event}
 use Rattle.sleepers.specs.Entries.{ArePlaced, HasOneMore, IsAllBut, IsAsleep, IsFree, places}

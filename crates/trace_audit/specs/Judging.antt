@@ -1,6 +1,7 @@
 -- What is known of the rules at the positions up to one, where the steps behind it are still to come: what is still
 -- asked for some of them, and the least of those that failed.
-use Rattle.std.specs.Prelude.{◌≡◌, ◌↔◌, ◌⊎◌, ℕ, ◌+◌, ◌<◌, List, [], ◌∷◌, ◌++◌, Option, None, Some, slice_get, Contains}
+use Rattle.std.specs.Prelude.{◌≡◌, ◌↔◌, ◌⊎◌, ℕ, ◌+◌, ◌<◌, List, [], ◌∷◌, ◌++◌}
+use Rattle.std.specs.Prelude.{Option, None, Some, slice_get, Contains}
 use Rattle.std.specs.List.{AllByRecursion}
 use Rattle.enf_value.specs.Valuations.{no_values}
 use Rattle.enf_value.specs.declared.steps.Step.{Step}

@@ -1,5 +1,6 @@
 -- What is still asked of the positions of a trace from one on.
-use Rattle.std.specs.Prelude.{◌≡◌, ◌↔◌, ℕ, ◌<◌, ◌≤◌, Bool, true, false, List, [], ◌∷◌, length}
+use Rattle.std.specs.Prelude.{◌≡◌, ◌↔◌, ℕ, ◌<◌, ◌≤◌, Bool, true, false}
+use Rattle.std.specs.Prelude.{List, [], ◌∷◌, length}
 use Rattle.enf_value.specs.Data.{step_at}
 use Rattle.enf_value.specs.Valuations.{Valuation}
 use Rattle.enf_value.specs.declared.steps.Step.{Step}
@@ -99,13 +100,15 @@ IsSettled false rest = rest ≡ stored.Failed
 pub record IsAllOf (left right rest : Residual) : Type 0 where
   pub means : (trace : List Step) (from : ℕ)
       → Means trace from rest ↔ (Means trace from left × Means trace from right)
-  pub can : (guards : List (Formula × List VarId)) → CanGoOn guards left → CanGoOn guards right → CanGoOn guards rest
+  pub can : (guards : List (Formula × List VarId)) → CanGoOn guards left
+      → CanGoOn guards right → CanGoOn guards rest
 
 -- it asks for one of two
 pub record IsAnyOf (left right rest : Residual) : Type 0 where
   pub means : (trace : List Step) (from : ℕ)
       → Means trace from rest ↔ Or (Means trace from left) (Means trace from right)
-  pub can : (guards : List (Formula × List VarId)) → CanGoOn guards left → CanGoOn guards right → CanGoOn guards rest
+  pub can : (guards : List (Formula × List VarId)) → CanGoOn guards left
+      → CanGoOn guards right → CanGoOn guards rest
 
 -- a link hangs at its end
 pub record IsHung (so_far : Residual) (one : Link) (rest : Residual) : Type 0 where

@@ -1,5 +1,6 @@
 //! Rules at positions that are followed until it is known whether they hold.
-ghost use Rattle.std.specs.Prelude.{◌≡◌, ◌↔◌, ◌≤◌, ◌^◌, IsTrue, List, OnErr, OnOk, [], length, map};
+ghost use Rattle.std.specs.Prelude.{◌≡◌, ◌↔◌, ◌≤◌, ◌^◌, IsTrue, List, OnErr};
+ghost use Rattle.std.specs.Prelude.{OnOk, [], length, map};
 ghost use Rattle.std.specs.List.{AllByRecursion};
 ghost use Rattle.enf_formula.specs.Formulas.{Formula};
 ghost use Rattle.enf_value.specs.Valuations.{no_values};

@@ -1,5 +1,6 @@
 -- Lawful change: what an enforcer may do to the records of a log.
-use Rattle.std.specs.Prelude.{◌≡◌, ℕ, ◌<◌, ◌≤◌, ◌++◌, Bool, IsTrue, List, [], ◌∷◌, map, All, Contains}
+use Rattle.std.specs.Prelude.{◌≡◌, ℕ, ◌<◌, ◌≤◌, ◌++◌, Bool, IsTrue, List}
+use Rattle.std.specs.Prelude.{[], ◌∷◌, map, All, Contains}
 use Rattle.enf_value.specs.Membership.{HasNoRepeats, TakesOut}
 use Rattle.enf_value.specs.declared.events.Event.{Event}
 use Rattle.enf_value.specs.declared.events.NameId.{NameId}

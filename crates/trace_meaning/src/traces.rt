@@ -1,5 +1,6 @@
 //! Traces, step by step.
-ghost use Rattle.std.specs.Prelude.{◌≡◌, ◌≤◌, [], ◌∷◌, ◌++◌, length, slice_get, IsTrue, ◌↔◌, IfErr, OnOk, OnErr};
+ghost use Rattle.std.specs.Prelude.{◌≡◌, ◌≤◌, [], ◌∷◌, ◌++◌, length, slice_get, IsTrue};
+ghost use Rattle.std.specs.Prelude.{◌↔◌, IfErr, OnOk, OnErr};
 ghost use Rattle.std.specs.Option.{option_copied};
 ghost use Rattle.enf_value.specs.Data.{IsTrace};
 ghost use Rattle.trace_meaning.specs.Continuation.{last_time};

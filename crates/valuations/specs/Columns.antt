@@ -1,5 +1,6 @@
 -- Being in a list of columns, and the columns that two lists share.
-use Rattle.std.specs.Prelude.{◌≡◌, ℕ, zero, suc, ◌==◌, Bool, true, false, not, cond, ◌⊎◌, List, [], ◌∷◌, ◌++◌, map}
+use Rattle.std.specs.Prelude.{◌≡◌, ℕ, zero, suc, ◌==◌, Bool, true, false, not, cond, ◌⊎◌, List, []}
+use Rattle.std.specs.Prelude.{◌∷◌, ◌++◌, map}
 use Rattle.std.specs.Prelude.{Some, Contains}
 use Rattle.std.specs.Bool.{Decides}
 use Rattle.std.specs.List.{filter, slice_get, list_any}
@@ -33,7 +34,8 @@ pub Contains-from_filter : {X : Type 0} (p : X → Bool) (xs : List X) (x : X) �
 Contains-from_filter p [] x there = absurd (none_in_nil x there)
 Contains-from_filter p (y ∷ ys) x there = by (p y) refl there (Contains-from_filter p ys x)
   where
-    by : (b : Bool) → p y ≡ b → Contains (cond b (y ∷ filter p ys) (filter p ys)) x → (Contains (filter p ys) x
+    by : (b : Bool) → p y ≡ b → Contains (cond b (y ∷ filter p ys) (filter p ys)) x
+        → (Contains (filter p ys) x
         → Contains ys x × (p x ≡ true)) → Contains (y ∷ ys) x × (p x ≡ true)
     by true e kept behind = ⊎_elim (λ same. (
       (0, omega arith, same),
@@ -59,7 +61,8 @@ HasNoRepeats-append (x ∷ xs) ys d e apart = (
 )
 
 -- two functions that give the same list agree at each of its places, and the other way round
-pub same_at : {X Y : Type 0} (f g : X → Y) (xs : List X) (x : X) → map f xs ≡ map g xs → Contains xs x → f x ≡ g x
+pub same_at : {X Y : Type 0} (f g : X → Y) (xs : List X) (x : X) → map f xs ≡ map g xs
+    → Contains xs x → f x ≡ g x
 same_at f g [] x same there = absurd (none_in_nil x there)
 same_at f g (y ∷ ys) x same there =
     ⊎_elim (λ first. subst (λ z. f z ≡ g z) first (ap (λ l. get_or l 0 (f y)) same)) (λ behind. same_at f g ys x

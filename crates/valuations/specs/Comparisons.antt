@@ -1,5 +1,6 @@
 -- Comparisons of terms, and what a valuation binds of a row's columns.
-use Rattle.std.specs.Prelude.{◌≡◌, ◌<ℤ◌, ◌≤ℤ◌, Bool, true, false, ◌&&◌, List, [], ◌∷◌, Option, None, Some}
+use Rattle.std.specs.Prelude.{◌≡◌, ◌<ℤ◌, ◌≤ℤ◌, Bool, true, false, ◌&&◌, List, [], ◌∷◌}
+use Rattle.std.specs.Prelude.{Option, None, Some}
 use Rattle.std.specs.Ordering.{int_cmp, is_lt, is_le, is_eq}
 use Rattle.enf_value.specs.Order.{value_cmp}
 use Rattle.enf_value.specs.declared.values.Value.{Value}

@@ -60,7 +60,8 @@ join_just a b t P Q just_a just_b is v binds =
     )
 
 pub antijoin_just : (a b t : Relation) (P Q : Valuation → Type 0) → ((x : VarId) → Contains b.columns x
-    → Contains a.columns x) → HasJust a P → HasJust b Q → IsAntijoinOf a b t → HasJust t (λ v. P v × (Q v → ⊥))
+    → Contains a.columns x) → HasJust a P → HasJust b Q → IsAntijoinOf a b t
+    → HasJust t (λ v. P v × (Q v → ⊥))
 antijoin_just a b t P Q within just_a just_b is v binds =
     let bound : Binds v a.columns = binds_by v _ _ is.0 binds in
     let others : Binds v b.columns = λ x there. bound x (within x there) in (
@@ -78,7 +79,8 @@ union_just a b t P Q within just_a just_b is v binds =
     )
 
 pub selection_just : (a t : Relation) (P : Valuation → Type 0) (kind : Compare) (left right : Term) → HasJust a P
-    → IsSelectionOf a kind left right t → HasJust t (λ v. P v × Compares kind (value_of v left) (value_of v right))
+    → IsSelectionOf a kind left right t
+    → HasJust t (λ v. P v × Compares kind (value_of v left) (value_of v right))
 selection_just a t P kind left right just_a is v binds =
     let bound : Binds v a.columns = binds_by v _ _ is.0 binds in (
       λ has. let got = (is.1 v).0 has in ((just_a v bound).0 got.0, got.1),

@@ -1,5 +1,6 @@
 -- Laws of rows: what a row has for a variable, and the valuations that have the values of a row.
-use Rattle.std.specs.Prelude.{◌≡◌, ℕ, zero, suc, ◌==◌, Bool, true, false, cond, List, [], ◌∷◌, ◌++◌, length}
+use Rattle.std.specs.Prelude.{◌≡◌, ℕ, zero, suc, ◌==◌, Bool, true, false, cond}
+use Rattle.std.specs.Prelude.{List, [], ◌∷◌, ◌++◌, length}
 use Rattle.std.specs.Prelude.{Some, Contains, slice_get}
 use Rattle.std.specs.FinMap as finite
 use Rattle.std.specs.Cmp.{unsigned_tied}
@@ -26,7 +27,8 @@ cell_later column x columns value row other = rw (ne_eqb column.0 x.0 (λ same. 
 
 -- the value at a column's place is its variable's
 pub cell_at : (columns : List VarId) (row : List Value) (place : ℕ) (x : VarId) → HasNoRepeats columns
-    → length row ≡ length columns → slice_get columns place ≡ Some x → slice_get row place ≡ cell columns row x
+    → length row ≡ length columns → slice_get columns place ≡ Some x
+    → slice_get row place ≡ cell columns row x
 cell_at [] row place x distinct long e = absurd (none-some x e)
 cell_at (column ∷ columns) [] place x distinct long e = absurd (omega (arith, long))
 cell_at (column ∷ columns) (value ∷ row) zero x distinct long e =
@@ -79,7 +81,8 @@ cell_back (column ∷ columns) more (value ∷ row) rest x long absent =
 
 -- two rows with the same values are the same row
 pub same_row : (columns : List VarId) (a b : List Value) → HasNoRepeats columns → length a ≡ length columns
-    → length b ≡ length columns → ((x : VarId) → Contains columns x → cell columns a x ≡ cell columns b x) → a ≡ b
+    → length b ≡ length columns
+    → ((x : VarId) → Contains columns x → cell columns a x ≡ cell columns b x) → a ≡ b
 same_row [] [] [] distinct long_a long_b same = refl
 same_row [] (value ∷ a) b distinct long_a long_b same = absurd (omega (arith, long_a))
 same_row [] [] (value ∷ b) distinct long_a long_b same = absurd (omega (arith, long_b))
@@ -140,7 +143,8 @@ agrees_itself columns row distinct long x there = value_at-with_inside columns r
 
 -- a valuation has the values of one row of distinct columns at most
 pub agrees_once : (v : Valuation) (columns : List VarId) (a b : List Value) → HasNoRepeats columns
-    → length a ≡ length columns → length b ≡ length columns → Agrees v columns a → Agrees v columns b → a ≡ b
+    → length a ≡ length columns → length b ≡ length columns → Agrees v columns a
+    → Agrees v columns b → a ≡ b
 agrees_once v columns a b distinct long_a long_b with_a with_b =
     same_row columns a b distinct long_a long_b (λ x there. sym (with_a x there) ∙ with_b x there)
 

@@ -91,7 +91,8 @@ with_new-keeps : (v : Valuation) (x y : VarId) (value known : Value) → value_a
 with_new-keeps v x y value known at = by (value_at v x) refl
   where
     by : (o : Option Value) → value_at v x ≡ o → value_at (with_new o v x value) y ≡ Some known
-    by None absent = value_at-other v x y value (λ same. none-some known (sym absent ∙ ap (value_at v) same ∙ at)) ∙ at
+    by None absent =
+        value_at-other v x y value (λ same. none-some known (sym absent ∙ ap (value_at v) same ∙ at)) ∙ at
     by (Some k) there = at
 
 with_new-other : (v : Valuation) (x y : VarId) (value : Value) → (x ≡ y → ⊥)
@@ -138,7 +139,8 @@ filled_unbound v (x ∷ columns) (value ∷ row) y absent = ⊎_elim
 
 -- where no column is bound, its variables are bound to the values in turn
 pub filled_fresh : (v : Valuation) (columns : List VarId) (row : List Value) → HasNoRepeats columns
-    → ((x : VarId) → Contains columns x → value_at v x ≡ None) → filled v columns row ≡ with_values columns row v
+    → ((x : VarId) → Contains columns x → value_at v x ≡ None)
+    → filled v columns row ≡ with_values columns row v
 filled_fresh v [] row distinct absent = refl
 filled_fresh v (x ∷ columns) [] distinct absent = refl
 filled_fresh v (x ∷ columns) (value ∷ row) distinct absent = by (value_at v x) (absent x (here x columns))

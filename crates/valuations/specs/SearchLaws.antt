@@ -1,8 +1,10 @@
 -- The items of a list in the order of their keys that have one key: they stand between two places, which two
 -- searches find.
 use Rattle.std.proofs.Common.{IsTrue, Result, Ok, Err, is_ok, inl, inr}
-use Rattle.std.proofs.Common.{◌≡◌, ℕ, ◌+◌, ◌-◌, ◌<◌, ◌≤◌, true, false, ⊎_elim, List, [], ◌∷◌, length, map, take, drop}
-use Rattle.std.proofs.Common.{get_or, Contains, ◌↔◌, refl, sym, ap, ◌∙◌, arith, length-take, length-drop, get_or-take}
+use Rattle.std.proofs.Common.{◌≡◌, ℕ, ◌+◌, ◌-◌, ◌<◌, ◌≤◌, true, false, ⊎_elim, List, []}
+use Rattle.std.proofs.Common.{◌∷◌, length, map, take, drop}
+use Rattle.std.proofs.Common.{get_or, Contains, ◌↔◌, refl, sym, ap, ◌∙◌}
+use Rattle.std.proofs.Common.{arith, length-take, length-drop, get_or-take}
 use Rattle.std.proofs.Common.{get_or-drop}
 use Rattle.std.specs.Cmp.{IsTotalOrder, tied_itself}
 use Rattle.std.specs.FinMap.{IsAntisymmetric}
@@ -74,7 +76,8 @@ module _ {X K : Type 0} {R : K → K → Ordering} (o : IsTotalOrder R) (exact :
           omega
               (arith, there.1, length-take count (drop from xs), length-drop from xs),
         ) in
-        let in_rest : get_or (drop from xs) i x ≡ x = sym (get_or-take count (drop from xs) i x short.0) ∙ there.2 in
+        let in_rest : get_or (drop from xs) i x ≡ x =
+        sym (get_or-take count (drop from xs) i x short.0) ∙ there.2 in
         let in_all : get_or xs (from + i) x ≡ x = sym (get_or-drop from xs i x) ∙ in_rest in
         let le : is_le (R (k x) t) ≡ true = sym (ap (λ y. is_le (R (k y) t)) in_rest) ∙ last.0 i x
         (omega arith) short.0 in
@@ -101,7 +104,8 @@ module _ {X K : Type 0} {R : K → K → Ordering} (o : IsTotalOrder R) (exact :
   )
 
   -- where a search by the order ends tells whether there is an item with the key
-  pub found_tells : (r : Result ℕ ℕ) → IsSearchInRange r (length xs) → IsBinarySearchResult (λ y. R (k y) t) xs r
+  pub found_tells : (r : Result ℕ ℕ) → IsSearchInRange r (length xs)
+      → IsBinarySearchResult (λ y. R (k y) t) xs r
       → IsTrue (is_ok r) ↔ ((x : X) × Contains xs x × (k x ≡ t))
   found_tells (Ok i) within at = (λ _. some xs within at, λ _. refl)
     where

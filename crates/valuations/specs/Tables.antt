@@ -1,5 +1,6 @@
 -- Tables: finite sets of valuations of the same variables, kept as rows.
-use Rattle.std.specs.Prelude.{◌≡◌, ◌↔◌, ◌==◌, Bool, not, List, [], ◌∷◌, length, filter, Option, None, Some, All}
+use Rattle.std.specs.Prelude.{◌≡◌, ◌↔◌, ◌==◌, Bool, not, List, [], ◌∷◌, length, filter, Option}
+use Rattle.std.specs.Prelude.{None, Some, All}
 use Rattle.std.specs.Prelude.{Contains, refl, if◌then◌else◌}
 use Rattle.std.specs.Coded.{Coded, coded_list, coded×, code_by}
 use Rattle.std.specs.List.{list_any}

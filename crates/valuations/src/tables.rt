@@ -1,5 +1,6 @@
 //! Tables: columns and rows.
-ghost use Rattle.std.specs.Prelude.{◌≡◌, ◌↔◌, [], ◌∷◌, List, IsTrue, IfOk, All, Contains, length, slice_get};
+ghost use Rattle.std.specs.Prelude.{◌≡◌, ◌↔◌, [], ◌∷◌, List, IsTrue, IfOk};
+ghost use Rattle.std.specs.Prelude.{All, Contains, length, slice_get};
 ghost use Rattle.std.specs.Option.{option_copied};
 ghost use Rattle.enf_value.specs.Membership.{HasNoRepeats};
 ghost use Rattle.enf_value.specs.declared.values.Value.{Value as AnyValue};

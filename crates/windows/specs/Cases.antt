@@ -71,7 +71,8 @@ right_at_0 = entry 0 [] (1 ∷ []) ∷ entry 3 (1 ∷ 2 ∷ []) [] ∷ []
 -- 1 and 2 are right at time 0, 2 alone survives at time 1, 1 is right again at time 2, and both survive at time 3
 abbrev pub again_at_2 : List Entry
 again_at_2 =
-    entry 0 [] (1 ∷ 2 ∷ []) ∷ entry 1 (2 ∷ []) [] ∷ entry 2 (2 ∷ []) (1 ∷ []) ∷ entry 3 (1 ∷ 2 ∷ []) [] ∷ []
+    entry 0 [] (1 ∷ 2 ∷ []) ∷ entry 1 (2 ∷ []) [] ∷ entry 2 (2 ∷ []) (1 ∷ [])
+    ∷ entry 3 (1 ∷ 2 ∷ []) [] ∷ []
 
 -- 1 is right at times 0 and 2, and survives
 abbrev pub at_0_and_2 : List Entry
@@ -98,7 +99,8 @@ dies_at_once = entry 4 [] (1 ∷ []) ∷ entry 4 [] [] ∷ []
 
 -- a window with the number 1, right at this time
 abbrev pub with_1 : Interval → ℕ → Window
-with_1 interval time = record { interval = interval; columns = columns; last = time; kept = (row 1, time ∷ []) ∷ [] }
+with_1 interval time =
+    record { interval = interval; columns = columns; last = time; kept = (row 1, time ∷ []) ∷ [] }
 
 -- it remembers the number at a later time
 abbrev pub IsRemembered : Interval → ℕ → ℕ → ℕ → Type 0

@@ -1,6 +1,7 @@
 -- What windows and slots answer at a step, as tables that functions determine. Nothing is asked of these but their
 -- columns and the valuations that they have: the rows stand in no order, and one may stand twice.
-use Rattle.std.specs.Prelude.{◌≡◌, ◌↔◌, ◌⊎◌, ℕ, ◌-◌, ◌&&◌, leb, Bool, true, not, if◌then◌else◌, List, [], ◌++◌, map}
+use Rattle.std.specs.Prelude.{◌≡◌, ◌↔◌, ◌⊎◌, ℕ, ◌-◌, ◌&&◌, leb, Bool, true, not}
+use Rattle.std.specs.Prelude.{if◌then◌else◌, List, [], ◌++◌, map}
 use Rattle.std.specs.Prelude.{filter, Option, None, Some, Contains}
 use Rattle.std.specs.List.{list_any}
 use Rattle.enf_value.specs.Valuations.{Valuation}
@@ -72,14 +73,17 @@ AllAreGiven = (window : Window) (time : ℕ) (right : Relation) (v : Valuation) 
     → Has (given window time survives_always right) v ↔ AnswersBy window time (λ w. Unit {0}) right v
 
 abbrev pub AmongAreGiven : Type 0
-AmongAreGiven = (window : Window) (time : ℕ) (told right : Relation) (v : Valuation) → told.columns ≡ window.columns
+AmongAreGiven =
+    (window : Window) (time : ℕ) (told right : Relation) (v : Valuation) → told.columns ≡ window.columns
     → right.columns ≡ window.columns
     → Has (given window time (survives_among told) right) v ↔ AnswersBy window time (Has told) right v
 
 abbrev pub OutsideAreGiven : Type 0
-OutsideAreGiven = (window : Window) (time : ℕ) (told right : Relation) (v : Valuation) → told.columns ≡ window.columns
+OutsideAreGiven =
+    (window : Window) (time : ℕ) (told right : Relation) (v : Valuation) → told.columns ≡ window.columns
     → right.columns ≡ window.columns
-    → Has (given window time (survives_outside told) right) v ↔ AnswersBy window time (λ w. Has told w → ⊥) right v
+    → Has (given window time (survives_outside told) right) v
+    ↔ AnswersBy window time (λ w. Has told w → ⊥) right v
 
 abbrev pub LastIsGiven : Type 0
 LastIsGiven = (slot : Slot) (time : ℕ) (v : Valuation) → LastHasColumns slot.columns slot.last

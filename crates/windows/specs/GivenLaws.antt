@@ -1,5 +1,6 @@
 -- Laws of the tables that windows and slots answer.
-use Rattle.std.proofs.Common.{◌≡◌, ◌∙◌, ◌↔◌, ◌⊎◌, inl, inr, ⊎_elim, ℕ, ◌-◌, ◌≤◌, Bool, true, false, IsTrue, ◌||◌, leb}
+use Rattle.std.proofs.Common.{◌≡◌, ◌∙◌, ◌↔◌, ◌⊎◌, inl, inr, ⊎_elim, ℕ, ◌-◌, ◌≤◌}
+use Rattle.std.proofs.Common.{Bool, true, false, IsTrue, ◌||◌, leb}
 use Rattle.std.proofs.Common.{List, [], ◌∷◌, map, Contains, Option, None, Some, refl, sym, ap, subst, arith}
 use Rattle.std.specs.Prelude.{if◌then◌else◌}
 use Rattle.std.specs.Bool.{Decides}
@@ -29,10 +30,15 @@ use Rattle.windows.specs.declared.steps.LastStep.{LastStep}
 
 leb-Decides : (a b : ℕ) → Decides (leb a b) (a ≤ b)
 leb-Decides a b = ⊎_elim (λ within. (λ _. within.1, λ _. within.0))
-    (λ outside. (λ e. absurd (false≢true (sym outside.0 ∙ e)), λ le. let above = outside.1 in absurd (omega arith)))
+    (λ outside. (
+      λ e. absurd (false≢true (sym outside.0 ∙ e)),
+      λ le. let above =
+          outside.1 in absurd (omega arith),
+    ))
     (leb_tells a b)
 
-is_up_to-Decides : (high : Option ℕ) (difference : ℕ) → Decides (is_up_to high difference) (IsUpTo high difference)
+is_up_to-Decides : (high : Option ℕ) (difference : ℕ)
+    → Decides (is_up_to high difference) (IsUpTo high difference)
 is_up_to-Decides None difference = (λ _. tt, λ _. refl)
 is_up_to-Decides (Some high) difference = leb-Decides difference high
 

@@ -14,7 +14,8 @@ HasPair steps v time = IsHeld (λ earlier. earlier ≡ time) steps v
 abbrev pub ChosenBy : Option ℕ → ℕ → ℕ → (ℕ → Type 0) → ℕ → Type 0
 ChosenBy None low last P time = (other : ℕ) → P other → time ≤ other
 ChosenBy (Some high) low last P time =
-    (last - time ≤ high) × (low ≤ last - time → (other : ℕ) → P other → low ≤ last - other → other ≤ time)
+    (last - time ≤ high)
+    × (low ≤ last - time → (other : ℕ) → P other → low ≤ last - other → other ≤ time)
 
 abbrev pub Chosen : Interval → ℕ → (ℕ → Type 0) → ℕ → Type 0
 Chosen interval last P time = P time × ChosenBy interval.high interval.low last P time

@@ -1,6 +1,7 @@
 -- Laws of lists that rise, and of what a window or a slot has: a row with a time is so the valuation that it stands for
 -- with that time.
-use Rattle.std.proofs.Common.{◌≡◌, ◌↔◌, ⊎_elim, ℕ, List, [], ◌∷◌, ◌++◌, map, length, All, Contains, None, Some, Option}
+use Rattle.std.proofs.Common.{◌≡◌, ◌↔◌, ⊎_elim, ℕ, List, [], ◌∷◌, ◌++◌, map, length, All}
+use Rattle.std.proofs.Common.{Contains, None, Some, Option}
 use Rattle.std.proofs.Common.{ap, subst, sym}
 use Rattle.std.proofs.lemmas.List.Elements.{All-contains, All-contains_itself, All-weaker, Contains-append_cases}
 use Rattle.std.proofs.lemmas.List.Elements.{Contains-append_left, Contains-append_right}

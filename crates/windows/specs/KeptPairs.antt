@@ -1,5 +1,6 @@
 -- Windows and slots as lists of pairs: a row, and a time at which it was right.
-use Rattle.std.specs.Prelude.{◌≡◌, ◌↔◌, ◌⊎◌, ℕ, ◌<◌, ◌≤◌, List, [], ◌∷◌, map, All, Contains, length, Option, None, Some}
+use Rattle.std.specs.Prelude.{◌≡◌, ◌↔◌, ◌⊎◌, ℕ, ◌<◌, ◌≤◌, List, [], ◌∷◌, map, All}
+use Rattle.std.specs.Prelude.{Contains, length, Option, None, Some}
 use Rattle.std.specs.Bool.{nat_eq}
 use Rattle.std.specs.List.{filter}
 use Rattle.std.specs.declared.cmp.Ordering.TheVariants.{Less}

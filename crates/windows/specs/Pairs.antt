@@ -1,5 +1,6 @@
 -- Rows, each with times at which it was right, and what may be done to them without a change of what they give.
-use Rattle.std.specs.Prelude.{◌≡◌, ◌↔◌, ◌⊎◌, ℕ, ◌-◌, ◌<◌, ◌≤◌, List, Some, All, Contains, drop, length, map}
+use Rattle.std.specs.Prelude.{◌≡◌, ◌↔◌, ◌⊎◌, ℕ, ◌-◌, ◌<◌, ◌≤◌, List, Some, All}
+use Rattle.std.specs.Prelude.{Contains, drop, length, map}
 use Rattle.smallvec.specs.SmallVec.{SmallVec}
 use Rattle.enf_value.specs.declared.intervals.Interval.{Interval}
 use Rattle.enf_value.specs.declared.values.Value.{Value}
@@ -39,7 +40,8 @@ pub record AddsTime (interval : Interval) (now : ℕ) (before after : List ℕ) 
   pub added : IsServed interval.high interval.low now (Contains after) now
 
 -- the same of all rows for which R holds
-pub record AddAtMost (now : ℕ) (R : List Value → Type 0) (before after : List (List Value × SmallVec ℕ)) : Type 0 where
+pub record AddAtMost (now : ℕ) (R : List Value → Type 0)
+    (before after : List (List Value × SmallVec ℕ)) : Type 0 where
   pub from : (row : List Value) (time : ℕ) → HasTime after row time
       → HasTime before row time ⊎ ((time ≡ now) × R row)
   pub behind : (row : List Value) (time : ℕ) → HasBehind after row time
@@ -87,7 +89,8 @@ abbrev pub IsSomeIn : Interval → ℕ → List ℕ → Type 0
 IsSomeIn interval now times = (time : ℕ) × Contains times time × IsIn interval (now - time)
 
 -- the row has such a time, and S holds for it
-abbrev pub Gives : Interval → ℕ → (List Value → Type 0) → List (List Value × SmallVec ℕ) → List Value → Type 0
+abbrev pub Gives : Interval → ℕ → (List Value → Type 0)
+    → List (List Value × SmallVec ℕ) → List Value → Type 0
 Gives interval now S entries row =
     ((times : SmallVec ℕ) × Contains entries (row, times) × IsSomeIn interval now times.items) × S row
 

@@ -1,5 +1,6 @@
 -- Rows that are asked for by columns and a valuation.
-use Rattle.std.specs.Prelude.{◌≡◌, Bool, true, false, ◌&&◌, List, [], ◌∷◌, ◌++◌, length, map, Option, None, Some}
+use Rattle.std.specs.Prelude.{◌≡◌, Bool, true, false, ◌&&◌, List, [], ◌∷◌, ◌++◌, length, map}
+use Rattle.std.specs.Prelude.{Option, None, Some}
 use Rattle.std.specs.Prelude.{IsTrue, refl}
 use Rattle.std.proofs.Common.{◌∙◌, ap, suc, sym}
 use Rattle.std.proofs.lemmas.Bool.{false≢true}
@@ -80,7 +81,8 @@ cells_eq_per f = on_per f (partial_equiv_from_equiv cells_equiv)
 
 -- ---- what is equal is hashed alike, and as the row
 
-pub same_fed : (xs ys : List (Option Value)) → IsTrue (cells_eq xs ys) → fed.slice cell_fed xs ≡ fed.slice cell_fed ys
+pub same_fed : (xs ys : List (Option Value)) → IsTrue (cells_eq xs ys)
+    → fed.slice cell_fed xs ≡ fed.slice cell_fed ys
 same_fed xs ys h = ap (fed.slice cell_fed) ((cells_eq-Decides xs ys).0 h)
 
 as_long : (row : List Value) → length (map Some row) ≡ length row

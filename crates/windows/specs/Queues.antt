@@ -1,5 +1,6 @@
 -- Steps in the order of their times, of which a number at the front is known to be far enough.
-use Rattle.std.specs.Prelude.{◌≡◌, ◌⊎◌, ℕ, ◌-◌, ◌≤◌, List, [], ◌∷◌, All, Contains, drop, length, Option, None, Some}
+use Rattle.std.specs.Prelude.{◌≡◌, ◌⊎◌, ℕ, ◌-◌, ◌≤◌, List, [], ◌∷◌, All, Contains, drop}
+use Rattle.std.specs.Prelude.{length, Option, None, Some}
 use Rattle.smallvec.specs.SmallVec.{SmallVec}
 use Rattle.enf_value.specs.declared.values.Value.{Value}
 use Rattle.windows.specs.Pairs.{HasTime, HasBehind}

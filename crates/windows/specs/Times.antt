@@ -1,5 +1,6 @@
 -- The times at which one row was right, of which some are kept.
-use Rattle.std.specs.Prelude.{◌≡◌, ◌⊎◌, ℕ, ◌-◌, ◌<◌, ◌≤◌, List, [], ◌∷◌, Option, None, Some, All}
+use Rattle.std.specs.Prelude.{◌≡◌, ◌⊎◌, ℕ, ◌-◌, ◌<◌, ◌≤◌, List, []}
+use Rattle.std.specs.Prelude.{◌∷◌, Option, None, Some, All}
 
 -- the times rise, and none is later than the last
 abbrev pub RiseTo : ℕ → List ℕ → Type 0

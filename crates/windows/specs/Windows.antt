@@ -1,5 +1,6 @@
 -- What an operator `since` on the past has to remember, and for which committed steps it stands.
-use Rattle.std.specs.Prelude.{◌≡◌, ◌↔◌, ◌⊎◌, ℕ, ◌-◌, ◌≤◌, List, map, All, Contains, length, Some}
+use Rattle.std.specs.Prelude.{◌≡◌, ◌↔◌, ◌⊎◌, ℕ, ◌-◌, ◌≤◌, List, map}
+use Rattle.std.specs.Prelude.{All, Contains, length, Some}
 use Rattle.smallvec.specs.SmallVec.{SmallVec}
 use Rattle.enf_value.specs.Membership.{HasNoRepeats, IsIn}
 use Rattle.enf_value.specs.Valuations.{Valuation}
@@ -29,7 +30,8 @@ kept_of entries = map (λ e. (e.0, e.1.items)) entries
 
 -- the columns are distinct, the rows are as long as they, and of the times of each just the least are kept; where the
 -- interval has an end, the queue has the step of each time that is kept, and no step that is past the end
-pub record IsWindow (interval : Interval) (columns : List VarId) (last : ℕ) (entries : List (List Value × SmallVec ℕ))
+pub record IsWindow (interval : Interval) (columns : List VarId) (last : ℕ)
+    (entries : List (List Value × SmallVec ℕ))
     (queue : Queue) : Type 0 where
   pub distinct : HasNoRepeats columns
   pub kept : AreKept (length columns) last entries

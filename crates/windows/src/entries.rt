@@ -1,5 +1,6 @@
 //! Rows with their times, as a window keeps them: each call is one look-up, or one for each row that it is given.
-ghost use Rattle.std.specs.Prelude.{◌≡◌, ◌↔◌, ◌⊎◌, ℕ, List, Some, IsTrue, OnOk, Contains, length, map};
+ghost use Rattle.std.specs.Prelude.{◌≡◌, ◌↔◌, ◌⊎◌, ℕ, List, Some, IsTrue};
+ghost use Rattle.std.specs.Prelude.{OnOk, Contains, length, map};
 ghost use Rattle.enf_value.specs.Membership.{IsIn};
 ghost use Rattle.enf_value.specs.declared.values.Value.{Value as AnyValue};
 ghost use Rattle.valuations.specs.Tables.{IsTable};
@@ -80,7 +81,8 @@ pub fn forget_row(entries: &mut Entries, row: &Row)
 
 // Takes out each row of the table.
 pub fn forget_rows(entries: &mut Entries, failing: &Table)
-    ensures keeps { KeepsRows (λ other. Contains failing.now.rows other → ⊥) entries.old.entries entries.new.entries }
+    ensures keeps { KeepsRows (λ other. Contains failing.now.rows other → ⊥)
+        entries.old.entries entries.new.entries }
     ensures table { IsTable failing.now }
 {
     for row in failing.rows() {

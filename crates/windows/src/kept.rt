@@ -1,5 +1,6 @@
 //! What windows and slots keep, as pairs of a row and a time.
-ghost use Rattle.std.specs.Prelude.{◌≡◌, ◌↔◌, [], ◌∷◌, ◌++◌, ℕ, List, None, Some, All, Contains, IfOk, OnOk, is_some};
+ghost use Rattle.std.specs.Prelude.{◌≡◌, ◌↔◌, [], ◌∷◌, ◌++◌, ℕ, List, None, Some, All};
+ghost use Rattle.std.specs.Prelude.{Contains, IfOk, OnOk, is_some};
 ghost use Rattle.std.specs.Prelude.{length, map, nat_eq};
 ghost use Rattle.std.specs.List.{list_any};
 ghost use Rattle.std.specs.Option.{option_map_or};
@@ -118,7 +119,8 @@ impl PrevSlot {
         ensures interval { IfOk result (λ s. s.interval ≡ interval) }
         ensures columns { IfOk result (λ s. s.columns ≡ columns) }
         ensures last { IfOk result (λ s. time_of s.last ≡ last) }
-        ensures exact { IfOk result (λ s. (p : Pair) → Contains (pairs_of_last s.last) p ↔ Contains pairs.items p) }
+        ensures exact { IfOk result
+            (λ s. (p : Pair) → Contains (pairs_of_last s.last) p ↔ Contains pairs.items p) }
         ensures slot { IfOk result IsSlot }
     {
         let last = match last {
@@ -227,7 +229,8 @@ fn queue_of(
     ensures far { IfOk result (λ queue. queue.far ≡ 0) }
     ensures none { IfOk result (λ queue. interval.high ≡ None → queue.steps ≡ []) }
     ensures within { IfOk result (λ queue. HaveTimesOf pairs.now queue.steps) }
-    ensures steps { IfOk result (λ queue. (high : ℕ) → interval.high ≡ Some high → HaveStepsOf pairs.now queue.steps) }
+    ensures steps { IfOk result
+        (λ queue. (high : ℕ) → interval.high ≡ Some high → HaveStepsOf pairs.now queue.steps) }
 {
     if interval.high.is_none() {
         return Ok(StepQueue::new(alloc));
@@ -253,7 +256,8 @@ fn steps_of(alloc: Global, columns: &Vars, pairs: &[KeptPair]) -> Result<Vec<Las
 fn rows_by_time(alloc: Global, pairs: &[KeptPair]) -> Result<IndexMap<u64, Vec<Row>>, NoMemory>
     ensures times { IfOk result (λ by_time. (time : ℕ) → is_some (get nat_eq by_time time)
         ≡ list_any (λ p. nat_eq time p.time) pairs.now) }
-    ensures rows { IfOk result (λ by_time. (time : ℕ) → option_map_or (λ rows. rows.items) (get nat_eq by_time time) []
+    ensures rows { IfOk result
+        (λ by_time. (time : ℕ) → option_map_or (λ rows. rows.items) (get nat_eq by_time time) []
         ≡ rows_at time pairs.now) }
 {
     let mut by_time: IndexMap<u64, Vec<Row>> = IndexMap::new(alloc);

@@ -1,5 +1,6 @@
 //! The steps whose rows a window of an interval with an end keeps, in the order of their times.
-ghost use Rattle.std.specs.Prelude.{◌≡◌, ◌↔◌, ◌+◌, ◌-◌, ◌<◌, ◌≤◌, [], ◌∷◌, ◌++◌, All, Contains, List, IfNone, IfSome};
+ghost use Rattle.std.specs.Prelude.{◌≡◌, ◌↔◌, ◌+◌, ◌-◌, ◌<◌, ◌≤◌, [], ◌∷◌};
+ghost use Rattle.std.specs.Prelude.{◌++◌, All, Contains, List, IfNone, IfSome};
 ghost use Rattle.std.specs.Prelude.{OnErr, OnOk, length, drop};
 ghost use Rattle.windows.specs.Queues.{AreUpToTime, waiting_of};
 ghost use Rattle.windows.specs.Slots.{with_rows};

@@ -1,5 +1,6 @@
 //! The times at which one row was right, of which only those are kept that a later step can ask for.
-ghost use Rattle.std.specs.Prelude.{◌≡◌, ◌↔◌, ◌-◌, ◌<◌, ◌≤◌, ◌⊎◌, ℕ, OnOk, IsTrue, IsFalse, Some, Contains, drop};
+ghost use Rattle.std.specs.Prelude.{◌≡◌, ◌↔◌, ◌-◌, ◌<◌, ◌≤◌, ◌⊎◌, ℕ, OnOk, IsTrue};
+ghost use Rattle.std.specs.Prelude.{IsFalse, Some, Contains, drop};
 ghost use Rattle.std.specs.Prelude.{length};
 ghost use Rattle.windows.specs.Pairs.{AddsAtMost, AddsTime, ForgetsTimes, IsSomeIn};
 ghost use Rattle.windows.specs.Times.{IsEnded, IsLeast, RiseTo};
@@ -91,7 +92,8 @@ pub fn has_in(times: &Times, interval: Interval, now: u64) -> bool
 // Whether each of the times is past the end of the interval.
 pub fn are_ended(times: &Times, high: u64, now: u64) -> bool
     requires { RiseTo now times.now.items }
-    ensures ended { IsTrue result → ((time : ℕ) → Contains times.now.items time → IsEnded (Some high) now time) }
+    ensures ended { IsTrue result
+        → ((time : ℕ) → Contains times.now.items time → IsEnded (Some high) now time) }
     ensures live { IsFalse result → (time : ℕ) × Contains times.now.items time × (now - time ≤ high) }
 {
     let Some(latest) = times.as_slice().last() else {

@@ -1,5 +1,6 @@
 //! Nodes that come and go anywhere: behind the first `passed` nodes, of which the last lies at `last`.
-ghost use Rattle.std.specs.Prelude.{◌≡◌, ◌+◌, ◌^◌, ◌<◌, ◌≤◌, ◌∷◌, ◌++◌, [], take, drop};
+ghost use Rattle.std.specs.Prelude.{◌≡◌, ◌+◌, ◌^◌, ◌<◌, ◌≤◌, ◌∷◌};
+ghost use Rattle.std.specs.Prelude.{◌++◌, [], take, drop};
 ghost use Rattle.std_collections.specs.LinkedList.Links.{links_of, place_of};
 ghost use Rattle.cursor_list.specs.Places.{IsLastOf, KeepsPlaces};
 
