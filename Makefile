@@ -7,7 +7,7 @@ help:
 	@echo 'make try SIG=FILE POLICY=FILE [LOG=FILE]  the same for files of your own; without a log it checks the policy'
 	@echo 'make build                           proves the program and leaves it as bin/enf'
 	@echo 'make install PREFIX=FOLDER           puts the proved program, its man page and the examples there'
-	@echo 'make recipes                         runs what the documents show, by the proved program'
+	@echo 'make recipes                         runs what the documents show, and stops and resumes the examples, by the proved program'
 	@echo 'make bench                           measures the proved program on generated logs'
 	@echo 'make check                           proves every crate, over what earlier checks kept'
 	@echo 'make test                            the gate: rt ci'
@@ -28,6 +28,7 @@ install:
 
 recipes:
 	@./scripts/recipes.sh
+	@./scripts/resumed.sh
 
 bench:
 	@./scripts/bench.sh

@@ -122,4 +122,27 @@ each_record sample records
 # Twelve rules of all kinds, over a log of as many records.
 write_twelve "$work" 20000
 each_record twelve twelve personal
+
+# A state of as many kept rows as pending duties, 200,000 lines, resumed and saved again.
+cat "$work/consent" > "$work/kept"
+echo 'rule erase: forall u. request(u) -> eventually[0,1000000] delete(u);' >> "$work/kept"
+/usr/bin/env python3 - "$work/signature" "$work/kept" 100000 > "$work/state" << 'PYTHON'
+import sys
+signature, policy = (open(name).read() for name in sys.argv[1:3])
+count = int(sys.argv[3])
+print('enfstate 1\nsignature %d\n%s\npolicy %d\n%s' % (len(signature), signature, len(policy), policy))
+print('clock %d\nlast %d\nposition %d' % (count, count, count))
+for number in range(count):
+    print('row 0 %d "u%06d"' % (number, number))
+for number in range(count):
+    print('due 1 1 %d %d %d "u%06d"' % (number, number, number + 1000000, number))
+print('end')
+PYTHON
+resumed=$(valgrind --tool=callgrind --callgrind-out-file=/dev/null bin/enf enforce "$work/signature" "$work/kept" \
+    --resume "$work/state" --save "$work/again" < "$work/none.log" 2>&1 > /dev/null | sed -n 's/.*Collected : //p')
+cmp "$work/state" "$work/again" &&
+    echo "a line of a state, resumed and saved again: $((resumed / 200000)) instructions"
+
+# What the enforcement of a generated log takes under the sample policy, without its text.
+bin/enf drill 1 200000
 exit 0

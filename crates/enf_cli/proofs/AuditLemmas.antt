@@ -36,11 +36,11 @@ recorded-push [] next = refl
 recorded-push (StepRecord step ∷ records) next = ap (λ (steps : List Step). step ∷ steps) (recorded-push records next)
 recorded-push (Tick time ∷ records) next = recorded-push records next
 
-never_fall-push : (clock : ℕ) (records : List Record) (next : Record) → NeverFall clock records → clock_after clock records ≤ time_of next → NeverFall clock (records ++ next ∷ [])
+pub never_fall-push : (clock : ℕ) (records : List Record) (next : Record) → NeverFall clock records → clock_after clock records ≤ time_of next → NeverFall clock (records ++ next ∷ [])
 never_fall-push clock [] next h le = (le, tt)
 never_fall-push clock (first ∷ records) next h le = (h.0, never_fall-push (time_of first) records next h.1 le)
 
-clock-push : (clock : ℕ) (records : List Record) (next : Record) → clock_after clock (records ++ next ∷ []) ≡ time_of next
+pub clock-push : (clock : ℕ) (records : List Record) (next : Record) → clock_after clock (records ++ next ∷ []) ≡ time_of next
 clock-push clock [] next = refl
 clock-push clock (first ∷ records) next = clock-push (time_of first) records next
 

@@ -23,9 +23,8 @@ use Rattle.monitorable_guard.specs.Guards.{BoundFormula}
 use Rattle.past_state.specs.Guarded.{tree_in}
 use Rattle.past_state.specs.Operators.{all_operators}
 use Rattle.plan_terms.specs.Guards.{guards_of}
-use Rattle.plan_terms.specs.Plans.{Plan}
 use Rattle.save_codec.specs.Saved.{IsSnapshotOf}
-use Rattle.trace_meaning.specs.Records.{Record, StepRecord, clock_after, recorded}
+use Rattle.trace_meaning.specs.Records.{Record, StepRecord, clock_after}
 use Rattle.enf_cli.specs.Drilling.{AreAtMost, CutsDrill, FindsInSample, Finishes, IsNewDrill, Says, TakesCounted, and_steps, causes_in, drill_line, is_system, operators_in, suppressions_in, tally_of}
 use Rattle.enf_cli.specs.Endings.{cut_after}
 use Rattle.enf_cli.specs.Policies.{formulas}

@@ -1,5 +1,5 @@
--- What a read of a file tells, where it asks for one byte more than a file may have, and the formulas of a policy.
-use Rattle.std.proofs.Common.{◌≡◌, ℕ, ◌<◌, ◌≤◌, List, [], ◌∷◌, length, map, refl, ap, ◌∙◌, arith, length-take, Option, None, Some, IfSome, Result, Err}
+-- What a read of a file tells, where it asks for one byte more than the file may have, and the formulas of a policy.
+use Rattle.std.proofs.Common.{◌≡◌, ℕ, ◌+◌, ◌<◌, ◌≤◌, List, [], ◌∷◌, length, map, refl, ap, ◌∙◌, arith, length-take, Option, None, Some, IfSome, Result, Err}
 use Rattle.std.proofs.lemmas.List.{take_all}
 use Rattle.std.specs.declared.vec.Vec.{Vec}
 use Rattle.std.specs.declared.alloc.Global.{Global}
@@ -19,21 +19,21 @@ pub same_formulas : (rules : List Rule) → read_formulas rules ≡ formulas (ma
 same_formulas [] = refl
 same_formulas (rule ∷ rules) = ap (λ (fs : List Formula). tree_of rule.formula ∷ fs) (same_formulas rules)
 
-long_of : (c : Contents) (bytes : List ℕ) → Gives c 1048577 bytes → 1048576 < length bytes → (all : List ℕ) × AreHeld all c × (1048576 < length all)
-long_of Missing bytes g l = absurd g
-long_of (Holds all) bytes g l = (all, refl, omega (arith, ap length g, length-take 1048577 all))
+long_of : (most : ℕ) (c : Contents) (bytes : List ℕ) → Gives c (most + 1) bytes → most < length bytes → (all : List ℕ) × AreHeld all c × (most < length all)
+long_of most Missing bytes g l = absurd g
+long_of most (Holds all) bytes g l = (all, refl, omega (arith, ap length g, length-take (most + 1) all))
 
-pub is_long : (told : Option (List ℕ → Contents)) (name bytes : List ℕ) → IfSome told (λ files. Gives (files name) 1048577 bytes) → 1048576 < length bytes → IsLong told name
-is_long None name bytes g l = record { bytes = bytes; under = tt; long = l }
-is_long (Some files) name bytes g l = let h = long_of (files name) bytes g l in record { bytes = h.0; under = h.1; long = h.2 }
+pub is_long : (most : ℕ) (told : Option (List ℕ → Contents)) (name bytes : List ℕ) → IfSome told (λ files. Gives (files name) (most + 1) bytes) → most < length bytes → IsLong most told name
+is_long most None name bytes g l = record { bytes = bytes; under = tt; long = l }
+is_long most (Some files) name bytes g l = let h = long_of most (files name) bytes g l in record { bytes = h.0; under = h.1; long = h.2 }
 
-short_of : (c : Contents) (bytes : List ℕ) → Gives c 1048577 bytes → length bytes ≤ 1048576 → AreHeld bytes c
-short_of Missing bytes g l = absurd g
-short_of (Holds all) bytes g l = g ∙ take_all 1048577 all (omega (arith, ap length g, length-take 1048577 all))
+short_of : (most : ℕ) (c : Contents) (bytes : List ℕ) → Gives c (most + 1) bytes → length bytes ≤ most → AreHeld bytes c
+short_of most Missing bytes g l = absurd g
+short_of most (Holds all) bytes g l = g ∙ take_all (most + 1) all (omega (arith, ap length g, length-take (most + 1) all))
 
-pub is_short : (told : Option (List ℕ → Contents)) (name bytes : List ℕ) → IfSome told (λ files. Gives (files name) 1048577 bytes) → length bytes ≤ 1048576 → IsShort told name bytes
-is_short None name bytes g l = record { under = tt; short = l }
-is_short (Some files) name bytes g l = record { under = short_of (files name) bytes g l; short = l }
+pub is_short : (most : ℕ) (told : Option (List ℕ → Contents)) (name bytes : List ℕ) → IfSome told (λ files. Gives (files name) (most + 1) bytes) → length bytes ≤ most → IsShort most told name bytes
+is_short most None name bytes g l = record { under = tt; short = l }
+is_short most (Some files) name bytes g l = record { under = short_of most (files name) bytes g l; short = l }
 
 -- a call that meets no fault leaves the counts of all names
 pub same_counts : {T : Type 0} (name : List ℕ) (result : Result T IoRefusal) (before after : List ℕ → ℕ) → CountsFor name result before after → ((n : ℕ) → faults_after result n ≡ n) → (other : List ℕ) → after other ≡ before other
@@ -49,6 +49,6 @@ same_files name most result before after r none =
     let reads = same_counts name result before.read_faults after.read_faults r.reads none in
     λ i. record { contents = r.contents i; is_calm = r.calm i; read_faults = λ other. reads other i; write_faults = λ other. r.writes other i }
 
-pub is_not_read : (name : List ℕ) (refusal : IoRefusal) (before after : FileView) → ReadsFile name 1048577 (Err refusal) before after → IsNotRead name before after refusal
-is_not_read name Failed before after r = r
-is_not_read name NoMemory before after r = same_files name 1048577 (Err NoMemory) before after r (λ n. refl)
+pub is_not_read : (most : ℕ) (name : List ℕ) (refusal : IoRefusal) (before after : FileView) → ReadsFile name (most + 1) (Err refusal) before after → IsNotRead most name before after refusal
+is_not_read most name Failed before after r = r
+is_not_read most name NoMemory before after r = same_files name (most + 1) (Err NoMemory) before after r (λ n. refl)

@@ -16,7 +16,15 @@ pub mod SampleLemmas
 pub mod DrillLemmas
 pub mod RunLemmas
 pub mod SavingLemmas
+pub mod AskedLemmas
+pub mod StartLemmas
+pub mod ReadyLemmas
+pub mod TakenLemmas
 pub mod ReadOnce
 pub mod DueLemmas
 pub mod CalmLemmas
 pub mod HeadlineLemmas
+pub mod JoinLemmas
+pub mod EndLemmas
+pub mod TwoRunsLemmas
+pub mod TwoCallsLemmas

@@ -53,7 +53,6 @@ use Rattle.enf_cli.specs.declared.endings.Cut.TheVariants as cuts
 use Rattle.enf_cli.specs.declared.log.Enforcement.{Enforcement}
 use Rattle.enf_cli.specs.declared.intake.Judged.{Judged}
 use Rattle.enf_cli.specs.declared.intake.Verdict.{Verdict}
-use Rattle.enf_cli.specs.declared.refusals.RecordRefusal.TheVariants as records
 use Rattle.enf_cli.proofs.ExchangeLemmas.{begun_gave, exchanged_gave}
 use Rattle.enf_cli.proofs.IntakeLemmas.{IsEnded, IsFar, ends_gave, exchanged_more, far_gave, far_none, far_took}
 use Rattle.enf_cli.proofs.LogLemmas.{begins_shorter, read_distinct}
@@ -397,6 +396,7 @@ module _ (entries : List NameEntry) (rules : List Rule) (first : Enforcing) (tra
             count = e.count;
             behind = record {
               planned = subst (λ (stored : StoredTyped). ArePlanned entries policy (typed_of stored).plans (typed_of stored).guards) (sym h.course.policy) built;
+              together = subst (λ (stored : StoredTyped). WorkTogether (typed_of stored)) (sym h.course.policy) may.1;
               clock = h.course.clock;
               stands = h.course.stands;
             };

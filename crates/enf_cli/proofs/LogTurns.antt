@@ -8,7 +8,6 @@ use Rattle.log_stream.specs.Lines.{text_of}
 use Rattle.log_stream.specs.Logs.{behind_blanks}
 use Rattle.log_stream.specs.Readers.{Reader}
 use Rattle.log_stream.specs.declared.items.LogMode.TheVariants.{Input}
-use Rattle.log_stream.specs.declared.items.LogRefusal.TheVariants as log
 use Rattle.signature.specs.Grammar.{names as names_of}
 use Rattle.signature.specs.declared.entries.NameEntry.{NameEntry}
 use Rattle.enf_cli.specs.Accepted.{UpToDate}
@@ -23,9 +22,9 @@ use Rattle.enf_cli.specs.declared.endings.Cut.{Cut}
 use Rattle.enf_cli.specs.declared.endings.Cut.TheVariants as cuts
 use Rattle.enf_cli.specs.declared.log.Enforcement.{Enforcement}
 use Rattle.enf_cli.specs.declared.intake.Verdict.{Verdict}
-use Rattle.enf_cli.specs.declared.refusals.RecordRefusal.TheVariants as records
 use Rattle.enf_cli.proofs.IntakeLemmas.{far_ended}
 use Rattle.enf_cli.proofs.LogLemmas.{begins_shorter, behind_le, item_time}
+use Rattle.enf_cli.proofs.TakenLemmas.{HasTaken, taken_more, taken_one}
 use Rattle.enf_cli.proofs.LogProgress.{Ended, MayRun, Progress, cut_memory, cut_taken, progress_more, progress_none, progress_one, setting, up_to_date}
 
 module _ (entries : List NameEntry) (rules : List Rule) (first : Enforcing) (trace : List Step) (laws : Laws) (may : MayRun entries first) (built : HasPlans entries rules first) where
@@ -52,11 +51,11 @@ abbrev pub Done : List NameEntry → List Rule → Enforcing → Seen → List �
 Done entries rules first before taken log after = (trace : List Step) → HasPlans entries rules first → Stands first trace
     → Progress entries rules first trace before taken log.intake.reader.rest log.intake.accepted log.enforcer after
 
--- the enforcer goes on, the times of what was taken are those of records, and no more steps went out than records were
+-- the enforcer goes on, its clock is within the limit of saved states, and no more steps went out than records were
 -- taken and units of time went by
 pub record IsWithinLimits (log : Enforcement) : Type 0 where
   pub going : log.enforcer.stopped ≡ false
-  pub clock : log.enforcer.clock ≤ 1000000000000000
+  pub clock : log.enforcer.clock ≤ 2000000000000000
   pub position : log.enforcer.position < 2 ^ 63 + log.intake.accepted + log.enforcer.clock
 
 pub limits_none : (entries : List NameEntry) (log : Enforcement) → IsNew entries log → IsWithinLimits log
@@ -72,7 +71,8 @@ done_none entries rules log laws may before new trace built stands =
 
 -- a turn that does not end the log
 module _ (entries : List NameEntry) (rules : List Rule) (first : Enforcing) (laws : Laws) (may : MayRun entries first) (before : Seen) (old new : Enforcement) (taken : List ℕ) (b c : Seen)
-    (h : Done entries rules first before taken old b) (limits : IsWithinLimits old) (count : old.intake.taken ≡ length taken) (most : old.intake.taken ≤ most_log_bytes) (room : old.intake.accepted + length old.intake.reader.rest ≤ old.intake.taken) where
+    (h : Done entries rules first before taken old b) (limits : IsWithinLimits old) (count : old.intake.taken ≡ length taken) (most : old.intake.taken ≤ most_log_bytes) (room : old.intake.accepted + length old.intake.reader.rest ≤ old.intake.taken)
+    (so_taken : HasTaken entries first.clock before taken old b) where
   -- what is known behind it, and that less is left to do
   pub record GoesOn : Type 0 where
     pub bytes : List ℕ
@@ -81,6 +81,7 @@ module _ (entries : List NameEntry) (rules : List Rule) (first : Enforcing) (law
     pub room_is : new.intake.accepted + length new.intake.reader.rest ≤ new.intake.taken
     pub reader_is : new.intake.reader ≡ reads_on entries new.intake.reader.rest
     pub progress : Done entries rules first before bytes new c
+    pub now_taken : HasTaken entries first.clock before bytes new c
     pub still : IsWithinLimits new
     pub less : 2 * (most_log_bytes - new.intake.taken) + length new.intake.reader.rest < 2 * (most_log_bytes - old.intake.taken) + length old.intake.reader.rest
 
@@ -122,6 +123,7 @@ module _ (entries : List NameEntry) (rules : List Rule) (first : Enforcing) (law
         room_is = omega (arith, one.taken, one.accepted, room, shorter);
         reader_is = t.reader_is;
         progress = record_more one;
+        now_taken = taken_one entries rules first.clock before taken old new b c so_taken one;
         still = limits_more one;
         less = omega (arith, one.taken, shorter);
       }
@@ -135,6 +137,7 @@ module _ (entries : List NameEntry) (rules : List Rule) (first : Enforcing) (law
         room_is = omega (arith, piece.taken, piece.accepted, room, ap length rest_is, length-append (behind_blanks old.intake.reader.rest) piece.bytes, behind_le old.intake.reader.rest);
         reader_is = piece.reader ∙ (λ i. reads_on entries (sym rest_is i));
         progress = piece_more later;
+        now_taken = taken_more entries rules first.clock before taken old new b c so_taken count later;
         still = record {
           going = ap (λ (e : Enforcing). e.stopped) later.enforcer ∙ limits.going;
           clock = omega (arith, limits.clock, ap (λ (e : Enforcing). e.clock) later.enforcer);

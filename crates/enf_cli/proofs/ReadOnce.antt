@@ -38,10 +38,16 @@ same_item x y e = cc
 ok_not_err : (x : LogItem) (refusal : LogRefusal) → ◌≡◌ {A = Result LogItem LogRefusal} (Ok x) (Err refusal) → ⊥
 ok_not_err x refusal e = cc
 
+-- blanks in front count for nothing
+pub begins_blanks : (entries : List NameEntry) (mode : LogMode) (text other : List ℕ) (item : LogItem) (rest : List ℕ) → behind_blanks text ≡ behind_blanks other → BeginsWith entries mode text item rest → BeginsWith entries mode other item rest
+begins_blanks entries mode text other item rest same begins =
+    let P : List ℕ → Type 0 = λ l. (n : ℕ) × (record_length l ≡ Some n) × IsAnswer entries mode (take n l) (Ok item) × (rest ≡ drop n l) in
+    subst P same begins
+
 module _ (law : OneRecordAnswer) where
   module _ (mode : LogMode) where
     -- a record at the front is one alone
-    begins_same : (entries : List NameEntry) (bytes : List ℕ) (x y : LogItem) (r s : List ℕ) → BeginsWith entries mode bytes x r → BeginsWith entries mode bytes y s → (x ≡ y) × (r ≡ s)
+    pub begins_same : (entries : List NameEntry) (bytes : List ℕ) (x y : LogItem) (r s : List ℕ) → BeginsWith entries mode bytes x r → BeginsWith entries mode bytes y s → (x ≡ y) × (r ≡ s)
     begins_same entries bytes x y r s (n, whole, answer, is) (m, whole', answer', is') =
         let same : n ≡ m = same_number n m (sym whole ∙ whole') in
         let other = subst (λ (k : ℕ). IsAnswer entries mode (take k (behind_blanks bytes)) (Ok y)) (sym same) answer' in
@@ -54,7 +60,7 @@ module _ (law : OneRecordAnswer) where
         ok_not_err x refusal (law entries mode (take n (behind_blanks bytes)) (Ok x) (Err refusal) mine answer')
 
     -- and it is not refused
-    begins_not_refused : (entries : List NameEntry) (bytes : List ℕ) (x : LogItem) (r : List ℕ) (refusal : LogRefusal) → BeginsWith entries mode bytes x r → RefusesText entries mode bytes refusal → ⊥
+    pub begins_not_refused : (entries : List NameEntry) (bytes : List ℕ) (x : LogItem) (r : List ℕ) (refusal : LogRefusal) → BeginsWith entries mode bytes x r → RefusesText entries mode bytes refusal → ⊥
     begins_not_refused entries bytes x r log.TooLong begins refused = none_some begins.0 (sym refused.0 ∙ begins.1)
     begins_not_refused entries bytes x r log.Truncated begins refused = refused
     begins_not_refused entries bytes x r log.NoMemory begins refused = refused
@@ -65,19 +71,19 @@ module _ (law : OneRecordAnswer) where
     begins_not_refused entries bytes x r log.TimeTooLarge begins refused = by_answer entries bytes x r log.TimeTooLarge begins refused.0 refused.1 refused.2
 
     -- no record at the front has a time that is not below the clock
-    abbrev Stops : List NameEntry → ℕ → List ℕ → Type 0
+    abbrev pub Stops : List NameEntry → ℕ → List ℕ → Type 0
     Stops entries clock rest = (item : LogItem) (more : List ℕ) → BeginsWith entries mode rest item more → time_of (record_of item) < clock
 
-    refused_stops : (entries : List NameEntry) (clock : ℕ) (rest : List ℕ) (refusal : LogRefusal) → RefusesText entries mode rest refusal → Stops entries clock rest
+    pub refused_stops : (entries : List NameEntry) (clock : ℕ) (rest : List ℕ) (refusal : LogRefusal) → RefusesText entries mode rest refusal → Stops entries clock rest
     refused_stops entries clock rest refusal refused item more begins = absurd (begins_not_refused entries rest item more refusal begins refused)
 
-    pending_stops : (entries : List NameEntry) (clock : ℕ) (rest : List ℕ) → IsPending rest → Stops entries clock rest
+    pub pending_stops : (entries : List NameEntry) (clock : ℕ) (rest : List ℕ) → IsPending rest → Stops entries clock rest
     pending_stops entries clock rest pending item more begins = absurd (none_some begins.0 (sym pending.0 ∙ begins.1))
 
-    blank_stops : (entries : List NameEntry) (clock : ℕ) (rest : List ℕ) → behind_blanks rest ≡ [] → Stops entries clock rest
+    pub blank_stops : (entries : List NameEntry) (clock : ℕ) (rest : List ℕ) → behind_blanks rest ≡ [] → Stops entries clock rest
     blank_stops entries clock rest blank item more begins = absurd (none_some begins.0 (sym (ap record_length blank) ∙ begins.1))
 
-    falling_stops : (entries : List NameEntry) (clock : ℕ) (rest : List ℕ) (given : ℕ) → IsFalling entries mode clock rest given → Stops entries clock rest
+    pub falling_stops : (entries : List NameEntry) (clock : ℕ) (rest : List ℕ) (given : ℕ) → IsFalling entries mode clock rest given → Stops entries clock rest
     falling_stops entries clock rest given falling item more begins =
         let same = begins_same entries rest falling.item item falling.more more falling.begins begins in
         omega (arith, falling.below, ap (λ (x : LogItem). time_of (record_of x)) same.0)
@@ -92,21 +98,15 @@ module _ (law : OneRecordAnswer) where
     blank_not_refused entries rest (log.SortClash place) blank h = none_some h.0 (sym (ap record_length blank) ∙ h.1)
     blank_not_refused entries rest log.TimeTooLarge blank h = none_some h.0 (sym (ap record_length blank) ∙ h.1)
 
-    -- blanks in front count for nothing
-    begins_blanks : (entries : List NameEntry) (text other : List ℕ) (item : LogItem) (rest : List ℕ) → behind_blanks text ≡ behind_blanks other → BeginsWith entries mode text item rest → BeginsWith entries mode other item rest
-    begins_blanks entries text other item rest same begins =
-        let P : List ℕ → Type 0 = λ l. (n : ℕ) × (record_length l ≡ Some n) × IsAnswer entries mode (take n l) (Ok item) × (rest ≡ drop n l) in
-        subst P same begins
-
     -- up to where records stop, those that are accepted are the same
-    read_same : (entries : List NameEntry) (clock : ℕ) (bytes : List ℕ) (xs : List LogItem) (r : List ℕ) (ys : List LogItem) (s : List ℕ) → Stops entries (clock_after clock (records_of xs)) r → Stops entries (clock_after clock (records_of ys)) s
+    pub read_same : (entries : List NameEntry) (clock : ℕ) (bytes : List ℕ) (xs : List LogItem) (r : List ℕ) (ys : List LogItem) (s : List ℕ) → Stops entries (clock_after clock (records_of xs)) r → Stops entries (clock_after clock (records_of ys)) s
         → Spells entries mode bytes xs r → NeverFall clock (records_of xs) → Spells entries mode bytes ys s → NeverFall clock (records_of ys) → (xs ≡ ys) × (behind_blanks r ≡ behind_blanks s)
     read_same entries clock bytes [] r [] s r-stops s-stops p m q n = (refl, p ∙ sym q)
     read_same entries clock bytes [] r (y ∷ ys) s r-stops s-stops p m q n =
-        let below = r-stops y q.0 (begins_blanks entries bytes r y q.0 (sym p) q.1) in
+        let below = r-stops y q.0 (begins_blanks entries mode bytes r y q.0 (sym p) q.1) in
         absurd (omega (arith, below, n.0))
     read_same entries clock bytes (x ∷ xs) r [] s r-stops s-stops p m q n =
-        let below = s-stops x p.0 (begins_blanks entries bytes s x p.0 (sym q) p.1) in
+        let below = s-stops x p.0 (begins_blanks entries mode bytes s x p.0 (sym q) p.1) in
         absurd (omega (arith, below, m.0))
     read_same entries clock bytes (x ∷ xs) r (y ∷ ys) s r-stops s-stops p m q n =
         let same = begins_same entries bytes x y p.0 q.0 p.1 q.1 in
@@ -116,7 +116,7 @@ module _ (law : OneRecordAnswer) where
         (rw (same.0, others.0) refl, others.1)
 
   -- where a record is refused, records stop
-  refusal_stops : (t : Taken) (after : Stream) (why : RecordRefusal) → IsRefusedAs t after why → Stops t.reading.mode t.reading.entries (clock_behind t) t.rest
+  pub refusal_stops : (t : Taken) (after : Stream) (why : RecordRefusal) → IsRefusedAs t after why → Stops t.reading.mode t.reading.entries (clock_behind t) t.rest
   refusal_stops t after (records.Log why) (inl h) = refused_stops t.reading.mode t.reading.entries (clock_behind t) t.rest why h
   refusal_stops t after (records.Log why) (inr (is, truncated, met)) = pending_stops t.reading.mode t.reading.entries (clock_behind t) t.rest truncated.0
   refusal_stops t after (records.Falling given at) h = falling_stops t.reading.mode t.reading.entries (clock_behind t) t.rest given h.1

@@ -1,40 +1,49 @@
 -- How a run ends, from how its parts end.
-use Rattle.std.proofs.Common.{◌≡◌, ℕ, ◌+◌, List, [], length, inl, inr, refl, sym, ap, subst, ◌∙◌, is_some, true, Option, None, Some, Result, Ok, Err}
+use Rattle.std.proofs.Common.{◌≡◌, ℕ, ◌+◌, ◌≤◌, Bool, List, [], length, inl, inr, refl, sym, ap, subst, ◌∙◌, is_some, true, false, Option, None, Some, Result, Ok, Err}
+use Rattle.plan_terms.specs.WellFormed.{AreWellFormed}
+use Rattle.enforce_types.specs.PolicyLaws.{OnePlans}
+use Rattle.enforce_types.specs.PolicyPlans.{ArePlanned}
+use Rattle.obligations.specs.Pending.{PendIsOne}
+use Rattle.save_codec.specs.Bounds.{Setting as Bounds}
 use Rattle.enforcer_core.specs.Enforcers.{Enforcing}
+use Rattle.enforcer_core.specs.Snapshots.{KeptCanBeTakenUp}
+use Rattle.enf_value.specs.declared.limits.TheConstants.{MOST_FILE_BYTES}
 use Rattle.formula_reader.specs.Resolution.{Rule}
-use Rattle.log_stream.specs.declared.items.LogMode.TheVariants.{Input}
 use Rattle.signature.specs.declared.entries.NameEntry.{NameEntry}
 use Rattle.enf_io.specs.Streams.{Stream}
 use Rattle.enf_io.specs.declared.devices.IoRefusal.{IoRefusal}
 use Rattle.enf_io.specs.declared.devices.IoRefusal.TheVariants as io
 use Rattle.enf_cli.specs.Calls.{Call, LeavesFiles}
-use Rattle.enf_cli.specs.Saving.{RunsRefused, RunsSo, RunsWhole, SavesState, SavesWhereAsked, WritesState}
+use Rattle.enf_cli.specs.Saving.{RunsCut, RunsRefused, RunsSo, RunsWhole, SavesState, SavesWhereAsked, WhereStood, WritesState}
+use Rattle.enf_cli.specs.Starts.{BeginsLog, EndsStart, IsBounds, bounds_under}
 use Rattle.enf_cli.specs.Seen.{Seen, seen_of}
+use Rattle.enf_cli.proofs.ReadyLemmas.{ready_behind}
 use Rattle.enf_cli.proofs.SavingLemmas.{is_state_of}
 use Rattle.save_codec.specs.Saved.{saved_text}
 use Rattle.enf_cli.specs.Checking.{check_text}
 use Rattle.enf_cli.specs.Endings.{ending_after_file, faults_behind}
 use Rattle.enf_cli.specs.Policies.{formulas}
 use Rattle.enf_cli.specs.Files.{EndsFile, HoldsPolicy, HoldsRefusedPolicy, HoldsRefusedSignature, HoldsSignature}
-use Rattle.enf_cli.specs.Logs.{CutsRun, IsOwedAtEnd, RanSo, RunsLogFor, conclusion_of, is_left}
-use Rattle.enf_cli.specs.Owed.{Setting, anew, setting_of}
-use Rattle.enf_cli.specs.Outcomes.{Asks, AsksToEnforce, AuditsLog, ChecksPolicy, FindsVerdict, GivesNoVerdict, IsCut, IsDone, IsFinished, Meets, Outcome, PausesRun, Performs, Refuses, SaysVerdict, SaysVerdictInPart, WritesRun}
+use Rattle.enf_cli.specs.Logs.{CutsRun, RanSo, TookLog, conclusion_of, is_left}
+use Rattle.enf_cli.specs.Owed.{HasPlans, Setting, begun}
+use Rattle.enf_cli.specs.Outcomes.{Asks, AsksToEnforce, AuditsLog, ChecksPolicy, CutsLog, EnforcesLog, FindsVerdict, GivesNoVerdict, IsCut, IsDone, IsFinished, Meets, Outcome, PausesRun, Performs, Refuses, SaysVerdict, SaysVerdictInPart, WhereItStarts, WritesRun}
 use Rattle.enf_cli.specs.Audits.{GivesNothing, HasAudited, LosesLog, TakesTrace, TakesWholeTrace, as_trace, finish_after, verdict_line}
 use Rattle.enf_cli.specs.Exchanges.{Exchanged}
-use Rattle.enf_cli.specs.Readings.{EndsAs, records_of, taken_in}
+use Rattle.enf_cli.specs.Readings.{EndsAs, as_input, records_of, taken_in}
 use Rattle.enf_cli.specs.declared.auditing.Audited.{Audited}
 use Rattle.enf_io.specs.Exchange.{Gave}
 use Rattle.trace_audit.specs.Laws.{VerdictIsOfPolicy}
 use Rattle.trace_audit.specs.declared.verdicts.Verdict.{Verdict as Found}
 use Rattle.trace_audit.specs.declared.verdicts.Verdict.TheVariants.{Holds, Fails}
-use Rattle.trace_meaning.specs.Records.{recorded}
+use Rattle.trace_meaning.specs.Records.{most_time, recorded}
+use Rattle.trace_meaning.specs.declared.kinds.StepKind.TheVariants.{Inserted}
 use Rattle.enf_cli.proofs.ExchangeLemmas.{exchanged_gave}
 use Rattle.enf_cli.proofs.IntakeLemmas.{ends_gave}
 use Rattle.enf_cli.specs.Refusals.{status_of}
 use Rattle.enf_cli.specs.Reports.{EndsWith, WritesText}
 use Rattle.enforce_types.specs.Accepted.{IsTyped}
-use Rattle.enforce_types.specs.Typed.{Typed}
-use Rattle.enf_cli.specs.Words.{IsAudit, IsCheck, IsEnforce, NamesFiles}
+use Rattle.enforce_types.specs.Typed.{StoredTyped, Typed, typed_of}
+use Rattle.enf_cli.specs.Words.{IsAudit, IsCheck, IsEnforce, NamesFiles, States}
 use Rattle.enf_cli.specs.declared.endings.Cut.{Cut}
 use Rattle.enf_cli.specs.declared.endings.Cut.TheVariants as cuts
 use Rattle.enf_cli.specs.declared.endings.Ending.{Ending}
@@ -42,17 +51,13 @@ use Rattle.enf_cli.specs.declared.endings.Ending.TheVariants as endings
 use Rattle.enf_cli.specs.declared.endings.FileEnding.{FileEnding}
 use Rattle.enf_cli.specs.declared.endings.FileEnding.TheVariants as files
 use Rattle.enf_cli.specs.declared.intake.Verdict.{Verdict}
+use Rattle.enf_cli.specs.declared.log.Enforcement.{Enforcement}
 use Rattle.enf_cli.specs.declared.intake.Verdict.TheVariants as verdicts
 use Rattle.enf_cli.specs.declared.refusals.PolicyRefusal.{PolicyRefusal}
 use Rattle.enf_cli.specs.declared.refusals.Refusal.{Refusal}
 use Rattle.enf_cli.specs.declared.refusals.Refusal.TheVariants as refusals
 use Rattle.enf_cli.specs.declared.refusals.SignatureRefusal.{SignatureRefusal}
 use Rattle.enf_cli.specs.declared.refusals.Status.{Status}
-
--- what holds from where a new enforcer stands holds from where nothing had gone out
-pub from_the_start : (entries : List NameEntry) (rules : List Rule) (enforcer : Enforcing) → enforcer.clock ≡ 0 → (P : Setting → Type 0) → P (setting_of entries rules enforcer []) → P (anew entries rules)
-from_the_start entries rules enforcer is P =
-    subst (λ (clock : ℕ). P (record { entries = entries; rules = rules; mode = Input; start = record { trace = []; clock = clock } })) is
 
 -- ---- the work of a run
 
@@ -63,119 +68,207 @@ module _ {Gate : Type 0} (call : Call Gate) (report : Stream) (signature_file po
 
   -- the signature gives nothing
   pub signature_ends : (end : FileEnding SignatureRefusal) → call.after.gate_itself ≡ call.before.gate_itself → call.after.gate ≡ call.before.gate
-      → EndsFile (HoldsRefusedSignature call.before.files.contents signature_file) signature_file call.before.files call.after.files end → Performs call report (Err (ending_after_file refusals.Signature end))
+      → EndsFile MOST_FILE_BYTES (HoldsRefusedSignature call.before.files.contents signature_file) signature_file call.before.files call.after.files end → Performs call report (Err (ending_after_file refusals.Signature end))
   signature_ends (files.Refused why) itself seen h =
       record { signature_file = signature_file; policy_file = policy_file; form = form; refused = h.0; gate = (itself, seen); files = h.1; silent = silent }
   signature_ends (files.NotRead io.Failed) itself seen h =
-      inl (record { signature_file = signature_file; policy_file = policy_file; form = form; failed = inl h; gate = (itself, seen); silent = silent })
+      inl (inl (record { signature_file = signature_file; policy_file = policy_file; form = form; failed = inl h; gate = (itself, seen); silent = silent }))
   signature_ends (files.NotRead io.NoMemory) itself seen h = memory_ends itself seen h
 
   -- the policy gives nothing, behind a signature
   pub policy_ends : (bytes : List ℕ) (entries : List NameEntry) (end : FileEnding PolicyRefusal) → call.after.gate_itself ≡ call.before.gate_itself → call.after.gate ≡ call.before.gate
       → HoldsSignature call.before.files.contents signature_file bytes entries
-      → EndsFile (HoldsRefusedPolicy call.before.files.contents policy_file entries) policy_file call.before.files call.after.files end → Performs call report (Err (ending_after_file refusals.Policy end))
+      → EndsFile MOST_FILE_BYTES (HoldsRefusedPolicy call.before.files.contents policy_file entries) policy_file call.before.files call.after.files end → Performs call report (Err (ending_after_file refusals.Policy end))
   policy_ends bytes entries (files.Refused why) itself seen holds h =
       record { signature_file = signature_file; policy_file = policy_file; form = form; bytes = bytes; entries = entries; holds_signature = holds; refused = h.0; gate = (itself, seen); files = h.1; silent = silent }
   policy_ends bytes entries (files.NotRead io.Failed) itself seen holds h =
-      inl (record { signature_file = signature_file; policy_file = policy_file; form = form; failed = inr ((bytes, entries, holds), h); gate = (itself, seen); silent = silent })
+      inl (inl (record { signature_file = signature_file; policy_file = policy_file; form = form; failed = inr ((bytes, entries, holds), h); gate = (itself, seen); silent = silent }))
   policy_ends bytes entries (files.NotRead io.NoMemory) itself seen holds h = memory_ends itself seen h
 
-module _ {Gate : Type 0} (call : Call Gate) (report : Stream) (saved : Option (List ℕ)) (signature_file policy_file : List ℕ) (form : IsEnforce saved call.words signature_file policy_file) (entries : List NameEntry) (policy : List Rule)
+-- the log of a policy is run, by an enforcer that stands for wherever the run may start
+module _ {Gate : Type 0} (call : Call Gate) (report : Stream) (states : States) (signature_file policy_file : List ℕ) (form : IsEnforce states call.words signature_file policy_file) (entries : List NameEntry) (policy : List Rule)
     (signature_bytes policy_bytes : List ℕ) (holds_signature : HoldsSignature call.before.files.contents signature_file signature_bytes entries)
     (holds_policy : HoldsPolicy call.before.files.contents policy_file policy_bytes entries policy) where
-  abbrev here : Setting
-  here = anew entries policy
-
-  abbrev before : Seen
-  before = seen_of call.before.gate call.before.report
-
-  abbrev after : Seen
-  after = seen_of call.after.gate report
-
-  abbrev asks : AsksToEnforce call saved here
-  asks =
+  abbrev asks_files : Asks (IsEnforce states) call entries policy
+  asks_files =
       record {
-        asks = record {
-          signature_file = signature_file;
-          policy_file = policy_file;
-          form = form;
-          signature_bytes = signature_bytes;
-          policy_bytes = policy_bytes;
-          holds_signature = holds_signature;
-          holds_policy = holds_policy;
-        };
-        is_setting = refl;
+        signature_file = signature_file;
+        policy_file = policy_file;
+        form = form;
+        signature_bytes = signature_bytes;
+        policy_bytes = policy_bytes;
+        holds_signature = holds_signature;
+        holds_policy = holds_policy;
       }
 
-  -- the run of the log was cut
-  log_ends : LeavesFiles call → (cut : Cut) → CutsRun here before after cut → Performs call report (Err (endings.Cut cut))
-  log_ends same cuts.WriteFault h = inl (inl (inl (record { saved = saved; setting = here; asks = asks; cut = h; files = same })))
-  log_ends same cuts.NoMemory h = inl (inr (inl (record { saved = saved; setting = here; asks = asks; cut = h; files = same })))
+  module _ (up_again : KeptCanBeTakenUp) (one_plans : OnePlans) (one : PendIsOne) (typed : StoredTyped) (log : Enforcement) (planned : ArePlanned entries (formulas policy) (typed_of typed).plans (typed_of typed).guards)
+      (begins : BeginsLog states.resumed call.before.files.contents entries policy signature_bytes policy_bytes typed log) where
+    abbrev first : Enforcing
+    first = log.enforcer
 
-  -- the judgement of the log is a refusal
-  log_refused : (why : Refusal) → RunsRefused saved here why call.before.files call.after.files before after → Meets call report why
-  log_refused why r = by r.judged.verdict r.ran.ran r.ran.count r.concluded
-    where
-      by : (verdict : Verdict) (ran : RunsLogFor (IsOwedAtEnd (is_left (is_some saved) verdict) here) here verdict before after) → r.judged.accepted ≡ length ran.answers.read → Err why ≡ conclusion_of r.judged.accepted verdict → Meets call report why
-      by verdicts.Accepted ran count h = cc
-      by verdicts.Fault ran count h =
-          let is : why ≡ refusals.ReadFault = cc in
-          subst (Meets call report) (sym is) (inr (inl (record { saved = saved; setting = here; asks = asks; ran = ran; failed = ran.ends.1; files = r.same })))
-      by (verdicts.Refused refusal) ran count h =
-          let is : why ≡ refusals.Record (r.judged.accepted + 1) refusal = cc in
-          subst (Meets call report) (sym is) (inl (record { saved = saved; setting = here; asks = asks; ran = ran; number_is = ap (λ n. n + 1) count; files = r.same }))
+    abbrev before : Seen
+    before = seen_of call.before.gate call.before.report
 
-  -- it was accepted to its end, and a file is named for the state
-  module _ (file : List ℕ) (asked : AsksToEnforce call (Some file) here) (accepted : ℕ) (enforcer : Enforcing) (ran : RanSo true here (record { accepted = accepted; verdict = verdicts.Accepted }) enforcer before after) where
-    abbrev paused : PausesRun call report file
-    paused = record { setting = here; asks = asked; ran = ran.ran }
+    abbrev after : Seen
+    after = seen_of call.after.gate report
 
-    state_written : (ended : Result (Unit {0}) IoRefusal) → WritesState enforcer asked.asks.signature_bytes asked.asks.policy_bytes file ended call.before.files call.after.files → WritesRun call report ended
-    state_written ended w =
+    abbrev asks : AsksToEnforce call states
+    asks =
         record {
-          file = file;
-          paused = paused;
-          state = saved_text asked.asks.signature_bytes asked.asks.policy_bytes w.kept;
-          is_state = is_state_of here (records_of ran.ran.answers.read) ran.ran.answers.out enforcer ran.behind asked.asks.signature_bytes asked.asks.policy_bytes call.before.files call.after.files file ended w;
-          written = w.written;
+          entries = entries;
+          rules = policy;
+          asks = asks_files;
+          bounds = bounds_under entries (typed_of typed);
+          are_bounds = record { plans = (typed_of typed).plans; guards = (typed_of typed).guards; planned = planned; bounds_are = refl };
+          formed = subst (λ (stored : StoredTyped). AreWellFormed (typed_of stored).plans (typed_of stored).guards) begins.policy_is begins.together.formed;
+          state = begins.state;
+          clock = first.clock;
+          holds_start = begins.holds;
         }
 
-    state_cut : (cut : Cut) → SavesState enforcer asked.asks.signature_bytes asked.asks.policy_bytes file call.before.files call.after.files (Err cut) → Performs call report (Err (endings.Cut cut))
-    state_cut cuts.WriteFault w = inl (inl (inr (state_written (Err io.Failed) w)))
-    state_cut cuts.NoMemory same = inl (inr (inr (record { file = file; paused = paused; files = same })))
+    built : HasPlans entries policy first
+    built = subst (λ (stored : StoredTyped). ArePlanned entries (formulas policy) (typed_of stored).plans (typed_of stored).guards) (sym begins.policy_is) planned
 
-  -- the run is done, with the state saved where that was asked
-  abbrev Whole : Result (Unit {0}) Cut → Type 0
-  Whole ended = RunsWhole saved signature_bytes policy_bytes here call.before.files call.after.files before after ended
+    -- what holds wherever the enforcer stood holds from wherever the run starts
+    where_it : (P : Setting → Type 0) → WhereStood entries policy first P → WhereItStarts states asks P
+    where_it P ran start is =
+        let stood = begins.stands start is in
+        subst (λ (clock : ℕ). P (begun entries policy (record { trace = start.trace; clock = clock }))) stood.1 (ran start.trace built stood.0)
 
-  log_done : Whole (Ok tt) → IsDone call report
-  log_done w = by saved asks w.ran w.saves
-    where
-      by : (o : Option (List ℕ)) (asked : AsksToEnforce call o here) → RanSo (is_some o) here (record { accepted = w.accepted; verdict = verdicts.Accepted }) w.enforcer before after
-          → SavesWhereAsked o w.enforcer asked.asks.signature_bytes asked.asks.policy_bytes call.before.files call.after.files (Ok tt) → IsDone call report
-      by None asked ran saves = inl (record { setting = here; asks = asked; ran = ran.ran; files = saves.1 })
-      by (Some file) asked ran saves = inr (state_written file asked w.accepted w.enforcer ran (Ok tt) saves)
+    -- the run of the log was cut
+    cuts_log : (cut : Cut) → RunsCut entries policy first cut call.before.files call.after.files before after → CutsLog call report cut
+    cuts_log cut r = record { states = states; asks = asks; lost = r.lost; ran = where_it (λ s. CutsRun s before after cut) r.ran; files = r.same }
 
-  -- or the save was cut
-  save_ends : (cut : Cut) → Whole (Err cut) → Performs call report (Err (endings.Cut cut))
-  save_ends cut w = by saved asks w.ran w.saves
-    where
-      by : (o : Option (List ℕ)) (asked : AsksToEnforce call o here) → RanSo (is_some o) here (record { accepted = w.accepted; verdict = verdicts.Accepted }) w.enforcer before after
-          → SavesWhereAsked o w.enforcer asked.asks.signature_bytes asked.asks.policy_bytes call.before.files call.after.files (Err cut) → Performs call report (Err (endings.Cut cut))
-      by None asked ran saves = let no = saves.0 in absurd cc
-      by (Some file) asked ran saves = state_cut file asked w.accepted w.enforcer ran cut saves
+    log_ends : (cut : Cut) → RunsCut entries policy first cut call.before.files call.after.files before after → Performs call report (Err (endings.Cut cut))
+    log_ends cuts.WriteFault r = inl (inl (inl (cuts_log cuts.WriteFault r)))
+    log_ends cuts.NoMemory r = inl (inr (inl (cuts_log cuts.NoMemory r)))
 
-  -- how the run of the log ends is how the work of the run does
-  abbrev Ran : Result (Unit {0}) Ending → Type 0
-  Ran result = RunsSo saved signature_bytes policy_bytes here call.before.files call.after.files before after result
+    -- the judgement of the log is a refusal
+    enforced : (accepted : ℕ) (verdict : Verdict) (enforcer : Enforcing) → TookLog (as_input entries first.clock) (record { accepted = accepted; verdict = verdict }) before after
+        → WhereStood entries policy first (λ s. RanSo false s (record { accepted = accepted; verdict = verdict }) enforcer before after) → LeavesFiles call → EnforcesLog call report states (record { accepted = accepted; verdict = verdict })
+    enforced accepted verdict enforcer took ran same =
+        record {
+          asks = asks;
+          took = took;
+          ran = λ start is. (where_it (λ s. RanSo false s (record { accepted = accepted; verdict = verdict }) enforcer before after) ran start is).ran;
+          counts = λ start is. (where_it (λ s. RanSo false s (record { accepted = accepted; verdict = verdict }) enforcer before after) ran start is).count;
+          files = same;
+        }
 
-  pub run_done : Ran (Ok tt) → IsFinished call report
-  run_done w = inl (inl (log_done w))
+    log_refused : (why : Refusal) → RunsRefused states.saved entries policy first why call.before.files call.after.files before after → Meets call report why
+    log_refused why r = by r.judged.verdict r.took r.ran r.concluded
+      where
+        by : (verdict : Verdict) → TookLog (as_input entries first.clock) (record { accepted = r.judged.accepted; verdict = verdict }) before after
+            → WhereStood entries policy first (λ s. RanSo (is_left (is_some states.saved) verdict) s (record { accepted = r.judged.accepted; verdict = verdict }) r.enforcer before after)
+            → Err why ≡ conclusion_of r.judged.accepted verdict → Meets call report why
+        by verdicts.Accepted took ran h = cc
+        by verdicts.Fault took ran h =
+            let is : why ≡ refusals.ReadFault = cc in
+            subst (Meets call report) (sym is) (inr (inl (record { states = states; accepted = r.judged.accepted; log = enforced r.judged.accepted verdicts.Fault r.enforcer took ran r.same })))
+        by (verdicts.Refused refusal) took ran h =
+            let is : why ≡ refusals.Record (r.judged.accepted + 1) refusal = cc in
+            subst (Meets call report) (sym is)
+            (inl (record { states = states; accepted = r.judged.accepted; log = enforced r.judged.accepted (verdicts.Refused refusal) r.enforcer took ran r.same; number_is = refl }))
 
-  pub run_ends : (ending : Ending) → Ran (Err ending) → Performs call report (Err ending)
-  run_ends (endings.Refused why) r = log_refused why r
-  run_ends (endings.Cut cut) (inl h) = log_ends h.1 cut h.0
-  run_ends (endings.Cut cut) (inr w) = save_ends cut w
+    -- it was accepted to its end
+    abbrev Whole : Result (Unit {0}) Cut → Type 0
+    Whole ended = RunsWhole states.saved signature_bytes policy_bytes entries policy first call.before.files call.after.files before after ended
+
+    abbrev Ran : Bool → ℕ → Enforcing → Type 0
+    Ran saves accepted enforcer = WhereStood entries policy first (λ s. RanSo saves s (record { accepted = accepted; verdict = verdicts.Accepted }) enforcer before after)
+
+    -- and a file is named for the state
+    module _ (file : List ℕ) (named : states.saved ≡ Some file) (accepted : ℕ) (enforcer : Enforcing) (took : TookLog (as_input entries first.clock) (record { accepted = accepted; verdict = verdicts.Accepted }) before after)
+        (ran : Ran true accepted enforcer) where
+      abbrev paused : PausesRun call report file
+      paused =
+          record {
+            states = states;
+            saves = named;
+            asks = asks;
+            accepted = accepted;
+            took = took;
+            ran = λ start is. (where_it (λ s. RanSo true s (record { accepted = accepted; verdict = verdicts.Accepted }) enforcer before after) ran start is).ran;
+          }
+
+      state_written : (ended : Result (Unit {0}) IoRefusal) → WritesState enforcer signature_bytes policy_bytes file ended call.before.files call.after.files → WritesRun call report ended
+      state_written ended w =
+          record {
+            file = file;
+            paused = paused;
+            state = saved_text signature_bytes policy_bytes w.kept;
+            kept = w.kept;
+            text = refl;
+            is_state = λ start is.
+                let here = where_it (λ s. RanSo true s (record { accepted = accepted; verdict = verdicts.Accepted }) enforcer before after) ran start is in
+                is_state_of (begun entries policy start) (records_of here.ran.answers.read) here.ran.answers.out enforcer here.behind signature_bytes policy_bytes call.before.files call.after.files file ended w;
+            ready = λ start is few.
+                let here = where_it (λ s. RanSo true s (record { accepted = accepted; verdict = verdicts.Accepted }) enforcer before after) ran start is in
+                let at_most = subst (λ (clock : ℕ). clock ≤ most_time Inserted) (begins.stands start is).1 begins.new.clock in
+                ready_behind up_again one_plans one states.resumed entries policy signature_bytes policy_bytes begins.state start is at_most enforcer file ended call.before.files call.after.files w
+                here.ran.taken here.ran.answers.read here.ran.rest here.ran.answers.out here.ran.answers.accepts.spelled here.ran.answers.owed here.behind few;
+            written = w.written;
+          }
+
+      state_cut : (cut : Cut) → SavesState enforcer signature_bytes policy_bytes file call.before.files call.after.files (Err cut) → Performs call report (Err (endings.Cut cut))
+      state_cut cuts.WriteFault w = inl (inl (inr (state_written (Err io.Failed) w)))
+      state_cut cuts.NoMemory same = inl (inr (inr (record { file = file; paused = paused; files = same })))
+
+    -- the run is done, with the state saved where that was asked
+    log_done : Whole (Ok tt) → IsDone call report
+    log_done w = by states.saved refl w.ran w.saves
+      where
+        by : (o : Option (List ℕ)) → states.saved ≡ o → Ran (is_some o) w.accepted w.enforcer → SavesWhereAsked o w.enforcer signature_bytes policy_bytes call.before.files call.after.files (Ok tt) → IsDone call report
+        by None named ran saves = inl (record { states = states; none_saved = named; accepted = w.accepted; log = enforced w.accepted verdicts.Accepted w.enforcer w.took ran saves.1 })
+        by (Some file) named ran saves = inr (state_written file named w.accepted w.enforcer w.took ran (Ok tt) saves)
+
+    -- or the save was cut
+    save_ends : (cut : Cut) → Whole (Err cut) → Performs call report (Err (endings.Cut cut))
+    save_ends cut w = by states.saved refl w.ran w.saves
+      where
+        by : (o : Option (List ℕ)) → states.saved ≡ o → Ran (is_some o) w.accepted w.enforcer → SavesWhereAsked o w.enforcer signature_bytes policy_bytes call.before.files call.after.files (Err cut) → Performs call report (Err (endings.Cut cut))
+        by None named ran saves = let no = saves.0 in absurd cc
+        by (Some file) named ran saves = state_cut file named w.accepted w.enforcer w.took ran cut saves
+
+    -- how the run of the log ends is how the work of the run does
+    abbrev RanTo : Result (Unit {0}) Ending → Type 0
+    RanTo result = RunsSo states.saved signature_bytes policy_bytes entries policy first call.before.files call.after.files before after result
+
+    pub run_done : RanTo (Ok tt) → IsFinished call report
+    run_done w = inl (inl (log_done w))
+
+    pub run_ends : (ending : Ending) → RanTo (Err ending) → Performs call report (Err ending)
+    run_ends (endings.Refused why) r = log_refused why r
+    run_ends (endings.Cut cut) (inl r) = log_ends cut r
+    run_ends (endings.Cut cut) (inr w) = save_ends cut w
+
+  -- the state gives nothing, behind the policy
+  module _ (bounds : Bounds) (are_bounds : IsBounds entries policy bounds) (formed : AreWellFormed are_bounds.plans are_bounds.guards) (silent : report ≡ call.before.report) (itself : call.after.gate_itself ≡ call.before.gate_itself) (seen : call.after.gate ≡ call.before.gate) where
+    pub start_ends : (ending : Ending) → EndsStart states.resumed signature_bytes policy_bytes bounds call.before.files call.after.files ending → Performs call report (Err ending)
+    start_ends (endings.Refused (refusals.State why)) (file, named, refused, same) =
+        record {
+          states = states;
+          file = file;
+          named = named;
+          entries = entries;
+          rules = policy;
+          asks = asks_files;
+          bounds = bounds;
+          are_bounds = are_bounds;
+          formed = formed;
+          refused = refused;
+          gate = (itself, seen);
+          files = same;
+          silent = silent;
+        }
+    start_ends (endings.Refused refusals.ReadFault) (file, named, failed) =
+        inl (inr (record { states = states; file = file; named = named; entries = entries; rules = policy; asks = asks_files; failed = failed; gate = (itself, seen); silent = silent }))
+    start_ends (endings.Cut cuts.NoMemory) same = memory_ends call report signature_file policy_file (inl (states, form)) silent itself seen same
+    start_ends (endings.Cut cuts.WriteFault) never = absurd never
+    start_ends (endings.Refused refusals.Words) never = absurd never
+    start_ends (endings.Refused (refusals.Signature why)) never = absurd never
+    start_ends (endings.Refused (refusals.Policy why)) never = absurd never
+    start_ends (endings.Refused (refusals.Record number why)) never = absurd never
 
 module _ {Gate : Type 0} (call : Call Gate) (report : Stream) (signature_file policy_file : List ℕ) (form : IsCheck call.words signature_file policy_file) (entries : List NameEntry) (policy : List Rule)
     (signature_bytes policy_bytes : List ℕ) (holds_signature : HoldsSignature call.before.files.contents signature_file signature_bytes entries)
@@ -289,7 +382,8 @@ module _ {Gate : Type 0} (call : Call Gate) (report : Stream) (signature_file po
 of_refusal : {Gate : Type 0} (call : Call Gate) (why : Refusal) → Refuses call why → Outcome call (status_of why)
 of_refusal call refusals.Words r = r
 of_refusal call (refusals.Signature why) r = inl (why, r)
-of_refusal call (refusals.Policy why) r = inr (why, r)
+of_refusal call (refusals.Policy why) r = inr (inl (why, r))
+of_refusal call (refusals.State why) r = inr (inr (why, r))
 of_refusal call (refusals.Record number why) r = (number, why, r)
 of_refusal call refusals.ReadFault r = r
 

@@ -14,14 +14,16 @@ use Rattle.trace_meaning.specs.Start.{start_behind}
 use Rattle.choice_step.specs.Follows.{ActedStep, steps_of}
 use Rattle.enforcer_core.specs.Enforcers.{Enforcing, out_steps, plans_of}
 use Rattle.enforcer_core.specs.Snapshots.{SavesTrace}
-use Rattle.save_codec.specs.Saved.{IsSnapshotOf, saved_text}
+use Rattle.save_codec.specs.Forms.{IsText}
+use Rattle.save_codec.specs.Saved.{HasSmallNumbers, IsSnapshotOf, lines_of, saved_text}
 use Rattle.save_codec.specs.declared.snapshots.Snapshot.{Snapshot}
 use Rattle.enf_io.specs.FileCalls.{FileView, WritesFile}
 use Rattle.enf_io.specs.declared.devices.IoRefusal.{IoRefusal}
 use Rattle.enf_io.specs.declared.devices.IoRefusal.TheVariants as io
 use Rattle.enf_cli.specs.Endings.{cut_after_file}
-use Rattle.enf_cli.specs.Logs.{IsBehind, RanAsJudged, RanSo, conclusion_of, is_left}
+use Rattle.enf_cli.specs.Logs.{IsBehind, RanAsJudged, RanSo, TookLog, conclusion_of, is_left}
 use Rattle.enf_cli.specs.Owed.{Setting}
+use Rattle.enf_cli.specs.Readings.{Reading}
 use Rattle.enf_cli.specs.Seen.{Seen}
 use Rattle.enf_cli.specs.declared.intake.Judged.{Judged}
 use Rattle.enf_cli.specs.declared.intake.Verdict.{Verdict}
@@ -30,17 +32,17 @@ use Rattle.enf_cli.specs.Saving.{IsState, SavesState, WritesState}
 use Rattle.enf_cli.proofs.FileLemmas.{same_counts}
 
 -- the guards of the program are formulas
-same_guards : (guards : List BoundFormula) → map tree_in guards ≡ map (λ (guard : Formula × List VarId). guard.0) (guards_of guards)
+pub same_guards : (guards : List BoundFormula) → map tree_in guards ≡ map (λ (guard : Formula × List VarId). guard.0) (guards_of guards)
 same_guards [] = refl
 same_guards (guard ∷ guards) = ap (λ (fs : List Formula). tree_in guard ∷ fs) (same_guards guards)
 
 -- the trace of steps is that of the same steps with their changes
-same_trace : (out : List ActedStep) → trace_of (out_steps out) ≡ steps_of out
+pub same_trace : (out : List ActedStep) → trace_of (out_steps out) ≡ steps_of out
 same_trace [] = refl
 same_trace (o ∷ out) = ap (λ (steps : List Step). o.step ∷ steps) (same_trace out)
 
 -- what is kept of an enforcer that stands behind what was given is the state of that
-pub is_state_of : (s : Setting) (records : List Record) (out : List ActedStep) (enforcer : Enforcing) → IsBehind s records out enforcer → (signature policy : List ℕ) (before after : FileView) (file : List ℕ) (ended : Result (Unit {0}) IoRefusal)
+abbrev pub is_state_of : (s : Setting) (records : List Record) (out : List ActedStep) (enforcer : Enforcing) → IsBehind s records out enforcer → (signature policy : List ℕ) (before after : FileView) (file : List ℕ) (ended : Result (Unit {0}) IoRefusal)
     → (w : WritesState enforcer signature policy file ended before after) → IsState s.entries s.rules signature policy (start_behind s.start records (out_steps out)) (saved_text signature policy w.kept)
 is_state_of s records out enforcer is signature policy before after file ended w =
     let plans = plans_of enforcer in
@@ -60,10 +62,11 @@ same_unwritten name bytes before after w =
     λ i. record { contents = w.no_memory refl i; is_calm = w.calm i; read_faults = λ other. w.reads other i; write_faults = λ other. writes other i }
 
 -- a write of the state that was refused
-pub save_fails : (enforcer : Enforcing) (signature policy file : List ℕ) (kept : Snapshot) → SavesTrace enforcer kept → (refusal : IoRefusal) (before after : FileView)
+pub save_fails : (enforcer : Enforcing) (signature policy file : List ℕ) (kept : Snapshot) → SavesTrace enforcer kept → (HasSmallNumbers kept → IsText (saved_text signature policy kept) signature policy (lines_of kept))
+    → (refusal : IoRefusal) (before after : FileView)
     → WritesFile {T = Unit {0}} file (saved_text signature policy kept) (Err refusal) before after → SavesState enforcer signature policy file before after (Err (cut_after_file refusal))
-save_fails enforcer signature policy file kept saves io.Failed before after w = record { kept = kept; saves = saves; written = w }
-save_fails enforcer signature policy file kept saves io.NoMemory before after w = same_unwritten file (saved_text signature policy kept) before after w
+save_fails enforcer signature policy file kept saves form io.Failed before after w = record { kept = kept; saves = saves; form = form; written = w }
+save_fails enforcer signature policy file kept saves form io.NoMemory before after w = same_unwritten file (saved_text signature policy kept) before after w
 
 -- a file is named where there is a name
 pub same_some : {T : Type 0} → (o : Option (Bor T)) → is_some (option_map (λ (file : Bor T). file.now) o) ≡ is_some o
@@ -80,3 +83,11 @@ accepted_so saves s judged enforcer before after ran = by judged.verdict ran
     by verdicts.Accepted ran h = ran
     by verdicts.Fault ran h = cc
     by (verdicts.Refused refusal) ran h = cc
+
+pub took_accepted : (r : Reading) (judged : Judged) (before after : Seen) → TookLog r judged before after → Ok tt ≡ conclusion_of judged.accepted judged.verdict → TookLog r (record { accepted = judged.accepted; verdict = verdicts.Accepted }) before after
+took_accepted r judged before after took = by judged.verdict took
+  where
+    by : (verdict : Verdict) → TookLog r (record { accepted = judged.accepted; verdict = verdict }) before after → Ok tt ≡ conclusion_of judged.accepted verdict → TookLog r (record { accepted = judged.accepted; verdict = verdicts.Accepted }) before after
+    by verdicts.Accepted took h = took
+    by verdicts.Fault took h = cc
+    by (verdicts.Refused refusal) took h = cc

@@ -1,5 +1,5 @@
 -- What one turn of the run of a log does, from what its calls do.
-use Rattle.std.proofs.Common.{◌≡◌, ℕ, ◌-◌, List, refl, sym, ap, subst, ◌∙◌, inl, inr, Option, None, Some}
+use Rattle.std.proofs.Common.{◌≡◌, ℕ, List, refl, sym, ap, subst, ◌∙◌, inl, inr, Option, None, Some}
 use Rattle.std.specs.declared.alloc.Global.{Global}
 use Rattle.std.specs.declared.vec.Vec.{Vec}
 use Rattle.enf_io.specs.Streams.{Stream}
@@ -7,7 +7,6 @@ use Rattle.enforcer_core.specs.Enforcers.{Enforcing}
 use Rattle.log_stream.specs.Logs.{BeginsWith}
 use Rattle.log_stream.specs.declared.items.LogItem.{LogItem}
 use Rattle.log_stream.specs.declared.items.LogMode.TheVariants.{Input}
-use Rattle.log_stream.specs.declared.items.LogRefusal.TheVariants as log
 use Rattle.signature.specs.declared.entries.NameEntry.{NameEntry}
 use Rattle.enf_cli.specs.Intakes.{AnswersRead, EndsIntake, GetsMore, RefusesNext}
 use Rattle.enf_cli.specs.Readings.{record_of}

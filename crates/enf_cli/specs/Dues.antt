@@ -4,6 +4,8 @@ use Rattle.std.specs.Prelude.{Option, None, Some, ◌⊎◌}
 use Rattle.enf_io.specs.Contents.{Contents, Holds}
 use Rattle.enf_io.specs.Exchange.{Exchange, left}
 use Rattle.formula_reader.specs.Resolution.{Rule}
+use Rattle.save_codec.specs.Bounds.{Setting as Bounds}
+use Rattle.save_codec.specs.declared.snapshots.Snapshot.{Snapshot}
 use Rattle.signature.specs.declared.entries.NameEntry.{NameEntry}
 use Rattle.log_stream.specs.Logs.{IsLog}
 use Rattle.log_stream.specs.declared.items.LogItem.{LogItem}
@@ -14,15 +16,16 @@ use Rattle.trace_meaning.specs.Records.{NeverFall, recorded}
 use Rattle.enf_cli.specs.Audits.{as_trace}
 use Rattle.enf_cli.specs.Calls.{Call}
 use Rattle.enf_cli.specs.Limits.{most_log_bytes}
-use Rattle.enf_cli.specs.Files.{IsRefusedPolicy, IsRefusedSignature}
-use Rattle.enf_cli.specs.Owed.{Setting, anew, reading_of}
+use Rattle.enf_cli.specs.Files.{HoldsState, IsRefusedPolicy, IsRefusedSignature, IsRefusedState}
 use Rattle.enf_cli.specs.Policies.{SpellsPolicy, formulas}
-use Rattle.enf_cli.specs.Readings.{Accepts, IsRefusedAs, Reading, records_of, taken_in}
+use Rattle.enf_cli.specs.Readings.{Accepts, IsRefusedAs, Reading, as_input, records_of, taken_in}
 use Rattle.enf_cli.specs.Signatures.{SpellsSignature}
-use Rattle.enf_cli.specs.Words.{IsAudit, IsCheck, IsEnforce, MatchNoForm, NamesFiles, NamesGenerated}
+use Rattle.enf_cli.specs.Starts.{IsBounds}
+use Rattle.enf_cli.specs.Words.{IsAudit, IsCheck, IsEnforce, MatchNoForm, NamesFiles, NamesGenerated, States}
 use Rattle.enf_cli.specs.declared.refusals.PolicyRefusal.{PolicyRefusal}
 use Rattle.enf_cli.specs.declared.refusals.RecordRefusal.{RecordRefusal}
 use Rattle.enf_cli.specs.declared.refusals.SignatureRefusal.{SignatureRefusal}
+use Rattle.enf_cli.specs.declared.refusals.StateRefusal.{StateRefusal}
 use Rattle.enf_cli.specs.declared.refusals.Status.{Status}
 use Rattle.enf_cli.specs.declared.refusals.Status.TheVariants as statuses
 
@@ -50,17 +53,38 @@ pub record AsksPolicy {Gate : Type 0} (IsForm : List (List ℕ) → List ℕ →
   pub told : TellBytes call.before.files.contents asks.policy_file bytes
   pub is_policy : SpellsPolicy entries bytes policy
 
--- the words ask to enforce, and to save the state to this file or to none, under a signature that files tell and a
--- policy that they tell and that is accepted, so that the log is enforced in this setting
-pub record AsksTold {Gate : Type 0} (call : Call Gate) (s : Setting) : Type 0 where
-  pub saved : Option (List ℕ)
-  pub asks : AsksPolicy (IsEnforce saved) call s.entries s.rules
-  pub is_setting : s ≡ anew s.entries s.rules
+-- files tell a state under a name: it came about under these sources, is within the bounds of a policy of the rules,
+-- and has this clock. It need not be the state of any trace
+pub record TellsState (files : Option (List ℕ → Contents)) (name : List ℕ) (entries : List NameEntry)
+    (rules : List Rule) (signature policy : List ℕ) (clock : ℕ) : Type 0 where
+  pub bytes : List ℕ
+  pub told : TellBytes files name bytes
+  pub bounds : Bounds
+  pub are_bounds : IsBounds entries rules bounds
+  pub state : Snapshot
+  pub holds : HoldsState files name bytes signature policy bounds state
+  pub clock_is : clock ≡ state.clock
+
+-- files tell from which clock on a log is enforced: from 0; or, where a state is resumed, from that of the state
+abbrev pub TellsClock : (resumed : Option (List ℕ)) → Option (List ℕ → Contents)
+    → List NameEntry → List Rule
+    → (signature policy : List ℕ) → (clock : ℕ) → Type 0
+TellsClock None files entries rules signature policy clock = clock ≡ 0
+TellsClock (Some name) files entries rules signature policy clock =
+    TellsState files name entries rules signature policy clock
+
+-- the words ask to enforce, with these files for its states, under a signature that files tell and a policy that they
+-- tell and that is accepted; and they tell from which clock on
+pub record AsksTold {Gate : Type 0} (call : Call Gate) (entries : List NameEntry) (clock : ℕ) : Type 0 where
+  pub states : States
+  pub rules : List Rule
+  pub asks : AsksPolicy (IsEnforce states) call entries rules
+  pub starts : TellsClock states.resumed call.before.files.contents entries rules asks.asks.bytes asks.bytes clock
 
 -- the words ask so to enforce or to audit a log, which is read so
 abbrev pub AsksToRead : {Gate : Type 0} → Call Gate → Reading → Type 0
 AsksToRead call r =
-    ((s : Setting) × AsksTold call s × (r ≡ reading_of s))
+    ((entries : List NameEntry) × (clock : ℕ) × AsksTold call entries clock × (r ≡ as_input entries clock))
     ⊎ ((entries : List NameEntry) × (policy : List Rule) × AsksPolicy IsAudit call entries policy
     × (r ≡ as_trace entries))
 
@@ -83,9 +107,24 @@ pub record AsksRefusedPolicy {Gate : Type 0} (call : Call Gate) : Type 0 where
   pub why : PolicyRefusal
   pub refused : IsRefusedPolicy entries why bytes
 
+-- the words name a state to resume that files tell, under an accepted policy, and that is refused
+pub record AsksRefusedState {Gate : Type 0} (call : Call Gate) : Type 0 where
+  pub states : States
+  pub file : List ℕ
+  pub named : states.resumed ≡ Some file
+  pub entries : List NameEntry
+  pub rules : List Rule
+  pub asks : AsksPolicy (IsEnforce states) call entries rules
+  pub bytes : List ℕ
+  pub told : TellBytes call.before.files.contents file bytes
+  pub bounds : Bounds
+  pub are_bounds : IsBounds entries rules bounds
+  pub why : StateRefusal
+  pub refused : IsRefusedState why asks.asks.bytes asks.bytes bounds bytes
+
 -- the files that the words name are such that the run is refused
 abbrev pub AsksRefused : {Gate : Type 0} → Call Gate → Type 0
-AsksRefused call = AsksRefusedSignature call ⊎ AsksRefusedPolicy call
+AsksRefused call = AsksRefusedSignature call ⊎ (AsksRefusedPolicy call ⊎ AsksRefusedState call)
 
 -- what was taken between two moments of a gate
 abbrev pub taken_between : Exchange → Exchange → List ℕ
@@ -102,9 +141,10 @@ pub record IsWholeLog (r : Reading) (before : Option Exchange) : Type 0 where
 
 -- the words, the files and the input are such as can be enforced
 pub record IsAcceptable {Gate : Type 0} (call : Call Gate) : Type 0 where
-  pub setting : Setting
-  pub asks : AsksTold call setting
-  pub whole : IsWholeLog (reading_of setting) call.before.gate.told
+  pub entries : List NameEntry
+  pub clock : ℕ
+  pub asks : AsksTold call entries clock
+  pub whole : IsWholeLog (as_input entries clock) call.before.gate.told
 
 -- or such as can be audited, with this verdict
 pub record IsAuditable {Gate : Type 0} (call : Call Gate) (found : Found) : Type 0 where

@@ -17,6 +17,15 @@ use Rattle.signature.specs.declared.refusals.SignatureRefusal.TheVariants as ans
 use Rattle.enf_value.specs.declared.limits.TheConstants.{MOST_FILE_BYTES}
 use Rattle.enf_cli.specs.Policies.{ReadsRefused, SpellsPolicy, SpellsRefused}
 use Rattle.enf_cli.specs.Signatures.{SpellsSignature}
+use Rattle.save_codec.specs.Bounds.{Setting as Bounds}
+use Rattle.save_codec.specs.Forms.{IsText}
+use Rattle.save_codec.specs.Resumed.{IsRefusal, KeepsBounds}
+use Rattle.save_codec.specs.Saved.{lines_of}
+use Rattle.save_codec.specs.declared.refusals.StateRefusal.TheVariants as kept
+use Rattle.save_codec.specs.declared.snapshots.Snapshot.{Snapshot}
+use Rattle.enf_cli.specs.declared.refusals.StateRefusal.{StateRefusal}
+use Rattle.enf_cli.specs.declared.refusals.StateRefusal.TheVariants as states
+use Rattle.enf_cli.specs.declared.files.TheConstants.{MOST_STATE_BYTES}
 use Rattle.enf_cli.specs.declared.endings.FileEnding.{FileEnding}
 use Rattle.enf_cli.specs.declared.endings.FileEnding.TheVariants as endings
 use Rattle.enf_cli.specs.declared.refusals.PolicyRefusal.{PolicyRefusal}
@@ -88,27 +97,51 @@ pub record HoldsRefusedPolicy (told : Option (List ℕ → Contents)) (name : Li
   pub under : AreUnder told name bytes
   pub refused : IsRefusedPolicy entries why bytes
 
--- a file has more bytes than it may have
-pub record IsLong (told : Option (List ℕ → Contents)) (name : List ℕ) : Type 0 where
+-- the bytes are more than a state may have, or this is their first refusal, under the sources and within these bounds
+abbrev pub IsRefusedState : StateRefusal → (signature policy : List ℕ) → Bounds → (bytes : List ℕ) → Type 0
+IsRefusedState states.TooLong signature policy bounds bytes = MOST_STATE_BYTES < length bytes
+IsRefusedState (states.Text kept.NoMemory) signature policy bounds bytes = ⊥
+IsRefusedState (states.Text why) signature policy bounds bytes =
+    (length bytes ≤ MOST_STATE_BYTES) × IsRefusal bounds bytes signature policy why
+
+-- the file holds these bytes, which are the text of this state, within the bounds
+pub record HoldsState (told : Option (List ℕ → Contents)) (name bytes signature policy : List ℕ) (bounds : Bounds)
+    (state : Snapshot) : Type 0 where
+  pub under : AreUnder told name bytes
+  pub short : length bytes ≤ MOST_STATE_BYTES
+  pub text : IsText bytes signature policy (lines_of state)
+  pub keeps : KeepsBounds bounds state
+
+-- the file holds what is refused so as a state
+pub record HoldsRefusedState (told : Option (List ℕ → Contents))
+    (name signature policy : List ℕ) (bounds : Bounds)
+    (why : StateRefusal) : Type 0 where
   pub bytes : List ℕ
   pub under : AreUnder told name bytes
-  pub long : MOST_FILE_BYTES < length bytes
+  pub refused : IsRefusedState why signature policy bounds bytes
 
--- the bytes are a file's, and no more than it may have
-pub record IsShort (told : Option (List ℕ → Contents)) (name : List ℕ) (bytes : List ℕ) : Type 0 where
+-- a file has more bytes than so many
+pub record IsLong (most : ℕ) (told : Option (List ℕ → Contents)) (name : List ℕ) : Type 0 where
+  pub bytes : List ℕ
   pub under : AreUnder told name bytes
-  pub short : length bytes ≤ MOST_FILE_BYTES
+  pub long : most < length bytes
+
+-- the bytes are a file's, and no more than so many
+pub record IsShort (most : ℕ) (told : Option (List ℕ → Contents)) (name bytes : List ℕ) : Type 0 where
+  pub under : AreUnder told name bytes
+  pub short : length bytes ≤ most
 
 -- a read of the file failed: its count is one more, and what the files hold is as it was
-abbrev pub FailsToRead : List ℕ → FileView → FileView → Type 0
-FailsToRead name before after = ReadsFile name (MOST_FILE_BYTES + 1) (Err Failed) before after
+abbrev pub FailsToRead : (most : ℕ) → List ℕ → FileView → FileView → Type 0
+FailsToRead most name before after = ReadsFile name (most + 1) (Err Failed) before after
 
 -- why a file was not read
-abbrev pub IsNotRead : List ℕ → FileView → FileView → IoRefusal → Type 0
-IsNotRead name before after Failed = FailsToRead name before after
-IsNotRead name before after NoMemory = after ≡ before
+abbrev pub IsNotRead : (most : ℕ) → List ℕ → FileView → FileView → IoRefusal → Type 0
+IsNotRead most name before after Failed = FailsToRead most name before after
+IsNotRead most name before after NoMemory = after ≡ before
 
--- why a file gives nothing: what it holds is refused so, or it was not read
-abbrev pub EndsFile : {W : Type 0} → (W → Type 0) → List ℕ → FileView → FileView → FileEnding W → Type 0
-EndsFile Refuses name before after (endings.Refused why) = Refuses why × (after ≡ before)
-EndsFile Refuses name before after (endings.NotRead why) = IsNotRead name before after why
+-- why a file that may have so many bytes gives nothing: what it holds is refused so, or it was not read
+abbrev pub EndsFile : (most : ℕ) → {W : Type 0} → (W → Type 0) → List ℕ → FileView → FileView
+    → FileEnding W → Type 0
+EndsFile most Refuses name before after (endings.Refused why) = Refuses why × (after ≡ before)
+EndsFile most Refuses name before after (endings.NotRead why) = IsNotRead most name before after why

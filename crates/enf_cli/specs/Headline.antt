@@ -1,7 +1,7 @@
 -- The headline, in its own words over definitions of the crates below: what becomes of a log that a run enforces, where
 -- the files tell an accepted policy, and the gate and the report tell what goes through them.
-use Rattle.std.specs.Prelude.{◌≡◌, ◌≢◌, ◌⊎◌, ℕ, ◌+◌, ◌<◌, ◌≤◌, IsTrue, List, []}
-use Rattle.std.specs.Prelude.{◌∷◌, ◌++◌, length, map, codes}
+use Rattle.std.specs.Prelude.{◌≡◌, ◌≢◌, ◌⊎◌, ℕ, ◌+◌, ◌<◌, ◌≤◌, ◌^◌, IsTrue, List}
+use Rattle.std.specs.Prelude.{[], ◌∷◌, ◌++◌, length, map, codes}
 use Rattle.std.specs.Prelude.{decimal, Option, None, Some, Ok}
 use Rattle.std.specs.List.{flat_map}
 use Rattle.enf_io.specs.Contents.{Contents, Holds, with_contents}
@@ -37,7 +37,10 @@ use Rattle.trace_meaning.specs.Records.{NeverFall, Record, StepRecord, Tick, clo
 use Rattle.trace_meaning.specs.Satisfies.{Satisfies}
 use Rattle.trace_meaning.specs.Start.{Start, from_nothing, start_behind}
 use Rattle.past_state.specs.Operators.{all_operators}
-use Rattle.save_codec.specs.Saved.{IsSavedText}
+use Rattle.enf_value.specs.Data.{IsTrace}
+use Rattle.obligations.specs.Pending.{IsReady}
+use Rattle.save_codec.specs.Forms.{IsText}
+use Rattle.save_codec.specs.Saved.{IsSavedText, lines_of}
 use Rattle.choice_step.specs.Follows.{ActedStep}
 use Rattle.action_report.specs.Lines.{action_line}
 use Rattle.enforcer_core.specs.Enforcers.{out_steps}
@@ -50,18 +53,55 @@ use Rattle.enf_cli.specs.declared.refusals.Status.TheVariants as statuses
 abbrev pub formulas : List Rule → List Formula
 formulas rules = map (λ rule. rule.formula) rules
 
--- what stands behind the policy where the state is saved to a file
-abbrev pub save_words : (saved : Option (List ℕ)) → List (List ℕ)
-save_words None = []
-save_words (Some file) = codes "--save" ∷ file ∷ []
+-- the files that the words name for states: that from which the run starts, and that to which it saves
+pub record States : Type 0 where
+  pub resumed : Option (List ℕ)
+  pub saved : Option (List ℕ)
 
--- the words are `enforce SIGNATURE POLICY`, and `--save FILE` where the state is saved to a file; the files tell a
--- signature, and an accepted policy under it
-pub record IsAsked (words : List (List ℕ)) (told : Option (List ℕ → Contents)) (saved : Option (List ℕ))
+abbrev pub states_of : (resumed saved : Option (List ℕ)) → States
+states_of resumed saved = record { resumed = resumed; saved = saved }
+
+-- an option, where a file is named for it
+abbrev pub option_words : (option : List ℕ) → Option (List ℕ) → List (List ℕ)
+option_words option None = []
+option_words option (Some file) = option ∷ file ∷ []
+
+-- what stands behind the policy
+abbrev pub state_words : States → List (List ℕ)
+state_words states = option_words (codes "--resume") states.resumed ++ option_words (codes "--save") states.saved
+
+-- the bytes are the saved text of a policy of these rules that has come so far, under the bytes of its signature and of
+-- it: of the trace, of its clock, of what the guards remember and of what is pending
+pub record IsState (entries : List NameEntry) (rules : List Rule) (signature policy : List ℕ) (at : Start)
+    (state : List ℕ) : Type 0 where
+  pub plans : List Plan
+  pub guards : List (Formula × List VarId)
+  pub planned : ArePlanned entries (formulas rules) plans guards
+  pub text : IsSavedText signature policy plans
+      (all_operators (map (λ (guard : Formula × List VarId). guard.0) guards)) at.trace at.clock state
+
+-- and nothing is missing anywhere in the trace, nor is a deadline over at its clock, so that a run can go on from there
+pub record IsReadyState (entries : List NameEntry) (rules : List Rule) (signature policy : List ℕ) (at : Start)
+    (state : List ℕ) : Type 0 where
+  pub is_state : IsState entries rules signature policy at state
+  pub form : IsText state signature policy (lines_of is_state.text.0)
+  pub is_trace : IsTrace at.trace
+  pub ready : IsReady is_state.plans at.trace at.clock
+
+-- where a run starts: from nothing; or, where files tell a state to resume, from whatever that is the state of
+abbrev pub StartsAt : (resumed : Option (List ℕ)) → (files : List ℕ → Contents) → List NameEntry → List Rule
+    → (signature policy : List ℕ) → Start → Type 0
+StartsAt None files entries rules signature policy start = start ≡ from_nothing
+StartsAt (Some file) files entries rules signature policy start =
+    (state : List ℕ) × (files file ≡ Holds state) × IsReadyState entries rules signature policy start state
+
+-- the words are `enforce SIGNATURE POLICY`, with `--resume FILE` where a state is resumed and `--save FILE` where one
+-- is saved; the files tell a signature, and an accepted policy under it, and from where the run starts
+pub record IsAsked (words : List (List ℕ)) (told : Option (List ℕ → Contents)) (states : States) (start : Start)
     (entries : List NameEntry) (rules : List Rule) : Type 0 where
   pub signature_file : List ℕ
   pub policy_file : List ℕ
-  pub form : words ≡ codes "enforce" ∷ signature_file ∷ policy_file ∷ save_words saved
+  pub form : words ≡ codes "enforce" ∷ signature_file ∷ policy_file ∷ state_words states
   pub files : List ℕ → Contents
   pub tell : told ≡ Some files
   pub signature : List ℕ
@@ -71,6 +111,7 @@ pub record IsAsked (words : List (List ℕ)) (told : Option (List ℕ → Conten
   pub second : files policy_file ≡ Holds policy
   pub is_policy : (length policy ≤ MOST_FILE_BYTES) × IsTextAnswer entries policy (Ok rules)
   pub accepted : IsAccepted entries (formulas rules)
+  pub starts : StartsAt states.resumed files entries rules signature policy start
 
 -- what an item of a log is for an enforcer
 abbrev pub record_of : LogItem → Record
@@ -81,17 +122,18 @@ abbrev pub records_of : List LogItem → List Record
 records_of read = map record_of read
 
 -- the bytes taken are these records, whose times never fall, and a rest; those given are the lines of what went out
-pub record IsAnswered (entries : List NameEntry) (rules : List Rule) (taken given : List ℕ) : Type 0 where
+pub record IsAnswered (entries : List NameEntry) (rules : List Rule) (start : Start) (taken given : List ℕ)
+    : Type 0 where
   pub read : List LogItem
   pub rest : List ℕ
   pub spelled : Spells entries Input taken read rest
-  pub rising : NeverFall 0 (records_of read)
+  pub rising : NeverFall start.clock (records_of read)
   pub out : List ActedStep
   pub text : given ≡ text_of (names_of entries) (out_steps out)
   -- the step of each record is kept, only causable events were added and only suppressible ones taken out
   pub lawful : Lawful (is_causable entries) (is_suppressible entries) (records_of read) (out_steps out)
   -- each such action, and each inserted step, serves what is owed and is otherwise lost
-  pub justified : IsJustifiedByPolicy entries (formulas rules) [] (records_of read) out
+  pub justified : IsJustifiedByPolicy entries (formulas rules) start.trace (records_of read) out
 
 -- a policy has the transparent mark where the plans of its rules have it
 pub record IsMarked (entries : List NameEntry) (policy : List Formula) : Type 0 where
@@ -102,19 +144,20 @@ pub record IsMarked (entries : List NameEntry) (policy : List Formula) : Type 0 
 
 -- what went out for the records, the inserted steps below the clock, can be continued well from it on; and under the
 -- mark it is the steps of the records, as they came, where these can be
-pub record IsGoodSoFar (entries : List NameEntry) (rules : List Rule) (records : List Record) (out : List ActedStep)
-    : Type 0 where
-  pub within : IsWithin 0 (clock_after 0 records) (out_steps out)
-  pub good : Good (formulas rules) (trace_of (out_steps out)) (clock_after 0 records)
+pub record IsGoodSoFar (entries : List NameEntry) (rules : List Rule) (start : Start) (records : List Record)
+    (out : List ActedStep) : Type 0 where
+  pub within : IsWithin start.clock (clock_after start.clock records) (out_steps out)
+  pub good : Good (formulas rules) (start.trace ++ trace_of (out_steps out)) (clock_after start.clock records)
   pub alone : IsMarked entries (formulas rules)
-      → Good (formulas rules) (recorded records) (clock_after 0 records)
+      → Good (formulas rules) (start.trace ++ recorded records) (clock_after start.clock records)
       → out ≡ untouched (recorded records)
 
 -- so far: no whole record is left, and what went out is good
-pub record IsKeptSoFar (entries : List NameEntry) (rules : List Rule) (taken given : List ℕ) : Type 0 where
-  pub answered : IsAnswered entries rules taken given
+pub record IsKeptSoFar (entries : List NameEntry) (rules : List Rule) (start : Start) (taken given : List ℕ)
+    : Type 0 where
+  pub answered : IsAnswered entries rules start taken given
   pub pending : IsPending answered.rest
-  pub so_far : IsGoodSoFar entries rules (records_of answered.read) answered.out
+  pub so_far : IsGoodSoFar entries rules start (records_of answered.read) answered.out
 
 -- the greatest number of bytes that are taken of a log
 abbrev pub most_log_bytes : ℕ
@@ -153,19 +196,18 @@ IsFront line front = (missing : List ℕ) × (line ≡ front ++ missing)
 
 -- how the log ended, by the status: nothing of it is left, or its next record is refused, or a read failed; and the
 -- last line of the report
-abbrev pub EndsWithStatus : List NameEntry → (read : List LogItem) → (taken rest last : List ℕ)
-    → (gate gate' : Stream)
-    → Status → Type 0
-EndsWithStatus entries read taken rest last gate gate' statuses.Done =
+abbrev pub EndsWithStatus : List NameEntry → (clock : ℕ) → (read : List LogItem) → (taken rest last : List ℕ)
+    → (gate gate' : Stream) → Status → Type 0
+EndsWithStatus entries clock read taken rest last gate gate' statuses.Done =
     (behind_blanks rest ≡ []) × MetEnd (length taken) gate'
     × (gate'.read_faults ≡ gate.read_faults) × (last ≡ [])
-EndsWithStatus entries read taken rest last gate gate' statuses.Record =
-    (words : List ℕ) × IsRefusedFor entries (clock_after 0 (records_of read)) (length taken) rest gate' words
+EndsWithStatus entries clock read taken rest last gate gate' statuses.Record =
+    (words : List ℕ) × IsRefusedFor entries (clock_after clock (records_of read)) (length taken) rest gate' words
     × (gate'.read_faults ≡ gate.read_faults)
     × IsFront (codes "record " ++ decimal (length read + 1) ++ codes ": " ++ words ++ codes "\n") last
-EndsWithStatus entries read taken rest last gate gate' statuses.ReadFault =
+EndsWithStatus entries clock read taken rest last gate gate' statuses.ReadFault =
     IsPending rest × (gate'.read_faults ≡ one_more gate.read_faults) × IsFront (codes "read fault\n") last
-EndsWithStatus entries read taken rest last gate gate' other = ⊥
+EndsWithStatus entries clock read taken rest last gate gate' other = ⊥
 
 -- the lines of the actions that made a step, in their order, and of all that made these steps
 abbrev pub lines_of_actions : List NameEntry → List Rule → ActedStep → List ℕ
@@ -174,40 +216,36 @@ lines_of_actions entries rules step = flat_map (action_line entries rules) step.
 abbrev pub action_lines : List NameEntry → List Rule → List ActedStep → List ℕ
 action_lines entries rules steps = flat_map (lines_of_actions entries rules) steps
 
--- at the end: what went out satisfies every rule at every position, each action has its line on the report, and under
--- the mark what went out is the steps of the records, as they came, where these satisfy the policy
-pub record IsKept (entries : List NameEntry) (rules : List Rule) (gate gate' : Stream) (result : Status)
+-- at the end: what went out is a trace that satisfies every rule at every position, each action has its line on the
+-- report, and under the mark what went out is the steps of the records, as they came, where these satisfy the policy
+pub record IsKept (entries : List NameEntry) (rules : List Rule) (start : Start) (gate gate' : Stream) (result : Status)
     (taken given said : List ℕ) : Type 0 where
-  pub answered : IsAnswered entries rules taken given
+  pub answered : IsAnswered entries rules start taken given
   pub last : List ℕ
-  pub ended : EndsWithStatus entries answered.read taken answered.rest last gate gate' result
-  pub satisfied : Satisfies (trace_of (out_steps answered.out)) (formulas rules)
+  pub ended : EndsWithStatus entries start.clock answered.read taken answered.rest last gate gate' result
+  pub is_trace : IsTrace (start.trace ++ trace_of (out_steps answered.out))
+  pub satisfied : Satisfies (start.trace ++ trace_of (out_steps answered.out)) (formulas rules)
   pub reported : said ≡ action_lines entries rules answered.out ++ last
-  pub alone : IsMarked entries (formulas rules) → Satisfies (recorded (records_of answered.read)) (formulas rules)
+  pub alone : IsMarked entries (formulas rules)
+      → Satisfies (start.trace ++ recorded (records_of answered.read)) (formulas rules)
       → answered.out ≡ untouched (recorded (records_of answered.read))
 
--- the bytes are the saved text of a policy of these rules that has come so far, under the bytes of its signature and of
--- it: of the trace, of its clock, of what the guards remember and of what is pending
-pub record IsState (entries : List NameEntry) (rules : List Rule) (signature policy : List ℕ) (at : Start)
-    (state : List ℕ) : Type 0 where
-  pub plans : List Plan
-  pub guards : List (Formula × List VarId)
-  pub planned : ArePlanned entries (formulas rules) plans guards
-  pub text : IsSavedText signature policy plans
-      (all_operators (map (λ (guard : Formula × List VarId). guard.0) guards)) at.trace at.clock state
-
 -- at a save: the log was taken to its end, what went out is good so far, each action has its line on the report, and
--- the state behind it stands under the name of its file, which alone has changed
-pub record IsSaved (entries : List NameEntry) (rules : List Rule) (signature policy file : List ℕ)
+-- the state behind it stands under the name of its file, which alone has changed; it is one to start from as long as
+-- its position is below 2^63, since a greater number has not the form
+pub record IsSaved (entries : List NameEntry) (rules : List Rule) (start : Start) (signature policy file : List ℕ)
     (files : List ℕ → Contents) (told : Option (List ℕ → Contents)) (gate gate' : Stream)
     (taken given said : List ℕ) : Type 0 where
-  pub answered : IsAnswered entries rules taken given
-  pub ended : EndsWithStatus entries answered.read taken answered.rest [] gate gate' statuses.Done
-  pub so_far : IsGoodSoFar entries rules (records_of answered.read) answered.out
+  pub answered : IsAnswered entries rules start taken given
+  pub ended : EndsWithStatus entries start.clock answered.read taken answered.rest [] gate gate' statuses.Done
+  pub so_far : IsGoodSoFar entries rules start (records_of answered.read) answered.out
   pub reported : said ≡ action_lines entries rules answered.out
   pub state : List ℕ
   pub is_state : IsState entries rules signature policy
-      (start_behind from_nothing (records_of answered.read) (out_steps answered.out)) state
+      (start_behind start (records_of answered.read) (out_steps answered.out)) state
+  pub ready : length (start.trace ++ trace_of (out_steps answered.out)) < 2 ^ 63
+      → IsReadyState entries rules signature policy
+      (start_behind start (records_of answered.read) (out_steps answered.out)) state
   pub stands : told ≡ Some (with_contents file (Holds state) files)
 
 -- the log was taken to its end, and no state is to be saved there; or to a record that is refused, or to a read that
@@ -221,17 +259,18 @@ HasTakenLog saved gate gate' result =
 -- the gate, the files and the report are as they are seen before the call and behind it
 pub record Headline (words : List (List ℕ)) (files files' : FileView) (gate gate' report report' : Stream)
     (result : Status) : Type 0 where
-  pub at_the_end : (saved : Option (List ℕ)) (entries : List NameEntry) (rules : List Rule)
-      → IsAsked words files.contents saved entries rules → HasTakenLog saved gate gate' result
+  pub at_the_end : (states : States) (start : Start) (entries : List NameEntry) (rules : List Rule)
+      → IsAsked words files.contents states start entries rules → HasTakenLog states.saved gate gate' result
       → OfCalls (λ log. OfCalls (λ said.
-      IsKept entries rules gate gate' result (taken_bytes log) log.given said.given
+      IsKept entries rules start gate gate' result (taken_bytes log) log.given said.given
       ) report.told report'.told) gate.told gate'.told
-  pub at_a_save : (file : List ℕ) (entries : List NameEntry) (rules : List Rule)
-      → (asked : IsAsked words files.contents (Some file) entries rules) → result ≡ statuses.Done
+  pub at_a_save : (states : States) (start : Start) (file : List ℕ) (entries : List NameEntry) (rules : List Rule)
+      → (asked : IsAsked words files.contents states start entries rules) → states.saved ≡ Some file
+      → result ≡ statuses.Done
       → OfCalls (λ log. OfCalls (λ said.
-      IsSaved entries rules asked.signature asked.policy file asked.files files'.contents gate gate'
+      IsSaved entries rules start asked.signature asked.policy file asked.files files'.contents gate gate'
       (taken_bytes log) log.given said.given
       ) report.told report'.told) gate.told gate'.told
-  pub at_each_read : (saved : Option (List ℕ)) (entries : List NameEntry) (rules : List Rule)
-      → IsAsked words files.contents saved entries rules
-      → OfCalls (AtEachMark (IsKeptSoFar entries rules)) gate.told gate'.told
+  pub at_each_read : (states : States) (start : Start) (entries : List NameEntry) (rules : List Rule)
+      → IsAsked words files.contents states start entries rules
+      → OfCalls (AtEachMark (IsKeptSoFar entries rules start)) gate.told gate'.told

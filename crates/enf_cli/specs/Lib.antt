@@ -26,4 +26,6 @@ pub mod Reports
 pub mod Saving
 pub mod Seen
 pub mod Signatures
+pub mod Starts
+pub mod TwoRuns
 pub mod Words

@@ -8,13 +8,14 @@ use Rattle.log_stream.specs.declared.items.LogItem.{LogItem}
 use Rattle.signature.specs.Grammar.{names as names_of}
 use Rattle.trace_meaning.specs.Good.{GoodPrefix}
 use Rattle.trace_meaning.specs.Records.{Record, clock_after}
+use Rattle.enforce_types.specs.Typed.{WorkTogether, typed_of}
 use Rattle.choice_step.specs.Follows.{ActedStep, out_step, steps_of}
 use Rattle.enforcer_core.specs.Enforcers.{Enforcing, out_steps}
 use Rattle.enforcer_core.specs.Stands.{Stands}
 use Rattle.enf_cli.specs.Accepted.{Gives, UpToDate}
-use Rattle.enf_cli.specs.Actions.{FailsWithinActions, SaysActions, SaysActionsInPart}
+use Rattle.enf_cli.specs.Actions.{FailsWithinActions, Gains, SaysActions, SaysActionsInPart}
 use Rattle.enf_cli.specs.Owed.{HasPlans, IsOwedInAll, IsOwedSoFar, Setting, policy_of, reading_of}
-use Rattle.enf_cli.specs.Readings.{Accepts, EndsAs, Taken, records_of, taken_in}
+use Rattle.enf_cli.specs.Readings.{Accepts, EndsAs, Reading, ReadsLog, ReadsToEnd, Taken, records_of, taken_in}
 use Rattle.enf_cli.specs.Endings.{IsPart}
 use Rattle.enf_cli.specs.Exchanges.{Exchanged, IsBegun}
 use Rattle.enf_cli.specs.declared.endings.Cut.{Cut}
@@ -64,6 +65,7 @@ IsOwedAtEnd false s records out = IsOwedInAll s records out
 -- an enforcer of the rules stands behind what was given for the records, at their clock
 pub record IsBehind (s : Setting) (records : List Record) (out : List ActedStep) (enforcer : Enforcing) : Type 0 where
   pub planned : HasPlans s.entries s.rules enforcer
+  pub together : WorkTogether (typed_of enforcer.policy)
   pub clock : enforcer.clock ≡ clock_after s.start.clock records
   pub stands : Stands enforcer (s.start.trace ++ steps_of out)
 
@@ -146,6 +148,36 @@ pub record LacksMemory (s : Setting) (before after : Seen) : Type 0 where
 abbrev pub CutsRun : Setting → Seen → Seen → Cut → Type 0
 CutsRun s before after cuts.WriteFault = FailsAtGate s before after ⊎ FailsAtReport s before after
 CutsRun s before after cuts.NoMemory = LacksMemory s before after
+
+-- ---- whatever the enforcer stands for
+
+-- nothing is said of what was taken and given
+abbrev pub Anything : (taken given : List ℕ) → Type 0
+Anything taken given = Unit {0}
+
+-- the log was taken until it ended as it was judged, behind so many accepted records; no write failed, and the report
+-- gained a text
+pub record TookLog (r : Reading) (judged : Judged) (before after : Seen) : Type 0 where
+  pub whole : ReadsToEnd Anything r judged.verdict before.gate after.gate
+  pub count : judged.accepted ≡ length whole.log.read
+  pub writes : after.gate.write_faults ≡ before.gate.write_faults
+  pub said : List ℕ
+  pub report : Gains said before.report after.report
+
+-- one write failed, to the gate or to the report; or none did
+abbrev pub HasFault : Cut → (before after : Seen) → Type 0
+HasFault cuts.WriteFault before after =
+    ((after.gate.write_faults ≡ one_more before.gate.write_faults)
+    × (after.report.write_faults ≡ before.report.write_faults))
+    ⊎ ((after.gate.write_faults ≡ before.gate.write_faults)
+    × (after.report.write_faults ≡ one_more before.report.write_faults))
+HasFault cuts.NoMemory before after =
+    (after.gate.write_faults ≡ before.gate.write_faults) × (after.report.write_faults ≡ before.report.write_faults)
+
+-- some of the log was taken, and that was cut
+pub record LostLog (r : Reading) (before after : Seen) (cut : Cut) : Type 0 where
+  pub log : ReadsLog Anything r before.gate after.gate
+  pub fault : HasFault cut before after
 
 -- what the judgement of the log makes of a run; the number is that of the record behind the accepted ones
 abbrev pub conclusion_of : ℕ → Verdict → Result (Unit {0}) Refusal

@@ -1,15 +1,21 @@
 -- What holds of a run at each status: of its work, which leaves the report in some state, and then of the line that
 -- says on the report why it ended early.
-use Rattle.std.specs.Prelude.{◌≡◌, ℕ, ◌+◌, List, [], length, ◌⊎◌, Option, None, Some, Result, Ok, Err}
+use Rattle.std.specs.Prelude.{◌≡◌, ℕ, ◌+◌, ◌<◌, ◌^◌, List, [], length, ◌⊎◌}
+use Rattle.std.specs.Prelude.{Option, None, Some, Result, Ok, Err}
 use Rattle.enf_io.specs.Counts.{one_more}
 use Rattle.enf_io.specs.Exchange.{Exchange, Gave}
 use Rattle.enf_io.specs.FileCalls.{WritesFile}
 use Rattle.enf_io.specs.Streams.{Stream}
 use Rattle.enf_io.specs.declared.devices.IoRefusal.{IoRefusal}
 use Rattle.enf_io.specs.declared.devices.IoRefusal.TheVariants.{Failed}
+use Rattle.enf_value.specs.declared.limits.TheConstants.{MOST_FILE_BYTES}
 use Rattle.enforce_types.specs.Accepted.{IsTyped}
 use Rattle.enforce_types.specs.Typed.{Typed}
 use Rattle.formula_reader.specs.Resolution.{Rule}
+use Rattle.plan_terms.specs.WellFormed.{AreWellFormed}
+use Rattle.save_codec.specs.Bounds.{Setting as Bounds}
+use Rattle.save_codec.specs.Saved.{saved_text}
+use Rattle.save_codec.specs.declared.snapshots.Snapshot.{Snapshot}
 use Rattle.signature.specs.declared.entries.NameEntry.{NameEntry}
 use Rattle.log_gen.specs.Generated.{generated_text}
 use Rattle.trace_audit.specs.Verdicts.{IsVerdict}
@@ -17,29 +23,33 @@ use Rattle.trace_audit.specs.declared.verdicts.Verdict.{Verdict as Found}
 use Rattle.trace_audit.specs.declared.verdicts.Verdict.TheVariants.{Holds, Fails}
 use Rattle.enforcer_core.specs.Enforcers.{out_steps}
 use Rattle.trace_meaning.specs.Records.{recorded}
-use Rattle.trace_meaning.specs.Start.{start_behind}
+use Rattle.trace_meaning.specs.Start.{Start, start_behind}
 use Rattle.enf_cli.specs.Audits.{LosesLog, TakesWholeTrace, verdict_line}
 use Rattle.enf_cli.specs.Calls.{Call, LeavesFiles, LeavesGate}
 use Rattle.enf_cli.specs.Checking.{check_text}
 use Rattle.enf_cli.specs.Drilling.{Says, SaysPartOrNothing}
 use Rattle.enf_cli.specs.Endings.{IsPart, faults_behind}
-use Rattle.enf_cli.specs.Files.{FailsToRead, HoldsPolicy, HoldsRefusedPolicy, HoldsRefusedSignature, HoldsSignature}
+use Rattle.enf_cli.specs.Files.{FailsToRead, HoldsPolicy, HoldsRefusedPolicy, HoldsRefusedSignature, HoldsRefusedState}
+use Rattle.enf_cli.specs.Files.{HoldsSignature}
 use Rattle.enf_cli.specs.Generating.{AddsPartOrNothing}
 use Rattle.enf_cli.specs.Policies.{formulas}
-use Rattle.enf_cli.specs.Logs.{CutsRun, PausesLog, RunsLog}
-use Rattle.enf_cli.specs.Owed.{Setting, anew}
-use Rattle.enf_cli.specs.Readings.{records_of}
+use Rattle.enf_cli.specs.Logs.{CutsRun, LostLog, PausesLog, RunsLog, TookLog}
+use Rattle.enf_cli.specs.Owed.{Setting, begun}
+use Rattle.enf_cli.specs.Readings.{as_input, records_of}
 use Rattle.enf_cli.specs.Refusals.{text_of_refusal}
 use Rattle.enf_cli.specs.Saving.{IsState}
 use Rattle.enf_cli.specs.Seen.{seen_of}
+use Rattle.enf_cli.specs.Starts.{HoldsStart, IsBounds, IsReadyState, IsStartOf}
 use Rattle.enf_cli.specs.Reports.{AddsPart, IsReported, IsReportedInPart, SaysNoMemory}
-use Rattle.enf_cli.specs.Words.{IsAudit, IsCheck, IsDrill, IsEnforce, IsGenerate, MatchNoForm, NamesFiles}
+use Rattle.enf_cli.specs.Words.{IsAudit, IsCheck, IsDrill, IsEnforce, IsGenerate, MatchNoForm, NamesFiles, States}
 use Rattle.enf_cli.specs.declared.endings.Cut.{Cut}
 use Rattle.enf_cli.specs.declared.endings.Cut.TheVariants as cuts
 use Rattle.enf_cli.specs.declared.endings.Ending.{Ending}
 use Rattle.enf_cli.specs.declared.endings.Ending.TheVariants as endings
 use Rattle.enf_cli.specs.declared.endings.Finish.{Finish}
 use Rattle.enf_cli.specs.declared.endings.Finish.TheVariants as finishes
+use Rattle.enf_cli.specs.declared.files.TheConstants.{MOST_STATE_BYTES}
+use Rattle.enf_cli.specs.declared.intake.Judged.{Judged}
 use Rattle.enf_cli.specs.declared.intake.Verdict.{Verdict}
 use Rattle.enf_cli.specs.declared.intake.Verdict.TheVariants as verdicts
 use Rattle.enf_cli.specs.declared.refusals.PolicyRefusal.{PolicyRefusal}
@@ -47,6 +57,7 @@ use Rattle.enf_cli.specs.declared.refusals.RecordRefusal.{RecordRefusal}
 use Rattle.enf_cli.specs.declared.refusals.Refusal.{Refusal}
 use Rattle.enf_cli.specs.declared.refusals.Refusal.TheVariants as refusals
 use Rattle.enf_cli.specs.declared.refusals.SignatureRefusal.{SignatureRefusal}
+use Rattle.enf_cli.specs.declared.refusals.StateRefusal.{StateRefusal}
 use Rattle.enf_cli.specs.declared.refusals.Status.{Status}
 use Rattle.enf_cli.specs.declared.refusals.Status.TheVariants as statuses
 
@@ -61,11 +72,30 @@ pub record Asks {Gate : Type 0} (IsForm : List (List ℕ) → List ℕ → List 
   pub holds_signature : HoldsSignature call.before.files.contents signature_file signature_bytes entries
   pub holds_policy : HoldsPolicy call.before.files.contents policy_file policy_bytes entries policy
 
--- the words ask to enforce a policy, and to save the state to this file or to none, so that the log is enforced in this
--- setting
-pub record AsksToEnforce {Gate : Type 0} (call : Call Gate) (saved : Option (List ℕ)) (s : Setting) : Type 0 where
-  pub asks : Asks (IsEnforce saved) call s.entries s.rules
-  pub is_setting : s ≡ anew s.entries s.rules
+-- the words ask to enforce a policy, with these files for its states; a state that is resumed is within its bounds, and
+-- the log is enforced from its clock on
+pub record AsksToEnforce {Gate : Type 0} (call : Call Gate) (states : States) : Type 0 where
+  pub entries : List NameEntry
+  pub rules : List Rule
+  pub asks : Asks (IsEnforce states) call entries rules
+  pub bounds : Bounds
+  pub are_bounds : IsBounds entries rules bounds
+  pub formed : AreWellFormed are_bounds.plans are_bounds.guards
+  pub state : List ℕ
+  pub clock : ℕ
+  pub holds_start : HoldsStart states.resumed call.before.files.contents asks.signature_bytes asks.policy_bytes bounds
+      state clock
+
+-- the run may start there
+abbrev pub MayStart : {Gate : Type 0} → {call : Call Gate} → (states : States) → AsksToEnforce call states
+    → Start → Type 0
+MayStart states a start =
+    IsStartOf states.resumed a.entries a.rules a.asks.signature_bytes a.asks.policy_bytes a.state start
+
+-- it holds in the setting from wherever the run may start
+abbrev pub WhereItStarts : {Gate : Type 0} → {call : Call Gate} → (states : States) → AsksToEnforce call states
+    → (Setting → Type 0) → Type 0
+WhereItStarts states a P = (start : Start) → MayStart states a start → P (begun a.entries a.rules start)
 
 -- the words match no form, and nothing was touched
 pub record RefusesWords {Gate : Type 0} (call : Call Gate) (report : Stream) : Type 0 where
@@ -98,38 +128,56 @@ pub record RefusesPolicyFile {Gate : Type 0} (call : Call Gate) (report : Stream
   pub files : LeavesFiles call
   pub silent : report ≡ call.before.report
 
+-- the words ask to enforce, and the log was taken until it ended as it was judged; from wherever the run starts, what
+-- was given is what is owed in all to its accepted records, which are so many
+pub record EnforcesLog {Gate : Type 0} (call : Call Gate) (report : Stream) (states : States) (judged : Judged)
+    : Type 0 where
+  pub asks : AsksToEnforce call states
+  pub took : TookLog (as_input asks.entries asks.clock) judged (seen_of call.before.gate call.before.report)
+      (seen_of call.after.gate report)
+  pub ran : WhereItStarts states asks (λ s. RunsLog s judged.verdict (seen_of call.before.gate call.before.report)
+      (seen_of call.after.gate report))
+  pub counts : (start : Start) → (starts : MayStart states asks start)
+      → judged.accepted ≡ length (ran start starts).answers.read
+  pub files : LeavesFiles call
+
 -- the record of this number is refused, behind those that were enforced
 pub record RefusesRecord {Gate : Type 0} (call : Call Gate) (report : Stream) (number : ℕ) (why : RecordRefusal)
     : Type 0 where
-  pub saved : Option (List ℕ)
-  pub setting : Setting
-  pub asks : AsksToEnforce call saved setting
-  pub ran : RunsLog setting (verdicts.Refused why) (seen_of call.before.gate call.before.report)
-      (seen_of call.after.gate report)
-  pub number_is : number ≡ length ran.answers.read + 1
-  pub files : LeavesFiles call
+  pub states : States
+  pub accepted : ℕ
+  pub log : EnforcesLog call report states (record { accepted = accepted; verdict = verdicts.Refused why })
+  pub number_is : number ≡ accepted + 1
 
 -- the signature was not read, or the policy behind a signature, and the gate and the report were not touched
 pub record MissesFile {Gate : Type 0} (call : Call Gate) (report : Stream) : Type 0 where
   pub signature_file : List ℕ
   pub policy_file : List ℕ
   pub form : NamesFiles call.words signature_file policy_file
-  pub failed : FailsToRead signature_file call.before.files call.after.files
+  pub failed : FailsToRead MOST_FILE_BYTES signature_file call.before.files call.after.files
       ⊎ (((bytes : List ℕ) × (entries : List NameEntry)
       × HoldsSignature call.before.files.contents signature_file bytes entries)
-      × FailsToRead policy_file call.before.files call.after.files)
+      × FailsToRead MOST_FILE_BYTES policy_file call.before.files call.after.files)
+  pub gate : LeavesGate call
+  pub silent : report ≡ call.before.report
+
+-- or the state behind both
+pub record MissesState {Gate : Type 0} (call : Call Gate) (report : Stream) : Type 0 where
+  pub states : States
+  pub file : List ℕ
+  pub named : states.resumed ≡ Some file
+  pub entries : List NameEntry
+  pub rules : List Rule
+  pub asks : Asks (IsEnforce states) call entries rules
+  pub failed : FailsToRead MOST_STATE_BYTES file call.before.files call.after.files
   pub gate : LeavesGate call
   pub silent : report ≡ call.before.report
 
 -- a read of the log failed, behind the records that were enforced
 pub record BreaksOffLog {Gate : Type 0} (call : Call Gate) (report : Stream) : Type 0 where
-  pub saved : Option (List ℕ)
-  pub setting : Setting
-  pub asks : AsksToEnforce call saved setting
-  pub ran : RunsLog setting verdicts.Fault (seen_of call.before.gate call.before.report)
-      (seen_of call.after.gate report)
-  pub failed : call.after.gate.read_faults ≡ one_more call.before.gate.read_faults
-  pub files : LeavesFiles call
+  pub states : States
+  pub accepted : ℕ
+  pub log : EnforcesLog call report states (record { accepted = accepted; verdict = verdicts.Fault })
 
 -- the words ask to audit a log under an accepted policy; the log ended so, nothing was given while it was read, and
 -- the files and the report were not touched
@@ -146,6 +194,22 @@ pub record GivesNoVerdict {Gate : Type 0} (call : Call Gate) (report : Stream) (
   pub audit : AuditsLog call report ended
   pub nothing : audit.whole.log.given ≡ []
   pub writes : call.after.gate.write_faults ≡ call.before.gate.write_faults
+
+-- there is an accepted policy, and the state is refused under it, and the gate and the report were not touched
+pub record RefusesStateFile {Gate : Type 0} (call : Call Gate) (report : Stream) (why : StateRefusal) : Type 0 where
+  pub states : States
+  pub file : List ℕ
+  pub named : states.resumed ≡ Some file
+  pub entries : List NameEntry
+  pub rules : List Rule
+  pub asks : Asks (IsEnforce states) call entries rules
+  pub bounds : Bounds
+  pub are_bounds : IsBounds entries rules bounds
+  pub formed : AreWellFormed are_bounds.plans are_bounds.guards
+  pub refused : HoldsRefusedState call.before.files.contents file asks.signature_bytes asks.policy_bytes bounds why
+  pub gate : LeavesGate call
+  pub files : LeavesFiles call
+  pub silent : report ≡ call.before.report
 
 -- the record of this number is refused, behind those that were audited
 pub record RefusesAudited {Gate : Type 0} (call : Call Gate) (report : Stream) (number : ℕ) (why : RecordRefusal)
@@ -190,54 +254,74 @@ abbrev pub Meets : {Gate : Type 0} → Call Gate → Stream → Refusal → Type
 Meets call report refusals.Words = RefusesWords call report
 Meets call report (refusals.Signature why) = RefusesSignatureFile call report why
 Meets call report (refusals.Policy why) = RefusesPolicyFile call report why
+Meets call report (refusals.State why) = RefusesStateFile call report why
 Meets call report (refusals.Record number why) =
     RefusesRecord call report number why ⊎ RefusesAudited call report number why
 Meets call report refusals.ReadFault =
-    MissesFile call report ⊎ (BreaksOffLog call report ⊎ BreaksOffAudit call report)
+    (MissesFile call report ⊎ MissesState call report) ⊎ (BreaksOffLog call report ⊎ BreaksOffAudit call report)
 
 -- no state is to be saved: the whole log was taken, nothing is left behind its accepted records, and what was given is
 -- what is owed to them in all
 pub record DrainsRun {Gate : Type 0} (call : Call Gate) (report : Stream) : Type 0 where
-  pub setting : Setting
-  pub asks : AsksToEnforce call None setting
-  pub ran : RunsLog setting verdicts.Accepted (seen_of call.before.gate call.before.report)
-      (seen_of call.after.gate report)
-  pub files : LeavesFiles call
+  pub states : States
+  pub none_saved : states.saved ≡ None
+  pub accepted : ℕ
+  pub log : EnforcesLog call report states (record { accepted = accepted; verdict = verdicts.Accepted })
 
 -- the state is to be saved to a file: the whole log was taken, nothing is left behind its accepted records, and what
 -- was given is what is owed to them so far
 pub record PausesRun {Gate : Type 0} (call : Call Gate) (report : Stream) (file : List ℕ) : Type 0 where
-  pub setting : Setting
-  pub asks : AsksToEnforce call (Some file) setting
-  pub ran : PausesLog setting (seen_of call.before.gate call.before.report) (seen_of call.after.gate report)
+  pub states : States
+  pub saves : states.saved ≡ Some file
+  pub asks : AsksToEnforce call states
+  pub accepted : ℕ
+  pub took : TookLog (as_input asks.entries asks.clock) (record { accepted = accepted; verdict = verdicts.Accepted })
+      (seen_of call.before.gate call.before.report) (seen_of call.after.gate report)
+  pub ran : WhereItStarts states asks (λ s. PausesLog s (seen_of call.before.gate call.before.report)
+      (seen_of call.after.gate report))
 
--- and then the state behind what was given was written to the file, which ended so
+-- where a run from a start has come to that was paused
+abbrev pub comes_to : {Gate : Type 0} → {call : Call Gate} → {report : Stream} → {file : List ℕ}
+    → (paused : PausesRun call report file) → (start : Start) → MayStart paused.states paused.asks start → Start
+comes_to paused start starts = start_behind start (records_of (paused.ran start starts).answers.read)
+    (out_steps (paused.ran start starts).answers.out)
+
+-- and then the state behind what was given was written to the file, which ended so; it is one to start from where the
+-- number of its positions has 63 bits. Whatever was resumed, this is the text of some state
 pub record WritesRun {Gate : Type 0} (call : Call Gate) (report : Stream) (ended : Result (Unit {0}) IoRefusal)
     : Type 0 where
   pub file : List ℕ
   pub paused : PausesRun call report file
   pub state : List ℕ
-  pub is_state : IsState paused.setting.entries paused.setting.rules paused.asks.asks.signature_bytes
-      paused.asks.asks.policy_bytes (start_behind paused.setting.start (records_of paused.ran.answers.read)
-      (out_steps paused.ran.answers.out)) state
+  pub kept : Snapshot
+  pub text : state ≡ saved_text paused.asks.asks.signature_bytes paused.asks.asks.policy_bytes kept
+  pub is_state : (start : Start) → (starts : MayStart paused.states paused.asks start)
+      → IsState paused.asks.entries paused.asks.rules paused.asks.asks.signature_bytes paused.asks.asks.policy_bytes
+      (comes_to paused start starts) state
+  pub ready : (start : Start) → (starts : MayStart paused.states paused.asks start)
+      → length (comes_to paused start starts).trace < 2 ^ 63
+      → IsReadyState paused.asks.entries paused.asks.rules
+      paused.asks.asks.signature_bytes paused.asks.asks.policy_bytes
+      (comes_to paused start starts) state
   pub written : WritesFile file state ended call.before.files call.after.files
 
 -- the run is done: with the drain, or with the state under the name of its file
 abbrev pub IsDone : {Gate : Type 0} → Call Gate → Stream → Type 0
 IsDone call report = DrainsRun call report ⊎ WritesRun call report (Ok tt)
 
--- a write to the gate or to the report failed, behind a front of what the log lets out
-pub record CutsWriting {Gate : Type 0} (call : Call Gate) (report : Stream) : Type 0 where
-  pub saved : Option (List ℕ)
-  pub setting : Setting
-  pub asks : AsksToEnforce call saved setting
-  pub cut : CutsRun setting (seen_of call.before.gate call.before.report)
-      (seen_of call.after.gate report) cuts.WriteFault
+-- the run of the log was cut so, behind a front of what it lets out
+pub record CutsLog {Gate : Type 0} (call : Call Gate) (report : Stream) (cut : Cut) : Type 0 where
+  pub states : States
+  pub asks : AsksToEnforce call states
+  pub lost : LostLog (as_input asks.entries asks.clock) (seen_of call.before.gate call.before.report)
+      (seen_of call.after.gate report) cut
+  pub ran : WhereItStarts states asks (λ s. CutsRun s (seen_of call.before.gate call.before.report)
+      (seen_of call.after.gate report) cut)
   pub files : LeavesFiles call
 
--- or the write of the state failed
+-- a write to the gate, to the report or of the state failed
 abbrev pub FailsToWrite : {Gate : Type 0} → Call Gate → Stream → Type 0
-FailsToWrite call report = CutsWriting call report ⊎ WritesRun call report (Err Failed)
+FailsToWrite call report = CutsLog call report cuts.WriteFault ⊎ WritesRun call report (Err Failed)
 
 -- memory ran out before the log was begun, or before anything was said of a policy
 pub record RunsOutBefore {Gate : Type 0} (call : Call Gate) (report : Stream) : Type 0 where
@@ -248,23 +332,14 @@ pub record RunsOutBefore {Gate : Type 0} (call : Call Gate) (report : Stream) : 
   pub files : LeavesFiles call
   pub silent : report ≡ call.before.report
 
--- memory ran out within the log, behind a front of what it lets out
-pub record RunsOutInLog {Gate : Type 0} (call : Call Gate) (report : Stream) : Type 0 where
-  pub saved : Option (List ℕ)
-  pub setting : Setting
-  pub asks : AsksToEnforce call saved setting
-  pub cut : CutsRun setting (seen_of call.before.gate call.before.report)
-      (seen_of call.after.gate report) cuts.NoMemory
-  pub files : LeavesFiles call
-
--- or behind it, at the save
+-- memory ran out behind the log, at the save
 pub record RunsOutSaving {Gate : Type 0} (call : Call Gate) (report : Stream) : Type 0 where
   pub file : List ℕ
   pub paused : PausesRun call report file
   pub files : LeavesFiles call
 
 abbrev pub RunsOutWithin : {Gate : Type 0} → Call Gate → Stream → Type 0
-RunsOutWithin call report = RunsOutInLog call report ⊎ RunsOutSaving call report
+RunsOutWithin call report = CutsLog call report cuts.NoMemory ⊎ RunsOutSaving call report
 
 -- the words ask to generate a log, and what was given to the gate is so of its text; nothing was taken from the gate,
 -- no read of it was made, and the files and the report were not touched
@@ -400,7 +475,8 @@ Outcome call statuses.Done = IsFinished call call.after.report
 Outcome call statuses.Words = Refuses call refusals.Words
 Outcome call statuses.Files =
     ((why : SignatureRefusal) × Refuses call (refusals.Signature why))
-    ⊎ ((why : PolicyRefusal) × Refuses call (refusals.Policy why))
+    ⊎ (((why : PolicyRefusal) × Refuses call (refusals.Policy why))
+    ⊎ ((why : StateRefusal) × Refuses call (refusals.State why)))
 Outcome call statuses.Record = (number : ℕ) × (why : RecordRefusal) × Refuses call (refusals.Record number why)
 Outcome call statuses.ReadFault = Refuses call refusals.ReadFault
 Outcome call statuses.WriteFault = IsCut call call.after.report cuts.WriteFault

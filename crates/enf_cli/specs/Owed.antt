@@ -18,7 +18,7 @@ use Rattle.trace_meaning.specs.Enforced.{Enforced, KeepsUp}
 use Rattle.trace_meaning.specs.Good.{Good}
 use Rattle.trace_meaning.specs.Records.{Record, clock_after, recorded}
 use Rattle.trace_meaning.specs.Satisfies.{Satisfies}
-use Rattle.trace_meaning.specs.Start.{Start, from_nothing}
+use Rattle.trace_meaning.specs.Start.{Start}
 use Rattle.enf_cli.specs.Policies.{formulas}
 use Rattle.enf_cli.specs.Readings.{Reading}
 pub use Rattle.enf_cli.specs.Headline.{IsMarked}
@@ -38,9 +38,9 @@ reading_of s = record { entries = s.entries; mode = s.mode; clock = s.start.cloc
 abbrev pub policy_of : Setting → List Formula
 policy_of s = formulas s.rules
 
--- from where nothing had gone out
-abbrev pub anew : List NameEntry → List Rule → Setting
-anew entries rules = record { entries = entries; rules = rules; mode = Input; start = from_nothing }
+-- how a log is enforced from a start
+abbrev pub begun : List NameEntry → List Rule → Start → Setting
+begun entries rules start = record { entries = entries; rules = rules; mode = Input; start = start }
 
 -- the plans of an enforcer are those of the rules, with their guards
 abbrev pub HasPlans : List NameEntry → List Rule → Enforcing → Type 0

@@ -21,7 +21,7 @@ use Rattle.log_stream.specs.declared.items.LogMode.TheVariants.{Input}
 use Rattle.signature.specs.declared.entries.NameEntry.{NameEntry}
 use Rattle.trace_meaning.specs.Laws.{FrontIsGood, SatisfyingIsGood}
 use Rattle.trace_meaning.specs.Records.{Record, most_time, time_of}
-use Rattle.trace_meaning.specs.declared.kinds.StepKind.TheVariants.{System}
+use Rattle.trace_meaning.specs.declared.kinds.StepKind.TheVariants.{Inserted}
 use Rattle.enf_cli.specs.Intakes.{EndsTurn, IsNewIntake, LosesBytes, RefusesNext, TakesMore, reads_in}
 use Rattle.enf_cli.specs.Lines.{CutsSteps, GivesSteps}
 use Rattle.enf_cli.specs.Readings.{record_of}
@@ -43,7 +43,7 @@ reads_on entries rest = reads_in entries Input rest
 pub record IsNew (entries : List NameEntry) (log : Enforcement) : Type 0 where
   pub intake : IsNewIntake entries Input log.intake
   pub going : log.enforcer.stopped ≡ false
-  pub clock : log.enforcer.clock ≤ most_time System
+  pub clock : log.enforcer.clock ≤ most_time Inserted
   pub position : log.enforcer.position < 2 ^ 63
 
 -- an enforcer, and what is seen of the gate and the report, before a call or after it

@@ -5,6 +5,7 @@ use Rattle.enf_io.specs.Streams.{Stream}
 use Rattle.log_stream.specs.Logs.{BeginsWith, IsPending, IsTruncated, Refuses, Spells, behind_blanks}
 use Rattle.log_stream.specs.declared.items.LogItem.{LogItem}
 use Rattle.log_stream.specs.declared.items.LogMode.{LogMode}
+use Rattle.log_stream.specs.declared.items.LogMode.TheVariants.{Input}
 use Rattle.log_stream.specs.declared.items.LogRefusal.TheVariants as log
 use Rattle.signature.specs.declared.entries.NameEntry.{NameEntry}
 use Rattle.trace_meaning.specs.Records.{NeverFall, clock_after, time_of}
@@ -36,6 +37,10 @@ pub record Reading : Type 0 where
   pub entries : List NameEntry
   pub mode : LogMode
   pub clock : ℕ
+
+-- how a log that is enforced is read
+abbrev pub as_input : List NameEntry → (clock : ℕ) → Reading
+as_input entries clock = record { entries = entries; mode = Input; clock = clock }
 
 -- what was taken of a log: how it is read, the records that were accepted of it, how many bytes in all, and the rest of
 -- them behind these records

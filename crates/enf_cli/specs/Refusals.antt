@@ -6,7 +6,11 @@ use Rattle.formula_reader.specs.declared.policies.PolicyRefusal.{PolicyRefusal a
 use Rattle.formula_reader.specs.declared.policies.PolicyRefusal.TheVariants as read
 use Rattle.signature.specs.declared.refusals.SignatureRefusal.{SignatureRefusal as TextRefusal}
 use Rattle.signature.specs.declared.refusals.SignatureRefusal.TheVariants as answers
+use Rattle.save_codec.specs.declared.refusals.StateRefusal.{StateRefusal as KeptRefusal}
+use Rattle.save_codec.specs.declared.refusals.StateRefusal.TheVariants as kept
 pub use Rattle.enf_cli.specs.Headline.{text_of_log_refusal}
+use Rattle.enf_cli.specs.declared.refusals.StateRefusal.{StateRefusal}
+use Rattle.enf_cli.specs.declared.refusals.StateRefusal.TheVariants as states
 use Rattle.enf_cli.specs.declared.refusals.PolicyRefusal.{PolicyRefusal}
 use Rattle.enf_cli.specs.declared.refusals.PolicyRefusal.TheVariants as policies
 use Rattle.enf_cli.specs.declared.refusals.RecordRefusal.{RecordRefusal}
@@ -64,6 +68,17 @@ text_of_policy_refusal policies.TooLong = codes "policy: too long\n"
 text_of_policy_refusal (policies.Text why) = text_of_reading why
 text_of_policy_refusal (policies.Typing why name) = text_of_typing why name.items
 
+-- what is said of a state that is refused
+abbrev pub text_of_state : KeptRefusal → List ℕ
+text_of_state (kept.Syntax line) = codes "state: syntax at line " ++ decimal line ++ codes "\n"
+text_of_state kept.OtherPolicy = codes "state: other policy\n"
+text_of_state (kept.Inconsistent line) = codes "state: inconsistent at line " ++ decimal line ++ codes "\n"
+text_of_state kept.NoMemory = no_memory_line
+
+abbrev pub text_of_state_refusal : StateRefusal → List ℕ
+text_of_state_refusal states.TooLong = codes "state: too long\n"
+text_of_state_refusal (states.Text why) = text_of_state why
+
 -- what is said of a record that is refused
 abbrev pub text_of_record_refusal : RecordRefusal → List ℕ
 text_of_record_refusal (records.Log why) = text_of_log_refusal why
@@ -76,6 +91,7 @@ abbrev pub text_of_refusal : Refusal → List ℕ
 text_of_refusal refusals.Words = usage_line
 text_of_refusal (refusals.Signature why) = text_of_signature_refusal why
 text_of_refusal (refusals.Policy why) = text_of_policy_refusal why
+text_of_refusal (refusals.State why) = text_of_state_refusal why
 text_of_refusal (refusals.Record number why) =
     codes "record " ++ decimal number ++ codes ": " ++ text_of_record_refusal why ++ codes "\n"
 text_of_refusal refusals.ReadFault = codes "read fault\n"
@@ -84,6 +100,7 @@ abbrev pub status_of : Refusal → Status
 status_of refusals.Words = statuses.Words
 status_of (refusals.Signature why) = statuses.Files
 status_of (refusals.Policy why) = statuses.Files
+status_of (refusals.State why) = statuses.Files
 status_of (refusals.Record number why) = statuses.Record
 status_of refusals.ReadFault = statuses.ReadFault
 

@@ -1,11 +1,11 @@
 -- The words of the command line.
-use Rattle.std.specs.Prelude.{◌≡◌, ◌⊎◌, ℕ, ◌≤◌, List, [], ◌∷◌, length, codes, map, Option}
+use Rattle.std.specs.Prelude.{◌≡◌, ◌⊎◌, ℕ, ◌≤◌, List, [], ◌∷◌, length, codes, map}
 use Rattle.std.specs.Prelude.{None, Some, String}
 use Rattle.std.specs.Prelude.{string_bytes}
 use Rattle.std.specs.Option.{option_map}
 use Rattle.std.specs.Str.Parse.{IsNumeral, digits_value}
 use Rattle.std.specs.declared.alloc.Global.{Global}
-pub use Rattle.enf_cli.specs.Headline.{save_words}
+pub use Rattle.enf_cli.specs.Headline.{States, option_words, state_words, states_of}
 use Rattle.enf_cli.specs.Limits.{most_start, most_steps}
 use Rattle.enf_cli.specs.declared.words.Form.{Form}
 use Rattle.enf_cli.specs.declared.words.Form.TheVariants as forms
@@ -21,9 +21,9 @@ pub record IsNumber (most : ℕ) (word : List ℕ) (number : ℕ) : Type 0 where
   pub value : number ≡ digits_value 10 word
   pub within : number ≤ most
 
--- `enforce SIG POLICY`, and `--save FILE` behind it where the state is saved to a file
-abbrev pub IsEnforce : (saved : Option (List ℕ)) → List (List ℕ) → List ℕ → List ℕ → Type 0
-IsEnforce saved words signature policy = words ≡ codes "enforce" ∷ signature ∷ policy ∷ save_words saved
+-- `enforce SIG POLICY`, and behind it `--resume FILE` where a state is resumed, and `--save FILE` where one is saved
+abbrev pub IsEnforce : States → List (List ℕ) → List ℕ → List ℕ → Type 0
+IsEnforce states words signature policy = words ≡ codes "enforce" ∷ signature ∷ policy ∷ state_words states
 
 -- `check SIG POLICY`
 abbrev pub IsCheck : List (List ℕ) → List ℕ → List ℕ → Type 0
@@ -36,8 +36,20 @@ IsAudit words signature policy = words ≡ codes "audit" ∷ signature ∷ polic
 -- a form that names a signature and a policy
 abbrev pub NamesFiles : List (List ℕ) → List ℕ → List ℕ → Type 0
 NamesFiles words signature policy =
-    ((saved : Option (List ℕ)) × IsEnforce saved words signature policy)
+    ((states : States) × IsEnforce states words signature policy)
     ⊎ (IsCheck words signature policy ⊎ IsAudit words signature policy)
+
+-- it names these two files alone
+abbrev pub NamesFilesAlone : List (List ℕ) → List ℕ → List ℕ → Type 0
+NamesFilesAlone words signature policy =
+    IsEnforce (states_of None None) words signature policy
+    ⊎ (IsCheck words signature policy ⊎ IsAudit words signature policy)
+
+-- the words name this file as that of the state to resume
+abbrev pub Resumes : List (List ℕ) → List ℕ → Type 0
+Resumes words file =
+    (states : States) × (signature policy : List ℕ) × IsEnforce states words signature policy
+    × (states.resumed ≡ Some file)
 
 -- a command, and the start of a generated log and the number of its steps
 pub record IsNumbered (command : List ℕ) (words : List (List ℕ)) (start steps : ℕ) : Type 0 where
@@ -61,8 +73,9 @@ NamesGenerated words start steps = IsGenerate words start steps ⊎ IsDrill word
 
 -- the words match the form, with what stands in its places
 abbrev pub Matches : List (List ℕ) → Form → Type 0
-Matches words (forms.Enforce signature policy save) =
-    IsEnforce (option_map (λ file. file.now) save) words signature.now policy.now
+Matches words (forms.Enforce signature policy resume save) =
+    IsEnforce (states_of (option_map (λ file. file.now) resume) (option_map (λ file. file.now) save)) words
+    signature.now policy.now
 Matches words (forms.Check signature policy) = IsCheck words signature.now policy.now
 Matches words (forms.Audit signature policy) = IsAudit words signature.now policy.now
 Matches words (forms.Generate start steps) = IsGenerate words start steps
@@ -70,8 +83,13 @@ Matches words (forms.Drill start steps) = IsDrill words start steps
 
 -- the words match no form
 pub record MatchNoForm (words : List (List ℕ)) : Type 0 where
-  pub enforce : (signature policy : List ℕ) → IsEnforce None words signature policy → ⊥
-  pub save : (signature policy file : List ℕ) → IsEnforce (Some file) words signature policy → ⊥
+  pub enforce : (signature policy : List ℕ) → IsEnforce (states_of None None) words signature policy → ⊥
+  pub save : (signature policy file : List ℕ)
+      → IsEnforce (states_of None (Some file)) words signature policy → ⊥
+  pub resume : (signature policy state : List ℕ)
+      → IsEnforce (states_of (Some state) None) words signature policy → ⊥
+  pub resume_and_save : (signature policy state file : List ℕ)
+      → IsEnforce (states_of (Some state) (Some file)) words signature policy → ⊥
   pub check : (signature policy : List ℕ) → IsCheck words signature policy → ⊥
   pub audit : (signature policy : List ℕ) → IsAudit words signature policy → ⊥
   pub generate : (start steps : ℕ) → IsGenerate words start steps → ⊥

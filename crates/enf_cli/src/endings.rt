@@ -4,7 +4,7 @@ ghost use Rattle.enf_cli.specs.declared.endings.Cut.TheVariants.{NoMemory as Out
 ghost use Rattle.enf_cli.specs.declared.endings.Ending.TheVariants as ending;
 ghost use Rattle.enf_cli.specs.declared.refusals.Refusal.TheVariants as refused;
 
-use crate::refusals::{PolicyRefusal, Refusal, SignatureRefusal};
+use crate::refusals::{PolicyRefusal, Refusal, SignatureRefusal, StateRefusal};
 use enf_io::devices::IoRefusal;
 use enf_io::writing::WriteRefusal;
 use enf_value::memory::NoMemory;
@@ -147,6 +147,19 @@ impl From<FileEnding<SignatureRefusal>> for Ending {
     fn from(end: FileEnding<SignatureRefusal>) -> Ending {
         match end {
             FileEnding::Refused(why) => Ending::Refused(Refusal::Signature(why)),
+            FileEnding::NotRead(why) => Ending::from(why),
+        }
+    }
+}
+
+impl From<FileEnding<StateRefusal>> for Ending {
+    ghost use Rattle.enf_cli.specs.Endings.{ending_after_file};
+
+    ghost from_gives = { λ end ending. ending ≡ ending_after_file refused.State end };
+
+    fn from(end: FileEnding<StateRefusal>) -> Ending {
+        match end {
+            FileEnding::Refused(why) => Ending::Refused(Refusal::State(why)),
             FileEnding::NotRead(why) => Ending::from(why),
         }
     }

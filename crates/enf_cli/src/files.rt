@@ -1,26 +1,36 @@
-//! The signature and the policy, as the files give them.
-ghost use Rattle.std.specs.Prelude.{◌≡◌, ◌≤◌, Err, IfOk, IfErr, List, MatchOption, OnOk, Some, ℕ, length};
+//! The signature, the policy and the state, as the files give them.
+ghost use Rattle.std.specs.Prelude.{◌≡◌, ◌≤◌, Err, IfOk, IfErr, List, MatchOption, Ok};
+ghost use Rattle.std.specs.Prelude.{OnOk, Some, ℕ, length};
 ghost use Rattle.enf_cli.specs.Files.{EndsFile, HoldsPolicy, HoldsRefusedPolicy, HoldsRefusedSignature};
-ghost use Rattle.enf_cli.specs.Files.{HoldsSignature, IsLong, IsNotRead, IsRefusedPolicy, IsRefusedSignature, IsShort};
-ghost use Rattle.enf_cli.specs.Files.{word_from};
+ghost use Rattle.enf_cli.specs.Files.{HoldsRefusedState, HoldsSignature, HoldsState, IsLong, IsNotRead};
+ghost use Rattle.enf_cli.specs.Files.{IsRefusedPolicy, IsRefusedSignature, IsShort};
+ghost use Rattle.enf_cli.specs.Files.{IsRefusedState, word_from};
+ghost use Rattle.save_codec.specs.Bounds.{Setting as Bounds};
+ghost use Rattle.save_codec.specs.Resumed.{IsRefusal};
 ghost use Rattle.enf_cli.specs.Policies.{SpellsRefused, formulas};
+ghost use Rattle.enf_cli.specs.Starts.{bounds_under};
 ghost use Rattle.enforce_types.specs.Accepted.{IsTyped};
 ghost use Rattle.enforce_types.specs.PolicyLaws.{KeepsToSignature};
 ghost use Rattle.enforce_types.specs.Typed.{typed_of};
 ghost use Rattle.formula_reader.specs.Canonical.{name_text};
 ghost use Rattle.formula_reader.specs.Reading.{GivesTextAnswer};
 ghost use Rattle.formula_reader.specs.Resolution.{rules_of};
-ghost use Rattle.signature.specs.Refusals.{GivesAnswer};
+ghost use Rattle.signature.specs.Refusals.{GivesAnswer, IsAnswer};
 ghost use Rattle.signature.specs.declared.entries.NameEntry.{NameEntry};
 
 use crate::endings::FileEnding;
-use crate::refusals::{PolicyRefusal, SignatureRefusal};
+use crate::refusals::{PolicyRefusal, SignatureRefusal, StateRefusal};
+use crate::saving::Sources;
 use enf_io::devices::{Files, IoRefusal};
 use enf_value::{ByteKind, MOST_FILE_BYTES, NameId, NoMemory};
 use enforce_types::{TypeRefusal, TypedPolicy};
 use formula_reader::Policy;
+use save_codec::{Snapshot, resume};
 use signature::Signature;
 use std::alloc::Global;
+
+/// The greatest number of bytes of a saved state.
+pub const MOST_STATE_BYTES: usize = 268_435_456;
 
 /// A signature, with the bytes that it was read from.
 #[derive(Drop)]
@@ -38,10 +48,10 @@ pub fn read_signature<F: Files>(
     ensures held { IfOk result (λ read.
         HoldsSignature (F.seen files.old).contents name.now read.bytes.items read.signature) }
     ensures same { OnOk result (F.seen files.new ≡ F.seen files.old) }
-    ensures ends { IfErr result (EndsFile (HoldsRefusedSignature (F.seen files.old).contents name.now)
+    ensures ends { IfErr result (EndsFile MOST_FILE_BYTES (HoldsRefusedSignature (F.seen files.old).contents name.now)
         name.now (F.seen files.old) (F.seen files.new)) }
 {
-    let Some(bytes) = read_file(files, name)? else {
+    let Some(bytes) = read_file(files, name, MOST_FILE_BYTES)? else {
         return Err(FileEnding::Refused(SignatureRefusal::TooLong));
     };
     match Signature::read(alloc, &bytes) {
@@ -72,11 +82,11 @@ pub fn read_policy<F: Files>(
     ensures kept { IfOk result (λ accepted. KeepsToSignature signature.now
         (typed_of accepted.typed).plans (typed_of accepted.typed).guards) }
     ensures same { OnOk result (F.seen files.new ≡ F.seen files.old) }
-    ensures ends { IfErr result (EndsFile
+    ensures ends { IfErr result (EndsFile MOST_FILE_BYTES
         (HoldsRefusedPolicy (F.seen files.old).contents name.now signature.now)
         name.now (F.seen files.old) (F.seen files.new)) }
 {
-    let Some(bytes) = read_file(files, name)? else {
+    let Some(bytes) = read_file(files, name, MOST_FILE_BYTES)? else {
         return Err(FileEnding::Refused(PolicyRefusal::TooLong));
     };
     let policy = match formula_reader::read_policy(alloc, signature, &bytes) {
@@ -125,6 +135,18 @@ fn policy_refusal_of(why: formula_reader::PolicyRefusal) -> Result<PolicyRefusal
     }
 }
 
+// What is said of a refusal of the reader of states.
+fn state_refusal_of(why: save_codec::StateRefusal) -> Result<StateRefusal, NoMemory>
+    ensures { IfOk result (λ refusal. (signature policy : List ℕ) (bounds : Bounds) (bytes : List ℕ)
+        → length bytes ≤ MOST_STATE_BYTES → IsRefusal bounds bytes signature policy why
+        → IsRefusedState refusal signature policy bounds bytes) }
+{
+    match why {
+        save_codec::StateRefusal::NoMemory => Err(NoMemory),
+        _ => Ok(StateRefusal::Text(why)),
+    }
+}
+
 // What is said of a refusal of the typing, with the text of the name that it is about.
 fn type_refusal_of(
     alloc: Global,
@@ -164,16 +186,52 @@ fn word_at(alloc: Global, bytes: &[u8], place: u32) -> Result<Vec<u8>, NoMemory>
     Ok(Vec::from_slice(alloc, ByteKind::Word.front(behind))?)
 }
 
-// The bytes of a file; none where they are more than it may have.
-fn read_file<F: Files>(files: &mut F, name: &str) -> Result<Option<Vec<u8>>, IoRefusal>
-    ensures bytes { IfOk result
-        (λ found. MatchOption found (IsLong (F.seen files.old).contents name.now)
-        (λ bytes. IsShort (F.seen files.old).contents name.now bytes.items)) }
+/// Reads the state to start from, which came about under these sources, of a policy that is accepted under them.
+pub fn read_state<F: Files>(
+    alloc: Global,
+    files: &mut F,
+    name: &str,
+    sources: Sources<'_>,
+    typed: &TypedPolicy,
+) -> Result<Snapshot, FileEnding<StateRefusal>>
+    requires short { length sources.signature.now ≤ MOST_FILE_BYTES }
+    requires spells { (entries : List NameEntry) × IsAnswer sources.signature.now (Ok entries) }
+    ensures held { (entries : List NameEntry) → IsAnswer sources.entry.signature.now (Ok entries) →
+        IfOk result (λ state. (bytes : List ℕ) × HoldsState (F.seen files.old).contents name.now bytes
+        sources.entry.signature.now sources.entry.policy.now (bounds_under entries (typed_of typed.now)) state) }
     ensures same { OnOk result (F.seen files.new ≡ F.seen files.old) }
-    ensures not_read { IfErr result (IsNotRead name.now (F.seen files.old) (F.seen files.new)) }
+    ensures ends { (entries : List NameEntry) → IsAnswer sources.entry.signature.now (Ok entries) →
+        IfErr result (EndsFile MOST_STATE_BYTES (HoldsRefusedState (F.seen files.old).contents name.now
+        sources.entry.signature.now sources.entry.policy.now (bounds_under entries (typed_of typed.now)))
+        name.now (F.seen files.old) (F.seen files.new)) }
 {
-    let bytes = files.read(name, MOST_FILE_BYTES + 1)?;
-    if bytes.len() > MOST_FILE_BYTES {
+    let Some(bytes) = read_file(files, name, MOST_STATE_BYTES)? else {
+        return Err(FileEnding::Refused(StateRefusal::TooLong));
+    };
+    match resume(
+        alloc,
+        &bytes,
+        sources.signature,
+        sources.policy,
+        typed.plans(),
+        typed.guards(),
+    ) {
+        Ok(state) => Ok(state),
+        Err(why) => Err(FileEnding::Refused(state_refusal_of(why)?)),
+    }
+}
+
+// The bytes of a file; none where they are more than it may have.
+fn read_file<F: Files>(files: &mut F, name: &str, most: usize) -> Result<Option<Vec<u8>>, IoRefusal>
+    requires { most ≤ MOST_STATE_BYTES }
+    ensures bytes { IfOk result
+        (λ found. MatchOption found (IsLong most (F.seen files.old).contents name.now)
+        (λ bytes. IsShort most (F.seen files.old).contents name.now bytes.items)) }
+    ensures same { OnOk result (F.seen files.new ≡ F.seen files.old) }
+    ensures not_read { IfErr result (IsNotRead most name.now (F.seen files.old) (F.seen files.new)) }
+{
+    let bytes = files.read(name, most + 1)?;
+    if bytes.len() > most {
         return Ok(None);
     }
     Ok(Some(bytes))

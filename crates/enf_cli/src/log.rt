@@ -5,6 +5,7 @@ ghost use Rattle.std.specs.Prelude.{None, length};
 ghost use Rattle.formula_reader.specs.Resolution.{rules_of};
 ghost use Rattle.enf_value.specs.declared.steps.Step.{Step};
 ghost use Rattle.enforcer_core.specs.Answered.{IsNewOf, Leaves, Permits, Refuses};
+ghost use Rattle.enforcer_core.specs.Snapshots.{CanBeTakenUp, IsTakenUpFrom, StandsAgain};
 ghost use Rattle.enforcer_core.specs.Enforcers.{plans_of};
 ghost use Rattle.enforcer_core.specs.Remembering.{most_positions};
 ghost use Rattle.enforcer_core.specs.Stands.{Stands};
@@ -13,7 +14,8 @@ ghost use Rattle.enf_cli.specs.Limits.{most_log_bytes, most_read_bytes};
 ghost use Rattle.enf_cli.specs.Readings.{record_of};
 ghost use Rattle.enforce_types.specs.Marks.{is_causable, is_suppressible};
 ghost use Rattle.enforce_types.specs.Typed.{WorkTogether, typed_of};
-ghost use Rattle.enf_cli.specs.Logs.{CutsRun, RanAsJudged, is_left};
+ghost use Rattle.enf_cli.specs.Logs.{CutsRun, LostLog, RanAsJudged, TookLog, is_left};
+ghost use Rattle.enf_cli.specs.Readings.{as_input};
 ghost use Rattle.enf_cli.specs.Seen.{seen_of};
 ghost use Rattle.enf_cli.specs.Progress.{AnswersItem, AnswersNext, AnswersTurn, CutsDrain, CutsItem, CutsNext};
 ghost use Rattle.enf_cli.specs.Progress.{CutsTurn, GivesDrain, GivesRest, IsNew, Laws};
@@ -33,6 +35,7 @@ use enforcer_core::enforcer::Enforcer;
 use enforcer_core::steps::{OutSteps, StepOut, StepRefusal};
 use enforcer_core::{existing, laws};
 use log_stream::{Found, LogItem, LogMode, LogReader};
+use save_codec::Snapshot;
 use signature::Signature;
 use std::alloc::Global;
 
@@ -73,6 +76,29 @@ impl Enforcement {
             line: Vec::with_capacity(alloc, USUAL_LINE_BYTES)?,
         })
     }
+
+    /// A log of which nothing was taken yet, to be enforced by this policy from a state on.
+    pub fn resumed(
+        alloc: Global,
+        signature: &Signature,
+        policy: TypedPolicy,
+        state: Snapshot,
+    ) -> Result<Enforcement, NoMemory>
+        requires bounds { CanBeTakenUp policy state }
+        requires small { state.position < 2 ^ 63 }
+        ensures new { IfOk result (IsNew signature.now) }
+        ensures enforcer { IfOk result (λ log. IsTakenUpFrom policy state log.enforcer) }
+        ensures together { IfOk result (λ log. WorkTogether (typed_of log.enforcer.policy)) }
+        ensures stands { IfOk result (λ log. StandsAgain policy state log.enforcer) }
+    {
+        let enforcer = Enforcer::from_snapshot(alloc, policy, state)?;
+        let intake = Intake::new(alloc, signature, LogMode::Input)?;
+        Ok(Enforcement {
+            intake,
+            enforcer,
+            line: Vec::with_capacity(alloc, USUAL_LINE_BYTES)?,
+        })
+    }
 }
 
 /// Takes the log from the gate, enforces its whole records from where the enforcer stands, and gives their lines and
@@ -95,6 +121,10 @@ pub fn enforce_log<G: Gate, R: Sink>(
         Stands log.old.enforcer trace → IfOk result (λ judged. RanAsJudged saves
         (setting_of names.now.signature.now (rules_of names.now.policy.now) log.old.enforcer trace) judged
         log.new.enforcer
+        (seen_of (G.seen gate.old) (R.seen report.old)) (seen_of (G.seen gate.new) (R.seen report.new))) }
+    ensures took { IfOk result (λ judged. TookLog (as_input names.now.signature.now log.old.enforcer.clock) judged
+        (seen_of (G.seen gate.old) (R.seen report.old)) (seen_of (G.seen gate.new) (R.seen report.new))) }
+    ensures lost { IfErr result (LostLog (as_input names.now.signature.now log.old.enforcer.clock)
         (seen_of (G.seen gate.old) (R.seen report.old)) (seen_of (G.seen gate.new) (R.seen report.new))) }
     ensures few { IfOk result (λ judged. judged.accepted < 2 ^ 63) }
     ensures goes_on { OnOk result (log.new.enforcer.stopped ≡ false) }

@@ -10,6 +10,7 @@ mod endings;
 mod files;
 mod generating;
 mod intake;
+mod laws;
 mod lines;
 mod log;
 mod refusals;

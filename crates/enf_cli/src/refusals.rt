@@ -3,7 +3,8 @@
 ghost use Rattle.std.specs.Prelude.{◌≡◌, ◌++◌, codes, decimal};
 ghost use Rattle.enf_cli.specs.Refusals.{code_of, status_of, text_of_log_refusal, text_of_policy_refusal};
 ghost use Rattle.enf_cli.specs.Refusals.{text_of_reading, text_of_refusal, text_of_signature};
-ghost use Rattle.enf_cli.specs.Refusals.{text_of_signature_refusal, text_of_typing};
+ghost use Rattle.enf_cli.specs.Refusals.{text_of_signature_refusal, text_of_state, text_of_state_refusal};
+ghost use Rattle.enf_cli.specs.Refusals.{text_of_typing};
 ghost use Rattle.enf_cli.specs.declared.refusals.Refusal.TheVariants as refusal;
 ghost use Rattle.enf_cli.specs.Reports.{WritesText};
 
@@ -19,7 +20,7 @@ const USAGE: &[u8] =
 
 const MORE_USAGE: &[u8] = b" | audit SIG POLICY | gen START N | drill START N\n";
 
-/// How a run ended: 0 done, 1 the words match no form, 2 the signature or the policy is refused,
+/// How a run ended: 0 done, 1 the words match no form, 2 the signature, the policy or the state is refused,
 /// 3 a record is refused, 4 a read fault, 5 a write fault, 6 no memory, 7 an audited log violates the policy.
 #[derive(Clone, Copy, Debug, PartialEq, Eq)]
 pub enum Status {
@@ -161,6 +162,50 @@ fn write_typing<R: Sink>(why: TypeRefusal, name: &[u8], report: &mut R) -> Resul
     }
 }
 
+/// Why the state is refused.
+#[derive(Clone, Copy, Debug)]
+pub enum StateRefusal {
+    TooLong,
+    /// By its reader; lines are counted from 1 at that of the clock, and what stands before it is line 0.
+    Text(save_codec::StateRefusal),
+}
+
+impl StateRefusal {
+    fn write<R: Sink>(self, report: &mut R) -> Result<(), Cut>
+        ensures { WritesText (text_of_state_refusal self) result (R.seen report.old) (R.seen report.new) }
+    {
+        match self {
+            StateRefusal::TooLong => write_pieces(&[b"state: too long\n"], report),
+            StateRefusal::Text(why) => write_state(why, report),
+        }
+    }
+}
+
+fn write_state<R: Sink>(why: save_codec::StateRefusal, report: &mut R) -> Result<(), Cut>
+    ensures { WritesText (text_of_state why) result (R.seen report.old) (R.seen report.new) }
+{
+    match why {
+        save_codec::StateRefusal::Syntax { line } => {
+            write_at_line(b"state: syntax at line ", line, report)
+        }
+        save_codec::StateRefusal::OtherPolicy => {
+            write_pieces(&[b"state: other policy\n"], report)
+        }
+        save_codec::StateRefusal::Inconsistent { line } => {
+            write_at_line(b"state: inconsistent at line ", line, report)
+        }
+        save_codec::StateRefusal::NoMemory => write_pieces(&[b"no memory\n"], report),
+    }
+}
+
+// What is said of a line.
+fn write_at_line<R: Sink>(what: &[u8], line: u64, report: &mut R) -> Result<(), Cut>
+    ensures { WritesText (what.now ++ decimal line ++ codes "\n") result (R.seen report.old) (R.seen report.new) }
+{
+    let mut digits = Buffer::new();
+    write_pieces(&[what, digits.format(line).as_bytes(), b"\n"], report)
+}
+
 /// Why a record is refused.
 #[derive(Clone, Copy, Debug)]
 pub enum RecordRefusal {
@@ -259,6 +304,7 @@ pub enum Refusal {
     Words,
     Signature(SignatureRefusal),
     Policy(PolicyRefusal),
+    State(StateRefusal),
     /// The record's number is counted from 1.
     Record { number: u64, why: RecordRefusal },
     ReadFault,
@@ -274,6 +320,7 @@ impl Refusal {
             Refusal::Words => write_pieces(&[USAGE, MORE_USAGE], report),
             Refusal::Signature(why) => why.write(report),
             Refusal::Policy(why) => why.write(report),
+            Refusal::State(why) => why.write(report),
             Refusal::Record { number, why } => write_record_refusal(*number, *why, report),
             Refusal::ReadFault => write_pieces(&[b"read fault\n"], report),
         }
@@ -285,7 +332,7 @@ impl Refusal {
     {
         match self {
             Refusal::Words => Status::Words,
-            Refusal::Signature(_) | Refusal::Policy(_) => Status::Files,
+            Refusal::Signature(_) | Refusal::Policy(_) | Refusal::State(_) => Status::Files,
             Refusal::Record { .. } => Status::Record,
             Refusal::ReadFault => Status::ReadFault,
         }

@@ -1,30 +1,38 @@
 //! The top call: all that the program does.
-ghost use Rattle.std.specs.Prelude.{◌≡◌, ◌<◌, ◌^◌, ℕ, List, map, string_bytes};
+ghost use Rattle.std.specs.Prelude.{◌≡◌, ◌<◌, ◌≤◌, ◌^◌, ℕ, List, IfErr, IfOk};
+ghost use Rattle.std.specs.Prelude.{Ok, OnOk, length, map, string_bytes};
 ghost use Rattle.std.specs.Option.{option_map};
 ghost use Rattle.enf_io.specs.Streams.{Stream};
 ghost use Rattle.enf_cli.specs.Calls.{call_of, devices};
 ghost use Rattle.enf_cli.specs.Dues.{Dues};
+ghost use Rattle.enf_cli.specs.Files.{HoldsPolicy, HoldsSignature};
 ghost use Rattle.enf_cli.specs.Headline.{Headline};
 ghost use Rattle.enf_cli.specs.Logs.{conclusion_of};
 ghost use Rattle.enf_cli.specs.Outcomes.{Outcome, Performs};
-ghost use Rattle.enf_cli.specs.Owed.{HasPlans, setting_of};
+ghost use Rattle.enf_cli.specs.Policies.{formulas};
 ghost use Rattle.enf_cli.specs.Progress.{IsNew};
 ghost use Rattle.enf_cli.specs.Saving.{RunsSo};
 ghost use Rattle.enf_cli.specs.Seen.{seen_of};
-ghost use Rattle.enf_cli.specs.Words.{IsAudit, IsCheck, IsEnforce};
-ghost use Rattle.enf_value.specs.declared.steps.Step.{Step};
+ghost use Rattle.enf_cli.specs.Signatures.{SpellsSignature};
+ghost use Rattle.enf_cli.specs.Starts.{BeginsLog, EndsStart, bounds_under};
+ghost use Rattle.enf_cli.specs.Words.{IsAudit, IsCheck, IsEnforce, states_of};
+ghost use Rattle.enf_value.specs.declared.limits.TheConstants.{MOST_FILE_BYTES};
+ghost use Rattle.enforce_types.specs.Accepted.{IsTyped};
 ghost use Rattle.enforce_types.specs.Marks.{is_causable, is_suppressible};
+ghost use Rattle.enforce_types.specs.PolicyLaws.{KeepsToSignature};
 ghost use Rattle.enforce_types.specs.Typed.{WorkTogether, typed_of};
 ghost use Rattle.enforcer_core.specs.Answered.{Permits};
 ghost use Rattle.enforcer_core.specs.Enforcers.{plans_of};
-ghost use Rattle.enforcer_core.specs.Stands.{Stands};
-ghost use Rattle.formula_reader.specs.Resolution.{rules_of};
+ghost use Rattle.enforce_types.specs.PolicyPlans.{ArePlanned};
+ghost use Rattle.plan_terms.specs.WellFormed.{AreWellFormed};
+ghost use Rattle.signature.specs.Refusals.{IsAnswer};
+ghost use Rattle.formula_reader.specs.Resolution.{Rule, rules_of};
 
 use crate::auditing::{audit_log, finish_of, write_verdict};
 use crate::checking::give_check;
 use crate::drilling::give_drill;
 use crate::endings::{Ending, Finish};
-use crate::files::{read_policy, read_signature};
+use crate::files::{read_policy, read_signature, read_state};
 use crate::generating::give_log;
 use crate::intake::{Judged, Verdict};
 use crate::lines::Names;
@@ -32,14 +40,20 @@ use crate::log::{Enforcement, enforce_log};
 use crate::refusals::{Refusal, Status};
 use crate::reporting::report_ending;
 use crate::saving::{Sources, save_where_asked};
-use crate::words::{Form, form_of};
+use crate::words::{Form, States, form_of};
 use enf_io::devices::{Files, Gate, Sink};
+use enforce_types::TypedPolicy;
+use enforce_types::laws::policy_has_one_answer;
+use enforcer_core::laws::kept_can_be_taken_up;
+use obligations::laws::{pending_can_be, pending_is_one};
+use save_codec::laws::one_state;
+use signature::Signature;
 use std::alloc::Global;
 use trace_audit::laws::{verdict_is_of_policy, verdict_is_one};
 
-/// Does what the words ask for: `enforce SIG POLICY` takes the log from the gate and gives the
-/// enforced log to it, and with `--save FILE` behind it saves the state at the end of the input, in place
-/// of giving what is still owed then; `check SIG POLICY` gives what is to be said of the policy,
+/// Does what the words ask for: `enforce SIG POLICY` takes the log from the gate and gives the enforced log to it,
+/// with `--resume FILE` behind it from a state on that was saved, and with `--save FILE` it saves the state at the end
+/// of the input, in place of giving what is still owed then; `check SIG POLICY` gives what is to be said of the policy,
 /// `audit SIG POLICY` takes a whole log and gives the verdict on it, `gen START N` gives a generated log,
 /// `drill START N` enforces one and gives counts. The report says each action that `enforce` takes, and why a run ends
 /// early.
@@ -68,6 +82,9 @@ pub fn run<G: Gate, F: Files, R: Sink>(
     formula_reader::laws::one_text_answer();
     log_stream::laws::one_answer();
     enforce_types::laws::accepted_is_not_refused();
+    policy_has_one_answer();
+    save_codec::laws::one_text();
+    save_codec::laws::one_answer();
     verdict_is_one();
     match perform(alloc, words, gate, files, report) {
         Ok(Finish::Done) => Status::Done,
@@ -93,9 +110,13 @@ fn perform<G: Gate, F: Files, R: Sink>(
             Form::Enforce {
                 signature,
                 policy,
+                resume,
                 save,
             },
-        ) => enforce(alloc, signature, policy, save, gate, files, report),
+        ) => {
+            let states = States { resume, save };
+            enforce(alloc, signature, policy, states, gate, files, report)
+        }
         Some(Form::Check { signature, policy }) => check(alloc, signature, policy, gate, files),
         Some(Form::Audit { signature, policy }) => audit(alloc, signature, policy, gate, files),
         Some(Form::Generate { start, steps }) => {
@@ -115,13 +136,14 @@ fn enforce<G: Gate, F: Files, R: Sink>(
     alloc: Global,
     signature_file: &str,
     policy_file: &str,
-    save: Option<&str>,
+    states: States<'_>,
     gate: &mut G,
     files: &mut F,
     report: &mut R,
 ) -> Result<Finish, Ending>
     ensures { (words : List (List ℕ)) (after : Stream) →
-        IsEnforce (option_map (λ file. file.now) save.entry) words signature_file.now policy_file.now →
+        IsEnforce (states_of (option_map (λ file. file.now) states.entry.resume)
+        (option_map (λ file. file.now) states.entry.save)) words signature_file.now policy_file.now →
         Performs (record {
           words = words;
           before = devices gate.old (G.seen gate.old) (F.seen files.old) (R.seen report.old);
@@ -130,7 +152,7 @@ fn enforce<G: Gate, F: Files, R: Sink>(
 {
     let read = read_signature(alloc, files, signature_file)?;
     let accepted = read_policy(alloc, files, policy_file, &read.signature)?;
-    let mut log = Enforcement::new(alloc, &read.signature, accepted.typed)?;
+    let typed = accepted.typed;
     let names = Names {
         signature: &read.signature,
         policy: &accepted.policy,
@@ -138,8 +160,84 @@ fn enforce<G: Gate, F: Files, R: Sink>(
     let signature = read.bytes.as_slice();
     let policy = accepted.bytes.as_slice();
     let sources = Sources { signature, policy };
-    run_log(alloc, &names, sources, save, &mut log, gate, files, report)?;
+    enforce_accepted(alloc, &names, sources, typed, states, gate, files, report)
+}
+
+// Enforces an accepted policy of which the signature and the policy were read from these sources.
+fn enforce_accepted<G: Gate, F: Files, R: Sink>(
+    alloc: Global,
+    names: &Names<'_>,
+    sources: Sources<'_>,
+    typed: TypedPolicy,
+    states: States<'_>,
+    gate: &mut G,
+    files: &mut F,
+    report: &mut R,
+) -> Result<Finish, Ending>
+    requires spells { SpellsSignature sources.signature.now names.now.signature.now }
+    requires typed { IsTyped names.now.signature.now (formulas (rules_of names.now.policy.now)) (typed_of typed) }
+    requires kept { KeepsToSignature names.now.signature.now (typed_of typed).plans (typed_of typed).guards }
+    ensures { (words : List (List ℕ)) (signature policy : List ℕ) (after : Stream) →
+        IsEnforce (states_of (option_map (λ file. file.now) states.entry.resume)
+        (option_map (λ file. file.now) states.entry.save)) words signature policy →
+        HoldsSignature (F.seen files.old).contents signature sources.entry.signature.now names.now.signature.now →
+        HoldsPolicy (F.seen files.old).contents policy sources.entry.policy.now names.now.signature.now
+        (rules_of names.now.policy.now) →
+        Performs (record {
+          words = words;
+          before = devices gate.old (G.seen gate.old) (F.seen files.old) (R.seen report.old);
+          after = devices gate.new (G.seen gate.new) (F.seen files.new) after;
+        }) (R.seen report.new) result }
+{
+    policy_has_one_answer();
+    pending_is_one();
+    kept_can_be_taken_up();
+    let mut log = begin_log(alloc, files, states.resume, sources, names.signature, typed)?;
+    run_log(
+        alloc,
+        names,
+        sources,
+        states.save,
+        &mut log,
+        gate,
+        files,
+        report,
+    )?;
     Ok(Finish::Done)
+}
+
+// A log of which nothing was taken yet, to be enforced from nothing on; or from a state, where the file of one is
+// named.
+fn begin_log<F: Files>(
+    alloc: Global,
+    files: &mut F,
+    resume: Option<&str>,
+    sources: Sources<'_>,
+    signature: &Signature,
+    typed: TypedPolicy,
+) -> Result<Enforcement, Ending>
+    requires short { length sources.signature.now ≤ MOST_FILE_BYTES }
+    requires spells { IsAnswer sources.signature.now (Ok signature.now) }
+    ensures begun { (rules : List Rule) →
+        ArePlanned signature.now (formulas rules) (typed_of typed).plans (typed_of typed).guards →
+        IfOk result (BeginsLog (option_map (λ file. file.now) resume.entry) (F.seen files.old).contents signature.now
+        rules sources.entry.signature.now sources.entry.policy.now typed) }
+    ensures same { OnOk result (F.seen files.new ≡ F.seen files.old) }
+    ensures formed { AreWellFormed (typed_of typed).plans (typed_of typed).guards }
+    ensures ends { IfErr result (EndsStart (option_map (λ file. file.now) resume.entry) sources.entry.signature.now
+        sources.entry.policy.now (bounds_under signature.now (typed_of typed)) (F.seen files.old) (F.seen files.new)) }
+{
+    policy_has_one_answer();
+    one_state();
+    pending_can_be();
+    pending_is_one();
+    // Its clause says that they are well-formed.
+    let _plans = typed.plans();
+    let Some(file) = resume else {
+        return Ok(Enforcement::new(alloc, signature, typed)?);
+    };
+    let state = read_state(alloc, files, file, sources, &typed)?;
+    Ok(Enforcement::resumed(alloc, signature, typed, state)?)
 }
 
 // Enforces the log from where the enforcer stands, and saves the state at its end where a file is named for it.
@@ -157,12 +255,8 @@ fn run_log<G: Gate, F: Files, R: Sink>(
     requires permits { Permits (is_causable names.now.signature.now) (is_suppressible names.now.signature.now)
         (plans_of log.old.enforcer) }
     requires together { WorkTogether (typed_of log.old.enforcer.policy) }
-    ensures { (trace : List Step) →
-        HasPlans names.now.signature.now (rules_of names.now.policy.now) log.old.enforcer →
-        Stands log.old.enforcer trace →
-        RunsSo (option_map (λ file. file.now) save.entry) sources.entry.signature.now sources.entry.policy.now
-        (setting_of names.now.signature.now (rules_of names.now.policy.now) log.old.enforcer trace)
-        (F.seen files.old) (F.seen files.new)
+    ensures { RunsSo (option_map (λ file. file.now) save.entry) sources.entry.signature.now sources.entry.policy.now
+        names.now.signature.now (rules_of names.now.policy.now) log.old.enforcer (F.seen files.old) (F.seen files.new)
         (seen_of (G.seen gate.old) (R.seen report.old)) (seen_of (G.seen gate.new) (R.seen report.new)) result }
 {
     let saves = save.is_some();

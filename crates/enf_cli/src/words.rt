@@ -15,13 +15,22 @@ use std::env::{Env, FillError};
 // The greatest number of digits that a number is written with.
 const MOST_DIGITS: usize = 10;
 
+/// The files that the words name for states: that from which a run starts, and that to which it saves.
+#[derive(Clone, Copy, Debug)]
+pub struct States<'a> {
+    pub resume: Option<&'a str>,
+    pub save: Option<&'a str>,
+}
+
 /// What the words ask for.
 #[derive(Clone, Copy, Debug)]
 pub enum Form<'a> {
-    /// `enforce SIG POLICY`, and `--save FILE` behind it where the state is saved
+    /// `enforce SIG POLICY`, and behind it `--resume FILE` where a state is resumed, and `--save FILE` where one is
+    /// saved
     Enforce {
         signature: &'a str,
         policy: &'a str,
+        resume: Option<&'a str>,
         save: Option<&'a str>,
     },
     /// `check SIG POLICY`
@@ -98,6 +107,15 @@ pub fn form_of(words: &[String]) -> Option<Form<'_>>
             option.as_str(),
             file.as_str(),
         ),
+        [command, signature, policy, resume, state, save, file] => form_of_seven(
+            command.as_str(),
+            signature.as_str(),
+            policy.as_str(),
+            resume.as_str(),
+            state.as_str(),
+            save.as_str(),
+            file.as_str(),
+        ),
         _ => None,
     }
 }
@@ -111,6 +129,7 @@ fn form_of_three<'a>(command: &str, first: &'a str, second: &'a str) -> Option<F
         "enforce" => Some(Form::Enforce {
             signature: first,
             policy: second,
+            resume: None,
             save: None,
         }),
         "check" => Some(Form::Check {
@@ -147,9 +166,43 @@ fn form_of_five<'a>(
         (MatchNoForm (command.now ∷ signature.now ∷ policy.now ∷ option.now ∷ file.now ∷ [])) }
 {
     match (command, option) {
+        ("enforce", "--resume") => Some(Form::Enforce {
+            signature,
+            policy,
+            resume: Some(file),
+            save: None,
+        }),
         ("enforce", "--save") => Some(Form::Enforce {
             signature,
             policy,
+            resume: None,
+            save: Some(file),
+        }),
+        _ => None,
+    }
+}
+
+// A form that names a file to resume from and one to save to behind two others.
+fn form_of_seven<'a>(
+    command: &str,
+    signature: &'a str,
+    policy: &'a str,
+    resume: &str,
+    state: &'a str,
+    save: &str,
+    file: &'a str,
+) -> Option<Form<'a>>
+    ensures some { IfSome result
+        (λ form. Matches (command.now ∷ signature.now ∷ policy.now ∷ resume.now ∷ state.now
+        ∷ save.now ∷ file.now ∷ []) form) }
+    ensures none { IfNone result (MatchNoForm (command.now ∷ signature.now ∷ policy.now ∷ resume.now ∷ state.now
+        ∷ save.now ∷ file.now ∷ [])) }
+{
+    match (command, resume, save) {
+        ("enforce", "--resume", "--save") => Some(Form::Enforce {
+            signature,
+            policy,
+            resume: Some(state),
             save: Some(file),
         }),
         _ => None,

@@ -1,17 +1,20 @@
-//! The limits of the definitions, which are those of the code, what is said of small policies and of a drill, and
-//! fronts of a report.
+//! The limits of the definitions, which are those of the code, what is said of small policies and of a drill, fronts of
+//! a report, and numbers in it.
 ghost use Rattle.std.specs.Prelude.{◌≡◌, ◌≢◌, ◌∷◌, ◌++◌, [], codes};
 ghost use Rattle.enf_cli.specs.Actions.{IsFrontOf};
 ghost use Rattle.enf_cli.specs.Cases.{erase, erase_ranked, other_ranked};
 ghost use Rattle.enf_cli.specs.Checking.{check_text};
 ghost use Rattle.enf_cli.specs.Drilling.{drill_line};
 ghost use Rattle.enf_cli.specs.Limits.{most_log_bytes, most_read_bytes};
+ghost use Rattle.enf_cli.specs.TwoRuns.{AreNumbered};
+ghost use Rattle.enf_cli.specs.declared.files.TheConstants.{MOST_STATE_BYTES};
 ghost use Rattle.enf_cli.specs.declared.intake.TheConstants.{MOST_LOG_BYTES, MOST_READ_BYTES};
 ghost use Rattle.log_gen.specs.Samples.{sample_entries};
 ghost use Rattle.enf_value.specs.declared.limits.TheConstants.{MOST_COLUMNS, MOST_FILE_BYTES, MOST_NAME_BYTES};
 ghost use Rattle.enf_value.specs.declared.limits.TheConstants.{MOST_NAMES, MOST_TEXT_BYTES};
 ghost use Rattle.policy_syntax.specs.declared.limits.TheConstants.{MOST_INTERVAL_END, MOST_LEVEL, MOST_NODES};
 ghost use Rattle.policy_syntax.specs.declared.limits.TheConstants.{MOST_RULES, MOST_VARIABLES};
+ghost use Rattle.save_codec.specs.declared.limits.TheConstants.{MOST_STATE_TIME};
 
 /// The limits of logs.
 pub fn limits()
@@ -35,6 +38,12 @@ pub fn limits_of_policies()
     ensures level { MOST_LEVEL ≡ 40 }
     ensures variables { MOST_VARIABLES ≡ 16 }
     ensures interval_end { MOST_INTERVAL_END ≡ 1000000000 }
+{}
+
+/// The limits of states.
+pub fn limits_of_states()
+    ensures file_bytes { MOST_STATE_BYTES ≡ 268435456 }
+    ensures times { MOST_STATE_TIME ≡ 2000000000000000 }
 {}
 
 /// What `check` says of a rule and of none: roles stand in the order of the signature, and a name that is left alone
@@ -65,4 +74,13 @@ pub fn fronts()
     ensures without_the_last { IsFrontOf (codes "ab" ∷ codes "cd" ∷ []) (codes "ab") (codes "cd") }
     ensures not_within_another { IsFrontOf (codes "ab" ∷ codes "cd" ∷ []) (codes "a") (codes "bcd") → ⊥ }
     ensures nothing_of_one { IsFrontOf (codes "ab" ∷ []) [] (codes "ab") }
+{}
+
+/// The line that refuses the first record, where two records stand before it: what is cut of it is cut of both.
+pub fn numbered()
+    ensures whole { AreNumbered 2 1 (codes "record 1: too long\n") (codes "record 3: too long\n") }
+    ensures within_the_words { AreNumbered 2 1 (codes "record 1: too") (codes "record 3: too") }
+    ensures in_front_of_them { AreNumbered 2 1 (codes "reco") [] }
+    ensures not_as_it_was { AreNumbered 2 1 (codes "record 1: too long\n") (codes "record 1: too long\n") → ⊥ }
+    ensures not_left_out { AreNumbered 2 1 (codes "record 1: too long\n") [] → ⊥ }
 {}

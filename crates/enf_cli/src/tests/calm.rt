@@ -1,8 +1,17 @@
 //! Runs over the devices that never fail.
-ghost use Rattle.std.specs.Prelude.{◌≡◌, ◌≢◌, IfOk, codes};
+ghost use Rattle.std.specs.Prelude.{◌≡◌, ◌≢◌, ℕ, IfOk, List, None, codes};
 ghost use Rattle.enf_io.specs.Calm.{contents_under};
 ghost use Rattle.enf_io.specs.Contents.{Missing};
-ghost use Rattle.enf_cli.specs.Words.{NamesFiles, texts};
+ghost use Rattle.enf_cli.specs.Words.{
+  IsAudit,
+  IsCheck,
+  IsEnforce,
+  NamesFiles,
+  NamesFilesAlone,
+  Resumes,
+  states_of,
+  texts,
+};
 
 use crate::refusals::Status;
 use crate::run::run;
@@ -59,7 +68,7 @@ impl Outcome {
 
 /// The words `enforce sig pol`.
 pub fn enforce_words(alloc: Global) -> Result<[String; 3], NoMemory>
-    ensures { IfOk result (λ words. NamesFiles (texts words) (codes "sig") (codes "pol")) }
+    ensures { IfOk result (λ words. IsEnforce (states_of None None) (texts words) (codes "sig") (codes "pol")) }
 {
     Ok([
         String::from_str(alloc, "enforce")?,
@@ -70,7 +79,7 @@ pub fn enforce_words(alloc: Global) -> Result<[String; 3], NoMemory>
 
 /// The words `check sig pol`.
 pub fn check_words(alloc: Global) -> Result<[String; 3], NoMemory>
-    ensures { IfOk result (λ words. NamesFiles (texts words) (codes "sig") (codes "pol")) }
+    ensures { IfOk result (λ words. IsCheck (texts words) (codes "sig") (codes "pol")) }
 {
     Ok([
         String::from_str(alloc, "check")?,
@@ -81,7 +90,7 @@ pub fn check_words(alloc: Global) -> Result<[String; 3], NoMemory>
 
 /// The words `audit sig pol`.
 pub fn audit_words(alloc: Global) -> Result<[String; 3], NoMemory>
-    ensures { IfOk result (λ words. NamesFiles (texts words) (codes "sig") (codes "pol")) }
+    ensures { IfOk result (λ words. IsAudit (texts words) (codes "sig") (codes "pol")) }
 {
     Ok([
         String::from_str(alloc, "audit")?,
@@ -110,7 +119,7 @@ pub fn files_of(alloc: Global, signature: &[u8], policy: &[u8]) -> Result<CalmFi
     Ok(files)
 }
 
-/// Over the calm forms, where both files are there, a run meets no fault.
+/// Over the calm forms, where both files are there and that of a state to resume too, a run meets no fault.
 pub fn run_calmly(
     alloc: Global,
     words: &[String],
@@ -121,6 +130,8 @@ pub fn run_calmly(
     requires words { NamesFiles (texts words.now) (codes "sig") (codes "pol") }
     requires signature { contents_under files.old (codes "sig") ≢ Missing }
     requires policy { contents_under files.old (codes "pol") ≢ Missing }
+    requires state { (file : List ℕ) → Resumes (texts words.now) file
+        → contents_under files.old file ≢ Missing }
     ensures no_read_fault { result ≡ Status.ReadFault → ⊥ }
     ensures no_write_fault { result ≡ Status.WriteFault → ⊥ }
 {
@@ -167,7 +178,7 @@ fn ran(
     policy: &[u8],
     mut gate: CalmGate,
 ) -> Result<Outcome, NoMemory>
-    requires { NamesFiles (texts words.now) (codes "sig") (codes "pol") }
+    requires { NamesFilesAlone (texts words.now) (codes "sig") (codes "pol") }
 {
     let mut files = files_of(alloc, signature, policy)?;
     let mut report = CalmSink::new(alloc);

@@ -17,7 +17,13 @@ fn words_and_missing_files_are_told(rt: HostRuntime) -> Result<(), Fail> {
         ("enforce", Status::Words, USAGE),
         ("enforce sig pol --save", Status::Words, USAGE),
         ("enforce sig pol save state", Status::Words, USAGE),
+        (
+            "enforce sig pol --save state --resume state",
+            Status::Words,
+            USAGE,
+        ),
         ("check sig pol --save state", Status::Words, USAGE),
+        ("audit sig pol --resume state", Status::Words, USAGE),
         ("check sig", Status::Words, USAGE),
         ("check sig pol more", Status::Words, USAGE),
         ("checks sig pol", Status::Words, USAGE),
@@ -36,6 +42,11 @@ fn words_and_missing_files_are_told(rt: HostRuntime) -> Result<(), Fail> {
         ("drill 1 1000001", Status::Words, USAGE),
         ("enforce missing pol", Status::ReadFault, b"read fault\n"),
         ("enforce sig missing", Status::ReadFault, b"read fault\n"),
+        (
+            "enforce sig pol --resume missing",
+            Status::ReadFault,
+            b"read fault\n",
+        ),
         ("check missing pol", Status::ReadFault, b"read fault\n"),
         ("check sig missing", Status::ReadFault, b"read fault\n"),
     ] {

@@ -1,4 +1,4 @@
-use Rattle.std.proofs.Common.{◌≡◌, ◌∙◌, [], ℕ, List, length, ap, sym, subst, refl, arith}
+use Rattle.std.proofs.Common.{◌∙◌, [], List, length, ap, sym, subst, refl, arith}
 use Rattle.std.specs.Prelude.{None, Some}
 use Rattle.std.proofs.lemmas.Result.{err_from_is_err_and}
 use Rattle.log_stream.specs.Readers.{Reader}

@@ -1,4 +1,4 @@
-use Rattle.std.proofs.Common.{List, ℕ, Ok, Err, refl, subst}
+use Rattle.std.proofs.Common.{List, ℕ, Ok, Err, subst}
 use Rattle.enf_formula.specs.Formulas.{Formula}
 use Rattle.enforce_types.specs.Accepted.{IsAccepted, IsTyped, RefusesPolicy}
 use Rattle.enforce_types.specs.Typed.{Typed, typed_of}
@@ -22,7 +22,7 @@ returns-in-Ok-of-clause-held g c =
     let entries = c.args.signature.now in
     let policy = rules_of c.in-Ok.policy in
     let bytes = c.in-Some.bytes.items in
-    let short : IsShort (g.F.Files.seen c.args.files.now).contents c.args.name.now bytes = rw c.in-Some.is at c.in_ok-bytes.ensures.bytes in
+    let short : IsShort 1048576 (g.F.Files.seen c.args.files.now).contents c.args.name.now bytes = rw c.in-Some.is at c.in_ok-bytes.ensures.bytes in
     let answer = subst (λ (text : List ℕ). IsTextAnswer entries text (Ok policy)) c.deref.ensures.value c.in-Ok.ensures.answer in
     let typed = subst (λ (fs : List Formula). IsTyped entries fs (typed_of c.in-Ok-of.typed)) (same_formulas c.in-Ok.policy.rules) c.in-Ok-of.ensures.typed in
     record {
@@ -35,7 +35,7 @@ returns-in_ok-type_refusal_of-in-Err-of-clause-ends g c =
     let entries = c.args.signature.now in
     let policy = rules_of c.in-Ok.policy in
     let bytes = c.in-Some.bytes.items in
-    let short : IsShort (g.F.Files.seen c.args.files.now).contents c.args.name.now bytes = rw c.in-Some.is at c.in_ok-bytes.ensures.bytes in
+    let short : IsShort 1048576 (g.F.Files.seen c.args.files.now).contents c.args.name.now bytes = rw c.in-Some.is at c.in_ok-bytes.ensures.bytes in
     let answer = subst (λ (text : List ℕ). IsTextAnswer entries text (Ok policy)) c.deref.ensures.value c.in-Ok.ensures.answer in
     let refused = subst (λ (fs : List Formula). RefusesPolicy entries fs c.in-Err-of.refusal) (same_formulas c.in-Ok.policy.rules) c.in-Err-of.ensures.refused in
     let why = c.in_ok-type_refusal_of-in-Err-of.ensures bytes (record { policy = policy; reads = record { short = short.short; answer = answer }; refused = refused }) in
@@ -45,7 +45,7 @@ pub returns-in-Err-clause-ends : goal.returns-in-Err-clause-ends
 returns-in-Err-clause-ends g c =
     let entries = c.args.signature.now in
     let bytes = c.in-Some.bytes.items in
-    let short : IsShort (g.F.Files.seen c.args.files.now).contents c.args.name.now bytes = rw c.in-Some.is at c.in_ok-bytes.ensures.bytes in
+    let short : IsShort 1048576 (g.F.Files.seen c.args.files.now).contents c.args.name.now bytes = rw c.in-Some.is at c.in_ok-bytes.ensures.bytes in
     let answer = subst (λ (text : List ℕ). GivesTextAnswer entries text (Err c.in-Err.refusal)) c.deref.ensures.value c.in-Err.ensures.answer in
     let why = c.in_ok-policy_refusal_of-in-Err.ensures entries bytes short.short answer in
     (record { bytes = bytes; under = short.under; refused = why }, c.in_ok-bytes.ensures.same)

@@ -4,6 +4,7 @@ use Rattle.enf_cli.specs.Seen.{seen_of}
 use Rattle.enf_cli.specs.Limits.{most_log_bytes, most_read_bytes}
 use Rattle.enf_cli.specs.Progress.{reads_on}
 use Rattle.enf_cli.proofs.LogTurns.{Done, IsWithinLimits}
+use Rattle.enf_cli.proofs.TakenLemmas.{HasTaken}
 use Rattle.enf_cli.proofs.log.enforce_log.Given as goal
 
 abbrev pub invariant-loop-verdict : goal.invariant-loop-verdict
@@ -18,6 +19,7 @@ invariant-loop-verdict g l =
       reader : l.log.intake.reader ≡ reads_on l.names.signature.now l.log.intake.reader.rest;
       room : length l.log.intake.piece.items ≡ most_read_bytes;
       limits : IsWithinLimits l.log;
+      taken : HasTaken l.names.signature.now l.fn.log.enforcer.clock (seen_of (gate l.fn.gate) (report l.fn.report)) bytes l.log (seen_of (gate l.gate) (report l.report));
       done : Done l.names.signature.now (rules_of l.names.policy.now) l.fn.log.enforcer (seen_of (gate l.fn.gate) (report l.fn.report)) bytes l.log (seen_of (gate l.gate) (report l.report));
     }
 

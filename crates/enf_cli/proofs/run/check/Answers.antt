@@ -1,6 +1,7 @@
 use Rattle.std.proofs.Common.{List, ◌∙◌, Err, Ok, inl, inr, map, refl, subst}
 use Rattle.std.proofs.lemmas.Result.{err_from_is_err_and}
 use Rattle.enf_io.specs.FileCalls.{FileView}
+use Rattle.enf_value.specs.declared.limits.TheConstants.{MOST_FILE_BYTES}
 use Rattle.enforce_types.specs.Typed.{typed_of}
 use Rattle.formula_reader.specs.Resolution.{rule_of, rules_of}
 use Rattle.formula_reader.specs.declared.policies.Rule.{Rule}
@@ -20,7 +21,7 @@ returns-in_err-accepted g c words report after form =
     let p = err_from_is_err_and c.from_residual-in_err-accepted.result c.from_residual-in_err-accepted.ensures.1 in
     let entries = c.in_ok-read.read.signature in
     let name = c.args.policy_file.now in
-    let ends = subst (λ (v : FileView). EndsFile (HoldsRefusedPolicy v.contents name entries) name v (g.F.Files.seen c.read_policy.new.files) c.in_err-accepted.field-0.0) c.in_ok-read.ensures.same c.in_err-accepted.ensures.ends in
+    let ends = subst (λ (v : FileView). EndsFile MOST_FILE_BYTES (HoldsRefusedPolicy v.contents name entries) name v (g.F.Files.seen c.read_policy.new.files) c.in_err-accepted.field-0.0) c.in_ok-read.ensures.same c.in_err-accepted.ensures.ends in
     rw (p.1, p.2) (policy_ends _ report c.args.signature_file.now name (inr (inl form)) refl c.in_ok-read.read.bytes.items entries c.in_err-accepted.field-0.0 refl refl c.in_ok-read.ensures.held ends)
 
 pub returns-in_err-give_check : goal.returns-in_err-give_check

@@ -9,7 +9,7 @@ returns-in-Err-clause-outcome g c = outcome_of _ (g.R.Sink.seen c.perform.new.re
 
 pub returns-in-Err-clause-due : goal.returns-in-Err-clause-due
 returns-in-Err-clause-due g c =
-    dues_of c.one_answer.ensures c.one_text_answer.ensures c.accepted_is_not_refused.ensures c.one_answer-2.ensures c.verdict_is_one.ensures _ c.report_ending.result
+    dues_of c.one_answer.ensures c.one_text_answer.ensures c.accepted_is_not_refused.ensures c.policy_has_one_answer.ensures.plans c.one_text.ensures c.one_answer-3.ensures.answer c.one_answer-2.ensures c.verdict_is_one.ensures _ c.report_ending.result
     (outcome_of _ (g.R.Sink.seen c.perform.new.report) c.in-Err.ending c.report_ending.result (c.in-Err.ensures (g.R.Sink.seen c.report_ending.new.report)) c.report_ending.ensures)
 
 pub returns-in-Err-clause-headline : goal.returns-in-Err-clause-headline
@@ -22,7 +22,7 @@ returns-in-Ok-Done-clause-outcome g c = (rw c.in-Ok-Done.field-0-is at c.in-Ok-D
 
 pub returns-in-Ok-Done-clause-due : goal.returns-in-Ok-Done-clause-due
 returns-in-Ok-Done-clause-due g c =
-    dues_of c.one_answer.ensures c.one_text_answer.ensures c.accepted_is_not_refused.ensures c.one_answer-2.ensures c.verdict_is_one.ensures _ statuses.Done ((rw c.in-Ok-Done.field-0-is at c.in-Ok-Done.ensures) (g.R.Sink.seen c.perform.new.report))
+    dues_of c.one_answer.ensures c.one_text_answer.ensures c.accepted_is_not_refused.ensures c.policy_has_one_answer.ensures.plans c.one_text.ensures c.one_answer-3.ensures.answer c.one_answer-2.ensures c.verdict_is_one.ensures _ statuses.Done ((rw c.in-Ok-Done.field-0-is at c.in-Ok-Done.ensures) (g.R.Sink.seen c.perform.new.report))
 
 pub returns-in-Ok-Done-clause-headline : goal.returns-in-Ok-Done-clause-headline
 returns-in-Ok-Done-clause-headline g c =
@@ -33,7 +33,7 @@ returns-in-Ok-Violated-clause-outcome g c = (rw c.in-Ok-Violated.field-0-is at c
 
 pub returns-in-Ok-Violated-clause-due : goal.returns-in-Ok-Violated-clause-due
 returns-in-Ok-Violated-clause-due g c =
-    dues_of c.one_answer.ensures c.one_text_answer.ensures c.accepted_is_not_refused.ensures c.one_answer-2.ensures c.verdict_is_one.ensures _ statuses.Violated ((rw c.in-Ok-Violated.field-0-is at c.in-Ok-Violated.ensures) (g.R.Sink.seen c.perform.new.report))
+    dues_of c.one_answer.ensures c.one_text_answer.ensures c.accepted_is_not_refused.ensures c.policy_has_one_answer.ensures.plans c.one_text.ensures c.one_answer-3.ensures.answer c.one_answer-2.ensures c.verdict_is_one.ensures _ statuses.Violated ((rw c.in-Ok-Violated.field-0-is at c.in-Ok-Violated.ensures) (g.R.Sink.seen c.perform.new.report))
 
 pub returns-in-Ok-Violated-clause-headline : goal.returns-in-Ok-Violated-clause-headline
 returns-in-Ok-Violated-clause-headline g c =

@@ -1,6 +1,8 @@
 use Rattle.std.proofs.Common.{List, ℕ, Err, Ok, subst, ◌∙◌}
 use Rattle.std.proofs.lemmas.Result.{err_from_is_err_and}
 use Rattle.enf_io.specs.FileCalls.{WritesFile}
+use Rattle.save_codec.specs.Forms.{IsText}
+use Rattle.save_codec.specs.Saved.{lines_of}
 use Rattle.enf_cli.proofs.SavingLemmas.{save_fails}
 use Rattle.enf_cli.proofs.saving.save_state.Goals as goal
 
@@ -9,7 +11,11 @@ returns-in_err-write g c =
     let p = err_from_is_err_and c.from_residual-in_err-write.result c.from_residual-in_err-write.ensures.1 in
     let text = c.deref.ensures.value ∙ c.in_ok-text.ensures.text in
     let written = subst (λ (bytes : List ℕ). WritesFile {T = Unit {0}} c.args.file.now bytes (Err c.in_err-write.field-0.0) (g.F.Files.seen c.args.files.now) (g.F.Files.seen c.write.new.self)) text c.in_err-write.ensures in
-    rw (p.1, p.2) (save_fails c.args.enforcer.now c.args.sources.signature.now c.args.sources.policy.now c.args.file.now c.in_ok-snapshot.snapshot c.in_ok-snapshot.ensures.saves c.in_err-write.field-0.0 _ _ written)
+    let signature = c.args.sources.signature.now in
+    let policy = c.args.sources.policy.now in
+    let kept = c.in_ok-snapshot.snapshot in
+    rw (p.1, p.2) (save_fails c.args.enforcer.now signature policy c.args.file.now kept c.in_ok-snapshot.ensures.saves
+    (λ small. subst (λ (bytes : List ℕ). IsText bytes signature policy (lines_of kept)) c.in_ok-text.ensures.text (c.in_ok-text.ensures.form small)) c.in_err-write.field-0.0 _ _ written)
 
 pub returns : goal.returns
 returns g c =
@@ -17,5 +23,6 @@ returns g c =
     record {
       kept = c.in_ok-snapshot.snapshot;
       saves = c.in_ok-snapshot.ensures.saves;
+      form = λ small. subst (λ (bytes : List ℕ). IsText bytes c.args.sources.signature.now c.args.sources.policy.now (lines_of c.in_ok-snapshot.snapshot)) c.in_ok-text.ensures.text (c.in_ok-text.ensures.form small);
       written = subst (λ (bytes : List ℕ). WritesFile {T = Unit {0}} c.args.file.now bytes (Ok tt) (g.F.Files.seen c.args.files.now) (g.F.Files.seen c.write.new.self)) text c.in_ok-write.ensures;
     }

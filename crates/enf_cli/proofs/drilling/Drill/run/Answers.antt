@@ -1,4 +1,4 @@
-use Rattle.std.proofs.Common.{◌≡◌, ℕ, ◌+◌, ◌*◌, ◌≤◌, ap, arith, refl, subst, suc, sym, ◌∙◌}
+use Rattle.std.proofs.Common.{◌≡◌, ℕ, ap, arith, refl, subst, suc, sym, ◌∙◌}
 use Rattle.enf_value.specs.declared.steps.Step.{Step}
 use Rattle.log_gen.specs.Generated.{generated_step}
 use Rattle.log_gen.specs.StepLaws.{early}

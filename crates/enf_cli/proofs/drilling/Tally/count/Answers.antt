@@ -1,7 +1,6 @@
-use Rattle.std.proofs.Common.{◌≡◌, ◌∷◌, [], ◌+◌, ◌*◌, ◌^◌, ap, arith, subst, sym, ◌∙◌, take}
-use Rattle.std.proofs.lemmas.List.{take_all}
+use Rattle.std.proofs.Common.{◌∷◌, [], ◌+◌, ◌*◌, ◌^◌, ap, arith, sym, ◌∙◌, take}
 use Rattle.enforcer_core.specs.Enforcers.{acted_step, acted_steps}
-use Rattle.enf_cli.specs.Drilling.{AreAtMost, and_steps}
+use Rattle.enf_cli.specs.Drilling.{and_steps}
 use Rattle.enf_cli.proofs.DrillLemmas.{and_more, and_none, at_most_more}
 use Rattle.enf_cli.proofs.LineLemmas.{taken_next}
 use Rattle.enf_cli.proofs.drilling.Tally.count.Goals as goal
