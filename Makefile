@@ -5,14 +5,14 @@
 help:
 	@echo 'make demo                            enforces the logs of examples/, shows what was changed, and checks two policies'
 	@echo 'make try SIG=FILE POLICY=FILE [LOG=FILE]  the same for files of your own; without a log it checks the policy'
-	@echo 'make build                           proves the program and leaves it as bin/enf'
+	@echo 'make build                           proves the program, which takes hours, and leaves it as bin/enf'
 	@echo 'make install PREFIX=FOLDER           puts the proved program, its man page and the examples there'
 	@echo 'make recipes                         runs what the documents show, and stops and resumes the examples, by the proved program'
 	@echo 'make bench                           measures the proved program on generated logs'
-	@echo 'make check                           proves every crate, over what earlier checks kept'
-	@echo 'make test                            the gate: rt ci'
+	@echo 'make check                           proves every crate, over what earlier checks kept; from nothing it takes hours'
+	@echo 'make test                            proves and tests everything (rt ci); from nothing it takes hours'
 	@echo 'make fmt                             lays out the sources of every crate'
-	@echo 'make clean                           removes what was built'
+	@echo 'make clean                           removes what was built, the proved program too'
 
 demo:
 	@./scripts/demo.sh

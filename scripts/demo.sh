@@ -26,7 +26,7 @@ show_file() {
 # show_enforced NAME FILE: what was changed in a log of examples/.
 show_enforced() {
     echo
-    echo "== enf enforce, on examples/$2: '-' came in, '+' goes out in its place"
+    echo "== enf enforce, on examples/$2: '-' came in, '+' goes out in its place (a tick never does)"
     show_changes "examples/$2" "$work/$1.output"
     show_end "$1"
 }
