@@ -1,8 +1,8 @@
 #!/usr/bin/env bash
 # Measures `enf gen`, and `enf enforce` on what it gives: the rate and the peak memory, and of `enforce` the instructions
 # for each byte where valgrind is installed, for logs of two sizes, under the empty policy and under one rule. Then what a
-# record costs that has many events, wakes one of many rules or passes many deadlines, and what the records of a log cost
-# under policies that ask the past and look ahead.
+# record costs that has many events, wakes one of many rules or passes many deadlines, what the records of a log cost under
+# policies that ask the past and look ahead, and what a state and its open duties cost.
 set -u
 cd "$(dirname "$0")/.." || exit 1
 . scripts/enf.sh
@@ -123,25 +123,57 @@ each_record sample records
 write_twelve "$work" 20000
 each_record twelve twelve personal
 
-# A state of as many kept rows as pending duties, 200,000 lines, resumed and saved again.
-cat "$work/consent" > "$work/kept"
-echo 'rule erase: forall u. request(u) -> eventually[0,1000000] delete(u);' >> "$work/kept"
-/usr/bin/env python3 - "$work/signature" "$work/kept" 100000 > "$work/state" << 'PYTHON'
+# write_state POLICY RULE ROWS DUTIES: a state of so many kept rows, and of so many open duties of a rule.
+write_state() {
+    /usr/bin/env python3 - "$work/signature" "$work/$1" "${@:2}" << 'PYTHON'
 import sys
 signature, policy = (open(name).read() for name in sys.argv[1:3])
-count = int(sys.argv[3])
+rule, rows, duties = map(int, sys.argv[3:])
 print('enfstate 1\nsignature %d\n%s\npolicy %d\n%s' % (len(signature), signature, len(policy), policy))
-print('clock %d\nlast %d\nposition %d' % (count, count, count))
-for number in range(count):
+print('clock %d\nlast %d\nposition %d' % (duties, duties, duties))
+for number in range(rows):
     print('row 0 %d "u%06d"' % (number, number))
-for number in range(count):
-    print('due 1 1 %d %d %d "u%06d"' % (number, number, number + 1000000, number))
+for number in range(duties):
+    print('due %d 1 %d %d %d "u%06d"' % (rule, number, number, number + 1000000, number))
 print('end')
 PYTHON
-resumed=$(valgrind --tool=callgrind --callgrind-out-file=/dev/null bin/enf enforce "$work/signature" "$work/kept" \
-    --resume "$work/state" --save "$work/again" < "$work/none.log" 2>&1 > /dev/null | sed -n 's/.*Collected : //p')
+}
+
+# resumed POLICY STATE LOG: how many instructions a run takes that goes on from a state and saves one.
+resumed() {
+    valgrind --tool=callgrind --callgrind-out-file=/dev/null bin/enf enforce "$work/signature" "$work/$1" \
+        --resume "$work/$2" --save "$work/again" < "$work/$3.log" 2>&1 > /dev/null | sed -n 's/.*Collected : //p'
+}
+
+# A state of as many kept rows as open duties, 200,000 lines, resumed and saved again.
+echo 'rule erase: forall u. request(u) -> eventually[0,1000000] delete(u);' > "$work/open"
+cat "$work/consent" "$work/open" > "$work/kept"
+write_state kept 1 100000 100000 > "$work/state"
+taken=$(resumed kept state none)
 cmp "$work/state" "$work/again" &&
-    echo "a line of a state, resumed and saved again: $((resumed / 200000)) instructions"
+    echo "a line of a state, resumed and saved again: $((taken / 200000)) instructions"
+
+# Beside 10,000 and 100,000 open duties: a step that touches none, a delete that ends one, and all deadlines, one by one.
+echo '>3000000;' > "$work/passed.log"
+for count in 10000 100000; do
+    write_state open 0 0 "$count" > "$work/$count"
+    seq 1000 | sed "s/.*/@$count ping();/" > "$work/untouched.log"
+    seq -f "@$count delete(\"u%06.0f\");" 0 999 > "$work/deletes.log"
+    none=$(resumed open "$count" none)
+    echo "$(resumed open "$count" passed) $((($(resumed open "$count" untouched) - none) / 1000))" \
+        "$((($(resumed open "$count" deletes) - none) / 1000))" > "$work/beside-$count"
+done
+read -r passed step ended < "$work/beside-10000"
+read -r all_passed full_step full_ended < "$work/beside-100000"
+compare 'instructions for a step beside 100,000 open duties that touches none' "$full_step" "$step"
+compare 'instructions for a delete that ends one of 100,000' "$full_ended" "$ended"
+compare 'instructions for 100,000 deadlines that pass one after the other' "$all_passed" "$passed"
+
+# The memory of 600,000 open duties.
+seq 600000 | sed 's/.*/@& request("u&");/' > "$work/requests.log"
+measure open large "$work/requests.log" /dev/null enforce "$work/signature" "$work/open"
+read -r _ _ memory < "$work/figures"
+echo "an open duty: $((memory * 1024 / 600000)) bytes, all in all"
 
 # What the enforcement of a generated log takes under the sample policy, without its text.
 bin/enf drill 1 200000

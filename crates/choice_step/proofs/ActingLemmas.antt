@@ -39,7 +39,7 @@ use Rattle.choice_step.specs.Looking.{AreLiteralsBehind, GoesOn, IsActionFor, Is
 use Rattle.choice_step.specs.declared.looking.Place.{Place}
 use Rattle.choice_step.proofs.ActionLemmas.{in_whole, not_behind}
 use Rattle.choice_step.proofs.ChoiceLemmas.{last_step}
-use Rattle.choice_step.proofs.LookingLemmas.{found_behind, one_more_root, root_first}
+use Rattle.choice_step.proofs.LookingLemmas.{Met, covers_again, waiting_met, found_behind, one_more_root, root_first}
 use Rattle.choice_step.proofs.LoopLemmas.{role_of_leaf}
 use Rattle.choice_step.proofs.SparedLemmas.{spared_unread}
 
@@ -372,20 +372,17 @@ module _ (plans : List Plan) (pending : List Instance) (past : Past) (inserted :
         missing = l.missing;
       }
 
-  some_waiting : (forced : Bool) (now : List Step) (n : ℕ) (xs : List Instance)
-      → AllByRecursion (MissesNothing plans forced now) (map Waiting xs)
-      → AllByRecursion (MissesNothing plans forced now) (map Waiting (take n xs))
-  some_waiting forced now zero xs all = tt
-  some_waiting forced now (suc n) [] all = tt
-  some_waiting forced now (suc n) (x ∷ xs) all = (all.0, some_waiting forced now n xs all.1)
-
   -- where none is left, the root misses nothing
-  pub met_behind : (events : List Event) (rule instances : ℕ) → WillBeLeft plans pending past inserted time position events rule []
-      → WillBeMetBefore plans pending past inserted time position events (record { instances = instances; rules = rule + 1 })
-  met_behind events rule instances left trace stands long not_later =
+  pub met_behind : (waiting : List Instance) (earlier events : List Event) (rule : ℕ) (from : Place)
+      → WillBeLeft plans pending past inserted time position events rule []
+      → WillBeMetBefore plans pending waiting past inserted time position earlier from
+      → WillBeMetBefore plans pending waiting past inserted time position events (record { instances = from.instances; rules = rule + 1 })
+  met_behind waiting earlier events rule from left before trace stands long not_later =
       let l = left trace stands long not_later in
+      let then : List Step = with_step trace time earlier in
       let now : List Step = with_step trace time events in (
-        some_waiting inserted now instances pending l.instances,
+        covers_again (Met plans inserted then) (Met plans inserted now) pending (drop from.instances waiting) (before trace stands long not_later).0
+            (λ i there met. waiting_met plans inserted now pending i l.instances there),
         one_more_root plans inserted now plans rule l.plan l.there l.roots (subst (Missing now l.plan no_values) l.those l.missing),
       )
 
@@ -498,29 +495,24 @@ module _ (plans : List Plan) (pending : List Instance) (past : Past) (inserted :
 
     -- ---- what stays after actions that nothing looks for
 
-    instances_all : (n : ℕ) (is : List Instance) → AllByRecursion (CanAskOf guards plans) is
-        → AllByRecursion (CanAskOf guards plans) (take n is)
-    instances_all zero is all = tt
-    instances_all (suc n) [] all = tt
-    instances_all (suc n) (i ∷ is) all = (all.0, instances_all n is all.1)
-
     -- what was met before a place is met there
-    pub place_stays : NothingClashes plans → (given before : List Event) (actions : List Action) (after : List Event) (place : Place)
+    pub place_stays : (waiting : List Instance) → NothingClashes plans → (given before : List Event) (actions : List Action) (after : List Event) (place : Place)
         → GoesOn plans pending past inserted time position given before actions after
         → AreSpared (guard_names past.guards) actions
-        → WillBeMetBefore plans pending past inserted time position before place
-        → WillBeMetBefore plans pending past inserted time position after place
-    place_stays nothing given before [] after place is spared was =
-        subst (λ l. WillBeMetBefore plans pending past inserted time position l place) (sym is) was
-    place_stays nothing given before (action ∷ actions) after place (between, finds, wanted, applies, more) spared was =
+        → WillBeMetBefore plans pending waiting past inserted time position before place
+        → WillBeMetBefore plans pending waiting past inserted time position after place
+    place_stays waiting nothing given before [] after place is spared was =
+        subst (λ l. WillBeMetBefore plans pending waiting past inserted time position l place) (sym is) was
+    place_stays waiting nothing given before (action ∷ actions) after place (between, finds, wanted, applies, more) spared was =
         let unread : AllByRecursion (IsUnreadIn action.kind action.event.name) plans =
         spared_unread plans past.guards action.kind action.event.name nothing
         (role_of_leaf plans wanted.leaf action.kind action.leaf action.event wanted.there wanted.is) can.roots spared.0
         in
-        place_stays nothing given between actions after place more spared.1
+        place_stays waiting nothing given between actions after place more spared.1
         (λ trace stands long later. let at = was trace stands long later in (
-          instances_stay met instances_met rest plans inserted guards action.kind action.event before between trace time applies unread
-              (take place.instances pending) (instances_all place.instances pending can.instances) at.0,
+          covers_again (Met plans inserted (with_step trace time before)) (Met plans inserted (with_step trace time between)) pending (drop place.instances waiting) at.0
+              (λ i there met_before. (instances_stay met instances_met rest plans inserted guards action.kind action.event before between trace time applies unread
+              (i ∷ []) (AllByRecursion-contains (CanAskOf guards plans) pending i can.instances there, tt) (met_before, tt)).0),
           roots_stay met instances_met rest plans inserted guards action.kind action.event before between trace time applies unread
               place.rules 0 plans can.roots unread at.1,
         ))

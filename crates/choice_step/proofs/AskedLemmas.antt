@@ -1,5 +1,5 @@
 -- Each action is for a leaf that is asked for, at a step with the events that there are in the end and were in between.
-use Rattle.std.proofs.Common.{◌≡◌, List, [], ◌∷◌, ◌++◌, map, Contains, sym, subst, ap, ◌∙◌, ⊎_elim, inl, inr}
+use Rattle.std.proofs.Common.{◌≡◌, List, [], ◌∷◌, ◌++◌, map, Contains, sym, subst, ⊎_elim, inl, inr}
 use Rattle.std.proofs.lemmas.List.{map-append}
 use Rattle.std.proofs.lemmas.List.Elements.{Contains-append_left, Contains-append_right}
 use Rattle.enf_value.specs.ListLaws.{Contains-append, first_or_later, none_in_nil}

@@ -1,11 +1,11 @@
 -- At a step that wakes no rule nothing is missed by a root, and nothing is begun.
-use Rattle.std.proofs.Common.{◌≡◌, ℕ, suc, Bool, List, [], ◌∷◌, ◌++◌, Option, None, Some, All, ap, map, refl, subst, sym, ◌∙◌, ◌+◌, ◌<◌, length, take, get_or, Contains}
+use Rattle.std.proofs.Common.{◌≡◌, ℕ, suc, Bool, List, [], ◌∷◌, ◌++◌, Option, None, Some, All, ap, map, refl, subst, sym, ◌∙◌, ◌+◌, ◌<◌, length, take, get_or}
 use Rattle.std.specs.List.{AllByRecursion}
 use Rattle.std.proofs.lemmas.List.{map-append, take_more}
 use Rattle.std.proofs.lemmas.List.Elements.{All-contains}
 use Rattle.enf_value.specs.ListLaws.{AllByRecursion-append}
 use Rattle.enf_value.specs.Data.{step_at}
-use Rattle.enf_value.specs.Valuations.{Valuation, no_values}
+use Rattle.enf_value.specs.Valuations.{no_values}
 use Rattle.enf_value.specs.declared.events.Event.{Event}
 use Rattle.enf_value.specs.declared.events.NameId.{NameId}
 use Rattle.enf_value.specs.declared.steps.Step.{Step}

@@ -90,7 +90,7 @@ first_root all (plan ∷ plans) inserted trace from asked literal first =
     })
     first
 
-first_of : (plans : List Plan) (pending : List Instance) (inserted : Bool) (trace : List Step) (asked : Candidate) (literal : Literal)
+pub first_of : (plans : List Plan) (pending : List Instance) (inserted : Bool) (trace : List Step) (asked : Candidate) (literal : Literal)
     → IsFirst plans inserted trace (map Waiting pending ++ roots_from 0 plans) asked literal
     → MissesWaiting plans inserted trace pending asked literal ⊎ MissesRoot trace 0 plans asked literal
 first_of plans [] inserted trace asked literal first = inr (first_root plans plans inserted trace 0 asked literal first)

@@ -19,3 +19,5 @@ pub mod ActingLemmas
 pub mod JustifyLemmas
 pub mod AsleepLemmas
 pub mod AskedLemmas
+pub mod RoundLemmas
+pub mod FittingLemmas

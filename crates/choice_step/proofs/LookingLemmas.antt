@@ -1,11 +1,12 @@
 -- The first of some that are asked at a step, and the action for it.
-use Rattle.std.proofs.Common.{◌≡◌, ℕ, zero, suc, ◌+◌, ◌<◌, ◌≤◌, Bool, List, [], ◌∷◌, ◌++◌, Option, None, Some, length, map, Contains, get_or, take, refl, sym, subst, ap, ◌∙◌, ⊎_elim, inl, inr, arith}
+use Rattle.std.proofs.Common.{◌≡◌, ℕ, zero, suc, ◌+◌, ◌≤◌, Bool, List, [], ◌∷◌, ◌++◌, Option, None, Some, length, map, Contains, drop, get_or, take, refl, sym, subst, ap, ◌∙◌, ⊎_elim, inl, inr, arith}
 use Rattle.std.specs.Prelude.{IfSome, slice_get}
+use Rattle.std.specs.Borrow.{Bor}
 use Rattle.std.specs.FinMap.{get-empty}
 use Rattle.std.specs.List.{AllByRecursion, find, flat_map}
 use Rattle.std.proofs.lemmas.List.Elements.{Contains-append_left, Contains-append_right}
 use Rattle.std.proofs.lemmas.Option.{none-some, same_Some}
-use Rattle.enf_value.specs.ListLaws.{AllByRecursion-append, AllByRecursion-find, AllByRecursion-from_contains, Contains-append, first_or_later, later, none_in_nil, there_from_get}
+use Rattle.enf_value.specs.ListLaws.{AllByRecursion-append, AllByRecursion-find, AllByRecursion-from_contains, Contains-append, first_or_later, here, later, none_in_nil, there_from_get}
 use Rattle.enf_value.specs.Valuations.{Valuation, no_values, variable_cmp}
 use Rattle.enf_value.specs.declared.steps.Step.{Step}
 use Rattle.enf_value.specs.declared.values.Value.{Value}
@@ -21,50 +22,73 @@ use Rattle.obligations.specs.declared.actions.Action.{Action}
 use Rattle.obligations.specs.declared.instances.Instance.{Instance}
 use Rattle.obligations.specs.declared.literals.Literal.{Literal}
 use Rattle.obligations.specs.declared.now.Now.{Now}
+use Rattle.sleepers.specs.Entries.{shown}
 use Rattle.choice_step.specs.Choice.{Candidate, IsFirst, Misses, MissesNothing, Root, Waiting, action_at, action_for, is_forced, roots_from}
-use Rattle.choice_step.specs.Looking.{IsActionFor, IsKnownFor, IsLiteralAt, IsWantedAt}
+use Rattle.choice_step.specs.Looking.{Covers, IsActionFor, IsKnownFor, IsLiteralAt, IsWantedAt}
 use Rattle.choice_step.proofs.FiniteLemmas.{Contains-flat_map}
+
+-- where something else holds of those of which it held
+pub covers_again : {X : Type 0} (P Q : X → Type 0) (all others : List X) → Covers P all others → ((x : X) → Contains all x → P x → Q x)
+    → Covers Q all others
+covers_again P Q [] others covers then = covers
+covers_again P Q (y ∷ all) others covers then =
+    ⊎_elim (λ c. inl (c.0, c.1, covers_again P Q all c.0 c.2 (λ x there. then x (later x y all there))))
+    (λ c. inr (then y (here y all) c.0, covers_again P Q all others c.1 (λ x there. then x (later x y all there)))) covers
+
+pub drop_end : {X : Type 0} (xs : List X) (k : ℕ) → length xs ≤ k → drop k xs ≡ []
+drop_end [] zero within = refl
+drop_end [] (suc k) within = refl
+drop_end (x ∷ xs) zero within = absurd (omega (arith, within))
+drop_end (x ∷ xs) (suc k) within = drop_end xs k (omega (arith, within))
+
+-- the instance behind a reference at a place
+pub shown_at : (xs : List (Bor Instance)) (k : ℕ) (r : Bor Instance) → r ≡ get_or xs k r → r.now ≡ get_or (shown xs) k r.now
+shown_at [] k r is = refl
+shown_at (x ∷ xs) zero r is = ap (λ (b : Bor Instance). b.now) is
+shown_at (x ∷ xs) (suc k) r is = shown_at xs k r is
 
 module _ (plans : List Plan) (inserted : Bool) (trace : List Step) where
   abbrev pub MissesFirst : Candidate → Literal → Type 0
   MissesFirst asked literal = (rest : List Literal) × Misses plans inserted trace asked (literal ∷ rest)
 
-  -- so many of the first miss nothing
-  abbrev pub NoneBefore : List Instance → ℕ → Type 0
-  NoneBefore xs k = AllByRecursion (MissesNothing plans inserted trace) (map Waiting (take k xs))
+  abbrev pub Met : Instance → Type 0
+  Met i = MissesNothing plans inserted trace (Waiting i)
 
-  pub first_waiting : (xs : List Instance) (k : ℕ) (x : Instance) (literal : Literal) → k < length xs → x ≡ get_or xs k x
-      → NoneBefore xs k → MissesFirst (Waiting x) literal → IsFirst plans inserted trace (map Waiting xs) (Waiting x) literal
-  first_waiting [] k x literal within is none misses = absurd (omega (arith, within))
-  first_waiting (y ∷ xs) zero x literal within is none misses =
-      inl (ap Waiting (sym is), misses.0, subst (λ z. Misses plans inserted trace (Waiting z) (literal ∷ misses.0)) is misses.1)
-  first_waiting (y ∷ xs) (suc k) x literal within is none misses =
-      inr (none.0, first_waiting xs k x literal (omega (arith, within)) is none.1 misses)
+  -- the first of the others that misses something is the first of all
+  pub covers_first : (all others : List Instance) (x : Instance) (literal : Literal) → Covers Met all (x ∷ others)
+      → MissesFirst (Waiting x) literal → IsFirst plans inserted trace (map Waiting all) (Waiting x) literal
+  covers_first [] others x literal covers misses = absurd (omega (arith, ap length covers))
+  covers_first (y ∷ all) others x literal covers misses =
+      ⊎_elim
+      (λ c.
+      let same : x ≡ y = ap (λ (l : List Instance). get_or l 0 x) c.1 in
+      inl (ap Waiting (sym same), misses.0, subst (λ z. Misses plans inserted trace (Waiting z) (literal ∷ misses.0)) same misses.1))
+      (λ c. inr (c.0, covers_first all others x literal c.1 misses)) covers
 
-  pub none_waiting : (xs : List Instance) (k : ℕ) → length xs ≤ k → NoneBefore xs k
-      → AllByRecursion (MissesNothing plans inserted trace) (map Waiting xs)
-  none_waiting [] k within none = tt
-  none_waiting (y ∷ xs) zero within none = absurd (omega (arith, within))
-  none_waiting (y ∷ xs) (suc k) within none = (none.0, none_waiting xs k (omega (arith, within)) none.1)
+  pub covers_none : (all others : List Instance) → others ≡ [] → Covers Met all others
+      → AllByRecursion (MissesNothing plans inserted trace) (map Waiting all)
+  covers_none [] others none covers = tt
+  covers_none (y ∷ all) others none covers =
+      ⊎_elim (λ c. absurd (omega (arith, ap length (sym none ∙ c.1)))) (λ c. (c.0, covers_none all others none c.1)) covers
 
-  -- where all miss nothing, so do as many as there are
-  pub all_waiting : (xs : List Instance) → AllByRecursion (MissesNothing plans inserted trace) (map Waiting xs)
-      → NoneBefore xs (length xs)
-  all_waiting [] none = tt
-  all_waiting (y ∷ xs) none = (none.0, all_waiting xs none.1)
+  -- one of the others misses nothing
+  pub covers_on : (all others : List Instance) (x : Instance) → Covers Met all (x ∷ others) → Met x → Covers Met all others
+  covers_on [] others x covers met = absurd (omega (arith, ap length covers))
+  covers_on (y ∷ all) others x covers met =
+      ⊎_elim
+      (λ c.
+      let same : x ≡ y = ap (λ (l : List Instance). get_or l 0 x) c.1 in
+      let rest : others ≡ c.0 = ap (λ (l : List Instance). drop 1 l) c.1 in
+      inr (subst Met same met, subst (Covers Met all) (sym rest) c.2))
+      (λ c. inr (c.0, covers_on all others x c.1 met)) covers
 
-  next_waiting : (xs : List Instance) (k : ℕ) (x : Instance) → k < length xs → x ≡ get_or xs k x → NoneBefore xs k
-      → MissesNothing plans inserted trace (Waiting x) → NoneBefore xs (suc k)
-  next_waiting [] k x within is none this = absurd (omega (arith, within))
-  next_waiting (y ∷ xs) zero x within is none this =
-      (subst (λ z. MissesNothing plans inserted trace (Waiting z)) is this, tt)
-  next_waiting (y ∷ xs) (suc k) x within is none this = (none.0, next_waiting xs k x (omega (arith, within)) is none.1 this)
+  pub covers_all : (all : List Instance) → AllByRecursion (MissesNothing plans inserted trace) (map Waiting all) → Covers Met all []
+  covers_all [] none = refl
+  covers_all (y ∷ all) none = inr (none.0, covers_all all none.1)
 
-  -- one more that misses nothing
-  pub one_more_waiting : (xs : List Instance) (k : ℕ) (x : Instance) → k < length xs → x ≡ get_or xs k x → NoneBefore xs k
-      → MissesNothing plans inserted trace (Waiting x) → NoneBefore xs (k + 1)
-  one_more_waiting xs k x within is none this =
-      subst (NoneBefore xs) {x = suc k} {y = k + 1} (omega arith) (next_waiting xs k x within is none this)
+  pub waiting_met : (xs : List Instance) (x : Instance) → AllByRecursion (MissesNothing plans inserted trace) (map Waiting xs) → Contains xs x → Met x
+  waiting_met [] x none there = absurd (none_in_nil x there)
+  waiting_met (y ∷ xs) x none there = ⊎_elim (λ same. subst Met same none.0) (λ on. waiting_met xs x none.1 on) (first_or_later x y xs there)
 
   -- the same of the roots of rules
   abbrev NoRootBefore : (rule : ℕ) → List Plan → ℕ → Type 0

@@ -1,5 +1,5 @@
 -- What the loop keeps while it goes on from place to place with the order and the tables with which it began.
-use Rattle.std.proofs.Common.{◌≡◌, ℕ, ◌+◌, ◌<◌, ◌≤◌, Bool, List, [], ◌∷◌, ◌++◌, None, length, map, sym, subst, ap, ◌∙◌, ⊎_elim, arith, append-nil, append_assoc, length-append}
+use Rattle.std.proofs.Common.{◌≡◌, ℕ, ◌+◌, ◌<◌, ◌≤◌, Bool, List, [], ◌∷◌, ◌++◌, None, drop, length, map, sym, subst, ap, ◌∙◌, ⊎_elim, arith, append-nil, append_assoc, length-append}
 use Rattle.std.specs.Prelude.{slice_get}
 use Rattle.std.proofs.lemmas.Bool.{cases_lt}
 use Rattle.std.proofs.lemmas.List.{length-map}
@@ -25,36 +25,36 @@ use Rattle.choice_step.specs.declared.looking.Place.{Place}
 use Rattle.choice_step.proofs.ActingLemmas.{goes_behind, names_stay, spared_those}
 use Rattle.choice_step.proofs.AsleepLemmas.{all_asleep}
 use Rattle.choice_step.proofs.ChoiceLemmas.{last_step}
-use Rattle.choice_step.proofs.LookingLemmas.{found_behind, no_root, none_waiting}
+use Rattle.choice_step.proofs.LookingLemmas.{covers_none, drop_end, found_behind, no_root}
 use Rattle.choice_step.specs.AskedLaws.{acted_among}
 use Rattle.choice_step.proofs.LoopLemmas.{Keeps, few, keeps_first, keeps_on}
 use Rattle.choice_step.proofs.UniverseLemmas.{given_values, possible}
 
-module _ (situation : Situation) (given : List Event) where
+module _ (situation : Situation) (waiting : List Instance) (given : List Event) where
   -- what was found is the first, and all before its place is met
   pub record IsOn (start : List Action) (f : Found) (events : List Event) (actions : List Action) : Type 0 where
     pub led : Leads situation given given start events actions
     pub same : HaveSameOf (guard_names situation.past.now.guards) given events
     pub found : IsFound situation given events f
-    pub place : IsMetBefore situation events f.place
+    pub place : IsMetBefore situation waiting events f.place
 
   -- so it is at first
   pub on_first : (start : List Action) (f : Found) (events : List Event) → events ≡ given → IsFound situation given given f
-      → IsMetBefore situation given f.place → IsOn start f events start
+      → IsMetBefore situation waiting given f.place → IsOn start f events start
   on_first start f events is found place = record {
     led = ([], sym (append-nil start), is);
     same = subst (HaveSameOf (guard_names situation.past.now.guards) given) (sym is) (λ event named. (λ there. there, λ there. there));
     found = subst (λ l. IsFound situation given l f) (sym is) found;
-    place = subst (λ l. IsMetBefore situation l f.place) (sym is) place;
+    place = subst (λ l. IsMetBefore situation waiting l f.place) (sym is) place;
   }
 
-module _ (situation : Situation) (can : CanDecide situation) (given : List Event) where
+module _ (situation : Situation) (waiting : List Instance) (can : CanDecide situation) (given : List Event) where
   abbrev Acted : Found → List Event → List Action → List Event → List Action → Type 0
   Acted f events actions after all =
       ActsFor (plans_of situation) situation.past.now situation.time situation.position f.action f.rule f.literals.items events actions after all
 
   pub led_on : (start : List Action) (f : Found) (events : List Event) (actions : List Action) (after : List Event) (all : List Action)
-      → IsOn situation given start f events actions → Acted f events actions after all → Leads situation given given start after all
+      → IsOn situation waiting given start f events actions → Acted f events actions after all → Leads situation given given start after all
   led_on start f events actions after all on acted =
       let more = acted situation.pending.now.instances situation.inserted given can.roles can.all on.found in (
         on.led.0 ++ f.action ∷ more.0,
@@ -64,7 +64,7 @@ module _ (situation : Situation) (can : CanDecide situation) (given : List Event
       )
 
   pub more_on : (start : List Action) (f : Found) (events : List Event) (actions : List Action) (after : List Event) (all : List Action)
-      → IsOn situation given start f events actions → Acted f events actions after all → length actions < length all
+      → IsOn situation waiting given start f events actions → Acted f events actions after all → length actions < length all
   more_on start f events actions after all on acted =
       let more = acted situation.pending.now.instances situation.inserted given can.roles can.all on.found in
       let grown : length all ≡ length (actions ++ f.action ∷ more.0) = ap length more.1 in
@@ -92,7 +92,7 @@ module _ (situation : Situation) (can : CanDecide situation) (given : List Event
       omega (arith, most, grown, length-append start led.0)
 
   pub same_on : (start : List Action) (f : Found) (events : List Event) (actions : List Action) (after : List Event) (all : List Action)
-      → IsOn situation given start f events actions → Acted f events actions after all → AreSparedBehind (guard_names situation.past.now.guards) actions all
+      → IsOn situation waiting given start f events actions → Acted f events actions after all → AreSparedBehind (guard_names situation.past.now.guards) actions all
       → HaveSameOf (guard_names situation.past.now.guards) given after
   same_on start f events actions after all on acted spared event named =
       let names = guard_names situation.past.now.guards in
@@ -106,16 +106,16 @@ module _ (situation : Situation) (can : CanDecide situation) (given : List Event
 
   -- and all before the place to go on from is met
   pub place_on : (start : List Action) (f : Found) (events : List Event) (actions : List Action) (after : List Event) (place : Place)
-      → IsOn situation given start f events actions
+      → IsOn situation waiting given start f events actions
       → StaysMet (plans_of situation) situation.past.now situation.time situation.position f.action f.rule f.literals.items f.place events after place
-      → IsMetBefore situation after place
+      → IsMetBefore situation waiting after place
   place_on start f events actions after place on stays =
-      stays situation.pending.now.instances situation.inserted given can.roles can.all on.found on.place
+      stays situation.pending.now.instances waiting situation.inserted given can.roles can.all on.found on.place
 
   -- where the place is behind the pending instances and a rule behind which none is woken, nothing is missing
   pub none_behind : TriggersAreMet → (after : List Event) (rule : ℕ) (place : Place)
       → HaveSameOf (guard_names situation.past.now.guards) given after → NoneIsWoken situation given rule
-      → length situation.pending.now.instances ≤ place.instances → rule < place.rules → IsMetBefore situation after place
+      → length waiting ≤ place.instances → rule < place.rules → IsMetBefore situation waiting after place
       → Finds situation after None
   none_behind met after rule place same none all behind before trace stands long later =
       let plans = plans_of situation in
@@ -137,7 +137,7 @@ module _ (situation : Situation) (can : CanDecide situation) (given : List Event
       (cases_lt place.rules (length plans))
       in
       found_behind plans situation.inserted now (map Waiting situation.pending.now.instances) (roots_from 0 plans) None
-      (none_waiting plans situation.inserted now situation.pending.now.instances place.instances all at.0)
+      (covers_none plans situation.inserted now situation.pending.now.instances (drop place.instances waiting) (drop_end waiting place.instances all) at.0)
       (no_root plans situation.inserted now 0 plans roots.0 roots.1 roots.2)
 
 -- what the loop keeps from round to round

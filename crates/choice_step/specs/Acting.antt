@@ -86,8 +86,8 @@ abbrev pub StaysMet : List Plan → Past → (time position : ℕ) → Action �
     → List Literal → (from : Place)
     → (before after : List Event) → Place → Type 0
 StaysMet plans past time position action rule literals from before after place =
-    (pending : List Instance) (inserted : Bool) (given : List Event) → NothingClashes plans
+    (pending waiting : List Instance) (inserted : Bool) (given : List Event) → NothingClashes plans
     → AllCanBeAsked plans pending past
     → IsFoundFrom plans pending past inserted time position given before action rule literals
-    → WillBeMetBefore plans pending past inserted time position before from
-    → WillBeMetBefore plans pending past inserted time position after place
+    → WillBeMetBefore plans pending waiting past inserted time position before from
+    → WillBeMetBefore plans pending waiting past inserted time position after place

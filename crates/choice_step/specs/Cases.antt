@@ -1,19 +1,23 @@
 -- Small policies and steps, on which the choice loop can be checked by eye.
 use Rattle.std.specs.Prelude.{ℕ, Bool, false, true, List, [], ◌∷◌}
+use Rattle.std.specs.List.{list_all}
 use Rattle.enf_value.specs.Valuations.{no_values}
 use Rattle.enf_value.specs.declared.events.Event.{Event}
 use Rattle.enf_value.specs.declared.terms.Term.TheVariants.{Const}
-use Rattle.enf_formula.specs.Cases.{at_time, event_p, event_q, formula_p, formula_q, name_p, name_q}
+use Rattle.enf_value.specs.declared.values.Value.{Value}
+use Rattle.enf_value.specs.declared.values.Value.TheVariants.{Num, Text}
+use Rattle.enf_formula.specs.Cases.{at_time, event_p, event_q, formula_p, formula_q, name_p, name_q, x}
 use Rattle.enf_formula.specs.Formulas.{Not}
 use Rattle.trace_meaning.specs.Records.{Record}
 use Rattle.trace_meaning.specs.declared.kinds.StepKind.{StepKind}
 use Rattle.trace_meaning.specs.declared.kinds.StepKind.TheVariants.{System, Inserted}
 use Rattle.plan_terms.specs.Plans.{Plan, Cause, Suppress, Both, Either, TestOr, Eventually, Always, Next}
-use Rattle.obligations.specs.Cases.{at_5, bar_q, cause_p, each_q, one, soon_p}
+use Rattle.obligations.specs.Cases.{at_5, bar_q, cause_p, cause_q_x, each_q, one, soon_p}
 use Rattle.obligations.specs.declared.instances.Instance.{Instance}
 use Rattle.obligations.specs.declared.literals.LiteralKind.{LiteralKind}
 use Rattle.obligations.specs.declared.literals.LiteralKind.TheVariants as kind
 use Rattle.choice_step.specs.Choice.{Decides}
+use Rattle.choice_step.specs.Fitting.{CausesFit}
 use Rattle.choice_step.specs.Follows.{ActedStep, Follows, FollowsDrain}
 use Rattle.choice_step.specs.Justifying.{AllAreJustified}
 use Rattle.obligations.specs.declared.actions.Action.{Action}
@@ -267,3 +271,15 @@ AreRightThen out = AllAreJustified (soon_p 0 0 ∷ []) (at_5 []) [] out
 -- a step of a kind with these events at the end, by these actions
 abbrev pub acted_at : StepKind → (time : ℕ) → List Event → List Action → ActedStep
 acted_at k time events actions = record { kind = k; step = at_time time events; actions = actions }
+
+-- a number passes the test, and an event where all of its arguments do
+abbrev pub is_number : Value → Bool
+is_number (Num n) = true
+is_number (Text bytes) = false
+
+abbrev pub is_of_numbers : Event → Bool
+is_of_numbers event = list_all is_number event.args
+
+-- q(x) passes it where x stands for values that pass another
+abbrev pub CausesNumbers : (right : Value → Bool) → Type 0
+CausesNumbers right = CausesFit is_of_numbers (λ y value. right value) (cause_q_x 0) (x ∷ [])

@@ -2,6 +2,7 @@ pub mod Choice
 pub mod Follows
 pub mod Idle
 pub mod Justifying
+pub mod Fitting
 pub mod Waking
 pub mod Looking
 pub mod Choosing

@@ -1,7 +1,7 @@
 -- What is found at a step: the action for the first that misses something.
 use Rattle.std.specs.Prelude.{◌≡◌, ◌⊎◌, ℕ, ◌<◌, ◌≤◌, Bool, List, [], ◌∷◌, Option, None}
 use Rattle.std.specs.Prelude.{Some, Contains, length, map}
-use Rattle.std.specs.Prelude.{slice_get, take}
+use Rattle.std.specs.Prelude.{drop, slice_get, take}
 use Rattle.std.specs.List.{AllByRecursion, flat_map}
 use Rattle.enf_value.specs.Valuations.{no_values}
 use Rattle.enf_value.specs.declared.events.Event.{Event}
@@ -39,10 +39,17 @@ abbrev pub RootsAreMet : List Plan → (inserted : Bool) → List Step → (rule
 RootsAreMet plans inserted trace rules =
     AllByRecursion (MissesNothing plans inserted trace) (roots_from 0 (take rules plans))
 
--- nor do so many of the first pending instances
-abbrev pub NothingBefore : List Plan → List Instance → (inserted : Bool) → List Step → Place → Type 0
-NothingBefore plans pending inserted trace place =
-    AllByRecursion (MissesNothing plans inserted trace) (map Waiting (take place.instances pending))
+-- each of a list is one of the others, which stand in it in their order, or something holds of it
+abbrev pub Covers : {X : Type 0} → (X → Type 0) → (all others : List X) → Type 0
+Covers P [] others = others ≡ []
+Covers {X = X} P (x ∷ all) others =
+    ((more : List X) × (others ≡ x ∷ more) × Covers P all more) ⊎ (P x × Covers P all others)
+
+-- nor does a pending instance but those that wait, from the one at this place on
+abbrev pub NothingBefore : List Plan → (pending waiting : List Instance) → (inserted : Bool) → List Step → Place
+    → Type 0
+NothingBefore plans pending waiting inserted trace place =
+    Covers (λ i. MissesNothing plans inserted trace (Waiting i)) pending (drop place.instances waiting)
     × RootsAreMet plans inserted trace place.rules
 
 -- a value that a pending instance binds, or one of the step's events, of its tables, or of the constants of guards and
@@ -139,12 +146,11 @@ AreLiteralsBehind plans pending past events literals =
     (literal : Literal) → Contains literals literal → IsLiteralBehind plans pending past events literal
 
 -- behind each trace for which the past state stands
-abbrev pub WillBeMetBefore : List Plan → List Instance → Past → (inserted : Bool)
-    → (time position : ℕ) → List Event
-    → Place → Type 0
-WillBeMetBefore plans pending past inserted time position events place = (trace : List Step)
+abbrev pub WillBeMetBefore : List Plan → (pending waiting : List Instance) → Past → (inserted : Bool)
+    → (time position : ℕ) → List Event → Place → Type 0
+WillBeMetBefore plans pending waiting past inserted time position events place = (trace : List Step)
     → PastStands trace past → length trace ≡ position → last_time trace ≤ time
-    → NothingBefore plans pending inserted (with_step trace time events) place
+    → NothingBefore plans pending waiting inserted (with_step trace time events) place
 
 abbrev pub WillHaveFound : List Plan → List Instance → Past → (inserted : Bool)
     → (time position : ℕ) → List Event

@@ -1,11 +1,15 @@
 -- What is said of a step at which it is asked who misses something.
-use Rattle.std.specs.Prelude.{◌≡◌, ℕ, ◌<◌, ◌≤◌, ◌^◌, List, Option, length, map, slice_get}
+use Rattle.std.specs.Prelude.{◌≡◌, ℕ, ◌<◌, ◌≤◌, ◌^◌, List, Option}
+use Rattle.std.specs.Prelude.{Contains, length, map, slice_get}
+use Rattle.std.specs.List.{AllByRecursion}
 use Rattle.enf_value.specs.declared.events.Event.{Event}
 use Rattle.past_state.specs.Runs.{AreUpToTimeOf}
 use Rattle.plan_terms.specs.Changes.{NothingClashes}
 use Rattle.plan_terms.specs.Plans.{Plan, plan_of}
 use Rattle.plan_terms.specs.Triggers.{guard_triggers}
 use Rattle.obligations.specs.declared.actions.Action.{Action}
+use Rattle.obligations.specs.declared.instances.Instance.{Instance}
+use Rattle.pending.specs.Listed.{IsKeptFor}
 use Rattle.choice_step.specs.Acting.{AllCanBeAsked, GoesFrom, IsFoundFrom}
 use Rattle.choice_step.specs.Looking.{WillBeMetBefore, WillFind}
 use Rattle.choice_step.specs.Waking.{HasNoneOf}
@@ -21,8 +25,13 @@ pub record CanDecide (situation : Situation) : Type 0 where
   pub wakes : situation.wakes.now ≡ map guard_triggers (plans_of situation)
   pub few : length situation.plans.now ≤ 2 ^ 32
   pub roles : NothingClashes (plans_of situation)
+  pub kept : IsKeptFor (plans_of situation) situation.pending.now
   pub all : AllCanBeAsked (plans_of situation) situation.pending.now.instances situation.past.now
   pub later : AreUpToTimeOf situation.time situation.past.now.operators
+
+-- some pending instances
+abbrev pub AreAmong : Situation → List Instance → Type 0
+AreAmong situation waiting = AllByRecursion (Contains situation.pending.now.instances) waiting
 
 abbrev pub Finds : Situation → List Event → Option Action → Type 0
 Finds situation events found = WillFind (plans_of situation) situation.pending.now.instances situation.past.now
@@ -39,9 +48,9 @@ IsFound situation given events found = IsFoundFrom (plans_of situation) situatio
     situation.past.now situation.inserted situation.time situation.position given events found.action found.rule
     found.literals.items
 
-abbrev pub IsMetBefore : Situation → List Event → Place → Type 0
-IsMetBefore situation events place = WillBeMetBefore (plans_of situation) situation.pending.now.instances
-    situation.past.now situation.inserted situation.time situation.position events place
+abbrev pub IsMetBefore : Situation → (waiting : List Instance) → List Event → Place → Type 0
+IsMetBefore situation waiting events place = WillBeMetBefore (plans_of situation) situation.pending.now.instances
+    waiting situation.past.now situation.inserted situation.time situation.position events place
 
 -- the events wake none of the rules behind one
 abbrev pub NoneIsWoken : Situation → List Event → (rule : ℕ) → Type 0

@@ -46,7 +46,7 @@ pub fn act_for(
     } = found;
     let name = action.event.name;
     act(alloc, events, &action)?;
-    push(actions, action)?;
+    push(alloc, actions, action)?;
     if past.looks_for(name) {
         return Ok(None);
     }
@@ -98,7 +98,7 @@ fn act_on(
         }
         let action = action_of_root(alloc, rule, literal, time, position)?;
         act(alloc, events, &action)?;
-        push(actions, action)?;
+        push(alloc, actions, action)?;
         if past.looks_for(literal.event.name) {
             return Ok(false);
         }
@@ -129,9 +129,14 @@ fn is_wanted(literal: &Literal, events: &EventSet) -> bool
     }
 }
 
-fn push(actions: &mut Actions, action: Action) -> Result<(), NoMemory>
+// Puts an action last. Most steps have one at most, which takes the memory of one.
+fn push(alloc: Global, actions: &mut Actions, action: Action) -> Result<(), NoMemory>
     ensures { OnOk result (actions.new ≡ actions.old ++ action ∷ []) }
 {
+    if actions.is_empty() {
+        *actions = Actions::from_vec(vec![in alloc; action]?);
+        return Ok(());
+    }
     match actions.push(action) {
         Ok(()) => Ok(()),
         Err(_action) => Err(NoMemory),

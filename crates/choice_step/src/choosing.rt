@@ -2,7 +2,7 @@
 ghost use Rattle.std.specs.Prelude.{◌≡◌, ◌<◌, ◌≤◌, ◌^◌, false, IfNone, IfOk, IfSome, IsTrue, None};
 ghost use Rattle.std.specs.Prelude.{OnOk, length, map};
 ghost use Rattle.std.specs.List.{AllByRecursion};
-ghost use Rattle.choice_step.specs.Situations.{CanDecide, Finds, IsFound, IsMetBefore, Leads, NoneIsWoken};
+ghost use Rattle.choice_step.specs.Situations.{AreAmong, CanDecide, Finds, IsFound, IsMetBefore, Leads, NoneIsWoken};
 ghost use Rattle.choice_step.specs.Choosing.{ActsFrom, AreAsked, WillDecide};
 ghost use Rattle.choice_step.specs.Justifying.{WillBeJustified};
 ghost use Rattle.enf_formula.specs.Names.{HaveSameOf};
@@ -14,6 +14,8 @@ ghost use Rattle.past_state.specs.Runs.{AreUpToTimeOf};
 ghost use Rattle.plan_terms.specs.Changes.{NothingClashes};
 ghost use Rattle.plan_terms.specs.Plans.{plan_of};
 ghost use Rattle.plan_terms.specs.Triggers.{guard_triggers};
+ghost use Rattle.pending.specs.Listed.{IsKeptFor};
+ghost use Rattle.sleepers.specs.Entries.{shown};
 
 use crate::acting::{act_for, has_no_choices};
 use crate::actions::Actions;
@@ -26,9 +28,12 @@ use enf_value::event_sets::EventSet;
 use enf_value::items::Duplicate;
 use enf_value::memory::NoMemory;
 use monitorable_guard::StepEvents;
-use obligations::{Now, Pending};
+use obligations::laws::pending_exists;
+use obligations::{Instance, Now};
 use past_state::laws::unread_tables_stay;
 use past_state::{PastState, Tables};
+use pending::Pending;
+use pending::laws::sleepers_stay;
 use plan_terms::Plan;
 use plan_terms::laws::triggers_are_met;
 use std::alloc::Global;
@@ -78,6 +83,7 @@ pub fn choose(
     requires roots { CanAskRoots (map placed_guard past.now.guards) (map plan_of plans.now) }
     requires instances { AllByRecursion (CanAskOf (map placed_guard past.now.guards) (map plan_of plans.now))
         pending.now.instances }
+    requires kept { IsKeptFor (map plan_of plans.now) pending.now }
     requires later { AreUpToTimeOf time past.now.operators }
     // For each trace for which the past state stands.
     ensures decided { IfOk result (λ choice. WillDecide (map plan_of plans.now) pending.now.instances past.now
@@ -116,6 +122,7 @@ pub fn choose_with(
     requires roots { CanAskRoots (map placed_guard past.now.guards) (map plan_of plans.now) }
     requires instances { AllByRecursion (CanAskOf (map placed_guard past.now.guards) (map plan_of plans.now))
         pending.now.instances }
+    requires kept { IsKeptFor (map plan_of plans.now) pending.now }
     requires later { AreUpToTimeOf time past.now.operators }
     // For each trace for which the past state stands.
     ensures decided { IfOk result (λ choice. WillDecide (map plan_of plans.now) pending.now.instances past.now
@@ -178,11 +185,17 @@ fn go_round(
         → GuardsWillHold situation.now.past.now situation.now.time round.events round.tables) }
 {
     unread_tables_stay();
+    sleepers_stay();
+    pending_exists();
+    let woken = situation
+        .pending
+        .woken(alloc, events.as_slice(), situation.time)?;
+    let waiting = woken.as_slice();
     let Seen {
         found,
         tables,
         last,
-    } = look(alloc, situation, &events)?;
+    } = look(alloc, situation, waiting, &events)?;
     let Some(found) = found else {
         return Ok(Round {
             events,
@@ -191,7 +204,9 @@ fn go_round(
         });
     };
     let mut after = events;
-    let ended = act_from(alloc, situation, &tables, found, last, &mut after, actions)?;
+    let ended = act_from(
+        alloc, situation, waiting, &tables, found, last, &mut after, actions,
+    )?;
     Ok(Round {
         events: after,
         tables,
@@ -200,11 +215,19 @@ fn go_round(
 }
 
 // The first look of a round.
-fn look(alloc: Global, situation: &Situation<'_>, events: &EventSet) -> Result<Seen, NoMemory>
+fn look(
+    alloc: Global,
+    situation: &Situation<'_>,
+    waiting: &[&Instance],
+    events: &EventSet,
+) -> Result<Seen, NoMemory>
     requires can { CanDecide situation.now }
+    requires among { AreAmong situation.now (shown waiting.now) }
+    requires start { IsMetBefore situation.now (shown waiting.now) events.now (record { instances = 0; rules = 0 }) }
     ensures nothing { IfOk result (λ seen. IfNone seen.found (Finds situation.now events.now None)) }
     ensures found { IfOk result (λ seen. IfSome seen.found (IsFound situation.now events.now events.now)) }
-    ensures place { IfOk result (λ seen. IfSome seen.found (λ f. IsMetBefore situation.now events.now f.place)) }
+    ensures place { IfOk result
+        (λ seen. IfSome seen.found (λ f. IsMetBefore situation.now (shown waiting.now) events.now f.place)) }
     ensures last { IfOk result (λ seen. IfSome seen.found
         (λ f. IsTrue seen.last → NoneIsWoken situation.now events.now f.rule)) }
     ensures are { IfOk result (λ seen. AreOf situation.now.past.now situation.now.time events.now seen.tables) }
@@ -218,11 +241,8 @@ fn look(alloc: Global, situation: &Situation<'_>, events: &EventSet) -> Result<S
         instances: 0,
         rules: 0,
     };
-    let found = next_from(alloc, situation, events, &ordered, &tables, start)?;
-    let last = match &found {
-        Some(first) => is_last(situation, first, &ordered),
-        None => false,
-    };
+    let found = next_from(alloc, situation, waiting, events, &ordered, &tables, start)?;
+    let last = ends_round(situation, &found, &ordered);
     Ok(Seen {
         found,
         tables,
@@ -243,18 +263,30 @@ fn is_last(situation: &Situation<'_>, found: &Found, ordered: &StepEvents<'_>) -
             >= situation.plans.len()
 }
 
+// The same of what was found, if anything was.
+fn ends_round(situation: &Situation<'_>, found: &Option<Found>, ordered: &StepEvents<'_>) -> bool
+    ensures { IfSome found.now (λ f. IsTrue result → NoneIsWoken situation.now ordered.now f.rule) }
+{
+    match found {
+        Some(first) => is_last(situation, first, ordered),
+        None => false,
+    }
+}
+
 // Acts for the root behind which no rule is woken; it answers whether no guard looks for a name that was acted on, so
 // that nothing is missing.
 fn act_last(
     alloc: Global,
     situation: &Situation<'_>,
+    waiting: &[&Instance],
     found: Found,
     events: &mut EventSet,
     actions: &mut Actions,
 ) -> Result<bool, NoMemory>
     requires can { CanDecide situation.now }
+    requires among { AreAmong situation.now (shown waiting.now) }
     requires found { IsFound situation.now events.old events.old found }
-    requires place { IsMetBefore situation.now events.old found.place }
+    requires place { IsMetBefore situation.now (shown waiting.now) events.old found.place }
     requires last { NoneIsWoken situation.now events.old found.rule }
     ensures acts { OnOk result (Leads situation.now events.old events.old actions.old events.new actions.new) }
     ensures more { OnOk result (length actions.old < length actions.new) }
@@ -277,7 +309,7 @@ fn act_last(
     let Some(place) = reached else {
         return Ok(false);
     };
-    if place.instances < situation.pending.len() || place.rules <= rule {
+    if place.instances < waiting.len() || place.rules <= rule {
         return Ok(false);
     }
     Ok(true)
@@ -289,6 +321,7 @@ fn act_last(
 fn act_from(
     alloc: Global,
     situation: &Situation<'_>,
+    waiting: &[&Instance],
     tables: &Tables,
     found: Found,
     last: bool,
@@ -296,11 +329,12 @@ fn act_from(
     actions: &mut Actions,
 ) -> Result<bool, NoMemory>
     requires can { CanDecide situation.now }
+    requires among { AreAmong situation.now (shown waiting.now) }
     requires are { AreOf situation.now.past.now situation.now.time events.old tables.now }
     requires hold { GuardsWillHold situation.now.past.now situation.now.time events.old tables.now }
     requires known { AreKnown situation.now.past.now events.old tables.now }
     requires found { IsFound situation.now events.old events.old found }
-    requires place { IsMetBefore situation.now events.old found.place }
+    requires place { IsMetBefore situation.now (shown waiting.now) events.old found.place }
     requires last { IsTrue last → NoneIsWoken situation.now events.old found.rule }
     ensures acts { OnOk result (Leads situation.now events.old events.old actions.old events.new actions.new) }
     ensures more { OnOk result (length actions.old < length actions.new) }
@@ -309,11 +343,13 @@ fn act_from(
         → HaveSameOf (guard_names situation.now.past.now.guards) events.old events.new) }
 {
     if last {
-        return act_last(alloc, situation, found, events, actions);
+        return act_last(alloc, situation, waiting, found, events, actions);
     }
     let given = events.duplicate(alloc)?;
     let ordered = StepEvents::of(alloc, &given)?;
-    go_on(alloc, situation, &ordered, tables, found, events, actions)
+    go_on(
+        alloc, situation, waiting, &ordered, tables, found, events, actions,
+    )
 }
 
 // Acts for what was found, and goes on from its place, until something looks for a name that was acted on; it answers
@@ -322,6 +358,7 @@ fn act_from(
 fn go_on(
     alloc: Global,
     situation: &Situation<'_>,
+    waiting: &[&Instance],
     ordered: &StepEvents<'_>,
     tables: &Tables,
     found: Found,
@@ -329,12 +366,13 @@ fn go_on(
     actions: &mut Actions,
 ) -> Result<bool, NoMemory>
     requires can { CanDecide situation.now }
+    requires among { AreAmong situation.now (shown waiting.now) }
     requires are { AreOf situation.now.past.now situation.now.time ordered.now tables.now }
     requires hold { GuardsWillHold situation.now.past.now situation.now.time ordered.now tables.now }
     requires known { AreKnown situation.now.past.now ordered.now tables.now }
     requires same { events.old ≡ ordered.now }
     requires found { IsFound situation.now ordered.now ordered.now found }
-    requires place { IsMetBefore situation.now ordered.now found.place }
+    requires place { IsMetBefore situation.now (shown waiting.now) ordered.now found.place }
     ensures acts { OnOk result (Leads situation.now ordered.now ordered.now actions.old events.new actions.new) }
     ensures more { OnOk result (length actions.old < length actions.new) }
     ensures nothing { IfOk result (λ ended. IsTrue ended → Finds situation.now events.new None) }
@@ -358,7 +396,7 @@ fn go_on(
         let Some(place) = reached else {
             return Ok(false);
         };
-        let next = next_from(alloc, situation, events, ordered, tables, place)?;
+        let next = next_from(alloc, situation, waiting, events, ordered, tables, place)?;
         match next {
             Some(next) => first = next,
             None => return Ok(true),
@@ -371,20 +409,23 @@ fn go_on(
 fn next_from(
     alloc: Global,
     situation: &Situation<'_>,
+    waiting: &[&Instance],
     events: &EventSet,
     ordered: &StepEvents<'_>,
     tables: &Tables,
     from: Place,
 ) -> Result<Option<Found>, NoMemory>
     requires can { CanDecide situation.now }
+    requires among { AreAmong situation.now (shown waiting.now) }
     requires are { AreOf situation.now.past.now situation.now.time ordered.now tables.now }
     requires hold { GuardsWillHold situation.now.past.now situation.now.time ordered.now tables.now }
     requires known { AreKnown situation.now.past.now ordered.now tables.now }
     requires same { HaveSameOf (guard_names situation.now.past.now.guards) ordered.now events.now }
-    requires before { IsMetBefore situation.now events.now from }
+    requires before { IsMetBefore situation.now (shown waiting.now) events.now from }
     ensures nothing { IfOk result (λ found. IfNone found (Finds situation.now events.now None)) }
     ensures found { IfOk result (λ found. IfSome found (IsFound situation.now ordered.now events.now)) }
-    ensures place { IfOk result (λ found. IfSome found (λ f. IsMetBefore situation.now events.now f.place)) }
+    ensures place { IfOk result
+        (λ found. IfSome found (λ f. IsMetBefore situation.now (shown waiting.now) events.now f.place)) }
 {
     dependence();
     let now = Now {
@@ -399,6 +440,7 @@ fn next_from(
         situation.plans,
         situation.wakes,
         situation.pending,
+        waiting,
         &now,
         situation.inserted,
         from,

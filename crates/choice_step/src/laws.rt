@@ -1,4 +1,5 @@
 //! Laws of what is done at a step and of what goes out, each the contract of a function that does nothing.
+ghost use Rattle.choice_step.specs.Fitting.{DecidedFits, DrainFits, FollowedFits};
 ghost use Rattle.choice_step.specs.Justifying.{DecidedAreJustified, LeastDeadlineIsNeeded};
 ghost use Rattle.choice_step.specs.Laws.{ActionsAreLawful, CausesAlone, EventsAreActedOnOnce};
 ghost use Rattle.choice_step.specs.Laws.{DecidedIsDistinct, DecidedMissesNothing, DecidesIsOne, DrainIsOne};
@@ -6,7 +7,7 @@ ghost use Rattle.choice_step.specs.Laws.{FollowsIsOne, SomeDecision, SomeFollows
 
 use obligations::laws::{
     missed_are_own, missed_is_served, missing_exists, missing_is_one, pending_can_be_asked,
-    pending_exists, pending_is_one, pending_is_owed, something_missed_is_lost,
+    pending_exists, pending_is_one, pending_is_owed, pending_is_right, something_missed_is_lost,
     well_formed_can_be_asked,
 };
 use plan_terms::laws::{lost_stays_lost, owed_stays_owed};
@@ -70,4 +71,14 @@ pub fn actions_are_justified()
     missed_is_served();
     pending_can_be_asked();
     well_formed_can_be_asked();
+}
+
+/// Where the events that come in pass a test, and those that plans cause on traces whose events do, all that goes out
+/// pass it.
+pub fn what_goes_out_fits()
+    ensures step { DecidedFits }
+    ensures records { FollowedFits }
+    ensures drain { DrainFits }
+{
+    pending_is_right();
 }

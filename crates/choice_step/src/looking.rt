@@ -20,6 +20,7 @@ ghost use Rattle.past_state.specs.Past.{guard_names};
 ghost use Rattle.plan_terms.specs.Nodes.{nodes};
 ghost use Rattle.plan_terms.specs.Plans.{Plan as AnyPlan, plan_of};
 ghost use Rattle.plan_terms.specs.Triggers.{guard_triggers};
+ghost use Rattle.sleepers.specs.Entries.{shown};
 
 use crate::waking::Wakes;
 use enf_value::event_sets::EventSet;
@@ -27,13 +28,14 @@ use enf_value::items::Duplicate;
 use enf_value::memory::NoMemory;
 use obligations::missing::{first_missing, first_missing_of, lack};
 use obligations::unread::is_plain;
-use obligations::{Action, Instance, Literal, LiteralKind, Now, Pending};
+use obligations::{Action, Instance, Literal, LiteralKind, Now};
+use pending::Pending;
 use plan_terms::Plan;
 use plan_terms::laws::triggers_are_met;
 use std::alloc::Global;
 use valuations::{Frame, Valuation};
 
-// Who is asked next at a step: so many of the pending instances, and of the roots of rules, miss nothing.
+// Who is asked next at a step: of the instances that wait so many, and of the roots of rules, miss nothing.
 #[derive(Clone, Copy)]
 pub struct Place {
     pub instances: usize,
@@ -50,12 +52,14 @@ pub struct Found {
     pub place: Place,
 }
 
-// The first that misses something at the step, from a place on, pending instances before the roots of rules.
+// The first that misses something at the step, from a place on, pending instances before the roots of rules. Of the
+// pending instances those are asked that wait.
 pub fn first_action(
     alloc: Global,
     plans: &[Plan],
     wakes: &Wakes,
     pending: &Pending,
+    waiting: &[&Instance],
     now: &Now<'_>,
     inserted: bool,
     from: Place,
@@ -66,15 +70,16 @@ pub fn first_action(
     requires roots { CanAskRoots (guards_at now.now.tables.now) (map plan_of plans.now) }
     requires instances { AllByRecursion (CanAskOf (guards_at now.now.tables.now) (map plan_of plans.now))
         pending.now.instances }
+    requires among { AllByRecursion (Contains pending.now.instances) (shown waiting.now) }
     ensures found { IfOk result (λ found. (trace : List Step) → IsNowOf now.now trace
-        → NothingBefore (map plan_of plans.now) pending.now.instances inserted trace from
+        → NothingBefore (map plan_of plans.now) pending.now.instances (shown waiting.now) inserted trace from
         → IsActionFor (map plan_of plans.now) inserted trace
         (all_asked (map plan_of plans.now) pending.now.instances) (option_map (λ f. f.action) found)) }
     ensures place { IfOk result (λ found. IfSome found (λ f. (trace : List Step) → IsNowOf now.now trace
-        → NothingBefore (map plan_of plans.now) pending.now.instances inserted trace from
-        → NothingBefore (map plan_of plans.now) pending.now.instances inserted trace f.place)) }
+        → NothingBefore (map plan_of plans.now) pending.now.instances (shown waiting.now) inserted trace from
+        → NothingBefore (map plan_of plans.now) pending.now.instances (shown waiting.now) inserted trace f.place)) }
     ensures rest { IfOk result (λ found. IfSome found (λ f. (trace : List Step) → IsNowOf now.now trace
-        → NothingBefore (map plan_of plans.now) pending.now.instances inserted trace from
+        → NothingBefore (map plan_of plans.now) pending.now.instances (shown waiting.now) inserted trace from
         → WasFound (map plan_of plans.now) pending.now.instances inserted trace f.rule f.literals.items)) }
     ensures wanted { IfOk result (λ found. IfSome found
         (λ f. IsWantedAt (map plan_of plans.now) pending.now.instances now.now.events.now
@@ -83,9 +88,11 @@ pub fn first_action(
         → Contains f.literals.items literal → IsLiteralAt (map plan_of plans.now) pending.now.instances
         now.now.ordered.now now.now.tables.now literal)) }
 {
-    match first_waiting(alloc, plans, pending.as_slice(), now, inserted, from)? {
+    match first_waiting(alloc, plans, pending, waiting, now, inserted, from)? {
         Some(found) => Ok(Some(found)),
-        None => first_root(alloc, plans, wakes, pending, now, inserted, from.rules),
+        None => first_root(
+            alloc, plans, wakes, pending, waiting, now, inserted, from.rules,
+        ),
     }
 }
 
@@ -93,26 +100,29 @@ pub fn first_action(
 fn first_waiting(
     alloc: Global,
     plans: &[Plan],
-    pending: &[Instance],
+    pending: &Pending,
+    waiting: &[&Instance],
     now: &Now<'_>,
     inserted: bool,
     from: Place,
 ) -> Result<Option<Found>, NoMemory>
-    requires { AllByRecursion (CanAskOf (guards_at now.now.tables.now) (map plan_of plans.now)) pending.now }
+    requires instances { AllByRecursion (CanAskOf (guards_at now.now.tables.now) (map plan_of plans.now))
+        pending.now.instances }
+    requires among { AllByRecursion (Contains pending.now.instances) (shown waiting.now) }
     ensures found { IfOk result (λ found. (trace : List Step) → IsNowOf now.now trace
-        → NothingBefore (map plan_of plans.now) pending.now inserted trace from
-        → IsActionFor (map plan_of plans.now) inserted trace (map Waiting pending.now)
+        → NothingBefore (map plan_of plans.now) pending.now.instances (shown waiting.now) inserted trace from
+        → IsActionFor (map plan_of plans.now) inserted trace (map Waiting pending.now.instances)
         (option_map (λ f. f.action) found)) }
     ensures place { IfOk result (λ found. IfSome found (λ f. (trace : List Step) → IsNowOf now.now trace
-        → NothingBefore (map plan_of plans.now) pending.now inserted trace from
-        → NothingBefore (map plan_of plans.now) pending.now inserted trace f.place)) }
+        → NothingBefore (map plan_of plans.now) pending.now.instances (shown waiting.now) inserted trace from
+        → NothingBefore (map plan_of plans.now) pending.now.instances (shown waiting.now) inserted trace f.place)) }
     ensures wanted { IfOk result (λ found. IfSome found
-        (λ f. IsWantedAt (map plan_of plans.now) pending.now now.now.events.now now.now.ordered.now
+        (λ f. IsWantedAt (map plan_of plans.now) pending.now.instances now.now.events.now now.now.ordered.now
         now.now.tables.now f.action)) }
     ensures alone { IfOk result (λ found. IfSome found (λ f. f.literals.items ≡ [])) }
 {
-    for place in from.instances..pending.len() {
-        let instance = &pending[place];
+    for place in from.instances..waiting.len() {
+        let instance = waiting[place];
         let forced = is_forced(instance, now.time, inserted);
         if let Some(literal) = first_missing_of(alloc, instance, plans, now, forced)? {
             return Ok(Some(Found {
@@ -135,6 +145,7 @@ fn first_root(
     plans: &[Plan],
     wakes: &Wakes,
     pending: &Pending,
+    waiting: &[&Instance],
     now: &Now<'_>,
     inserted: bool,
     from: usize,
@@ -150,7 +161,7 @@ fn first_root(
     ensures place { IfOk result (λ found. IfSome found (λ f. (trace : List Step) → IsNowOf now.now trace
         → RootsAreMet (map plan_of plans.now) inserted trace from
         → AllByRecursion (MissesNothing (map plan_of plans.now) inserted trace) (map Waiting pending.now.instances)
-        → NothingBefore (map plan_of plans.now) pending.now.instances inserted trace f.place)) }
+        → NothingBefore (map plan_of plans.now) pending.now.instances (shown waiting.now) inserted trace f.place)) }
     ensures rest { IfOk result (λ found. IfSome found (λ f. (trace : List Step) → IsNowOf now.now trace
         → RootsAreMet (map plan_of plans.now) inserted trace from
         → RootMisses (map plan_of plans.now) inserted trace f.rule f.literals.items)) }
@@ -174,7 +185,7 @@ fn first_root(
                 rule: rule as u32,
                 literals,
                 place: Place {
-                    instances: pending.len(),
+                    instances: waiting.len(),
                     rules: rule,
                 },
             }));

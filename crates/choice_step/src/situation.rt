@@ -1,7 +1,7 @@
 //! The situation in which a step is decided.
 use crate::waking::Wakes;
-use obligations::Pending;
 use past_state::PastState;
+use pending::Pending;
 use plan_terms::Plan;
 
 // A step at which it is asked who misses something: the plans of the rules and what wakes them, what is pending, what

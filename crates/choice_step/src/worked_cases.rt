@@ -3,7 +3,7 @@ ghost use Rattle.std.specs.Prelude.{[], ◌∷◌, true, false};
 ghost use Rattle.enf_formula.specs.Cases.{event_p, event_q};
 ghost use Rattle.obligations.specs.declared.literals.LiteralKind.TheVariants as kind;
 ghost use Rattle.obligations.specs.Cases.{at_once_for, p_of_1, q_of_1, then_for};
-ghost use Rattle.choice_step.specs.Cases.{AreRightAtOnce, AreRightThen, acted_at};
+ghost use Rattle.choice_step.specs.Cases.{AreRightAtOnce, AreRightThen, CausesNumbers, acted_at, is_number};
 ghost use Rattle.choice_step.specs.Cases.{Chooses, ChoosesDue, ChoosesDueAndAlways, ChoosesDueAndRoot, ChoosesDueTwice};
 ghost use Rattle.choice_step.specs.Cases.{ChoosesFed, ChoosesSide, ChoosesWoken, GoesForBoth, GoesForNext, p_and_q};
 ghost use Rattle.choice_step.specs.Cases.{p_at_5};
@@ -166,3 +166,9 @@ pub fn justified_steps()
     justified_later();
     needed();
 }
+
+/// What a leaf causes passes a test where the values of its variables do.
+pub fn fitting_causes()
+    ensures of_numbers { CausesNumbers is_number }
+    ensures not_of_all { CausesNumbers (λ value. true) → ⊥ }
+{}

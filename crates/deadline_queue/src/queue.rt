@@ -45,8 +45,13 @@ impl DeadlineQueue {
         ensures err { OnErr result (self.new ≡ self.old) }
         ensures queue { IsQueue self.new }
     {
-        let count = self.counts.get(&deadline).copied().unwrap_or(0);
-        self.counts.insert(deadline, count + 1)?;
+        // Most deadlines are new: so one way down the tree is enough.
+        let Some(count) = self.counts.insert(deadline, 1)? else {
+            return Ok(());
+        };
+        if let Some(held) = self.counts.get_mut(&deadline) {
+            *held = count + 1;
+        }
         Ok(())
     }
 

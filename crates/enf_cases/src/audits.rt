@@ -1,18 +1,15 @@
 //! Logs that are audited: whether they satisfy a policy.
 ghost use Rattle.std.specs.Prelude.{◌<◌, ◌≤◌, ◌^◌, IfOk, length};
-ghost use Rattle.formula_reader.specs.Resolution.{rules_of};
-ghost use Rattle.formula_reader.specs.WellFormed.{IsWellFormedPolicy};
 ghost use Rattle.trace_meaning.specs.Continuation.{last_time};
 ghost use Rattle.trace_meaning.specs.Records.{most_time};
 ghost use Rattle.trace_meaning.specs.declared.kinds.StepKind.TheVariants.{Inserted};
 
 use crate::case::CaseError;
 use crate::output::Output;
-use crate::parts::{read_signature, three, within_limit};
-use crate::{policies, typing};
+use crate::parts::{read_signature, three};
+use crate::typing::read_typed;
 use enf_value::{Duplicate, NoMemory, Step};
 use enforce_types::TypedPolicy;
-use formula_reader::{Policy, read_policy};
 use log_stream::{Found, LogItem, LogMode, LogReader};
 use signature::Signature;
 use std::alloc::Global;
@@ -32,32 +29,10 @@ const MOST_TIME: u64 = 2_000_000_000_000_000;
 pub fn answer(alloc: Global, input: &[u8], out: &mut Output) -> Result<(), CaseError> {
     let (signature, policy, log) = three(input)?;
     let names = read_signature(alloc, signature)?;
-    let policy = within_limit(policy)?;
-    match read_policy(alloc, &names, policy) {
-        Ok(policy) => answer_policy(alloc, &names, &policy, log, out),
-        Err(refusal) => {
-            policies::print_refusal(refusal, out);
-            Ok(())
-        }
+    if let Some(typed) = read_typed(alloc, &names, policy, out)? {
+        answer_log(alloc, &names, &typed, log, out)?;
     }
-}
-
-fn answer_policy(
-    alloc: Global,
-    names: &Signature,
-    policy: &Policy,
-    log: &[u8],
-    out: &mut Output,
-) -> Result<(), CaseError>
-    requires { IsWellFormedPolicy names.now (rules_of policy.now) }
-{
-    match TypedPolicy::of(alloc, names, policy) {
-        Ok(typed) => answer_log(alloc, names, &typed, log, out),
-        Err(refusal) => {
-            typing::print_refusal(names, refusal, out);
-            Ok(())
-        }
-    }
+    Ok(())
 }
 
 fn answer_log(

@@ -1,19 +1,16 @@
 //! Policies enforced on logs: what is done at each step, and the step that goes out; or what is pending.
 ghost use Rattle.std.specs.Prelude.{◌≤◌, ◌<◌, ◌^◌, IfOk, OnOk};
 ghost use Rattle.enf_cases.specs.Enforcing.{IsFurther, IsNew, IsResumedFrom, IsStanding, StaysStanding};
-ghost use Rattle.formula_reader.specs.Resolution.{rules_of};
-ghost use Rattle.formula_reader.specs.WellFormed.{IsWellFormedPolicy};
 
 use crate::case::CaseError;
 use crate::output::Output;
-use crate::parts::{read_signature, three, within_limit};
-use crate::{policies, typing};
+use crate::parts::{read_signature, three};
+use crate::typing::read_typed;
 use choice_step::Action;
 use enf_value::{Duplicate, Event, EventSet, Value};
 use enforce_types::TypedPolicy;
 use enforcer_core::laws::kept_can_be_taken_up;
 use enforcer_core::{Enforcer, OutStep, StepOut, StepRefusal};
-use formula_reader::{Policy, read_policy};
 use log_stream::{Found, LogItem, LogMode, LogReader};
 use obligations::{Instance, LiteralKind};
 use signature::Signature;
@@ -41,44 +38,10 @@ const MOST_TIME: u64 = 1_000_000_000_000_000;
 pub fn answer(alloc: Global, told: Told, input: &[u8], out: &mut Output) -> Result<(), CaseError> {
     let (signature, policy, log) = three(input)?;
     let names = read_signature(alloc, signature)?;
-    answer_under(alloc, told, &names, policy, log, out)
-}
-
-fn answer_under(
-    alloc: Global,
-    told: Told,
-    names: &Signature,
-    policy: &[u8],
-    log: &[u8],
-    out: &mut Output,
-) -> Result<(), CaseError> {
-    let policy = within_limit(policy)?;
-    match read_policy(alloc, names, policy) {
-        Ok(policy) => answer_policy(alloc, told, names, &policy, log, out),
-        Err(refusal) => {
-            policies::print_refusal(refusal, out);
-            Ok(())
-        }
+    if let Some(typed) = read_typed(alloc, &names, policy, out)? {
+        answer_typed(alloc, told, &names, typed, log, out)?;
     }
-}
-
-fn answer_policy(
-    alloc: Global,
-    told: Told,
-    names: &Signature,
-    policy: &Policy,
-    log: &[u8],
-    out: &mut Output,
-) -> Result<(), CaseError>
-    requires { IsWellFormedPolicy names.now (rules_of policy.now) }
-{
-    match TypedPolicy::of(alloc, names, policy) {
-        Ok(typed) => answer_typed(alloc, told, names, typed, log, out),
-        Err(refusal) => {
-            typing::print_refusal(names, refusal, out);
-            Ok(())
-        }
-    }
+    Ok(())
 }
 
 fn answer_typed(
@@ -147,7 +110,8 @@ fn take(
 {
     let mut enforcer = enforcer;
     let made = made_of(alloc, item, &mut enforcer)?;
-    print_made(told, names, &made, enforcer.pending(), out);
+    let pending = enforcer.pending(alloc)?;
+    print_made(told, names, &made, pending.as_slice(), out);
     resumed(alloc, told, enforcer)
 }
 
@@ -185,7 +149,8 @@ fn drain(
     requires { enforcer.old.position < 2 ^ 63 }
 {
     let made = drained(alloc, enforcer)?;
-    print_made(told, names, &made, enforcer.pending(), out);
+    let pending = enforcer.pending(alloc)?;
+    print_made(told, names, &made, pending.as_slice(), out);
     Ok(())
 }
 
@@ -262,8 +227,8 @@ fn print_made(
     }
 }
 
-// The instances that are pending, with `;` behind each, and `/` and a blank.
-fn print_pending(pending: &[Instance], out: &mut Output) {
+/// The instances that are pending, with `;` behind each, and `/` and a blank.
+pub fn print_pending(pending: &[Instance], out: &mut Output) {
     for instance in pending {
         print_instance(instance, out);
     }

@@ -8,7 +8,7 @@ use crate::running::Way;
 use crate::{
     arguments, audits, beginnings, cursor_lists, enforcing, evaluations, event_sets, guards, holds,
     intervals, logs, long_runs, past, policies, reports, saved, signatures, tables, typing, values,
-    window_runs,
+    walked, window_runs,
 };
 use log_stream::LogMode;
 use std::alloc::Global;
@@ -40,10 +40,11 @@ pub enum Kind {
     Report,
     Audit,
     Saved,
+    Walked,
     Long,
 }
 
-static KINDS: [(&[u8], Kind); 32] = [
+static KINDS: [(&[u8], Kind); 33] = [
     (b"text", Kind::Text),
     (b"value", Kind::Value),
     (b"compare", Kind::Compare),
@@ -75,6 +76,7 @@ static KINDS: [(&[u8], Kind); 32] = [
     (b"report", Kind::Report),
     (b"audit", Kind::Audit),
     (b"saved", Kind::Saved),
+    (b"walked", Kind::Walked),
     (b"long", Kind::Long),
 ];
 
@@ -115,6 +117,7 @@ pub fn answer_kind(
         Kind::Report => reports::answer(alloc, input, out),
         Kind::Audit => audits::answer(alloc, input, out),
         Kind::Saved => saved::answer(alloc, input, out),
+        Kind::Walked => walked::answer(alloc, input, out),
         Kind::Long => long_runs::answer(alloc, input, out),
     }
 }

@@ -30,6 +30,7 @@ mod signatures;
 mod tables;
 mod typing;
 mod values;
+mod walked;
 mod window_runs;
 
 use case::CaseError;

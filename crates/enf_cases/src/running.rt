@@ -16,6 +16,7 @@ use log_stream::{Found, LogItem, LogReader};
 use monitorable_guard::Guard;
 use past_state::{KeptRow, PastState, Tables};
 use std::alloc::Global;
+use trace_meaning::StepKind;
 use trace_meaning::laws::trace_grows;
 use valuations::Valuation;
 
@@ -46,11 +47,18 @@ pub struct Run<'a, 'b> {
     pub way: Way,
 }
 
-// The past and the time of its last step.
+/// The past and the time of its last step.
 #[derive(Drop)]
-struct Running {
-    state: PastState,
-    last: Option<u64>,
+pub struct Running {
+    pub state: PastState,
+    pub last: Option<u64>,
+}
+
+/// A step of a log, and whose it is.
+#[derive(Drop)]
+pub struct Logged {
+    pub kind: StepKind,
+    pub step: Step,
 }
 
 /// What is asked at each step of a log under a signature, with `/` behind it.
@@ -88,10 +96,10 @@ fn answer_steps(
 {
     for _ in 0..most {
         renew(alloc, run, running)?;
-        let Some(step) = next_step(alloc, reader, running.last)? else {
+        let Some(logged) = next_step(alloc, reader, running.last)? else {
             return Ok(());
         };
-        answer_step(alloc, run, &step, running, out)?;
+        answer_step(alloc, run, &logged.step, running, out)?;
         print_end(alloc, run.way, &running.state, out)?;
     }
     Ok(())
@@ -111,18 +119,19 @@ fn renew(alloc: Global, run: &Run<'_, '_>, running: &mut Running) -> Result<(), 
     Ok(())
 }
 
-// The next step of a log without ticks, which is not before the last one.
-fn next_step(
+/// The next step of a log without ticks, which is not before the last one.
+pub fn next_step(
     alloc: Global,
     reader: &mut LogReader,
     last: Option<u64>,
-) -> Result<Option<Step>, CaseError>
-    ensures { IfOk result (λ found. IfSome found (λ step. IsFrom last step.time)) }
+) -> Result<Option<Logged>, CaseError>
+    ensures { IfOk result (λ found. IfSome found (λ logged. IsFrom last logged.step.time)) }
 {
     match reader.next_record(alloc) {
-        Ok(Found::Item(LogItem::Step { time, events, .. })) => {
+        Ok(Found::Item(LogItem::Step { kind, time, events })) => {
             if is_from(last, time) {
-                Ok(Some(Step { time, events }))
+                let step = Step { time, events };
+                Ok(Some(Logged { kind, step }))
             } else {
                 Err(CaseError::Malformed)
             }
@@ -167,8 +176,8 @@ fn answer_step(
     }
 }
 
-// Makes the step of these tables the last one.
-fn commit(step: &Step, tables: Tables, running: &mut Running) -> Result<(), CaseError>
+/// Makes the step of these tables the last one.
+pub fn commit(step: &Step, tables: Tables, running: &mut Running) -> Result<(), CaseError>
     requires from { IsFrom running.old.last step.now.time }
     requires are { AreOf running.old.state step.now.time step.now.events tables }
     requires stands { StandsUpTo running.old.last running.old.state }

@@ -18,29 +18,43 @@ use std::alloc::Global;
 pub fn answer(alloc: Global, input: &[u8], out: &mut Output) -> Result<(), CaseError> {
     let (signature, text) = two(input)?;
     let signature = read_signature(alloc, signature)?;
-    answer_under(alloc, &signature, text, out)
-}
-
-fn answer_under(
-    alloc: Global,
-    signature: &Signature,
-    text: &[u8],
-    out: &mut Output,
-) -> Result<(), CaseError> {
-    let text = within_limit(text)?;
-    match read_policy(alloc, signature, text) {
-        Ok(policy) => answer_policy(alloc, signature, &policy, out),
-        Err(refusal) => policies::print_refusal(refusal, out),
+    if let Some(typed) = read_typed(alloc, &signature, text, out)? {
+        print_typed(&signature, &typed, out);
     }
     Ok(())
 }
 
-fn answer_policy(alloc: Global, signature: &Signature, policy: &Policy, out: &mut Output)
+/// The policy that the text spells, with its plans; or its refusal is printed.
+pub fn read_typed(
+    alloc: Global,
+    signature: &Signature,
+    text: &[u8],
+    out: &mut Output,
+) -> Result<Option<TypedPolicy>, CaseError> {
+    let text = within_limit(text)?;
+    match read_policy(alloc, signature, text) {
+        Ok(policy) => Ok(typed_of(alloc, signature, &policy, out)),
+        Err(refusal) => {
+            policies::print_refusal(refusal, out);
+            Ok(None)
+        }
+    }
+}
+
+fn typed_of(
+    alloc: Global,
+    signature: &Signature,
+    policy: &Policy,
+    out: &mut Output,
+) -> Option<TypedPolicy>
     requires { IsWellFormedPolicy signature.now (rules_of policy.now) }
 {
     match TypedPolicy::of(alloc, signature, policy) {
-        Ok(typed) => print_typed(signature, &typed, out),
-        Err(refusal) => print_refusal(signature, refusal, out),
+        Ok(typed) => Some(typed),
+        Err(refusal) => {
+            print_refusal(signature, refusal, out);
+            None
+        }
     }
 }
 

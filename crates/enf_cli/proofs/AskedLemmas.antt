@@ -29,7 +29,7 @@ use Rattle.signature.specs.declared.entries.NameEntry.{NameEntry}
 use Rattle.signature.specs.declared.refusals.SignatureRefusal.{SignatureRefusal as TextRefusal}
 use Rattle.trace_meaning.specs.Start.{Start, from_nothing}
 use Rattle.enf_cli.specs.Calls.{Call}
-use Rattle.enf_cli.specs.Dues.{AsksPolicy, AsksRefused, AsksRefusedPolicy, AsksRefusedSignature, AsksRefusedState, AsksSignature, TellBytes, TellsClock}
+use Rattle.enf_cli.specs.Dues.{AsksPolicy, AsksRefused, AsksRefusedPolicy, AsksRefusedSignature, AsksRefusedState, AsksSignature, AsksTold, TellBytes, TellsClock}
 use Rattle.enf_cli.specs.Files.{AreHeld, AreUnder, HoldsRefusedState, HoldsSignature, HoldsState, IsRefusedPolicy, IsRefusedSignature, IsRefusedState}
 use Rattle.enf_cli.specs.Outcomes.{Asks, AsksToEnforce, Refuses, RefusesPolicyFile, RefusesSignatureFile, RefusesStateFile, WhereItStarts}
 use Rattle.enf_cli.specs.Owed.{Setting, begun}
@@ -476,6 +476,17 @@ module _ (one : OneAnswer) (one_text : OneTextAnswer) (accepted : AcceptedIsNotR
           let text = under_read (λ (signature policy : List ℕ). IsText bytes signature policy (lines_of kept)) h.text in
           let keeps = subst (λ (x : Bounds). KeepsBounds x kept) same_bounds h.keeps in
           state_not_refused one_answer a.signature_bytes a.policy_bytes bytes there kept (scoped_bounds others other there c formed) h.short text keeps why here
+
+  -- where files tell what is to be enforced, none of them is refused
+  pub enforced_told : OnePlans → OneStateAnswer → {Gate : Type 0} (call : Call Gate) (entries : List NameEntry) (clock : ℕ) → AsksTold call entries clock → FilesRefused call → ⊥
+  enforced_told one_plans one_answer call entries clock t o = no_refusal_of_files call entries t.rules (policy_named call entries t.rules (IsEnforce t.states) (enforce_names t.states) t.asks) by o
+    where
+      by : (report : Stream) (why : StateRefusal) → RefusesStateFile call report why → ⊥
+      by report why m =
+          let named = same_states call t.states entries t.rules t.asks m.states m.entries m.rules m.asks in
+          let s = subst (λ (o : Option (List ℕ)). TellsClock o call.before.files.contents entries t.rules t.asks.asks.bytes t.asks.bytes clock) (named.0 ∙ m.named) t.starts in
+          told_not_refused_state call t.states entries t.rules t.asks m.states m.entries m.rules m.asks one_answer one_plans s.bounds m.bounds s.are_bounds m.are_bounds m.formed
+          m.file s.bytes s.told s.state s.holds why m.refused
 
   -- from where files tell that a run starts, it starts with what was read of them
   module _ {Gate : Type 0} (call : Call Gate) (states : States) (entries : List NameEntry) (rules : List Rule) (t : AsksPolicy (IsEnforce states) call entries rules) (his : States) (a : AsksToEnforce call his) (start : Start)

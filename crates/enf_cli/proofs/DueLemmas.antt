@@ -17,14 +17,14 @@ use Rattle.trace_audit.specs.declared.verdicts.Verdict.TheVariants.{Holds, Fails
 use Rattle.trace_meaning.specs.Records.{recorded}
 use Rattle.enf_cli.specs.Audits.{GivesNothing, TakesWholeTrace, as_trace}
 use Rattle.enf_cli.specs.Calls.{Call, LeavesFiles, LeavesGate}
-use Rattle.enf_cli.specs.Dues.{AsksPolicy, AsksRefused, AsksRefusedState, AsksToCheck, AsksToGenerate, AsksToRead, AsksTold, BreaksOff, CanBeDone, Dues, IsAcceptable, IsAuditable, IsViolating, MeetsReadFault, MeetsRefusal, MeetsWriteFault, TellsClock, taken_between}
+use Rattle.enf_cli.specs.Dues.{AsksPolicy, AsksRefused, AsksRefusedState, AsksToCheck, AsksToGenerate, AsksToRead, AsksTold, BreaksOff, CanBeDone, Dues, IsAcceptable, IsAuditable, IsViolating, MeetsReadFault, MeetsRefusal, MeetsWriteFault, taken_between}
 use Rattle.enf_cli.specs.Logs.{Anything, TookLog}
 use Rattle.enf_cli.specs.Outcomes.{Asks, AsksToEnforce, AuditsLog, ChecksPolicy, DrillsLog, FindsVerdict, GeneratesLog, IsDone, Meets, Outcome, RefusesAudited, RefusesRecord, RefusesStateFile, RefusesWords, SaysVerdict}
 use Rattle.enf_cli.specs.Policies.{formulas}
 use Rattle.enf_cli.specs.Readings.{Accepts, IsRefusedAs, Reading, ReadsToEnd, as_input, records_of, taken_in}
 use Rattle.enf_cli.specs.Seen.{seen_of}
 use Rattle.enf_cli.specs.Words.{IsAudit, IsCheck, IsEnforce, NamesFiles, NamesGenerated, States}
-use Rattle.enf_cli.proofs.AskedLemmas.{FilesRefused, IsNaming, OneTextAnswer, asks_named, audit_names, check_names, check_or_audit, enforce_names, enforce_or_audit, enforce_or_check, files_not_generated, files_or_log, files_some_form, no_refusal_of_files, not_asked, one_asked, policy_named, read_not_refused_state, same_asked, same_clock, same_states, some_form, some_log, told_not_refused_state}
+use Rattle.enf_cli.proofs.AskedLemmas.{FilesRefused, IsNaming, OneTextAnswer, asks_named, audit_names, check_names, check_or_audit, enforce_names, enforce_or_audit, enforce_or_check, enforced_told, files_not_generated, files_or_log, files_some_form, no_refusal_of_files, not_asked, one_asked, policy_named, read_not_refused_state, same_asked, same_clock, same_states, some_form, some_log}
 use Rattle.enf_cli.proofs.FileLemmas.{same_counts}
 use Rattle.enf_cli.proofs.ReadOnce.{OneRecordAnswer, refused_not_whole, whole_meets_none, whole_read}
 use Rattle.enf_cli.specs.declared.intake.Verdict.{Verdict}
@@ -339,16 +339,6 @@ module _ (one : OneAnswer) (one_text : OneTextAnswer) (accepted : AcceptedIsNotR
           → ((report : Stream) (why : StateRefusal) → RefusesStateFile call report why → ⊥) → FilesRefused call → ⊥
       told_not_refused entries policy IsForm names t state o = no_refusal_of_files one one_text accepted call entries policy (policy_named call entries policy IsForm names t) state o
 
-      enforced_told : (entries : List NameEntry) (clock : ℕ) → AsksTold call entries clock → FilesRefused call → ⊥
-      enforced_told entries clock t o = told_not_refused entries t.rules (IsEnforce t.states) (enforce_names t.states) t.asks by o
-        where
-          by : (report : Stream) (why : StateRefusal) → RefusesStateFile call report why → ⊥
-          by report why m =
-              let named = same_states one one_text accepted call t.states entries t.rules t.asks m.states m.entries m.rules m.asks in
-              let s = subst (λ (o : Option (List ℕ)). TellsClock o call.before.files.contents entries t.rules t.asks.asks.bytes t.asks.bytes clock) (named.0 ∙ m.named) t.starts in
-              told_not_refused_state one one_text accepted call t.states entries t.rules t.asks m.states m.entries m.rules m.asks one_answer one_plans s.bounds m.bounds s.are_bounds m.are_bounds m.formed
-              m.file s.bytes s.told s.state s.holds why m.refused
-
       audited_told : (entries : List NameEntry) (policy : List Rule) → AsksPolicy IsAudit call entries policy → FilesRefused call → ⊥
       audited_told entries policy t o = told_not_refused entries policy IsAudit audit_names t
           (λ report why m. enforce_or_audit m.states call.words m.asks.signature_file m.asks.policy_file t.asks.signature_file t.asks.policy_file m.asks.form t.asks.form) o
@@ -361,11 +351,11 @@ module _ (one : OneAnswer) (one_text : OneTextAnswer) (accepted : AcceptedIsNotR
       read_not_refused_files m o = by m.reading m.asks
         where
           by : (r : Reading) → AsksToRead call r → ⊥
-          by r (inl (entries, clock, t, is)) = enforced_told entries clock t o
+          by r (inl (entries, clock, t, is)) = enforced_told one one_text accepted one_plans one_answer call entries clock t o
           by r (inr (entries, policy, t, is)) = audited_told entries policy t o
 
       refused_not_done : FilesRefused call → CanBeDone call → ⊥
-      refused_not_done o (inl (inl due)) = enforced_told due.entries due.clock due.asks o
+      refused_not_done o (inl (inl due)) = enforced_told one one_text accepted one_plans one_answer call due.entries due.clock due.asks o
       refused_not_done o (inl (inr due)) = audited_told due.entries due.policy due.asks o
       refused_not_done o (inr (inl due)) = let n = refused_named o in files_or_log call.words n.0 n.1 due.0 due.1 n.2 due.2
       refused_not_done o (inr (inr due)) = checked_told due.0 due.1 due.2 o

@@ -60,11 +60,11 @@ given_by text (Some x) (Some y) gave =
     ap (λ (e : Exchange). drop (length x.given) e.given) (same_exchange y (with_given text x) gave) ∙ drop_at x.given text (length x.given) refl
 
 -- files that tell hold these bytes under a name
-held : (told : Option (List ℕ → Contents)) (files : List ℕ → Contents) (name bytes : List ℕ) → told ≡ Some files → files name ≡ Holds bytes → TellBytes told name bytes
+pub held : (told : Option (List ℕ → Contents)) (files : List ℕ → Contents) (name bytes : List ℕ) → told ≡ Some files → files name ≡ Holds bytes → TellBytes told name bytes
 held told files name bytes tell holds = subst (λ (o : Option (List ℕ → Contents)). TellBytes o name bytes) (sym tell) holds
 
 -- what is asked is what the statuses speak of
-abbrev asks_policy : {Gate : Type 0} (call : Call Gate) (states : States) (start : Start) (entries : List NameEntry) (rules : List Rule) → IsAsked call.words call.before.files.contents states start entries rules → AsksPolicy (IsEnforce states) call entries rules
+abbrev pub asks_policy : {Gate : Type 0} (call : Call Gate) (states : States) (start : Start) (entries : List NameEntry) (rules : List Rule) → IsAsked call.words call.before.files.contents states start entries rules → AsksPolicy (IsEnforce states) call entries rules
 asks_policy call states start entries rules a =
     let told = call.before.files.contents in
     record {

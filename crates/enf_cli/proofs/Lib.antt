@@ -28,3 +28,5 @@ pub mod JoinLemmas
 pub mod EndLemmas
 pub mod TwoRunsLemmas
 pub mod TwoCallsLemmas
+pub mod FitLemmas
+pub mod ResumingLemmas

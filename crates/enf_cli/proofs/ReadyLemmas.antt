@@ -109,7 +109,7 @@ taken_up_small plans s few due can =
 -- ---- behind a log
 
 -- records that were read leave a clock that is that of one of them, or that before them
-clock_in_time : (entries : List NameEntry) (text : List ℕ) (read : List LogItem) (rest : List ℕ) (clock : ℕ) → Spells entries Input text read rest → clock ≤ most_time System → clock_after clock (records_of read) ≤ most_time System
+pub clock_in_time : (entries : List NameEntry) (text : List ℕ) (read : List LogItem) (rest : List ℕ) (clock : ℕ) → Spells entries Input text read rest → clock ≤ most_time System → clock_after clock (records_of read) ≤ most_time System
 clock_in_time entries text [] rest clock spelled early = early
 clock_in_time entries text (item ∷ read) rest clock spelled early =
     clock_in_time entries spelled.0 read rest (time_of (record_of item)) spelled.2 (item_time entries _ item spelled.1.2)

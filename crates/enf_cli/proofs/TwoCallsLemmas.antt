@@ -234,7 +234,7 @@ module _ (one_answer : OneAnswer) (one_text : OneTextAnswer) (accepted : Accepte
   -- the same bytes are the same names and rules
   module _ {Gate : Type 0} {call other : Call Gate} (states states' : States) (asks : AsksToEnforce call states) (also : AsksToEnforce other states')
       (same : SameSources asks also) where
-    same_entries : also.entries ≡ asks.entries
+    pub same_entries : also.entries ≡ asks.entries
     same_entries =
         same_signature one_answer one_text accepted asks.asks.signature_bytes also.entries asks.entries
         (subst (λ (bytes : List ℕ). SpellsSignature bytes also.entries) same.signature also.asks.holds_signature.is_signature)
@@ -263,7 +263,7 @@ module _ (one_answer : OneAnswer) (one_text : OneTextAnswer) (accepted : Accepte
         let under = subst (λ (o : Option (List ℕ → Contents)). IfSome o (λ files. AreHeld asks.state (files goes_on.resumed))) goes_on.tell holds.1.under in
         subst (AreHeld asks.state) goes_on.holds under
 
-    may_start : (at : Start) → IsReadyState saved.paused.asks.entries saved.paused.asks.rules saved.paused.asks.asks.signature_bytes saved.paused.asks.asks.policy_bytes at saved.state
+    pub may_start : (at : Start) → IsReadyState saved.paused.asks.entries saved.paused.asks.rules saved.paused.asks.asks.signature_bytes saved.paused.asks.asks.policy_bytes at saved.state
         → MayStart states asks at
     may_start at ready =
         let a = saved.paused.asks in

@@ -23,6 +23,7 @@ pub mod Progress
 pub mod Readings
 pub mod Refusals
 pub mod Reports
+pub mod Resuming
 pub mod Saving
 pub mod Seen
 pub mod Signatures

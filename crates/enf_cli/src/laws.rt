@@ -1,10 +1,12 @@
 //! Laws of runs, each the contract of a function that does nothing: two runs that take one log, the second of which
-//! goes on from where the first was saved, are as one that takes all of it.
+//! goes on from where the first was saved, are as one that takes all of it; and what the first saved is not refused.
+ghost use Rattle.enf_cli.specs.Resuming.{AskedIsTaken, ComesToFitting, FittingGoesOn, NothingFits, SavedIsTaken};
 ghost use Rattle.enf_cli.specs.TwoRuns.{CallsAreOne, GivesJoins, Joins, KeptBehindSaved, OwedIsOne, OwedJoins};
 ghost use Rattle.enf_cli.specs.TwoRuns.{PausesAreOne, RunsAreOne, SavedBehindSaved, SavedIsAsked};
 
 use enf_io::devices::Gate;
-use enforce_types::laws::{accepted_is_not_refused, policy_has_one_answer};
+use enforce_types::laws::{accepted_is_not_refused, plans_are_well_formed, policy_has_one_answer};
+use enforcer_core::laws::{saved_keeps_bounds, what_goes_out_fits};
 use log_stream::laws::{one_answer, one_log};
 use trace_meaning::laws;
 
@@ -49,6 +51,26 @@ pub fn calls_are_one<G: Gate>()
     one_answer();
     one_log();
     joins();
+}
+
+/// What a run has saved, from nothing or from what such a run has saved, is not refused by a run that resumes it under
+/// the same signature and policy.
+pub fn saved_is_not_refused<G: Gate>()
+    ensures nothing { NothingFits }
+    ensures comes { ComesToFitting G }
+    ensures asked { AskedIsTaken G }
+    ensures saved { SavedIsTaken G }
+    ensures goes_on { FittingGoesOn G }
+{
+    signature::laws::one_answer();
+    formula_reader::laws::one_text_answer();
+    formula_reader::laws::read_is_well_formed();
+    save_codec::laws::one_answer();
+    accepted_is_not_refused();
+    plans_are_well_formed();
+    policy_has_one_answer();
+    what_goes_out_fits();
+    saved_keeps_bounds();
 }
 
 // What that rests on.

@@ -14,11 +14,12 @@ use enforce_types::TypedPolicy;
 use enforcer_core::{Enforcer, StepRefusal};
 use formula_reader::read_policy;
 use monitorable_guard::StepEvents;
+use obligations::Now;
 use obligations::begun::take;
 use obligations::laws::well_formed_can_be_asked;
 use obligations::missing::{lack, lack_pending};
-use obligations::{Now, Pending};
 use past_state::{PastState, Tables};
+use pending::Pending;
 use plan_terms::Plan;
 use signature::Signature;
 use std::alloc::Global;
@@ -171,8 +172,9 @@ fn find_pending(alloc: Global, plans: &[Plan], now: &Now<'_>, found: &mut Found)
 {
     let mut pending = Pending::new(alloc);
     pending.progress(alloc, plans, now, false)?;
-    found.number(pending.to_list(alloc)?.len() as u64);
-    let Some(instance) = pending.as_slice().first() else {
+    let list = pending.to_list(alloc)?;
+    found.number(list.as_slice().len() as u64);
+    let Some(instance) = list.as_slice().first() else {
         return Err("an instance".into());
     };
     found.number(lack_pending(alloc, instance, plans, now, true)?.len() as u64);

@@ -213,6 +213,11 @@ fn insert_searched(few: &mut Vec<Event>, event: Event) -> Result<bool, Event>
     if is_among(few.as_slice(), &event) {
         return Ok(false);
     }
+    // an event that is caused often stays alone
+    let exact = if few.is_empty() { 1 } else { 0 };
+    if few.reserve_exact(exact).is_err() {
+        return Err(event);
+    }
     match few.push(event) {
         Ok(()) => Ok(true),
         Err(failed) => Err(failed.value),

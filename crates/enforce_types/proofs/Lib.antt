@@ -17,3 +17,6 @@ pub mod TypingLemmas
 pub mod FormulaNames
 pub mod MadeWell
 pub mod FormedPlans
+pub mod SortLemmas
+pub mod PlanSortLemmas
+pub mod ReadSorts

@@ -1,8 +1,11 @@
 -- Small formulas and their plans, on which the rules can be checked by eye.
 use Rattle.std.specs.Prelude.{ℕ, nat_eq, Bool, true, false, List, [], ◌∷◌, Ok, Err, codes}
 use Rattle.enf_value.specs.declared.events.NameId.{NameId}
-use Rattle.enf_value.specs.declared.terms.Term.TheVariants.{Var}
+use Rattle.enf_value.specs.declared.steps.Step.{Step}
+use Rattle.enf_value.specs.declared.terms.Term.TheVariants.{Var, Const}
 use Rattle.enf_value.specs.declared.terms.VarId.{VarId}
+use Rattle.enf_value.specs.declared.values.Value.{Value}
+use Rattle.enf_value.specs.declared.values.Value.TheVariants as values
 use Rattle.enf_formula.specs.Cases.{x, name_p, name_q, within, from_on}
 use Rattle.enf_formula.specs.Formulas as tree
 use Rattle.enf_formula.specs.Formulas.{Formula}
@@ -91,3 +94,29 @@ abbrev pub p_and_q : List NameEntry
 p_and_q =
     record { text = codes "p"; sorts = sort.Text ∷ []; causable = false; suppressible = true }
     ∷ record { text = codes "q"; sorts = sort.Text ∷ []; causable = true; suppressible = false } ∷ []
+
+-- p(int); q(text)
+abbrev pub int_and_text : List NameEntry
+int_and_text =
+    record { text = codes "p"; sorts = sort.Int ∷ []; causable = false; suppressible = false }
+    ∷ record { text = codes "q"; sorts = sort.Text ∷ []; causable = false; suppressible = false } ∷ []
+
+-- the text `a`
+abbrev pub a : Value
+a = values.Text (codes "a")
+
+-- x = a, p(x) and x = a, and (exists y. y = x and q(y)) since[0,*] p(x)
+abbrev pub x_is_a : Formula
+x_is_a = tree.Equal 1 (Var x) (Const a)
+
+abbrev pub number_is_a : Formula
+number_is_a = tree.And 2 (p_x_at 1) (tree.Equal 3 (Var x) (Const a))
+
+abbrev pub other_since : Formula
+other_since = tree.Since 2 (from_on 0)
+    (tree.Exists 3 (y ∷ []) (tree.And 4 (tree.Equal 5 (Var y) (Var x)) (tree.Atom 6 name_q (Var y ∷ []))))
+    (p_x_at 1)
+
+-- a step with p() of the value
+abbrev pub one_p : Value → List Step
+one_p value = record { time = 0; events = record { name = name_p; args = value ∷ [] } ∷ [] } ∷ []

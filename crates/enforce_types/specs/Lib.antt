@@ -9,3 +9,6 @@ pub mod PolicyPlans
 pub mod PolicyLaws
 pub mod Accepted
 pub mod Typed
+pub mod Sorting
+pub mod SortingLaws
+pub mod PlanSorts

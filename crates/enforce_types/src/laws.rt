@@ -7,6 +7,8 @@ ghost use Rattle.enforce_types.specs.PolicyLaws.{PolicyKeepsMeaning, PolicyIsNum
 ghost use Rattle.enforce_types.specs.PolicyLaws.{IsAnswered, NotBoth, OnePlans, OneRefusal};
 ghost use Rattle.enforce_types.specs.PolicyLaws.{GuardsAreAtNumbers, PlansAreWellFormed, PlansAreWithinLimits};
 ghost use Rattle.enforce_types.specs.PolicyLaws.{PlansEndLater, PlansKeepToSignature};
+ghost use Rattle.enforce_types.specs.PlanSorts.{MadeKeepsSorts, PolicyKeepsSorts};
+ghost use Rattle.enforce_types.specs.Sorting.{FitWhereNoneWasFound, ReadIsSorted, SafeIsFound, SafeValuesFit};
 ghost use Rattle.enforce_types.specs.Accepted.{AcceptedIsNotRefused, AcceptedOrRefused, RefusedOnce};
 
 use enf_formula::laws::is_classical;
@@ -95,3 +97,22 @@ pub fn policy_is_accepted_or_refused()
 {
     plans_have_one_answer();
 }
+
+/// Sorts that fit where variables were found before fit where none was; a safe formula finds the sorts of its free
+/// variables; and the values of these under which it holds are of their sorts, on a trace of which the events are.
+pub fn safe_values_fit()
+    ensures none { FitWhereNoneWasFound }
+    ensures found { SafeIsFound }
+    ensures values { SafeValuesFit }
+{}
+
+/// The plan of a closed formula that sorts fit keeps to them, and so do those of a policy that was read.
+pub fn plans_keep_sorts()
+    ensures made { MadeKeepsSorts }
+    ensures policy { PolicyKeepsSorts }
+{}
+
+/// The rules of a text are sorted.
+pub fn read_is_sorted()
+    ensures { ReadIsSorted }
+{}

@@ -1,9 +1,10 @@
 //! Worked cases of plans and refusals, each a clause of a function with an empty body. In them q can be caused and p
 //! suppressed.
-ghost use Rattle.std.specs.Prelude.{◌≡◌, [], ◌∷◌};
+ghost use Rattle.std.specs.Prelude.{◌≡◌, [], ◌∷◌, pos};
 ghost use Rattle.enf_formula.specs.Cases.{x, name_p, name_q, within, from_on};
 ghost use Rattle.enf_formula.specs.Formulas as tree;
 ghost use Rattle.enf_value.specs.declared.terms.Term.TheVariants.{Var};
+ghost use Rattle.enf_value.specs.declared.values.Value.TheVariants.{Num};
 ghost use Rattle.plan_terms.specs.Cases.{cause_q_x_y, each_soon, guards_soon};
 ghost use Rattle.plan_terms.specs.Plans as plan;
 ghost use Rattle.enforce_types.specs.Cases.{MadeTrue, MadeFalse, TrueBy, FalseBy, not_enforceable, unguarded, y};
@@ -11,7 +12,9 @@ ghost use Rattle.enforce_types.specs.Cases.{p_at, q_at, p_x_at, q_x_at, p_x_y_at
 ghost use Rattle.enforce_types.specs.Cases.{p_and_q, suppress_p, suppress_p_x, cause_q, cause_q_x};
 ghost use Rattle.plan_terms.specs.Guards.{GuardsAreListed, guards_in};
 ghost use Rattle.enforce_types.specs.Numbering.{numbered, all_numbered};
+ghost use Rattle.enforce_types.specs.Cases.{a, int_and_text, number_is_a, one_p, other_since, x_is_a};
 ghost use Rattle.enforce_types.specs.PolicyLaws.{KeepsToSignature};
+ghost use Rattle.enforce_types.specs.Sorting.{IsSorted, TraceFits};
 
 /// Formulas that are made true.
 pub fn made_true()
@@ -123,4 +126,16 @@ pub fn keeping_to_signature()
     ensures no_term { KeepsToSignature p_and_q (cause_q 1 ∷ []) [] → ⊥ }
     ensures two_terms { KeepsToSignature p_and_q (cause_q_x_y ∷ []) [] → ⊥ }
     ensures no_name { KeepsToSignature [] [] guards_soon → ⊥ }
+{}
+
+/// Sorts of formulas and of traces. The two sides of an equation may be of different sorts where neither was found
+/// before it in the text.
+pub fn sorts()
+    ensures constant { IsSorted int_and_text x_is_a }
+    ensures clash { IsSorted int_and_text number_is_a → ⊥ }
+    ensures found_behind { IsSorted int_and_text other_since }
+    ensures no_name { IsSorted [] (p_x_at 1) → ⊥ }
+    ensures trace { TraceFits int_and_text (one_p (Num (pos 7))) }
+    ensures no_number { TraceFits int_and_text (one_p a) → ⊥ }
+    ensures no_entry { TraceFits [] (one_p a) → ⊥ }
 {}

@@ -561,12 +561,12 @@ near_window trace rule (TestOr n guard test body) i begins ends = absurd begins
 near_window trace rule (Guarded n xs guard test body) i begins ends = absurd begins
 
 pub highs_are_near : WellFormedStand → PendingWasBegun → LastIsAtTheEnd → HighsAreNear
-highs_are_near standing was_begun last typed trace pending clock works is_trace pend not_later early =
+highs_are_near standing was_begun last plans guards trace pending clock formed is_trace pend not_later early =
     All-from_recursion (λ (i : Instance). i.high ≤ most_time Inserted) pending
     (AllByRecursion-from_contains (λ (i : Instance). i.high ≤ most_time Inserted) pending (λ i there.
-    let was = was_begun typed.plans trace pending i (standing typed.plans typed.guards works.formed) pend there in
-    let h = has_node typed.plans i was.0 was.1 in
-    let plan = AllByRecursion-contains (IsWellFormed typed.guards) typed.plans h.plan works.formed.each (there_from_get typed.plans i.rule h.plan h.plan_is) in
+    let was = was_begun plans trace pending i (standing plans guards formed) pend there in
+    let h = has_node plans i was.0 was.1 in
+    let plan = AllByRecursion-contains (IsWellFormed guards) plans h.plan formed.each (there_from_get plans i.rule h.plan h.plan_is) in
     let near = near_window was.2 i.rule was.0 i was.6 (AllByRecursion-contains EndsInTime (nodes h.plan) was.0 plan.ends h.inside) in
     let time = front_not_later last trace was.2 was.3 is_trace was.4 was.5 in
     omega (arith, near, time, not_later, early)))

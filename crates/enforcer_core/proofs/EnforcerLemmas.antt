@@ -4,14 +4,14 @@ use Rattle.std.proofs.lemmas.List.Elements.{All-weaker}
 use Rattle.enf_value.specs.ListLaws.{here}
 use Rattle.enf_value.specs.declared.steps.Step.{Step}
 use Rattle.obligations.specs.Asked.{placed_guard}
-use Rattle.obligations.specs.DeadlineLaws.{deadline_is_listed}
 use Rattle.obligations.specs.Traces.{PendingIsEnough}
-use Rattle.obligations.specs.Waiting.{KeepsDeadlines}
 use Rattle.obligations.specs.declared.now.TheConstants.{MOST_TIME}
+use Rattle.pending.specs.Listed.{IsKeptFor}
 use Rattle.enforce_types.specs.Typed.{StoredTyped, WorkTogether, typed_of}
 use Rattle.trace_meaning.specs.Records.{Record, time_of}
 use Rattle.choice_step.specs.Follows.{ActedStep, steps_of}
 use Rattle.choice_step.specs.Laws.{AreDistinct}
+use Rattle.enforcer_core.proofs.StepLemmas.{deadline_listed}
 use Rattle.enforcer_core.specs.Enforcers.{Enforcing, plans_in}
 use Rattle.enforcer_core.specs.Follows.{FollowsDrainFrom, FollowsFrom}
 use Rattle.enforcer_core.specs.Justifying.{DrainIsJustified, FollowsIsJustified, IsJustifiedFrom}
@@ -75,7 +75,7 @@ module _ (policy : StoredTyped) (r r' : Remembered) (clock later : ℕ) (out : L
       let can = (passes.serves.can later (omega arith)).asked in
       drained_satisfies enough (map placed_guard r'.past.guards) (plans_in policy) (trace ++ steps_of out) r'.pending.instances
       can.named then.is_trace then.ready.clean then.pending can.instances
-      (λ i deadline there has. none deadline (deadline_is_listed (plans_in policy) r'.pending i deadline then.deadlines there has) tt)
+      (λ i deadline there has. none deadline (deadline_listed (plans_in policy) r'.pending i deadline then.deadlines there has) tt)
 
   -- it is over within the horizon
   pub drain_ends : StepLaws → WorkTogether (typed_of policy) → (trace : List Step) → Stands (enforcing_at policy r clock) trace
@@ -85,12 +85,12 @@ module _ (policy : StoredTyped) (r r' : Remembered) (clock later : ℕ) (out : L
       passes.within.in_reach (clock + (typed_of policy).ranked.horizon + 1) (omega arith) (omega (arith, reach))
 
   -- whatever it stands for, within the horizon of what is pending
-  pub drain_within : WorkTogether (typed_of policy) → KeepsDeadlines (plans_in policy) r.pending → (last : ℕ)
+  pub drain_within : WorkTogether (typed_of policy) → IsKeptFor (plans_in policy) r.pending → (last : ℕ)
       → ((deadline : ℕ) → Contains r.pending.deadlines deadline → deadline ≤ last)
       → All (λ (o : ActedStep). o.step.time ≤ last + (typed_of policy).ranked.horizon) out
   drain_within together keeps last until =
       let reach = reach_later (typed_of policy) together r.pending.instances last
-      (λ i there deadline has. until deadline (deadline_is_listed (plans_in policy) r.pending i deadline keeps there has)) in
+      (λ i there deadline has. until deadline (deadline_listed (plans_in policy) r.pending i deadline keeps there has)) in
       All-weaker (λ (o : ActedStep). o.step.time ≤ reach_in (enforcing_at policy r clock)) (λ (o : ActedStep). o.step.time ≤ last + (typed_of policy).ranked.horizon)
       (λ o le. omega (arith, le, reach)) out passes.bounded
 

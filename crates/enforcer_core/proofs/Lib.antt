@@ -6,11 +6,16 @@ pub mod DrainLemmas
 pub mod EndingLemmas
 pub mod EnforcerLemmas
 pub mod ExistingLemmas
+pub mod FittingLemmas
 pub mod JustifyingLemmas
+pub mod KeptSorts
 pub mod LetLemmas
 pub mod PassLemmas
 pub mod PresentLemmas
+pub mod RightSorts
+pub mod SavedLemmas
 pub mod StepLemmas
+pub mod ToldSorts
 pub mod TransparentLemmas
 pub mod TriggerLemmas
 pub mod SnapshotLemmas

@@ -10,7 +10,6 @@ use Rattle.obligations.specs.declared.now.TheConstants.{MOST_TIME}
 use Rattle.past_state.specs.Guarded.{AreCopies}
 use Rattle.plan_terms.specs.Plans.{Plan}
 use Rattle.enforce_types.specs.Typed.{StoredTyped, WorkTogether, typed_of}
-use Rattle.obligations.specs.DeadlineLaws.{deadline_is_listed}
 use Rattle.obligations.specs.Pending.{HasDeadline, NoneIsOver}
 use Rattle.obligations.specs.Waiting.{IsLeastOf}
 use Rattle.obligations.specs.declared.instances.Instance.{Instance}
@@ -25,7 +24,7 @@ use Rattle.enforcer_core.specs.StepLaws.{StepLaws}
 use Rattle.enforcer_core.specs.declared.remembered.Remembered.{Remembered}
 use Rattle.enforcer_core.specs.declared.steps.OutStep as made
 use Rattle.enforcer_core.proofs.ChangeLemmas.{changes_join, inserted_changes, none_changes}
-use Rattle.enforcer_core.proofs.StepLemmas.{least_is, stands_behind}
+use Rattle.enforcer_core.proofs.StepLemmas.{deadline_listed, least_is, stands_behind}
 
 -- ---- steps behind steps
 
@@ -223,7 +222,7 @@ none_passed : (policy : StoredTyped) (r : Remembered) (clock : ℕ) (until : Opt
     → Stands (enforcing_at policy r clock) trace → NoneIsLeft until (enforcing_at policy r clock)
     → NoneIsPassed (plans_in policy) r.pending.instances until
 none_passed policy r clock until trace stands none i deadline there has passed =
-    none deadline (deadline_is_listed (plans_in policy) r.pending i deadline stands.deadlines there has) passed
+    none deadline (deadline_listed (plans_in policy) r.pending i deadline stands.deadlines there has) passed
 
 pub passes_all : (policy : StoredTyped) (r r' : Remembered) (clock later : ℕ) (until : Option ℕ) (out : List ActedStep)
     → Passes until (enforcing_at policy r clock) out (enforcing_at policy r' later)

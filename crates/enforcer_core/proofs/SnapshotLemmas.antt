@@ -1,8 +1,8 @@
 -- The guards of a policy and their copies have the same operators, which can be numbered.
-use Rattle.std.proofs.Common.{◌≡◌, ◌==◌, ◌∙◌, ℕ, ◌<◌, ◌≤◌, ◌^◌, Bool, true, false, cond, List, [], ◌∷◌, All, Option, None, Some, length, map, sum, refl, sym, ap, subst, arith}
+use Rattle.std.proofs.Common.{◌≡◌, ◌∙◌, ℕ, ◌<◌, ◌≤◌, ◌^◌, Bool, true, false, cond, List, [], ◌∷◌, All, Option, None, Some, length, map, sum, refl, sym, ap, subst, arith}
 use Rattle.std.specs.Prelude.{IsSome, slice_get}
 use Rattle.std.specs.FinMap as finite
-use Rattle.std.specs.List.{AllByRecursion, count_by, find, sum_by}
+use Rattle.std.specs.List.{AllByRecursion, find, sum_by}
 use Rattle.std.specs.Option.{option_map}
 use Rattle.std.proofs.lemmas.Bool.{false≢true}
 use Rattle.std.proofs.lemmas.List.Elements.{All-contains}
@@ -15,8 +15,12 @@ use Rattle.plan_terms.specs.Plans.{Plan}
 use Rattle.plan_terms.specs.ScopeLaws.{AtEach-found, FoundEndsInTime, FoundIsFirst}
 use Rattle.plan_terms.specs.Scopes.{scoped_at}
 use Rattle.plan_terms.specs.Standing.{nodes_of}
+use Rattle.plan_terms.specs.WellFormed.{AreWellFormed}
+use Rattle.past_state.specs.Bounds.{AreWithinBounds}
 use Rattle.past_state.specs.LastTimes.{IsFrom, IsLastTime}
 use Rattle.past_state.specs.Restoring.{KeptAreWithinBounds}
+use Rattle.past_state.specs.Saved.{AreRowsRising}
+use Rattle.past_state.specs.declared.kept.KeptRow.{KeptRow}
 use Rattle.enf_value.specs.declared.steps.Step.{Step}
 use Rattle.trace_meaning.specs.Continuation.{last_time}
 use Rattle.trace_meaning.specs.Records.{most_time}
@@ -26,13 +30,13 @@ use Rattle.enforcer_core.specs.Enforcers.{plans_in}
 use Rattle.enforcer_core.specs.Snapshots.{KeptCanBeTakenUp, operators_in}
 use Rattle.obligations.specs.Asked.{CanAskIn, CanAskNode, FitsScope}
 use Rattle.obligations.specs.Bounds.{CanBePending, PendCanBePending}
-use Rattle.obligations.specs.Pending.{NoneIsOver, PendIsOne, node_of}
+use Rattle.obligations.specs.Pending.{IsReady, NoneIsOver, Pend, PendIsOne, node_of}
 use Rattle.obligations.specs.declared.now.TheConstants.{MOST_TIME}
 use Rattle.rank_check.specs.declared.horizon.TheConstants.{MOST_HORIZON}
 use Rattle.enforcer_core.specs.Ending.{HighsAreNear, reach_of}
 use Rattle.enforcer_core.proofs.EndingLemmas.{due_at, over_from, reach_later}
 use Rattle.obligations.specs.Scopes.{ahead, scoped_in_plan}
-use Rattle.obligations.specs.Waiting.{CanAskOf, CanAskRoot, CanAskRoots, KeepsDeadlines, PendingList, count_due}
+use Rattle.obligations.specs.Waiting.{CanAskOf, CanAskRoot, CanAskRoots}
 use Rattle.obligations.specs.declared.instances.Instance.{Instance}
 use Rattle.std.proofs.lemmas.List.Sums.{sum-map}
 use Rattle.enf_formula.specs.Formulas.{Formula}
@@ -85,7 +89,7 @@ future_found (Some other) node is = by (is_future other.0) refl is
     by true future same = (same, subst (λ (n : Plan × List VarId). is_future n.0 ≡ true) (same_Some other node same) future)
     by false future none = absurd (none-some node none)
 
-kept_at : FoundIsFirst → (plans : List Plan) (clock position : ℕ) (i : Instance) (b : CanBePending plans clock position i)
+pub kept_at : FoundIsFirst → (plans : List Plan) (clock position : ℕ) (i : Instance) (b : CanBePending plans clock position i)
     → (plan : Plan) × (slice_get plans i.rule ≡ Some plan) × (scoped_at i.node plan [] ≡ Some (b.node, b.scope))
     × (node_of plans i ≡ Some b.node) × (is_future b.node ≡ true)
 kept_at is_first plans clock position i b = by (slice_get plans i.rule) refl b.named
@@ -152,23 +156,28 @@ from_clock (Some last) clock time from later = omega (arith, from, later)
 
 -- ---- what is kept of a trace can be taken up
 
-last_from : (trace : List Step) (last : Option ℕ) (clock : ℕ) → IsLastTime trace last → last_time trace ≤ clock → IsFrom last clock
+pub last_from : (trace : List Step) (last : Option ℕ) (clock : ℕ) → IsLastTime trace last → last_time trace ≤ clock → IsFrom last clock
 last_from trace None clock is later = tt
 last_from trace (Some last) clock is later = omega (arith, is.1, later)
+
+-- what is pending behind a trace that is ready for the clock can be so
+pub can_pend : PendCanBePending → PendIsOne → (plans : List Plan) (guards : List (Formula × List VarId)) (trace : List Step) (clock : ℕ) (pending : List Instance) → AreWellFormed plans guards
+    → IsReady plans trace clock → Pend plans trace pending → All (CanBePending plans clock (length trace)) pending
+can_pend pends one plans guards trace clock pending formed ready pend =
+    pends plans guards trace clock pending formed pend (subst (λ (l : List Instance). NoneIsOver plans l clock) (one plans trace ready.pending pending ready.pend pend) ready.in_time)
 
 pub kept_taken_up : PendCanBePending → KeptAreWithinBounds → PendIsOne → HighsAreNear → KeptCanBeTakenUp
 kept_taken_up pends within one near policy trace clock s together is_trace ready early is = record {
   in_time = subst (λ c. c ≤ most_time Inserted) (sym is.clocked) (omega (arith, early));
-  due = near (typed_of policy) trace s.pending clock together is_trace is.pending ready.not_later early;
+  due = near (plans_in policy) (typed_of policy).guards trace s.pending clock together.formed is_trace is.pending ready.not_later early;
   not_later = subst (IsFrom s.last) (sym is.clocked) (last_from trace s.last clock is.last ready.not_later);
   kept = within trace s.last (operators_in policy) s.kept is_trace is.last is.rising is.kept;
   pending = subst (λ n. All (CanBePending (plans_in policy) s.clock n) s.pending) (sym is.position)
       (subst (λ c. All (CanBePending (plans_in policy) c (length trace)) s.pending) (sym is.clocked)
-      (pends (plans_in policy) (typed_of policy).guards trace clock s.pending together.formed is.pending
-      (subst (λ (l : List Instance). NoneIsOver (plans_in policy) l clock) (one (plans_in policy) trace ready.pending s.pending ready.pend is.pending) ready.in_time)));
+      (can_pend pends one (plans_in policy) (typed_of policy).guards trace clock s.pending together.formed ready is.pending));
 }
 
--- where nothing is pending, no deadline is
-pub keeps_none : (plans : List Plan) (none : PendingList) → none.instances ≡ [] → none.deadlines ≡ [] → KeepsDeadlines plans none
-keeps_none plans none instances deadlines deadline =
-    ap (count_by (λ entry. entry == deadline)) deadlines ∙ sym (ap (λ (l : List Instance). count_due plans l deadline) instances)
+-- rows within their bounds rise
+pub rows_rise : (fs : List Formula) (last : Option ℕ) (rows : List KeptRow) → AreWithinBounds fs last rows → AreRowsRising rows
+rows_rise fs None rows within = subst AreRowsRising (sym within) tt
+rows_rise fs (Some last) rows within = within.0

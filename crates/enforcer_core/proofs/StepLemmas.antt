@@ -15,8 +15,9 @@ use Rattle.obligations.specs.Begun.{LacksNothing, LacksSome, time_now}
 use Rattle.obligations.specs.DeadlineLaws.{deadline_is_listed, listed_is_deadline}
 use Rattle.obligations.specs.Missing.{Missing, MissingIsOne}
 use Rattle.obligations.specs.Pending.{AtNode, HasDeadline, IsCleanAt, IsReady, MissesAt, MissingOf, NoneIsOver, Pend, node_of}
-use Rattle.obligations.specs.Waiting.{IsLeastOf, KeepsDeadlines, PendingList}
+use Rattle.obligations.specs.Waiting.{IsLeastOf}
 use Rattle.obligations.specs.declared.instances.Instance.{Instance}
+use Rattle.pending.specs.Listed.{IsKeptFor, PendingList}
 use Rattle.choice_step.specs.Choice.{MissesNothing, Waiting, all_asked, is_forced, roots_from, with_step}
 use Rattle.choice_step.specs.Follows.{ActedStep, GoesOut, IsLeastDeadline, is_inserted}
 use Rattle.enforce_types.specs.Typed.{StoredTyped}
@@ -29,18 +30,24 @@ use Rattle.enforcer_core.specs.declared.remembered.Remembered.{Remembered}
 
 -- ---- deadlines
 
+-- what an instance has to meet is in the list, and the other way round
+pub deadline_listed : (plans : List Plan) (pending : PendingList) (i : Instance) (deadline : ℕ) → IsKeptFor plans pending
+    → Contains pending.instances i → HasDeadline plans i deadline → Contains pending.deadlines deadline
+deadline_listed plans pending i deadline keeps there has =
+    deadline_is_listed plans (record { instances = pending.instances; deadlines = pending.deadlines }) i deadline keeps.due there has
+
 -- where no deadline of the list is earlier, none of the instances is
-pub none_earlier : (plans : List Plan) (pending : PendingList) (time : ℕ) → KeepsDeadlines plans pending
+pub none_earlier : (plans : List Plan) (pending : PendingList) (time : ℕ) → IsKeptFor plans pending
     → ((deadline : ℕ) → Contains pending.deadlines deadline → time ≤ deadline) → NoneIsOver plans pending.instances time
 none_earlier plans pending time keeps later =
     All-from_recursion (λ i. (deadline : ℕ) → HasDeadline plans i deadline → time ≤ deadline) pending.instances
     (AllByRecursion-from_contains (λ i. (deadline : ℕ) → HasDeadline plans i deadline → time ≤ deadline) pending.instances
-    (λ i there deadline has. later deadline (deadline_is_listed plans pending i deadline keeps there has)))
+    (λ i there deadline has. later deadline (deadline_listed plans pending i deadline keeps there has)))
 
-pub least_is : (plans : List Plan) (pending : PendingList) (deadline : ℕ) → KeepsDeadlines plans pending
+pub least_is : (plans : List Plan) (pending : PendingList) (deadline : ℕ) → IsKeptFor plans pending
     → IsLeastOf pending.deadlines (Some deadline) → IsLeastDeadline plans pending.instances deadline
 least_is plans pending deadline keeps least =
-    let has : (i : Instance) × Contains pending.instances i × HasDeadline plans i deadline = listed_is_deadline plans pending deadline keeps least.0 in
+    let has : (i : Instance) × Contains pending.instances i × HasDeadline plans i deadline = listed_is_deadline plans (record { instances = pending.instances; deadlines = pending.deadlines }) deadline keeps.due least.0 in
     record { instance = has.0; there = has.1; is = has.2; least = none_earlier plans pending deadline keeps least.1 }
 
 -- no deadline is below the clock
@@ -149,7 +156,7 @@ module _ (laws : StepLaws) (policy : StoredTyped) (r r' : Remembered) (clock tim
 
   pub stands_behind : Stands (enforcing_at policy r clock) trace → AllByRecursion (λ i. i.low ≤ i.high) r.pending.instances
       → NoneIsOver plans r.pending.instances time → GoesOut plans trace kind time events o → HasNoRepeats o.step.events
-      → Remembers plans r' (trace ++ o.step ∷ []) → KeepsDeadlines plans r'.pending
+      → Remembers plans r' (trace ++ o.step ∷ []) → IsKeptFor plans r'.pending
       → NoneIsOver plans r'.pending.instances behind → Stands (enforcing_at policy r' behind) (trace ++ o.step ∷ [])
   stands_behind stands order none_over goes distinct remembers keeps none_behind = record {
     is_trace = laws.grows trace o.step stands.is_trace (let last = stands.ready.not_later in let at = goes.time_is in omega (arith, last, later, at)) distinct;

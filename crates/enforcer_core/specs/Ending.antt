@@ -6,6 +6,8 @@ use Rattle.std.specs.List.{AllByRecursion}
 use Rattle.enf_value.specs.Data.{IsTrace}
 use Rattle.enf_value.specs.declared.events.Event.{Event}
 use Rattle.enf_value.specs.declared.steps.Step.{Step}
+use Rattle.enf_value.specs.declared.terms.VarId.{VarId}
+use Rattle.enf_formula.specs.Formulas.{Formula}
 use Rattle.trace_meaning.specs.Continuation.{last_time}
 use Rattle.trace_meaning.specs.Records.{most_time}
 use Rattle.trace_meaning.specs.declared.kinds.StepKind.TheVariants.{Inserted, System}
@@ -108,8 +110,9 @@ ReachIsWithinHorizon =
 
 -- and no window of it ends too late
 abbrev pub HighsAreNear : Type 0
-HighsAreNear = (typed : Typed) (trace : List Step) (pending : List Instance) (clock : ℕ) → WorkTogether typed
-    → IsTrace trace → Pend typed.plans trace pending → last_time trace ≤ clock → clock ≤ most_time System
+HighsAreNear = (plans : List Plan) (guards : List (Formula × List VarId)) (trace : List Step)
+    (pending : List Instance) (clock : ℕ) → AreWellFormed plans guards
+    → IsTrace trace → Pend plans trace pending → last_time trace ≤ clock → clock ≤ most_time System
     → All (λ i. i.high ≤ most_time Inserted) pending
 
 -- a step that no deadline is earlier than leaves none that is

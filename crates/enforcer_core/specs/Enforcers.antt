@@ -8,10 +8,10 @@ use Rattle.plan_terms.specs.PlanFormula.{formula_for}
 use Rattle.plan_terms.specs.Plans.{Plan}
 use Rattle.enforce_types.specs.Typed.{StoredTyped, typed_of}
 use Rattle.past_state.specs.Past.{Past}
-use Rattle.obligations.specs.Waiting.{PendingList}
 use Rattle.choice_step.specs.Follows as choice
 use Rattle.choice_step.specs.Follows.{ActedStep}
 use Rattle.enforcer_core.specs.declared.steps.OutStep as made
+use Rattle.pending.specs.Listed.{PendingList}
 
 -- the policy that it keeps, what the guards remember, what is pending, the number of the steps that went out, the time
 -- of the last of them, the time below which all is over, and whether it answers no more

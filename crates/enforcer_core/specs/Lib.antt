@@ -10,12 +10,15 @@ pub mod Course
 pub mod Ending
 pub mod Enforcers
 pub mod Existing
+pub mod Fitting
 pub mod Follows
+pub mod HaveSorts
 pub mod Justifying
 pub mod Keeping
 pub mod Laws
 pub mod Passing
 pub mod Remembering
+pub mod SavedBounds
 pub mod Stands
 pub mod Snapshots
 pub mod StepLaws

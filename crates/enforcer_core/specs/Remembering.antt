@@ -17,8 +17,9 @@ use Rattle.obligations.specs.Asked.{placed_guard}
 use Rattle.obligations.specs.Carrying.{AreServed, LeadsAt}
 use Rattle.obligations.specs.Pending.{Goes, Pend}
 use Rattle.obligations.specs.Traces.{PlansStand}
-use Rattle.obligations.specs.Waiting.{CanAskOf, CanAskRoots, KeepsDeadlines}
+use Rattle.obligations.specs.Waiting.{CanAskOf, CanAskRoots}
 use Rattle.obligations.specs.declared.instances.Instance.{Instance}
+use Rattle.pending.specs.Listed.{IsKeptFor}
 use Rattle.choice_step.specs.Choosing.{ActsFrom, AreAsked}
 use Rattle.choice_step.specs.Follows.{GoesOut, is_inserted}
 use Rattle.choice_step.specs.Idle.{AllSleep}
@@ -37,7 +38,7 @@ pub record CanAskAll (plans : List Plan) (r : Remembered) : Type 0 where
   pub named : PlansStand plans
   pub roots : CanAskRoots (map placed_guard r.past.guards) plans
   pub instances : AllByRecursion (CanAskOf (map placed_guard r.past.guards) plans) r.pending.instances
-  pub deadlines : KeepsDeadlines plans r.pending
+  pub deadlines : IsKeptFor plans r.pending
 
 -- and a step at a time, which is not earlier than those before it
 pub record CanGoOn (plans : List Plan) (r : Remembered) (time : ℕ) : Type 0 where
@@ -74,7 +75,7 @@ pub record IsDecided (plans : List Plan) (before : Remembered) (kind : StepKind)
       after.pending.instances
   pub guards : after.past.guards ≡ before.past.guards
   pub position : after.position ≡ before.position + 1
-  pub deadlines : KeepsDeadlines plans after.pending
+  pub deadlines : IsKeptFor plans after.pending
   pub goes_out : (trace : List Step) → Remembers plans before trace → last_time trace ≤ time
       → GoesOut plans trace kind time events (acted_step o)
   pub goes : (trace : List Step) → Remembers plans before trace → last_time trace ≤ time

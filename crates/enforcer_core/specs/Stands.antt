@@ -4,7 +4,7 @@ use Rattle.enf_value.specs.Data.{IsTrace}
 use Rattle.enf_value.specs.declared.steps.Step.{Step}
 use Rattle.trace_meaning.specs.Satisfies.{Satisfies}
 use Rattle.obligations.specs.Pending.{IsReady, Pend}
-use Rattle.obligations.specs.Waiting.{KeepsDeadlines}
+use Rattle.pending.specs.Listed.{IsKeptFor}
 use Rattle.past_state.specs.LastTimes.{IsLastTime}
 use Rattle.past_state.specs.Past.{PastStands}
 use Rattle.choice_step.specs.Follows.{ActedStep, steps_of}
@@ -19,7 +19,7 @@ pub record Stands (enforcer : Enforcing) (trace : List Step) : Type 0 where
   pub last : IsLastTime trace enforcer.last
   pub past : PastStands trace enforcer.past
   pub pending : Pend (plans_of enforcer) trace enforcer.pending.instances
-  pub deadlines : KeepsDeadlines (plans_of enforcer) enforcer.pending
+  pub deadlines : IsKeptFor (plans_of enforcer) enforcer.pending
 
 -- whatever it stood for, it now stands for that with these steps at its end
 abbrev pub KeepsStanding : Enforcing → Enforcing → List ActedStep → Type 0

@@ -24,10 +24,11 @@ use choice_step::Wakes;
 use enf_value::event_sets::EventSet;
 use enf_value::memory::NoMemory;
 use enforce_types::TypedPolicy;
+use obligations::instances::Instances;
 use obligations::laws::{pending_is_enough, well_formed_can_be_asked};
-use obligations::{Instance, Pending};
 use past_state::PastState;
 use past_state::laws::operators_are_nodes;
+use pending::Pending;
 use plan_terms::laws::{found_node_inherits, nodes_have_scopes};
 use save_codec::Snapshot;
 use std::alloc::Global;
@@ -50,7 +51,7 @@ impl Model for Enforcer {
     ghost use Rattle.enforce_types.specs.contracts.typed_policy.TypedPolicy as typed;
     ghost use Rattle.enforcer_core.specs.Enforcers.{Enforcing};
     ghost use Rattle.enforcer_core.specs.Keeping.{IsEnforcing};
-    ghost use Rattle.obligations.specs.Waiting.{pending_code};
+    ghost use Rattle.pending.specs.Listed.{pending_code};
     ghost use Rattle.past_state.specs.PastCodes.{past_code};
     ghost use Rattle.plan_terms.specs.Triggers.{guard_triggers};
     ghost use Rattle.std.specs.Coded.{codes};
@@ -164,10 +165,10 @@ impl Enforcer {
     }
 
     /// The instances that are pending, in their order.
-    pub fn pending(&self) -> &[Instance]
-        ensures { result.now ≡ self.now.pending.instances }
+    pub fn pending(&self, alloc: Global) -> Result<Instances, NoMemory>
+        ensures { IfOk result (λ list. list ≡ self.now.pending.instances) }
     {
-        self.remembered.pending.as_slice()
+        self.remembered.pending.to_list(alloc)
     }
 
     /// How many instances are pending.

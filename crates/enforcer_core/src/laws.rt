@@ -1,8 +1,10 @@
 //! Laws of enforcers, each the contract of a function that does nothing.
+ghost use Rattle.enforcer_core.specs.Fitting.{FollowsFitsSignature};
 ghost use Rattle.enforcer_core.specs.Justifying.{CourseIsJustified, CourseIsJustifiedToEnd, DrainIsJustified};
 ghost use Rattle.enforcer_core.specs.Justifying.{FollowsIsJustified};
 ghost use Rattle.enforcer_core.specs.Laws.{CourseBegins, CourseGoesOn, CourseKeepsUp, CourseEnforces};
 ghost use Rattle.enforcer_core.specs.Laws.{CourseFollows, CourseFollowsToEnd, PlannedAreSatisfied, StandsForGood};
+ghost use Rattle.enforcer_core.specs.SavedBounds.{SavedKeepsBounds};
 ghost use Rattle.enforcer_core.specs.Snapshots.{KeptCanBeTakenUp};
 ghost use Rattle.enforcer_core.specs.StepLaws.{DrainLaws, StepLaws};
 ghost use Rattle.enforcer_core.specs.Transparency.{CourseIsTransparent, CourseIsTransparentToEnd};
@@ -13,13 +15,20 @@ use crate::existing::something_is_decided;
 use choice_step::laws::{
     actions_are_justified, actions_are_lawful, decided_misses_nothing, some_decision,
 };
-use enforce_types::laws::policy_plans_keep_meaning;
+use enforce_types::laws::{
+    plans_are_well_formed, plans_keep_sorts, policy_plans_keep_meaning, read_is_sorted,
+    safe_values_fit,
+};
+use formula_reader::laws::read_is_well_formed;
+use monitorable_guard::laws::safe_with_listed;
 use obligations::laws::{
     missing_is_one, pending_can_be, pending_can_be_asked, pending_is_enough, pending_is_one,
-    pending_was_begun, traces_grow, well_formed_can_be_asked,
+    pending_is_right, pending_was_begun, traces_grow, well_formed_can_be_asked,
 };
-use past_state::laws::kept_can_be_restored;
+use past_state::laws::{kept_can_be_restored, kept_values_held, operators_are_nodes};
+use plan_terms::laws::{nodes_have_scopes, number_is_place};
 use rank_check::laws::owed_nodes_are_not_lost;
+use save_codec::laws::sound_keeps_bounds;
 use trace_meaning::laws;
 
 /// What an enforcer does for records, one after another.
@@ -90,6 +99,40 @@ pub fn kept_can_be_taken_up()
     pending_is_one();
     kept_can_be_restored();
     serving_ends();
+}
+
+/// And it keeps the bounds of states, where the events of the trace are of the signature: a state that is kept so is
+/// not refused under the same signature and policy.
+pub fn saved_keeps_bounds()
+    ensures { SavedKeepsBounds }
+{
+    nodes_have_scopes();
+    number_is_place();
+    operators_are_nodes();
+    safe_values_fit();
+    safe_with_listed();
+    kept_values_held();
+    pending_is_right();
+    pending_can_be();
+    kept_can_be_restored();
+    pending_is_one();
+    serving_ends();
+    read_is_sorted();
+    read_is_well_formed();
+    plans_keep_sorts();
+    policy_plans_keep_meaning();
+    sound_keeps_bounds();
+}
+
+/// Behind a trace of which the events are of the signature, what goes out for records of which they are has such too.
+pub fn what_goes_out_fits()
+    ensures { FollowsFitsSignature }
+{
+    choice_step::laws::what_goes_out_fits();
+    read_is_sorted();
+    read_is_well_formed();
+    plans_keep_sorts();
+    plans_are_well_formed();
 }
 
 // What a step that goes out rests on.

@@ -8,7 +8,8 @@ ghost use Rattle.obligations.specs.declared.now.TheConstants.{MOST_TIME};
 ghost use Rattle.obligations.specs.Asked.{placed_guard};
 ghost use Rattle.obligations.specs.Carrying.{LeadsAt};
 ghost use Rattle.obligations.specs.Traces.{LooksAtNow};
-ghost use Rattle.obligations.specs.Waiting.{CanAskOf, KeepsDeadlines};
+ghost use Rattle.obligations.specs.Waiting.{CanAskOf};
+ghost use Rattle.pending.specs.Listed.{IsKeptFor};
 ghost use Rattle.past_state.specs.Past.{GuardsWillHold};
 ghost use Rattle.std.specs.List.{AllByRecursion};
 ghost use Rattle.trace_meaning.specs.Records.{StepRecord, Tick, most_time};
@@ -28,11 +29,12 @@ use enf_value::event_sets::EventSet;
 use enf_value::memory::NoMemory;
 use enforce_types::TypedPolicy;
 use monitorable_guard::StepEvents;
+use obligations::Now;
 use obligations::laws::{
     now_stands, pending_exists, pending_is_enough, pending_was_begun, traces_grow,
 };
-use obligations::{Now, Pending};
 use past_state::{PastState, Tables};
+use pending::Pending;
 use plan_terms::Plan;
 use std::alloc::Global;
 use trace_meaning::kinds::StepKind;
@@ -300,7 +302,7 @@ impl Remembered {
             self.new.pending.instances) }
         ensures leads { OnOk result (LeadsAt events.now time self.old.position (map plan_of plans.now) inserted
             self.old.pending.instances self.new.pending.instances) }
-        ensures deadlines { OnOk result (KeepsDeadlines (map plan_of plans.now) self.new.pending) }
+        ensures deadlines { OnOk result (IsKeptFor (map plan_of plans.now) self.new.pending) }
         ensures instances { OnOk result (AllByRecursion
             (CanAskOf (map placed_guard self.old.past.guards) (map plan_of plans.now)) self.new.pending.instances) }
     {
@@ -343,7 +345,7 @@ impl Remembered {
             self.new.pending.instances) }
         ensures leads { OnOk result (LeadsAt ordered.now time self.old.position (map plan_of plans.now) inserted
             self.old.pending.instances self.new.pending.instances) }
-        ensures deadlines { OnOk result (KeepsDeadlines (map plan_of plans.now) self.new.pending) }
+        ensures deadlines { OnOk result (IsKeptFor (map plan_of plans.now) self.new.pending) }
         ensures instances { OnOk result (AllByRecursion
             (CanAskOf (map placed_guard self.old.past.guards) (map plan_of plans.now)) self.new.pending.instances) }
     {

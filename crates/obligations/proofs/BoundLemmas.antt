@@ -35,15 +35,15 @@ use Rattle.obligations.proofs.EnoughLemmas.{taken}
 -- ---- where nodes lie in a plan
 
 -- it is the one that its number names in the plan of a rule, with the variables in scope there
-record Lies (plans : List Plan) (rule : ℕ) (node : Plan) (scope : List VarId) : Type 0 where
-  named : scoped_in_plan (number_of node) (slice_get plans rule) ≡ Some (node, scope)
-  scoped : IsScopedNode node scope
-  ends : EndsInTime node
+pub record Lies (plans : List Plan) (rule : ℕ) (node : Plan) (scope : List VarId) : Type 0 where
+  pub named : scoped_in_plan (number_of node) (slice_get plans rule) ≡ Some (node, scope)
+  pub scoped : IsScopedNode node scope
+  pub ends : EndsInTime node
 
-abbrev AllLie : List Plan → (rule : ℕ) → Plan → List VarId → Type 0
+abbrev pub AllLie : List Plan → (rule : ℕ) → Plan → List VarId → Type 0
 AllLie plans rule = AtEach (Lies plans rule)
 
-each_from_nodes : (P : Plan → List VarId → Type 0) (plan : Plan) (scope : List VarId)
+pub each_from_nodes : (P : Plan → List VarId → Type 0) (plan : Plan) (scope : List VarId)
     → ((node : Plan × List VarId) → Contains (scoped_nodes plan scope) node → P node.0 node.1) → AtEach P plan scope
 each_from_nodes P (Cause node place name terms) scope each = each (Cause node place name terms, scope) (here _ [])
 each_from_nodes P (Suppress node place name terms) scope each = each (Suppress node place name terms, scope) (here _ [])
@@ -120,7 +120,7 @@ module _ (have_scopes : NodesHaveScopes) (guards : List (Formula × List VarId))
       number_same : (other : Plan) → has_number (number_of node.0) other ≡ true → number_of other ≡ number_of node.0
       number_same other same = grind (arith, same)
 
-  all_lie : AllLie plans rule plan []
+  pub all_lie : AllLie plans rule plan []
   all_lie = each_from_nodes (Lies plans rule) plan [] lies_at
 
 -- ---- what can be pending behind so many steps
@@ -293,6 +293,16 @@ module _ (is_first : FoundIsFirst) (plans : List Plan) (rule number : ℕ) (node
       by : (at : Option Plan) → scoped_in_plan number at ≡ Some (node, scope) → find (has_number number) (nodes_of at) ≡ Some node
       by None is = absurd (none-some (node, scope) is)
       by (Some plan) is = sym (is_first plan [] number) ∙ ap (option_map (λ (n : Plan × List VarId). n.0)) is
+
+  -- in the plan of its rule
+  pub node_in_plan : future_in plans rule number ≡ Some (node, scope)
+      → (plan : Plan) × (slice_get plans rule ≡ Some plan) × (scoped_at number plan [] ≡ Some (node, scope))
+  node_in_plan named = by (slice_get plans rule) refl (future_found (scoped_in_plan number (slice_get plans rule)) named)
+    where
+      by : (at : Option Plan) → slice_get plans rule ≡ at → scoped_in_plan number at ≡ Some (node, scope)
+          → (plan : Plan) × (slice_get plans rule ≡ Some plan) × (scoped_at number plan [] ≡ Some (node, scope))
+      by None planned is = absurd (none-some (node, scope) is)
+      by (Some plan) planned is = (plan, planned, is)
 
 -- ---- along a trace
 

@@ -100,7 +100,7 @@ module _ (now : Now) (plans : List Plan) (inserted : Bool) (i : Instance) (can :
       subst (λ o. AtNode o (λ n. BecomesAt trace n i (cond stays (i ∷ []) [] ++ begun))) (sym found)
       (turns.becomes trace is served begun (are trace is))
 
-  served_in : (trace : List Step) → IsNowOf now trace → AreServed plans inserted trace (i ∷ []) → forced ≡ true → IsServed trace node i
+  pub served_in : (trace : List Step) → IsNowOf now trace → AreServed plans inserted trace (i ∷ []) → forced ≡ true → IsServed trace node i
   served_in trace is served it =
       subst (λ o. AtNode o (λ n. IsServed trace n i)) found
       (served.0 (subst (λ (time : ℕ). is_forced_at inserted time i ≡ true) (sym is.time) it))
@@ -136,7 +136,7 @@ module _ (now : Now) (plans : List Plan) (inserted : Bool) (i : Instance) (can :
   asked_part None p is asks = absurd (none-some p is)
   asked_part (Some q) p is asks = subst (HasPart node) (same_Some q p is) asks
 
-  comes_one : (stays : Bool) (part : Option Plan) → WillBecome now node i forced stays part → (begun : List Instance)
+  pub comes_one : (stays : Bool) (part : Option Plan) → WillBecome now node i forced stays part → (begun : List Instance)
       → ((j : Instance) → Contains begun j → (p : Plan) × (part ≡ Some p) × IsBegunHere now i.rule p j)
       → (j : Instance) → Contains (cond stays (i ∷ []) [] ++ begun) j → ComesOf now plans inserted i j
   comes_one stays part turns begun comes j there =
@@ -153,25 +153,25 @@ module _ (now : Now) (plans : List Plan) (inserted : Bool) (i : Instance) (can :
       )
       kept false it front = absurd (none_in_nil j front)
 
-  -- it is carried on
-  pub carries_one : FoundIsFirst → PlansStand plans → (stays : Bool) (part : Option Plan) → WillBecome now node i forced stays part
-      → (begun : List Instance) → ((trace : List Step) → IsNowOf now trace → BegunFor trace i part begun)
-      → ((others : List Plan) → IfSome part (StandsIn others i.rule) → AllByRecursion (CanAskOf (guards_at now.tables.now) others) begun)
-      → ((j : Instance) → Contains begun j → (p : Plan) × (part ≡ Some p) × IsBegunHere now i.rule p j)
+-- it is carried on
+module _ (now : Now) (plans : List Plan) (inserted : Bool) (i : Instance) (can : CanAskOf (guards_at now.tables.now) plans i) where
+  pub carries_one : (stays : Bool) (begun : List Instance)
+      → ((trace : List Step) → IsNowOf now trace → BecomesOne plans inserted i trace (cond stays (i ∷ []) [] ++ begun))
+      → AllByRecursion (CanAskOf (guards_at now.tables.now) plans) begun
+      → ((j : Instance) → Contains (cond stays (i ∷ []) [] ++ begun) j → ComesOf now plans inserted i j)
       → (before settled after : List Instance) (queue mid later : List (ℕ × ℕ))
       → settled ≡ before ++ cond stays (i ∷ []) [] → after ≡ settled ++ begun
       → ((d : ℕ) → held mid d + count_due plans (i ∷ []) d ≡ held queue d + count_due plans (cond stays (i ∷ []) []) d)
       → ((d : ℕ) → held later d ≡ held mid d + count_due plans begun d)
       → CarriesOn now plans inserted (BecomesOne plans inserted i) (i ∷ []) before after queue later
-  carries_one first stand stays part turns begun are asked comes before settled after queue mid later put behind settles holds = record {
+  carries_one stays begun becomes asked comes before settled after queue mid later put behind settles holds = record {
     adds = record {
       more = cond stays (i ∷ []) [] ++ begun;
       grown = behind ∙ ap (λ l. l ++ begun) put ∙ append_assoc before (cond stays (i ∷ []) []) begun;
-      are = λ trace is served. becomes stays part turns begun are trace is (served_in trace is served);
+      are = becomes;
     };
-    come = λ j there. (i, here i [], comes_one stays part turns begun comes j there);
-    asked = AllByRecursion-append (CanAskOf (guards_at now.tables.now) plans) (cond stays (i ∷ []) []) begun (kept stays)
-        (asked plans (parts_stand first stand part turns.part));
+    come = λ j there. (i, here i [], comes j there);
+    asked = AllByRecursion-append (CanAskOf (guards_at now.tables.now) plans) (cond stays (i ∷ []) []) begun (kept stays) asked;
     deadlines = λ d. let s = settles d in let h = holds d in let a = count_append plans (cond stays (i ∷ []) []) begun d in omega (arith, s, h, a);
   }
     where

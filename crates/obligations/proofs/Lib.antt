@@ -34,3 +34,5 @@ pub mod ServingLemmas
 pub mod ServedLemmas
 pub mod ScopeLemmas
 pub mod BoundLemmas
+pub mod RightLemmas
+pub mod MissedRight

@@ -217,7 +217,7 @@ nothing_is_pending plans trace pending all pend = none_behind plans trace all (l
 -- ---- one step more
 
 -- what is pending behind the first steps is so on a longer trace
-longer_pends : (plans : List Plan) (trace more : List Step) (n : ℕ) → n ≤ length trace → (pending : List Instance)
+pub longer_pends : (plans : List Plan) (trace more : List Step) (n : ℕ) → n ≤ length trace → (pending : List Instance)
     → PendsBehind plans trace n pending → PendsBehind plans (trace ++ more) n pending
 longer_pends plans trace more zero le pending pend = pend
 longer_pends plans trace more (suc n) le pending (before, pend, goes) = (

@@ -25,3 +25,4 @@ pub mod Cases
 pub mod Scopes
 pub mod Bounds
 pub mod BoundCases
+pub mod Right

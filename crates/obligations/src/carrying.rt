@@ -7,7 +7,8 @@ ghost use Rattle.deadline_queue.specs.Queues.{IsQueue, held};
 ghost use Rattle.enf_value.specs.declared.steps.Step.{Step};
 ghost use Rattle.plan_terms.specs.Plans.{plan_of};
 ghost use Rattle.obligations.specs.Asked.{IsNowOf, guards_at};
-ghost use Rattle.obligations.specs.Carrying.{AreServed, BecomeAll, BecomesOne, CarriesOn, ComeOf, ComesOfRoot, Leads};
+ghost use Rattle.obligations.specs.Carrying.{AreServed, BecomeAll, BecomesOne, CarriesOn, ComeOf};
+ghost use Rattle.obligations.specs.Carrying.{ComesOf, ComesOfRoot, Leads};
 ghost use Rattle.obligations.specs.Pending.{After, BegunByRoots, Goes};
 ghost use Rattle.obligations.specs.Rows.{Gathers};
 ghost use Rattle.obligations.specs.Traces.{PlansStand};
@@ -149,6 +150,48 @@ fn carry_each(
     Ok(())
 }
 
+/// What becomes of a pending instance: whether it stays, and what is begun for it.
+#[derive(Drop)]
+pub struct Outcome {
+    pub stays: bool,
+    pub begun: Vec<Instance>,
+}
+
+/// What becomes of a pending instance behind the step. One that is forced at an inserted step counts as served.
+pub fn outcome_of(
+    alloc: Global,
+    plans: &[Plan],
+    instance: &Instance,
+    now: &Now<'_>,
+    inserted: bool,
+) -> Result<Outcome, NoMemory>
+    requires named { PlansStand (map plan_of plans.now) }
+    requires asked { CanAskOf (guards_at now.now.tables.now) (map plan_of plans.now) instance.now }
+    requires in_time { now.now.time ≤ MOST_TIME }
+    ensures after { IfOk result (λ o. (trace : List Step) → IsNowOf now.now trace
+        → BecomesOne (map plan_of plans.now) inserted instance.now trace
+        (cond o.stays (instance.now ∷ []) [] ++ o.begun.items)) }
+    ensures asked { IfOk result (λ o. AllByRecursion
+        (CanAskOf (guards_at now.now.tables.now) (map plan_of plans.now)) o.begun.items) }
+    ensures come { IfOk result (λ o. (j : AnyInstance)
+        → Contains (cond o.stays (instance.now ∷ []) [] ++ o.begun.items) j
+        → ComesOf now.now (map plan_of plans.now) inserted instance.now j) }
+{
+    nodes_have_scopes();
+    let Some(node) = node_in(plans, instance) else {
+        return Ok(Outcome {
+            stays: true,
+            begun: Vec::new(alloc),
+        });
+    };
+    let becoming = becoming_of(alloc, node, instance, now, inserted)?;
+    let begun = begun_for(alloc, instance, becoming.begins, now)?;
+    Ok(Outcome {
+        stays: becoming.stays,
+        begun,
+    })
+}
+
 // Puts last what the instance becomes.
 fn carry_one(
     alloc: Global,
@@ -171,14 +214,9 @@ fn carry_one(
         into.old.items into.new.items deadlines.old deadlines.new) }
     ensures queue { IsQueue deadlines.new }
 {
-    nodes_have_scopes();
-    let Some(node) = node_in(plans, &instance) else {
-        return Ok(());
-    };
-    let becoming = becoming_of(alloc, node, &instance, now, inserted)?;
-    let begun = begun_for(alloc, &instance, becoming.begins, now)?;
-    settle(plans, instance, becoming.stays, into, deadlines)?;
-    put_behind(plans, begun, into, deadlines)
+    let outcome = outcome_of(alloc, plans, &instance, now, inserted)?;
+    settle(plans, instance, outcome.stays, into, deadlines)?;
+    put_behind(plans, outcome.begun, into, deadlines)
 }
 
 // Puts an instance last that stays, and lets go of the deadline of one that does not.
@@ -229,8 +267,12 @@ fn put_behind(
     hold_each(plans, &into[from..], deadlines)
 }
 
-// What the roots of the rules begin.
-fn begun_by_roots(alloc: Global, plans: &[Plan], now: &Now<'_>) -> Result<Vec<Instance>, NoMemory>
+/// What the roots of the rules begin.
+pub fn begun_by_roots(
+    alloc: Global,
+    plans: &[Plan],
+    now: &Now<'_>,
+) -> Result<Vec<Instance>, NoMemory>
     requires roots { CanAskRoots (guards_at now.now.tables.now) (map plan_of plans.now) }
     requires named { PlansStand (map plan_of plans.now) }
     requires few { length plans.now ≤ 2 ^ 32 }

@@ -1,5 +1,5 @@
 //! The deadlines of instances, in the queue of those that are pending.
-ghost use Rattle.std.specs.Prelude.{◌≡◌, ◌+◌, ◌<◌, ◌≤◌, ◌^◌, ℕ, OnOk};
+ghost use Rattle.std.specs.Prelude.{◌≡◌, ◌+◌, ◌-◌, ◌<◌, ◌≤◌, ◌^◌, ℕ, OnOk};
 ghost use Rattle.std.specs.Prelude.{[], ◌∷◌, length, map};
 ghost use Rattle.deadline_queue.specs.Queues.{IsQueue, held};
 ghost use Rattle.plan_terms.specs.Plans.{plan_of};
@@ -27,7 +27,7 @@ fn deadline_in(plans: &[Plan], instance: &Instance) -> Option<u64>
     }
 }
 
-// The deadline of each of the instances is held once more.
+/// The deadline of each of the instances is held once more.
 pub fn hold_each(
     plans: &[Plan],
     instances: &[Instance],
@@ -40,14 +40,30 @@ pub fn hold_each(
     ensures queue { IsQueue deadlines.new }
 {
     for instance in instances {
-        if let Some(deadline) = deadline_in(plans, instance) {
-            deadlines.add(deadline)?;
-        }
+        hold(plans, instance, deadlines)?;
     }
     Ok(())
 }
 
-// The deadline of an instance is held once less.
+/// The deadline of an instance is held once more.
+pub fn hold(
+    plans: &[Plan],
+    instance: &Instance,
+    deadlines: &mut DeadlineQueue,
+) -> Result<(), NoMemory>
+    requires queue { IsQueue deadlines.old }
+    requires few { (deadline : ℕ) → held deadlines.old deadline < 2 ^ 64 - 1 }
+    ensures held { OnOk result ((deadline : ℕ) → held deadlines.new deadline
+        ≡ held deadlines.old deadline + count_due (map plan_of plans.now) (instance.now ∷ []) deadline) }
+    ensures queue { IsQueue deadlines.new }
+{
+    if let Some(deadline) = deadline_in(plans, instance) {
+        deadlines.add(deadline)?;
+    }
+    Ok(())
+}
+
+/// The deadline of an instance is held once less.
 pub fn let_go(plans: &[Plan], instance: &Instance, deadlines: &mut DeadlineQueue)
     requires queue { IsQueue deadlines.old }
     requires held { (deadline : ℕ) → count_due (map plan_of plans.now) (instance.now ∷ []) deadline

@@ -12,6 +12,7 @@ ghost use Rattle.obligations.specs.Missing.{MissingIsOne};
 ghost use Rattle.obligations.specs.Pending.{AfterIsOne, BegunIsOne, MissingOfIsOne, PendIsOne};
 ghost use Rattle.obligations.specs.Reached.{BegunIsNamed, BegunIsReached, MissedIsReached, PendCame};
 ghost use Rattle.obligations.specs.Reached.{PendingWasBegun, ReachedIsInside};
+ghost use Rattle.obligations.specs.Right.{MissedIsRight, MissedOfIsRight, PendingIsRight};
 ghost use Rattle.obligations.specs.Rows.{RowsAreOne};
 ghost use Rattle.obligations.specs.Sources.{MissedAreOwn, MissedOfAreOwn};
 ghost use Rattle.obligations.specs.Traces.{CleanGrows, NothingIsPending, PendGrows, PendingIsEnough};
@@ -188,6 +189,15 @@ pub fn deadlines_are_listed()
     ensures listed { DeadlineIsListed }
     ensures only { ListedIsDeadline }
 {}
+
+/// Where guards give right values, what is pending behind a trace has such, and what is missed is of such.
+pub fn pending_is_right()
+    ensures pending { PendingIsRight }
+    ensures missed { MissedIsRight }
+    ensures missed_pending { MissedOfIsRight }
+{
+    nodes_have_scopes();
+}
 
 /// What is pending behind a trace can be so, at a clock at which no deadline is over.
 pub fn pending_can_be()

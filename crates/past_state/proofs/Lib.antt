@@ -28,3 +28,4 @@ pub mod GuardLemmas
 pub mod KnownLemmas
 pub mod SurvivorLemmas
 pub mod LazyTableLemmas
+pub mod KeptValueLemmas

@@ -26,3 +26,4 @@ pub mod Sources
 pub mod Asking
 pub mod Lefts
 pub mod Survivors
+pub mod KeptValues

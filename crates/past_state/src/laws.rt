@@ -1,4 +1,5 @@
 //! How windows and slots stand for a trace, step by step: laws over the definitions, each the contract of a function.
+ghost use Rattle.past_state.specs.KeptValues.{KeptHeld, OperatorsCanBeKept};
 ghost use Rattle.past_state.specs.Counts.{NoMoreThanNodes};
 ghost use Rattle.past_state.specs.Known.{TablesAreKnown};
 ghost use Rattle.past_state.specs.Laws.{SinceAnswers, SinceGoesOn, OnceAnswers, OnceGoesOn, HistoricallyIsDenied};
@@ -89,3 +90,10 @@ pub fn kept_can_be_restored()
 {
     last_time_of_trace();
 }
+
+/// What is needed of a guard's operators can be kept; and a row that has to be kept is of values under which the
+/// operand held, which can be evaluated by itself.
+pub fn kept_values_held()
+    ensures operators { OperatorsCanBeKept }
+    ensures rows { KeptHeld }
+{}

@@ -13,21 +13,24 @@ use Rattle.enf_value.specs.declared.terms.Term.{Term}
 use Rattle.enf_value.specs.declared.terms.Term.TheVariants.{Var, Const}
 use Rattle.enf_value.specs.declared.terms.VarId.{VarId}
 use Rattle.enf_value.specs.declared.values.Value.{Value}
-use Rattle.enf_formula.specs.Formulas.{Formula, And, Atom}
+use Rattle.enf_formula.specs.Binding.{BindsFresh}
+use Rattle.enf_formula.specs.Formulas.{Formula, And, Atom, Exists, Or}
+use Rattle.enf_formula.specs.FreeVariables.{IsFree}
 use Rattle.enf_formula.specs.ScopeLaws.{new_apart}
 use Rattle.enf_formula.specs.Satisfaction.{IsAmong, Sat}
+use Rattle.plan_terms.specs.Guards.{IsFresh}
 use Rattle.plan_terms.specs.Plans.{Plan, Cause, Suppress, Both, Either, TestOr, Guarded, Eventually, Always}
-use Rattle.plan_terms.specs.Plans.{Until}
+use Rattle.plan_terms.specs.Plans.{Until, Next}
 use Rattle.valuations.specs.RowLaws.{value_at-with_outside}
 use Rattle.sleepers.specs.Patterns.{FitsArg, FitArgs, HasNone}
 use Rattle.sleepers.specs.declared.patterns.Pattern.{Pattern}
 use Rattle.obligations.specs.Asked.{CanAskIn}
 use Rattle.obligations.specs.Begun.{Begun, LacksNothing, Takes, TakesPresent, Where, time_now}
 use Rattle.obligations.specs.Missing.{Missing, OfEvent, LiteralUnless, cause, suppress}
-use Rattle.obligations.specs.Pending.{After, AtNode, BecomesAt, MissesAt, MissingOf}
+use Rattle.obligations.specs.Pending.{After, AtNode, BecomesAt, MissesAt, MissingOf, node_of}
 use Rattle.obligations.specs.Rows.{AreRowsOf, Gathers, last_position}
 use Rattle.obligations.specs.Waiting.{CanAskOf}
-use Rattle.pending.specs.Waking.{Sleeps, waking_at, waking_of, pattern_of, of_both, of_either, of_leading, met_by, missed_by, waking}
+use Rattle.pending.specs.Waking.{IsNotOver, Sleeps, waking_at, waking_of, pattern_of, of_both, of_either, of_guard, met_by, missed_by, waking}
 use Rattle.obligations.specs.declared.instances.Instance.{Instance}
 use Rattle.obligations.specs.declared.literals.Literal.{Literal}
 
@@ -85,24 +88,58 @@ args_fit v w more (term ∷ terms) args is =
     )
 
 module _ (v : Valuation) where
-  -- the variables that its guards bring are new
+  -- v binds none of the variables
+  abbrev AreUnbound : List VarId → Type 0
+  AreUnbound xs = (x : VarId) → Contains xs x → value_at v x ≡ None
+
+  -- the variables are new that the quantifiers of a guard bind
+  abbrev BindsNew : Formula → Type 0
+  BindsNew (And place g h) = BindsNew g × BindsNew h
+  BindsNew (Or place g h) = BindsNew g × BindsNew h
+  BindsNew (Exists place xs g) = AreUnbound xs × BindsNew g
+  BindsNew f = Unit {0}
+
+  binds_new : (f : Formula) (scope : VarId → Type 0) → ((x : VarId) → (scope x → ⊥) → value_at v x ≡ None) → BindsFresh f scope → BindsNew f
+  binds_new (And place g h) scope only fresh = (binds_new g scope only fresh.0, binds_new h scope only fresh.1)
+  binds_new (Or place g h) scope only fresh = (binds_new g scope only fresh.0, binds_new h scope only fresh.1)
+  binds_new (Exists place xs g) scope only fresh = (
+    λ x there. only x (fresh.0 x there),
+    binds_new g (λ x. scope x ⊎ Contains xs x) (λ x out. only x (λ inside. out (inl inside))) fresh.1,
+  )
+  binds_new f scope only fresh = tt
+
+  -- and those that the guards of a plan bring
   abbrev BringsNew : Plan → Type 0
   BringsNew (Both node left right) = BringsNew left × BringsNew right
   BringsNew (Either node left right) = BringsNew left × BringsNew right
-  BringsNew (TestOr node guard test body) = BringsNew body
-  BringsNew (Guarded node xs guard test body) = ((x : VarId) → Contains xs x → value_at v x ≡ None) × BringsNew body
+  BringsNew (TestOr node guard test body) = BindsNew test × BringsNew body
+  BringsNew (Guarded node xs guard test body) = AreUnbound xs × BindsNew test × BringsNew body
+  BringsNew (Eventually node place low high body) = BringsNew body
+  BringsNew (Always node place low high body) = BringsNew body
+  BringsNew (Until node place low high left right) = BringsNew left × BringsNew right
+  BringsNew (Next node place high body) = BringsNew body
   BringsNew plan = Unit {0}
+
+  test_new : (scope : List VarId) (test : Formula) → ((x : VarId) → (Contains scope x → ⊥) → value_at v x ≡ None)
+      → IsFresh (test, scope) → BindsNew test
+  test_new scope test only fresh =
+      binds_new test (λ x. Contains scope x ⊎ IsFree x test) (λ x out. only x (λ inside. out (inl inside))) fresh
 
   -- a plan that can be asked under v brings new variables
   brings_new : (guards : List (Formula × List VarId)) (plan : Plan) (scope : List VarId) → ((x : VarId) → (Contains scope x → ⊥) → value_at v x ≡ None)
       → CanAskIn guards plan scope → BringsNew plan
   brings_new guards (Both node left right) scope only can = (brings_new guards left scope only can.1, brings_new guards right scope only can.2)
   brings_new guards (Either node left right) scope only can = (brings_new guards left scope only can.1, brings_new guards right scope only can.2)
-  brings_new guards (TestOr node guard test body) scope only can = brings_new guards body scope only can.1
+  brings_new guards (TestOr node guard test body) scope only can = (test_new scope test only can.0.0.fresh, brings_new guards body scope only can.1)
   brings_new guards (Guarded node xs guard test body) scope only can = (
     λ x there. only x (new_apart scope xs can.0.2 x there),
+    test_new scope test only can.0.0.fresh,
     brings_new guards body (scope ++ xs) (λ x out. only x (λ inside. out (Contains-append_left scope xs x inside))) can.1,
   )
+  brings_new guards (Eventually node place low high body) scope only can = brings_new guards body scope only can.1
+  brings_new guards (Always node place low high body) scope only can = brings_new guards body scope only can.1
+  brings_new guards (Until node place low high left right) scope only can = (brings_new guards left scope only can.1, brings_new guards right scope only can.2)
+  brings_new guards (Next node place high body) scope only can = brings_new guards body scope only can.1
   brings_new guards plan scope only can = tt
 
 module _ (v : Valuation) (trace : List Step) where
@@ -130,11 +167,23 @@ module _ (v : Valuation) (trace : List Step) where
       let parts = all_parts _ xs ys (subst (λ (l : List Pattern). HasNone l events) (sym all) none) in
       (xs, ys, one, other, parts.0, parts.1)
 
-  leading_fails : (w : Valuation) → Extends v w → (f : Formula) (ps : List Pattern) → of_leading v f ≡ Some ps → HasNone ps events
+  under_row : (w : Valuation) → Extends v w → (xs : List VarId) (row : List Value) → AreUnbound v xs → Extends v (with_values xs row w)
+  under_row w more xs row new x value is =
+      value_at-with_outside xs row w x (λ there. none-some value (sym (new x there) ∙ is)) ∙ more x value is
+
+  -- a guard of which none of the events is holds nowhere
+  guard_fails : (w : Valuation) → Extends v w → (f : Formula) → BindsNew v f → (ps : List Pattern) → of_guard v f ≡ Some ps → HasNone ps events
       → Sat trace (last_position trace) w f → ⊥
-  leading_fails w more (Atom place name terms) ps is none holds = not_among w more name terms (values_of w terms) refl (one_of (pattern_of v name terms) ps is none) holds
-  leading_fails w more (And place g h) ps is none holds = leading_fails w more g ps is none holds.0
-  leading_fails w more f ps is none holds = absurd (none-some ps is)
+  guard_fails w more (Atom place name terms) new ps is none holds = not_among w more name terms (values_of w terms) refl (one_of (pattern_of v name terms) ps is none) holds
+  guard_fails w more (And place g h) new ps is none holds =
+      ⊎_elim (λ l. guard_fails w more g new.0 ps l none holds.0) (λ r. guard_fails w more h new.1 ps r none holds.1)
+      (of_either_some (of_guard v g) (of_guard v h) ps is)
+  guard_fails w more (Or place g h) new ps is none holds =
+      let (xs, ys, l, r, front, back) = two_of (of_guard v g) (of_guard v h) ps is none in
+      holds (guard_fails w more g new.0 xs l front) (guard_fails w more h new.1 ys r back)
+  guard_fails w more (Exists place xs g) new ps is none holds =
+      holds (λ row. guard_fails (with_values xs row.0 w) (under_row w more xs row.0 new.0) g new.1 ps is none row.2)
+  guard_fails w more f new ps is none holds = absurd (none-some ps is)
 
   -- ---- a plan that is met by none of the events misses something
 
@@ -146,42 +195,39 @@ module _ (v : Valuation) (trace : List Step) where
       ⊎_elim (λ m. not_there w more name terms args is none m.0) (λ m. absurd (omega (arith, ap length m.1))) missing
 
   abbrev Lacks : Plan → Type 0
-  Lacks plan = (w : Valuation) → Extends v w → (ps : List Pattern) → met_by v plan ≡ Some ps → HasNone ps events → LacksNothing trace plan w → ⊥
+  Lacks plan = (w : Valuation) → Extends v w → BringsNew v plan → (ps : List Pattern) → met_by v plan ≡ Some ps → HasNone ps events → LacksNothing trace plan w → ⊥
 
   lacks : (plan : Plan) → Lacks plan
-  lacks (Cause node place name terms) w more ps is none missing =
+  lacks (Cause node place name terms) w more new ps is none missing =
       cause_stays w more node name terms (one_of (pattern_of v name terms) ps is none) (values_of w terms) refl missing
-  lacks (Both node left right) w more ps is none (first, rest, one, other, all) =
+  lacks (Both node left right) w more new ps is none (first, rest, one, other, all) =
       let empty = nil_parts first rest all in
-      ⊎_elim (λ l. lacks left w more ps l none (subst (Missing trace left w) empty.0 one)) (λ r. lacks right w more ps r none (subst (Missing trace right w) empty.1 other))
+      ⊎_elim (λ l. lacks left w more new.0 ps l none (subst (Missing trace left w) empty.0 one))
+      (λ r. lacks right w more new.1 ps r none (subst (Missing trace right w) empty.1 other))
       (of_either_some (met_by v left) (met_by v right) ps is)
-  lacks (Either node left right) w more ps is none missing =
+  lacks (Either node left right) w more new ps is none missing =
       let (xs, ys, l, r, front, back) = two_of (met_by v left) (met_by v right) ps is none in
-      ⊎_elim (λ m. lacks left w more xs l front m.0) (λ n. ⊎_elim (λ m. lacks right w more ys r back m.0) (λ m. lacks right w more ys r back m.2) n) missing
-  lacks (TestOr node guard test body) w more ps is none missing =
-      let (xs, ys, l, r, front, back) = two_of (of_leading v test) (met_by v body) ps is none in
-      ⊎_elim (λ m. leading_fails w more test xs l front m.0) (λ m. lacks body w more ys r back m.1) missing
-  lacks (Always node place zero high body) w more ps is none missing = lacks body w more ps is none missing
-  lacks (Always node place (suc low) high body) w more ps is none missing = absurd (none-some ps is)
-  lacks (Until node place zero high left right) w more ps is none missing =
+      ⊎_elim (λ m. lacks left w more new.0 xs l front m.0)
+      (λ n. ⊎_elim (λ m. lacks right w more new.1 ys r back m.0) (λ m. lacks right w more new.1 ys r back m.2) n) missing
+  lacks (TestOr node guard test body) w more new ps is none missing =
+      let (xs, ys, l, r, front, back) = two_of (of_guard v test) (met_by v body) ps is none in
+      ⊎_elim (λ m. guard_fails w more test new.0 xs l front m.0) (λ m. lacks body w more new.1 ys r back m.1) missing
+  lacks (Always node place zero high body) w more new ps is none missing = lacks body w more new ps is none missing
+  lacks (Always node place (suc low) high body) w more new ps is none missing = absurd (none-some ps is)
+  lacks (Until node place zero high left right) w more new ps is none missing =
       let (xs, ys, r, l, front, back) = two_of (met_by v right) (met_by v left) ps is none in
-      ⊎_elim (λ m. lacks right w more xs r front m.0) (λ m. lacks left w more ys l back m.1) missing
-  lacks (Until node place (suc low) high left right) w more ps is none missing = lacks left w more ps is none missing
-  lacks plan w more ps is none missing = absurd (none-some ps is)
+      ⊎_elim (λ m. lacks right w more new.1 xs r front m.0) (λ m. lacks left w more new.0 ys l back m.1) missing
+  lacks (Until node place (suc low) high left right) w more new ps is none missing = lacks left w more new.0 ps is none missing
+  lacks plan w more new ps is none missing = absurd (none-some ps is)
 
   -- ---- a plan that misses something by none of the events misses nothing, and begins nothing
 
-  under_row : (w : Valuation) → Extends v w → (xs : List VarId) (row : List Value) → ((x : VarId) → Contains xs x → value_at v x ≡ None)
-      → Extends v (with_values xs row w)
-  under_row w more xs row new x value is =
-      value_at-with_outside xs row w x (λ there. none-some value (sym (new x there) ∙ is)) ∙ more x value is
-
   no_rows : {Y : Type 0} (w : Valuation) → Extends v w → (xs : List VarId) (test : Formula) (ps : List Pattern)
-      → ((x : VarId) → Contains xs x → value_at v x ≡ None) → of_leading v test ≡ Some ps → HasNone ps events
+      → AreUnbound v xs → BindsNew v test → of_guard v test ≡ Some ps → HasNone ps events
       → (rows : List (List Value)) → AreRowsOf trace w xs test rows → (P : List Value → List Y → Type 0) (ys : List Y) → Gathers P rows ys → ys ≡ []
-  no_rows w more xs test ps new is none [] are P ys gathered = gathered
-  no_rows w more xs test ps new is none (row ∷ rows) are P ys gathered =
-      absurd (leading_fails (with_values xs row w) (under_row w more xs row new) test ps is none
+  no_rows w more xs test ps new binds is none [] are P ys gathered = gathered
+  no_rows w more xs test ps new binds is none (row ∷ rows) are P ys gathered =
+      absurd (guard_fails (with_values xs row w) (under_row w more xs row new) test binds ps is none
       ((are.are row (are.fit 0 row (omega arith))).0 (here row rows)))
 
   gathers_nil : {X Y : Type 0} (P : X → List Y → Type 0) → ((x : X) (ys : List Y) → P x ys → ys ≡ []) → (xs : List X) (ys : List Y)
@@ -207,11 +253,11 @@ module _ (v : Valuation) (trace : List Step) where
       let (xs, ys, l, r, front, back) = two_of (missed_by v left) (missed_by v right) ps is none in
       ⊎_elim (λ m. m.1) (λ n. ⊎_elim (λ m. m.1) (λ m. misses_nothing right w more new.1 ys r back literals m.2) n) missing
   misses_nothing (TestOr node guard test body) w more new ps is none literals missing =
-      ⊎_elim (λ m. m.1) (λ m. misses_nothing body w more new ps is none literals m.1) missing
+      ⊎_elim (λ m. m.1) (λ m. misses_nothing body w more new.1 ps is none literals m.1) missing
   misses_nothing (Guarded node xs guard test body) w more new ps is none literals (rows, are, gathered) =
-      ⊎_elim (λ l. no_rows w more xs test ps new.0 l none rows are _ literals gathered)
-      (λ b. gathers_nil (λ row. Missing trace body (with_values xs row w)) (λ row. misses_nothing body (with_values xs row w) (under_row w more xs row new.0) new.1 ps b none) rows literals gathered)
-      (of_either_some (of_leading v test) (missed_by v body) ps is)
+      ⊎_elim (λ l. no_rows w more xs test ps new.0 new.1 l none rows are _ literals gathered)
+      (λ b. gathers_nil (λ row. Missing trace body (with_values xs row w)) (λ row. misses_nothing body (with_values xs row w) (under_row w more xs row new.0) new.2 ps b none) rows literals gathered)
+      (of_either_some (of_guard v test) (missed_by v body) ps is)
   misses_nothing plan w more new ps is none literals missing = absurd (none-some ps is)
 
   where_is : {A B Q : Type 0} (b : Bool) → (A → Q) → (B → Q) → Where b A B → Q
@@ -241,28 +287,22 @@ module _ (v : Valuation) (trace : List Step) where
       = where_is _ ahead (takes left w on_left ahead) in
       where_is _ second (takes right w on_right second) begun
   begins_nothing (TestOr node guard test body) w more new ps is none rule instances begun =
-      ⊎_elim (λ m. m.1) (λ m. begins_nothing body w more new ps is none rule instances m.1) begun
+      ⊎_elim (λ m. m.1) (λ m. begins_nothing body w more new.1 ps is none rule instances m.1) begun
   begins_nothing (Guarded node xs guard test body) w more new ps is none rule instances (rows, are, gathered) =
-      ⊎_elim (λ l. no_rows w more xs test ps new.0 l none rows are _ instances gathered)
-      (λ b. gathers_nil (λ row. Begun trace rule body (with_values xs row w)) (λ row. begins_nothing body (with_values xs row w) (under_row w more xs row new.0) new.1 ps b none rule) rows instances gathered)
-      (of_either_some (of_leading v test) (missed_by v body) ps is)
+      ⊎_elim (λ l. no_rows w more xs test ps new.0 new.1 l none rows are _ instances gathered)
+      (λ b. gathers_nil (λ row. Begun trace rule body (with_values xs row w)) (λ row. begins_nothing body (with_values xs row w) (under_row w more xs row new.0) new.2 ps b none rule) rows instances gathered)
+      (of_either_some (of_guard v test) (missed_by v body) ps is)
   begins_nothing plan w more new ps is none rule instances begun = absurd (none-some ps is)
 
 -- ---- what is pending
 
--- of the parts of an operator on the future, the variables that their guards bring are new
-abbrev PartsBringNew : Valuation → Plan → Type 0
-PartsBringNew v (Eventually node place low high body) = BringsNew v body
-PartsBringNew v (Always node place low high body) = BringsNew v body
-PartsBringNew v (Until node place low high left right) = BringsNew v left × BringsNew v right
-PartsBringNew v plan = Unit {0}
+node_not_over : (node : Plan) (i : Instance) (time : ℕ) → time ≤ i.high → IsNotOver (Some node) i time
+node_not_over (Always node place low high body) i time within = within
+node_not_over node i time within = tt
 
-parts_bring_new : (v : Valuation) (guards : List (Formula × List VarId)) (node : Plan) (scope : List VarId)
-    → ((x : VarId) → (Contains scope x → ⊥) → value_at v x ≡ None) → CanAskIn guards node scope → PartsBringNew v node
-parts_bring_new v guards (Eventually node place low high body) scope only can = brings_new v guards body scope only can.1
-parts_bring_new v guards (Always node place low high body) scope only can = brings_new v guards body scope only can.1
-parts_bring_new v guards (Until node place low high left right) scope only can = (brings_new v guards left scope only can.1, brings_new v guards right scope only can.2)
-parts_bring_new v guards plan scope only can = tt
+pub not_over : (o : Option Plan) (i : Instance) (time : ℕ) → time ≤ i.high → IsNotOver o i time
+not_over None i time within = tt
+not_over (Some node) i time within = node_not_over node i time within
 
 module _ (trace : List Step) (i : Instance) where
   abbrev v : Valuation
@@ -271,7 +311,7 @@ module _ (trace : List Step) (i : Instance) where
   itself : Extends v v
   itself x value is = is
 
-  misses_at : (node : Plan) → PartsBringNew v node → (ps : List Pattern) → waking v node ≡ Some ps → HasNone ps (events v trace)
+  misses_at : (node : Plan) → BringsNew v node → (ps : List Pattern) → waking v node ≡ Some ps → HasNone ps (events v trace)
       → (literals : List Literal) → MissesAt trace node i false literals → literals ≡ []
   misses_at (Eventually node place low high body) new ps is none literals missing = missing
   misses_at (Always node place low high body) new ps is none literals missing =
@@ -284,23 +324,23 @@ module _ (trace : List Step) (i : Instance) where
   stays_alone : (after more : List Instance) → after ≡ i ∷ more → more ≡ [] → after ≡ i ∷ []
   stays_alone after more is none = is ∙ ap (λ l. i ∷ l) none
 
-  stays_at : (node : Plan) → PartsBringNew v node → (ps : List Pattern) → waking v node ≡ Some ps → HasNone ps (events v trace)
-      → time_now trace ≤ i.high → (after : List Instance) → BecomesAt trace node i after → after ≡ i ∷ []
+  stays_at : (node : Plan) → BringsNew v node → (ps : List Pattern) → waking v node ≡ Some ps → HasNone ps (events v trace)
+      → IsNotOver (Some node) i (time_now trace) → (after : List Instance) → BecomesAt trace node i after → after ≡ i ∷ []
   stays_at (Eventually node place low high body) new ps is none in_time after becomes =
-      ⊎_elim (λ m. absurd (lacks v trace body v itself ps is none m.1)) (λ m. m.1) becomes
+      ⊎_elim (λ m. absurd (lacks v trace body v itself new ps is none m.1)) (λ m. m.1) becomes
   stays_at (Always node place low high body) new ps is none in_time after becomes =
       ⊎_elim (λ m. m.1) (λ n. ⊎_elim
       (λ m. stays_alone after m.1.0 m.1.2 (begins_nothing v trace body v itself new ps is none i.rule m.1.0 m.1.1))
-      (λ m. let over = m.1 in absurd (omega (arith, in_time, over))) n) becomes
+      (λ m. let over = m.1 in let within : time_now trace ≤ i.high = in_time in absurd (omega (arith, within, over))) n) becomes
   stays_at (Until node place low high left right) new ps is none in_time after becomes =
       let (xs, ys, r, l, front, back) = two_of v trace (met_by v right) (missed_by v left) ps is none in
-      ⊎_elim (λ m. absurd (lacks v trace right v itself xs r front m.1))
+      ⊎_elim (λ m. absurd (lacks v trace right v itself new.1 xs r front m.1))
       (λ m. stays_alone after m.1.0 m.1.2 (begins_nothing v trace left v itself new.0 ys l back i.rule m.1.0 m.1.1)) becomes
   stays_at node new ps is none in_time after becomes = absurd (none-some ps is)
 
 module _ (guards : List (Formula × List VarId)) (plans : List Plan) (trace : List Step) (i : Instance) (can : CanAskOf guards plans i) where
-  new_parts : PartsBringNew i.valuation can.node
-  new_parts = parts_bring_new i.valuation guards can.node can.can.scope can.can.fits.only can.can.can
+  new_parts : BringsNew i.valuation can.node
+  new_parts = brings_new i.valuation guards can.node can.can.scope can.can.fits.only can.can.can
 
   wakes_at : (ps : List Pattern) → waking_of plans i ≡ Some ps → waking i.valuation can.node ≡ Some ps
   wakes_at ps is = ap (λ o. waking_at o i) (sym can.found) ∙ is
@@ -310,7 +350,8 @@ module _ (guards : List (Formula × List VarId)) (plans : List Plan) (trace : Li
       misses_at trace i can.node new_parts s.patterns (wakes_at s.patterns s.wakes) s.none literals
       (subst (λ (o : Option Plan). AtNode o (λ node. MissesAt trace node i false literals)) can.found missing)
 
-  pub stay : Sleeps plans trace i → time_now trace ≤ i.high → (after : List Instance) → After plans trace i after → after ≡ i ∷ []
+  pub stay : Sleeps plans trace i → IsNotOver (node_of plans i) i (time_now trace) → (after : List Instance) → After plans trace i after → after ≡ i ∷ []
   stay s in_time after becomes =
-      stays_at trace i can.node new_parts s.patterns (wakes_at s.patterns s.wakes) s.none in_time after
+      stays_at trace i can.node new_parts s.patterns (wakes_at s.patterns s.wakes) s.none
+      (subst (λ (o : Option Plan). IsNotOver o i (time_now trace)) can.found in_time) after
       (subst (λ (o : Option Plan). AtNode o (λ node. BecomesAt trace node i after)) can.found becomes)

@@ -1,5 +1,5 @@
 -- Which events can change what is pending, and what sleeps while no event of a step is one.
-use Rattle.std.specs.Prelude.{◌≡◌, zero, suc, ◌≤◌, false, List, [], ◌∷◌}
+use Rattle.std.specs.Prelude.{◌≡◌, ℕ, zero, suc, ◌≤◌, false, List, [], ◌∷◌}
 use Rattle.std.specs.Prelude.{◌++◌, Option, None, Some, map}
 use Rattle.enf_value.specs.Data.{step_at}
 use Rattle.enf_value.specs.Valuations.{Valuation, value_of}
@@ -7,7 +7,7 @@ use Rattle.enf_value.specs.declared.events.NameId.{NameId}
 use Rattle.enf_value.specs.declared.steps.Step.{Step}
 use Rattle.enf_value.specs.declared.terms.Term.{Term}
 use Rattle.enf_value.specs.declared.terms.VarId.{VarId}
-use Rattle.enf_formula.specs.Formulas.{Formula, And, Atom}
+use Rattle.enf_formula.specs.Formulas.{Formula, And, Atom, Exists, Or}
 use Rattle.plan_terms.specs.Plans.{Plan, Cause, Suppress, Both, Either, TestOr, Guarded, Eventually, Always}
 use Rattle.plan_terms.specs.Plans.{Until}
 use Rattle.sleepers.specs.Patterns.{HasNone}
@@ -40,11 +40,14 @@ abbrev pub of_either : Option (List Pattern) → Option (List Pattern) → Optio
 of_either None others = others
 of_either (Some patterns) others = Some patterns
 
--- that of the first atom of a conjunction, which holds nowhere without an event of it
-abbrev pub of_leading : Valuation → Formula → Option (List Pattern)
-of_leading v (Atom place name terms) = of_one v name terms
-of_leading v (And place g h) = of_leading v g
-of_leading v f = None
+-- without an event of these a guard or test holds nowhere: of `and` those of the first side that has some, of `or`
+-- those of both sides
+abbrev pub of_guard : Valuation → Formula → Option (List Pattern)
+of_guard v (Atom place name terms) = of_one v name terms
+of_guard v (And place g h) = of_either (of_guard v g) (of_guard v h)
+of_guard v (Or place g h) = of_both (of_guard v g) (of_guard v h)
+of_guard v (Exists place xs g) = of_guard v g
+of_guard v f = None
 
 -- ---- what plans and pending instances wait for
 
@@ -53,7 +56,7 @@ abbrev pub met_by : Valuation → Plan → Option (List Pattern)
 met_by v (Cause node place name terms) = of_one v name terms
 met_by v (Both node left right) = of_either (met_by v left) (met_by v right)
 met_by v (Either node left right) = of_both (met_by v left) (met_by v right)
-met_by v (TestOr node guard test body) = of_both (of_leading v test) (met_by v body)
+met_by v (TestOr node guard test body) = of_both (of_guard v test) (met_by v body)
 met_by v (Always node place zero high body) = met_by v body
 met_by v (Until node place zero high left right) = of_both (met_by v right) (met_by v left)
 met_by v (Until node place (suc low) high left right) = met_by v left
@@ -65,7 +68,7 @@ missed_by v (Suppress node place name terms) = of_one v name terms
 missed_by v (Both node left right) = of_both (missed_by v left) (missed_by v right)
 missed_by v (Either node left right) = of_both (missed_by v left) (missed_by v right)
 missed_by v (TestOr node guard test body) = missed_by v body
-missed_by v (Guarded node xs guard test body) = of_either (of_leading v test) (missed_by v body)
+missed_by v (Guarded node xs guard test body) = of_either (of_guard v test) (missed_by v body)
 missed_by v plan = None
 
 -- without an event of these an instance of the node that is not forced misses nothing, and within its time it becomes
@@ -98,8 +101,13 @@ SleepersMissNothing = (guards : List (Formula × List VarId)) (plans : List Plan
     → CanAskOf guards plans i → Sleeps plans trace i
     → (literals : List Literal) → MissingOf plans trace i false literals → literals ≡ []
 
--- up to the end of its window it becomes itself
+-- a time to which the window of an Always reaches
+abbrev pub IsNotOver : Option Plan → Instance → (time : ℕ) → Type 0
+IsNotOver (Some (Always node place low high body)) i time = time ≤ i.high
+IsNotOver other i time = Unit {0}
+
+-- and it becomes itself
 abbrev pub SleepersStay : Type 0
 SleepersStay = (guards : List (Formula × List VarId)) (plans : List Plan) (trace : List Step) (i : Instance)
-    → CanAskOf guards plans i → Sleeps plans trace i → time_now trace ≤ i.high
+    → CanAskOf guards plans i → Sleeps plans trace i → IsNotOver (node_of plans i) i (time_now trace)
     → (after : List Instance) → After plans trace i after → after ≡ i ∷ []

@@ -1,9 +1,13 @@
-//! The events that can change what is pending. It stands on `sleepers`, `obligations`, `plan_terms`, `valuations`,
-//! `enf_formula` and `enf_value`.
+//! The instances that are pending, by the events that can change them. It stands on `sleepers`, `obligations`,
+//! `deadline_queue`, `past_state`, `plan_terms`, `monitorable_guard`, `trace_meaning`, `valuations`, `enf_formula` and
+//! `enf_value`.
 #![tactic(auto)]
 
+mod entries;
 pub mod laws;
+mod pending;
 pub mod waking;
+mod walking;
 pub mod worked_cases;
 
-pub use waking::patterns_of;
+pub use pending::Pending;

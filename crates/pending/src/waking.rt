@@ -47,7 +47,7 @@ fn met_by(alloc: Global, plan: &Plan, v: &Frame<'_>) -> Result<Option<Patterns>,
             of_both(met_by(alloc, left, v)?, met_by(alloc, right, v)?)
         }
         Plan::TestOr { test, body, .. } => {
-            of_both(of_leading(alloc, test, v)?, met_by(alloc, body, v)?)
+            of_both(of_guard(alloc, test, v)?, met_by(alloc, body, v)?)
         }
         Plan::Always { low, body, .. } if *low == 0 => met_by(alloc, body, v),
         Plan::Until {
@@ -75,7 +75,7 @@ fn missed_by(alloc: Global, plan: &Plan, v: &Frame<'_>) -> Result<Option<Pattern
             of_both(missed_by(alloc, left, v)?, missed_by(alloc, right, v)?)
         }
         Plan::TestOr { body, .. } => missed_by(alloc, body, v),
-        Plan::Guarded { test, body, .. } => match of_leading(alloc, test, v)? {
+        Plan::Guarded { test, body, .. } => match of_guard(alloc, test, v)? {
             Some(patterns) => Ok(Some(patterns)),
             None => missed_by(alloc, body, v),
         },
@@ -83,13 +83,18 @@ fn missed_by(alloc: Global, plan: &Plan, v: &Frame<'_>) -> Result<Option<Pattern
     }
 }
 
-// That of the first atom of a conjunction, if it begins with one.
-fn of_leading(alloc: Global, formula: &Formula, v: &Frame<'_>) -> Result<Option<Patterns>, NoMemory>
-    ensures { IfOk result (λ found. found ≡ waking.of_leading (bound_in v.now) (tree_of formula.now)) }
+// Without an event of these the guard or test holds nowhere.
+fn of_guard(alloc: Global, formula: &Formula, v: &Frame<'_>) -> Result<Option<Patterns>, NoMemory>
+    ensures { IfOk result (λ found. found ≡ waking.of_guard (bound_in v.now) (tree_of formula.now)) }
 {
     match formula {
         Formula::Atom(_, name, terms) => one_pattern(alloc, *name, terms, v),
-        Formula::And(_, g, _) => of_leading(alloc, g, v),
+        Formula::And(_, g, h) => match of_guard(alloc, g, v)? {
+            Some(patterns) => Ok(Some(patterns)),
+            None => of_guard(alloc, h, v),
+        },
+        Formula::Or(_, g, h) => of_both(of_guard(alloc, g, v)?, of_guard(alloc, h, v)?),
+        Formula::Exists(_, _, g) => of_guard(alloc, g, v),
         _ => Ok(None),
     }
 }
@@ -128,7 +133,7 @@ fn one_pattern(
 fn fixed_in(alloc: Global, terms: &[Term], v: &Frame<'_>) -> Result<Items<Option<Value>>, NoMemory>
     ensures { IfOk result (λ args. args ≡ map (value_of (bound_in v.now)) terms.now) }
 {
-    let mut args = Vec::new(alloc);
+    let mut args = Vec::with_capacity(alloc, terms.len())?;
     for term in terms {
         args.push(fixed_at(alloc, term, v)?)?;
     }

@@ -3,9 +3,10 @@ ghost use Rattle.std.specs.Prelude.{◌≡◌, [], ◌∷◌, None, Some};
 ghost use Rattle.enf_value.specs.Valuations.{no_values};
 ghost use Rattle.obligations.specs.Cases.{bar_q, bound_to, cause_p, cause_q_x, each_q, holds, next_p, no_q_until_p};
 ghost use Rattle.obligations.specs.Cases.{one, p_of_1, q_of_1, q_of_2, two};
-ghost use Rattle.enf_formula.specs.Cases.{event_q};
+ghost use Rattle.enf_formula.specs.Cases.{event_q, formula_p, formula_p_x, formula_q_x, x};
+ghost use Rattle.enf_formula.specs.Formulas as formula;
 ghost use Rattle.pending.specs.Cases.{p_alone, p_open, q_alone, q_fixed, q_open};
-ghost use Rattle.pending.specs.Waking.{waking};
+ghost use Rattle.pending.specs.Waking.{of_guard, waking};
 ghost use Rattle.plan_terms.specs.Plans as plan;
 ghost use Rattle.sleepers.specs.Patterns.{HasNone, Matches};
 
@@ -18,6 +19,16 @@ pub fn patterns()
     ensures no_argument { Matches q_open event_q → ⊥ }
     ensures none_there { HasNone (q_fixed one ∷ []) (q_of_2 ∷ p_of_1 ∷ []) }
     ensures one_there { HasNone (q_fixed two ∷ q_fixed one ∷ []) (q_of_1 ∷ []) → ⊥ }
+{}
+
+/// What wakes guards and tests.
+pub fn guards()
+    ensures first_that_has_some { of_guard no_values (formula.And 0 holds formula_p_x) ≡ Some (p_open ∷ []) }
+    ensures first_of_two { of_guard no_values (formula.And 0 formula_q_x formula_p_x) ≡ Some (q_open ∷ []) }
+    ensures both { of_guard no_values (formula.Or 0 formula_p_x formula_q_x) ≡ Some (p_open ∷ q_open ∷ []) }
+    ensures not_one_alone { of_guard no_values (formula.Or 0 formula_p_x holds) ≡ None }
+    ensures within_exists { of_guard no_values (formula.Exists 0 (x ∷ []) formula_q_x) ≡ Some (q_open ∷ []) }
+    ensures denied { of_guard no_values (formula.Not 0 formula_p) ≡ None }
 {}
 
 /// What wakes pending instances.

@@ -92,7 +92,7 @@ no_rule s judge rule plan is there none =
 
 -- ---- whether it can wait
 
-wait_same : (node : Plan) (clock position : ℕ) (i j : Instance) → j.origin ≡ i.origin → j.low ≡ i.low → j.high ≡ i.high → CanWait node clock position i → CanWait node clock position j
+pub wait_same : (node : Plan) (clock position : ℕ) (i j : Instance) → j.origin ≡ i.origin → j.low ≡ i.low → j.high ≡ i.high → CanWait node clock position i → CanWait node clock position j
 wait_same node clock position i j origin low high w = record {
   begun = subst (λ n. n < position) (sym origin) w.begun;
   from = subst (λ n. first_end node ≤ n) (sym low) w.from;

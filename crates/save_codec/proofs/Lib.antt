@@ -14,6 +14,7 @@ pub mod ResumeLemmas
 pub mod SavedParts
 pub mod SavedTexts
 pub mod SortLemmas
+pub mod SoundLemmas
 pub mod StateLemmas
 pub mod Stuck
 pub mod ValueLists

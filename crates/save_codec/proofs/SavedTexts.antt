@@ -8,6 +8,7 @@ use Rattle.enf_value.specs.Valuations.{Valuation, bindings, no_values, same_valu
 use Rattle.enf_value.specs.ValueTokens.{IsValue, OneTokenAtPlace, PrintedIsToken}
 use Rattle.enf_value.specs.declared.terms.VarId.{VarId}
 use Rattle.enf_value.specs.declared.values.Value.{Value}
+use Rattle.signature.specs.declared.entries.Sort.{Sort}
 use Rattle.valuations.specs.Columns.{among_or_not, first_or_later, here, later, none_in_nil}
 use Rattle.valuations.specs.Just.{Binds}
 use Rattle.valuations.specs.RowLaws.{cell_here, cell_later}
@@ -26,6 +27,7 @@ use Rattle.save_codec.specs.Forms.{Follow, is_end, last_line}
 use Rattle.save_codec.specs.Laws.{OneState, SavedIsText}
 use Rattle.save_codec.specs.Lines.{IsLine, IsSmall}
 use Rattle.save_codec.specs.Saved.{HasSmallNumbers, IsInstance, IsRow, due_line, lines_of, row_line, values_in}
+use Rattle.save_codec.specs.Sorts.{FitTold, FitsTold}
 use Rattle.save_codec.specs.declared.lines.Line.{Line}
 use Rattle.save_codec.specs.declared.lines.Line.TheVariants.{Position, End}
 use Rattle.save_codec.specs.declared.snapshots.Snapshot.{Snapshot}
@@ -96,8 +98,8 @@ lines_are s small rows dues = (small.clock, (small.last, (small.position, rows_a
 -- ---- what is bound is bound to its values
 
 -- values in the order of the scope
-record AreValuesOf (scope : List VarId) (v : Valuation) : Type 0 where
-  values : List Value
+pub record AreValuesOf (scope : List VarId) (v : Valuation) : Type 0 where
+  pub values : List Value
   long : length scope ≡ length values
   are : (x : VarId) → Contains scope x → value_at v x ≡ cell scope values x
 
@@ -105,7 +107,7 @@ has_value : (o : Option Value) → IsSome o → (value : Value) × (o ≡ Some v
 has_value None some = absurd cc
 has_value (Some value) some = (value, refl)
 
-values_of_scope : (scope : List VarId) (v : Valuation) → Binds v scope → AreValuesOf scope v
+pub values_of_scope : (scope : List VarId) (v : Valuation) → Binds v scope → AreValuesOf scope v
 values_of_scope [] v binds = record { values = []; long = refl; are = λ x there. absurd (none_in_nil x there) }
 values_of_scope (y ∷ scope) v binds =
     let first = has_value (value_at v y) (binds y (here y scope)) in
@@ -119,15 +121,30 @@ values_of_scope (y ∷ scope) v binds =
           (same_or_other y x);
     }
 
-bound_is : (scope : List VarId) (v : Valuation) → IsStrictlySortedBy variable_cmp scope → FitsScope scope v → v ≡ filled no_values scope (values_in v)
-bound_is scope v rise fits =
+-- they are what is bound, in rising number
+filled_by : (scope : List VarId) (v : Valuation) (fits : FitsScope scope v) → v ≡ filled no_values scope (values_of_scope scope v fits.binds).values
+filled_by scope v fits =
     let of = values_of_scope scope v fits.binds in
-    let same : v ≡ filled no_values scope of.values = same_valuation v (filled no_values scope of.values) (λ x. ⊎_elim
+    same_valuation v (filled no_values scope of.values) (λ x. ⊎_elim
     (λ there. of.are x there ∙ sym (filled_unbound no_values scope of.values x (nothing_at x)))
     (λ absent. fits.only x absent ∙ sym (filled_outside no_values scope of.values x absent ∙ nothing_at x))
-    (among_or_not scope x)) in
-    let values : values_in v ≡ of.values = ap values_in same ∙ bound_values scope of.values rise of.long in
-    same ∙ ap (filled no_values scope) (sym values)
+    (among_or_not scope x))
+
+pub values_there : (scope : List VarId) (v : Valuation) → IsStrictlySortedBy variable_cmp scope → (fits : FitsScope scope v) → values_in v ≡ (values_of_scope scope v fits.binds).values
+values_there scope v rise fits =
+    let of = values_of_scope scope v fits.binds in ap values_in (filled_by scope v fits) ∙ bound_values scope of.values rise of.long
+
+bound_is : (scope : List VarId) (v : Valuation) → IsStrictlySortedBy variable_cmp scope → FitsScope scope v → v ≡ filled no_values scope (values_in v)
+bound_is scope v rise fits = filled_by scope v fits ∙ ap (filled no_values scope) (sym (values_there scope v rise fits))
+
+-- and fit what is told, where each that is bound does
+pub fits_scope : (tells : VarId → Sort → Type 0) (scope : List VarId) (v : Valuation) (binds : Binds v scope) → ((x : VarId) (value : Value) → Contains scope x → value_at v x ≡ Some value → FitsTold tells x value)
+    → FitTold tells scope (values_of_scope scope v binds).values
+unfolding values_of_scope
+fits_scope tells [] v binds each = tt
+fits_scope tells (y ∷ scope) v binds each =
+    let first = has_value (value_at v y) (binds y (here y scope)) in
+    (each y first.0 (here y scope) first.1, fits_scope tells scope v (λ x there. binds x (later x y scope there)) (λ x value there. each x value (later x y scope there)))
 
 -- ---- one state
 

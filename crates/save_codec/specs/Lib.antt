@@ -11,3 +11,4 @@ pub mod Reading
 pub mod Resumed
 pub mod Saved
 pub mod Sorts
+pub mod Sound

@@ -53,8 +53,8 @@ impl<'a> Cursor<'a> {
         Some(number)
     }
 
-    // Takes a space and a number.
-    pub fn spaced(&mut self) -> Option<u64>
+    // Takes a space and a number in its canonical form.
+    pub fn counted(&mut self) -> Option<u64>
         ensures told { IfSome result (λ number. IsSmall number
             × (self.old.rest.now ≡ spaced number ++ self.new.rest.now)) }
         ensures again { (number : ℕ) (rest : List ℕ) → IsSmall number → IsNoDigit rest
@@ -64,6 +64,31 @@ impl<'a> Cursor<'a> {
             return None;
         }
         self.number()
+    }
+
+    // Takes the digits that stand next, however their number is printed.
+    fn digits(&mut self) -> Option<u64>
+        ensures told { IfSome result IsSmall }
+        ensures again { (number : ℕ) (rest : List ℕ) → IsSmall number → IsNoDigit rest
+            → self.old.rest.now ≡ decimal number ++ rest → IsRead result self.new.rest.now number rest }
+    {
+        printed_is_token();
+        one_token_at_place();
+        let (number, end) = read_digits(self.rest, 0)?;
+        self.rest = &self.rest[end..];
+        Some(number)
+    }
+
+    // Takes a space and digits.
+    pub fn spaced(&mut self) -> Option<u64>
+        ensures told { IfSome result IsSmall }
+        ensures again { (number : ℕ) (rest : List ℕ) → IsSmall number → IsNoDigit rest
+            → self.old.rest.now ≡ spaced number ++ rest → IsRead result self.new.rest.now number rest }
+    {
+        if !self.take(b" ") {
+            return None;
+        }
+        self.digits()
     }
 
     // Takes the value that stands next, in any of its forms.

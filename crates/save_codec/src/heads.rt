@@ -41,7 +41,7 @@ impl<'a> Cursor<'a> {
         if !self.take(word) {
             return None;
         }
-        let count = self.spaced()?;
+        let count = self.counted()?;
         if !self.take(b"\n") {
             return None;
         }

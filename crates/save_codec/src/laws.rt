@@ -1,5 +1,6 @@
 //! Laws of saved texts, each the contract of a function.
 ghost use Rattle.save_codec.specs.Laws.{FrontKeeps, OneAnswer, OneState, OneText, SavedIsText};
+ghost use Rattle.save_codec.specs.Sound.{SoundKeepsBounds};
 
 use enf_value::laws::{one_token_at_place, printed_is_token};
 use plan_terms::laws::nodes_have_scopes;
@@ -33,5 +34,12 @@ pub fn one_answer()
 {
     printed_is_token();
     one_token_at_place();
+    nodes_have_scopes();
+}
+
+/// A state keeps its bounds line by line, where its numbers, rows and instances do.
+pub fn sound_keeps_bounds()
+    ensures { SoundKeepsBounds }
+{
     nodes_have_scopes();
 }

@@ -1,4 +1,13 @@
 pub mod OrderLemmas
 pub mod EntryLemmas
-pub mod MarkLemmas
 pub mod StepLemmas
+pub mod PlaceLemmas
+pub mod PlacedLemmas
+pub mod KeyLemmas
+pub mod LoopLemmas
+pub mod PairLemmas
+pub mod GroupLemmas
+pub mod NotedLemmas
+pub mod SortedLemmas
+pub mod ChangeLemmas
+pub mod WalkLemmas

@@ -41,7 +41,7 @@ beginning_order s t =
     (λ e. ⊎_elim (λ f. inl (same_beginning s t e f)) (λ o. ⊎_elim (λ l. inr (inl (inr (e, l)))) (λ l. inr (inr (inr (sym e, l)))) o) (cases_order s.among t.among))
     (λ o. ⊎_elim (λ l. inr (inl (inl l))) (λ l. inr (inr (inl l))) o) (cases_order s.number t.number)
 
-place_order : (p q : Place) → (p ≡ q) ⊎ (IsBefore p q ⊎ IsBefore q p)
+pub place_order : (p q : Place) → (p ≡ q) ⊎ (IsBefore p q ⊎ IsBefore q p)
 place_order [] [] = inl refl
 place_order [] (t ∷ q) = inr (inl tt)
 place_order (s ∷ p) [] = inr (inr tt)

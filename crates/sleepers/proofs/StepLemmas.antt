@@ -1,7 +1,7 @@
 -- Steps over entries.
-use Rattle.std.proofs.Common.{◌≡◌, ◌↔◌, ℕ, ◌<◌, Bool, true, false, true≢false, cond, List, [], ◌∷◌, ◌++◌, Contains, ◌⊎◌, inl, inr, ⊎_elim, refl, sym, ap, subst, subst₂, ◌∙◌, arith, length, length-append, map, drop, get_or}
+use Rattle.std.proofs.Common.{◌≡◌, ◌↔◌, ℕ, suc, ◌<◌, Bool, true, false, true≢false, cond, List, [], ◌∷◌, ◌++◌, Contains, ◌⊎◌, inl, inr, ⊎_elim, refl, sym, ap, subst, subst₂, ◌∙◌, arith, length, length-append, map, drop, get_or}
 use Rattle.std.specs.List.{AllByRecursion}
-use Rattle.enf_value.specs.ListLaws.{here, later, first_or_later, none_in_nil, Contains-append, AllByRecursion-contains}
+use Rattle.enf_value.specs.ListLaws.{here, later, first_or_later, none_in_nil, Contains-append, AllByRecursion-contains, AllByRecursion-from_contains}
 use Rattle.enf_value.specs.Membership.{HasNoRepeats}
 use Rattle.sleepers.proofs.EntryLemmas.{in_fewer, in_places}
 use Rattle.sleepers.specs.EntryLaws.{fewer_placed}
@@ -15,31 +15,31 @@ use Rattle.sleepers.specs.declared.places.Beginning.{Beginning}
 -- ---- lists
 
 module _ {X : Type 0} where
-  from_left : (xs ys : List X) (x : X) → Contains xs x → Contains (xs ++ ys) x
+  pub from_left : (xs ys : List X) (x : X) → Contains xs x → Contains (xs ++ ys) x
   from_left [] ys x there = absurd (none_in_nil x there)
   from_left (z ∷ xs) ys x there = ⊎_elim (λ e. (0, omega arith, e)) (λ on. later x z (xs ++ ys) (from_left xs ys x on)) (first_or_later x z xs there)
 
-  from_right : (xs ys : List X) (x : X) → Contains ys x → Contains (xs ++ ys) x
+  pub from_right : (xs ys : List X) (x : X) → Contains ys x → Contains (xs ++ ys) x
   from_right [] ys x there = there
   from_right (z ∷ xs) ys x there = later x z (xs ++ ys) (from_right xs ys x there)
 
-  in_middle : (front back : List X) (y x : X) → Contains (front ++ y ∷ back) x → (y ≡ x) ⊎ Contains (front ++ back) x
+  pub in_middle : (front back : List X) (y x : X) → Contains (front ++ y ∷ back) x → (y ≡ x) ⊎ Contains (front ++ back) x
   in_middle front back y x there =
       ⊎_elim (λ f. inr (from_left front back x f)) (λ b. ⊎_elim (λ e. inl e) (λ on. inr (from_right front back x on)) (first_or_later x y back b))
       (Contains-append front (y ∷ back) x there)
 
-  round_middle : (front back : List X) (y x : X) → Contains (front ++ back) x → Contains (front ++ y ∷ back) x
+  pub round_middle : (front back : List X) (y x : X) → Contains (front ++ back) x → Contains (front ++ y ∷ back) x
   round_middle front back y x there =
       ⊎_elim (λ f. from_left front (y ∷ back) x f) (λ b. from_right front (y ∷ back) x (later x y back b)) (Contains-append front back x there)
 
-  apart_once : (xs ys : List X) → HasNoRepeats xs → HasNoRepeats ys → ((x : X) → Contains xs x → Contains ys x → ⊥) → HasNoRepeats (xs ++ ys)
+  pub apart_once : (xs ys : List X) → HasNoRepeats xs → HasNoRepeats ys → ((x : X) → Contains xs x → Contains ys x → ⊥) → HasNoRepeats (xs ++ ys)
   apart_once [] ys one two apart = two
   apart_once (x ∷ xs) ys one two apart = (
     (λ there. ⊎_elim one.0 (λ b. apart x (here x xs) b) (Contains-append xs ys x there)),
     apart_once xs ys one.1 two (λ z front back. apart z (later z x xs front) back),
   )
 
-  map_append : {Y : Type 0} (f : X → Y) (xs ys : List X) → map f (xs ++ ys) ≡ map f xs ++ map f ys
+  pub map_append : {Y : Type 0} (f : X → Y) (xs ys : List X) → map f (xs ++ ys) ≡ map f xs ++ map f ys
   map_append f [] ys = refl
   map_append f (x ∷ xs) ys = ap (λ l. f x ∷ l) (map_append f xs ys)
 
@@ -66,7 +66,7 @@ module _ {X : Type 0} where
   last_holds P [] x all = all.0
   last_holds P (z ∷ p) x all = last_holds P p x all.1
 
-order_once : (ps : List Place) → AreInOrder ps → HasNoRepeats ps
+pub order_once : (ps : List Place) → AreInOrder ps → HasNoRepeats ps
 order_once [] order = tt
 order_once (p ∷ ps) order = ((λ there. not_itself p (order.0 p there)), order_once ps order.1)
 
@@ -85,7 +85,7 @@ module _ {T : Type 0} where
   more_keeps x fewer more y one there =
       subst (λ (l : List (Entry T)). Contains l y) (sym one.more_is) (round_middle one.front one.back x y (subst (λ (l : List (Entry T)). Contains l y) one.fewer_is there))
 
-  apart : (front back : List (Entry T)) (x : Entry T) → ArePlaced (front ++ x ∷ back) → IsFree x.place (front ++ back)
+  pub apart : (front back : List (Entry T)) (x : Entry T) → ArePlaced (front ++ x ∷ back) → IsFree x.place (front ++ back)
   apart [] back x order there = not_itself x.place (order.0 x.place there)
   apart (f ∷ front) back x order there =
       ⊎_elim (λ e. not_itself x.place (subst (λ (p : Place). IsBefore p x.place) e (order.0 x.place (in_places (front ++ x ∷ back) x (from_right front (x ∷ back) x (here x back))))))
@@ -101,7 +101,7 @@ module _ {T : Type 0} where
       (in_fewer one.front one.back x q (subst (λ (l : List (Entry T)). Contains (places l) q) one.more_is there))
 
   -- of two entries with one place
-  same_place : (all : List (Entry T)) (x y : Entry T) → ArePlaced all → Contains all x → Contains all y → x.place ≡ y.place → x ≡ y
+  pub same_place : (all : List (Entry T)) (x y : Entry T) → ArePlaced all → Contains all x → Contains all y → x.place ≡ y.place → x ≡ y
   same_place [] x y order one two same = absurd (none_in_nil x one)
   same_place (z ∷ all) x y order one two same =
       ⊎_elim
@@ -170,7 +170,7 @@ module _ {T : Type 0} where
   rest_of x xs y ys z a same there among =
       ⊎_elim (λ e. absurd (not_itself x.place (subst (λ (w : Entry T). IsBefore x.place w.place) (sym (same ∙ e)) (a.0 z.place (in_places xs z there))))) (λ on. on) (first_or_later z y ys among)
 
-  one_list : (xs ys : List (Entry T)) → ArePlaced xs → ArePlaced ys → ((x : Entry T) → Contains xs x ↔ Contains ys x) → xs ≡ ys
+  pub one_list : (xs ys : List (Entry T)) → ArePlaced xs → ArePlaced ys → ((x : Entry T) → Contains xs x ↔ Contains ys x) → xs ≡ ys
   one_list [] [] a b same = refl
   one_list [] (y ∷ ys) a b same = absurd (none_in_nil y ((same y).1 (here y ys)))
   one_list (x ∷ xs) [] a b same = absurd (none_in_nil x ((same x).0 (here x xs)))
@@ -442,3 +442,46 @@ pub in_order : {T : Type 0} (first m : ℕ) (Q : Entry T → Type 0) (all : List
 in_order first m Q all outcomes left anew grown step puts =
     let e = every_of Q outcomes all step.looked_at.others in
     record { every = e.0; entries = e.1; each = e.2; are = all_are first m Q all outcomes left anew grown step puts e.0 e.1 e.2 }
+
+-- ---- what is there behind a step was made by then
+
+module _ (first later next : ℕ) (below : next < later) where
+  above_on : (place : Place) → AllByRecursion (λ (u : Beginning). later < u.number) place → AllByRecursion (λ (u : Beginning). next < u.number) place
+  above_on [] above = tt
+  above_on (t ∷ place) above = let l = above.0 in (omega (arith, l, below), above_on place above.1)
+
+  above_goes : (place : Place) (j : ℕ) → AllByRecursion (λ (u : Beginning). later < u.number) place
+      → AllByRecursion (λ (u : Beginning). next < u.number) (place ++ beginning later j ∷ [])
+  above_goes [] j above = (below, tt)
+  above_goes (t ∷ place) j above = let l = above.0 in (omega (arith, l, below), above_goes place j above.1)
+
+  made_on : (place : Place) → WasMade first later place → WasMade (suc first) next place
+  made_on [] made = made
+  made_on (t ∷ place) made = let l = made.0 in (omega (arith, l), above_on place made.1)
+
+  made_goes : (place : Place) (j : ℕ) → WasMade first later place → WasMade (suc first) next (place ++ beginning later j ∷ [])
+  made_goes [] j made = absurd made
+  made_goes (t ∷ place) j made = let l = made.0 in (omega (arith, l), above_goes place j made.1)
+
+  made_new : (j : ℕ) → WasMade (suc first) next (beginning first j ∷ [])
+  made_new j = (omega arith, tt)
+
+  module _ {T : Type 0} (Q : Entry T → Type 0) (all : List (Entry T)) (outcomes : List (Outcome T)) (left anew grown : List (Entry T))
+      (step : IsStep first later Q all outcomes left anew) (puts : PutsIn (begun outcomes ++ anew) left grown) where
+    each_made : (x : Entry T) → Contains grown x → WasMade (suc first) next x.place
+    each_made x there =
+        ⊎_elim
+        (λ new. ⊎_elim
+        (λ b.
+        let (o, has, goes) = begun_place first later outcomes x step.go_on b in
+        subst (WasMade (suc first) next) goes.1 (made_goes o.entry.place goes.0 (made_in first later all o.entry step.made (in_all first later Q all outcomes left anew step o.entry (of_map entry_of outcomes o has)))))
+        (λ a. let f = anew_place first later anew x step.first_beginning a in subst (WasMade (suc first) next) f.1 (made_new f.0))
+        (Contains-append (begun outcomes) anew x new))
+        (λ l. made_on x.place (made_in first later all x step.made (left_there (gone outcomes) all left x step.taken_out l).0))
+        (put_or_there (begun outcomes ++ anew) left grown x puts there)
+
+    pub all_made : ArePlaced grown × AllByRecursion (λ (e : Entry T). WasMade (suc first) next e.place) grown
+    all_made = (
+      grown_placed (begun outcomes ++ anew) left grown puts (left_placed (gone outcomes) all left step.taken_out step.placed),
+      AllByRecursion-from_contains (λ (e : Entry T). WasMade (suc first) next e.place) grown each_made,
+    )

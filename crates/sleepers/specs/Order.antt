@@ -2,7 +2,10 @@
 -- and of those that go on from one place the later come first.
 use Rattle.std.specs.Prelude.{◌≡◌, ◌↔◌, ℕ, zero, suc, ◌<◌, Bool, cond, ◌⊎◌, List, [], ◌∷◌}
 use Rattle.std.specs.Prelude.{◌++◌, Contains, map}
+use Rattle.std.specs.Cmp.Lexicographic.{slice_cmp}
 use Rattle.std.specs.List.{AllByRecursion}
+use Rattle.std.specs.Ordering.{nat_cmp, ordering_then}
+use Rattle.std.specs.declared.cmp.Ordering.{Ordering}
 use Rattle.sleepers.specs.declared.places.Beginning.{Beginning}
 
 abbrev pub beginning : (number among : ℕ) → Beginning
@@ -19,6 +22,13 @@ abbrev pub IsBefore : Place → Place → Type 0
 IsBefore p [] = ⊥
 IsBefore [] (t ∷ q) = Unit {0}
 IsBefore (s ∷ p) (t ∷ q) = BeginsBefore s t ⊎ ((s ≡ t) × IsBefore p q)
+
+-- the same as an order
+abbrev pub beginning_cmp : Beginning → Beginning → Ordering
+beginning_cmp s t = ordering_then (nat_cmp s.number t.number) (nat_cmp s.among t.among)
+
+abbrev pub place_cmp : Place → Place → Ordering
+place_cmp p q = slice_cmp beginning_cmp p q
 
 -- each stands before all that come later
 abbrev pub AreInOrder : List Place → Type 0

@@ -1,5 +1,5 @@
 -- A step over entries: those that are awake stay or go, and others that were begun for them are put in.
-use Rattle.std.specs.Prelude.{◌≡◌, ℕ, Bool, true, cond, ◌⊎◌, List, []}
+use Rattle.std.specs.Prelude.{◌≡◌, ℕ, suc, ◌<◌, Bool, true, cond, ◌⊎◌, List, []}
 use Rattle.std.specs.Prelude.{◌∷◌, ◌++◌, Contains, length, map}
 use Rattle.std.specs.List.{AllByRecursion}
 use Rattle.enf_value.specs.declared.events.Event.{Event}
@@ -85,3 +85,11 @@ abbrev pub StepsGoInOrder : (T : Type 0) → Type 0
 StepsGoInOrder T = (events : List Event) (time first later : ℕ) (all : List (Entry T)) (outcomes : List (Outcome T))
     (left anew grown : List (Entry T)) → IsStep first later (IsAsleep events time) all outcomes left anew
     → PutsIn (begun outcomes ++ anew) left grown → IsInOrder (IsAsleep events time) all outcomes anew grown
+
+-- and all of it was made by then: the next step can begin with it
+abbrev pub StepsAreMade : (T : Type 0) → Type 0
+StepsAreMade T = (events : List Event) (time first later next : ℕ) (all : List (Entry T))
+    (outcomes : List (Outcome T)) (left anew grown : List (Entry T))
+    → IsStep first later (IsAsleep events time) all outcomes left anew
+    → PutsIn (begun outcomes ++ anew) left grown → next < later
+    → ArePlaced grown × AllByRecursion (λ entry. WasMade (suc first) next entry.place) grown

@@ -1,6 +1,7 @@
 //! Entries that sleep until an event or a time wakes them.
 ghost use Rattle.std.specs.Prelude.{◌↔◌, IsTrue};
 ghost use Rattle.sleepers.specs.Entries.{IsAsleep};
+ghost use Rattle.sleepers.specs.Groups.{WakeAlike};
 
 use crate::patterns::{Patterns, has_none};
 use crate::places::Place;
@@ -24,6 +25,17 @@ impl<T> Entry<T> {
         match &self.patterns {
             Some(patterns) => time < self.end && has_none(patterns.as_slice(), events),
             None => false,
+        }
+    }
+
+    // Whether the entry sleeps at the same steps as the other.
+    pub(crate) fn wakes_alike(&self, other: &Entry<T>) -> bool
+        ensures { IsTrue result → WakeAlike self.now other.now }
+    {
+        match (&self.patterns, &other.patterns) {
+            (Some(patterns), Some(others)) => self.end == other.end && *patterns == *others,
+            (None, None) => true,
+            _ => false,
         }
     }
 }

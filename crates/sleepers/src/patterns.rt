@@ -5,7 +5,7 @@ ghost use Rattle.sleepers.specs.Patterns.{FitArgs, FitsArg, HasNone, Matches, Ma
 use enf_value::{Event, Items, NameId, Value};
 
 /// A name, and of its arguments those that are fixed.
-#[derive(Debug, Drop)]
+#[derive(Debug, PartialEq, Eq, Drop)]
 pub struct Pattern {
     pub name: NameId,
     pub args: Items<Option<Value>>,

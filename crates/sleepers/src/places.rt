@@ -1,8 +1,10 @@
 //! Places, and which of two comes first.
-ghost use Rattle.std.specs.Prelude.{◌≡◌, ◌↔◌, IsTrue};
-ghost use Rattle.sleepers.specs.Order.{IsBefore, BeginsBefore};
+ghost use Rattle.std.specs.Prelude.{◌≡◌, ◌↔◌};
+ghost use Rattle.std.specs.declared.cmp.Ordering.TheVariants.{Less};
+ghost use Rattle.sleepers.specs.Order.{IsBefore, beginning_cmp, place_cmp};
 
 use enf_value::Items;
+use std::cmp::Ordering;
 
 /// A number that tells when something was begun, and which it is of those that were begun with it.
 #[derive(Clone, Copy, Debug)]
@@ -15,31 +17,34 @@ pub struct Beginning {
 pub type Place = Items<Beginning>;
 
 impl Beginning {
-    /// Whether the beginning stands before the other.
-    pub fn is_before(self, other: Beginning) -> bool
-        ensures { IsTrue result ↔ BeginsBefore self other }
+    /// Which of two beginnings comes first.
+    pub fn compare(self, other: Beginning) -> Ordering
+        ensures { result ≡ beginning_cmp self other }
     {
-        self.number < other.number || (self.number == other.number && self.among < other.among)
-    }
-
-    // Whether the beginning is the other.
-    fn is_same(self, other: Beginning) -> bool
-        ensures { IsTrue result ↔ (self ≡ other) }
-    {
-        self.number == other.number && self.among == other.among
+        match self.number.cmp(&other.number) {
+            Ordering::Equal => self.among.cmp(&other.among),
+            apart => apart,
+        }
     }
 }
 
-/// Whether the place stands before the other.
-pub fn is_before(place: &[Beginning], other: &[Beginning]) -> bool
-    ensures { IsTrue result ↔ IsBefore place.now other.now }
+/// Which of two places comes first.
+pub fn compare(place: &[Beginning], other: &[Beginning]) -> Ordering
+    ensures order { result ≡ place_cmp place.now other.now }
+    ensures before { (result ≡ Less) ↔ IsBefore place.now other.now }
 {
-    let Some((other_beginning, others)) = other.split_first() else {
-        return false;
-    };
     let Some((beginning, rest)) = place.split_first() else {
-        return true;
+        return if other.is_empty() {
+            Ordering::Equal
+        } else {
+            Ordering::Less
+        };
     };
-    beginning.is_before(*other_beginning)
-        || (beginning.is_same(*other_beginning) && is_before(rest, others))
+    let Some((other_beginning, others)) = other.split_first() else {
+        return Ordering::Greater;
+    };
+    match beginning.compare(*other_beginning) {
+        Ordering::Equal => compare(rest, others),
+        apart => apart,
+    }
 }

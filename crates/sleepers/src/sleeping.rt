@@ -1,17 +1,14 @@
 //! Entries in the order of their places, and a walk over those that are awake.
-ghost use Rattle.std.specs.Prelude.{◌≡◌, ◌↔◌, ◌≤◌, ◌++◌, [], ◌∷◌};
-ghost use Rattle.std.specs.Prelude.{IsNone, IsTrue, drop, length};
+ghost use Rattle.std.specs.Prelude.{◌≡◌, ◌↔◌, ◌++◌, [], ◌∷◌};
+ghost use Rattle.std.specs.Prelude.{IsNone, drop, length};
 ghost use Rattle.std.specs.Prelude.{IfNone, IfOk, IfSome, OnErr, OnOk};
-ghost use Rattle.std.specs.List.{AllByRecursion};
 ghost use Rattle.std.specs.Option.{option_to_list};
-ghost use Rattle.cursor_list.specs.Split.{items};
 ghost use Rattle.sleepers.specs.Entries.{AllBut, HasOneMore, IsAllBut, IsAsleep, IsFree, shown};
-ghost use Rattle.sleepers.specs.Order.{IsBefore};
-ghost use Rattle.sleepers.specs.Sleeping.{AreMarks, StartsBefore, StartsMarked, StartsUnmarked, marked};
 
 use crate::entries::Entry;
-use crate::places::{Beginning, is_before};
-use cursor_list::CursorList;
+use crate::finding::{awake, group_for, leave, release, renew, rewind_each, sort_by_place};
+use crate::groups::Groups;
+use crate::index::Index;
 use enf_value::{Event, NoMemory};
 use std::alloc::Global;
 use std::collections::VecDeque;
@@ -21,21 +18,24 @@ use std::marker::Model;
 /// a walk over what is awake has in front of it.
 #[derive(Drop)]
 pub struct Sleepers<T> {
-    list: CursorList<Entry<T>>,
-    // Of the entries behind the cursor, whether the walk stops at them. Those of a walk that is over are none.
-    marks: VecDeque<bool>,
+    // The entries of a group sleep at the same steps.
+    groups: Groups<T>,
+    index: Index,
+    count: usize,
+    // The groups that the walk has in front of it, in the first of them up to its cursor.
+    walk: VecDeque<usize>,
+    alloc: Global,
 }
 
 impl<T> Model for Sleepers<T> {
-    ghost use Rattle.cursor_list.specs.Split.{items};
-    ghost use Rattle.sleepers.specs.Entries.{ArePlaced};
-    ghost use Rattle.sleepers.specs.Sleeping.{AreMarksOf, Sleeping, marked};
+    ghost use Rattle.sleepers.specs.Groups.{AreKept, ahead_of, by_place, held};
+    ghost use Rattle.sleepers.specs.Sleeping.{Sleeping};
 
     ghost Value = { Sleeping T };
 
-    ghost view = { λ s. record { entries = items s.list; ahead = marked s.marks.items s.list.after } };
+    ghost view = { λ s. record { entries = by_place (held s.groups); ahead = ahead_of s.groups s.walk.items } };
 
-    ghost invariant = { λ s. ArePlaced (items s.list) × AreMarksOf s.list.after s.marks.items };
+    ghost invariant = { λ s. AreKept s.groups s.index s.count s.walk.items };
 }
 
 impl<T: Drop> Sleepers<T> {
@@ -45,8 +45,11 @@ impl<T: Drop> Sleepers<T> {
         ensures ahead { result.ahead ≡ [] }
     {
         Sleepers {
-            list: CursorList::new(alloc),
-            marks: VecDeque::new(alloc),
+            groups: Groups::new(alloc),
+            index: Index::new(alloc),
+            count: 0,
+            walk: VecDeque::new(alloc),
+            alloc,
         }
     }
 
@@ -54,17 +57,15 @@ impl<T: Drop> Sleepers<T> {
     pub fn len(&self) -> usize
         ensures { result ≡ length self.now.entries }
     {
-        self.list.len()
+        self.count
     }
 
     /// All entries in order.
     pub fn in_order(&self, alloc: Global) -> Result<Vec<&Entry<T>>, NoMemory>
         ensures { IfOk result (λ all. shown all.items ≡ self.now.entries) }
     {
-        let mut all = Vec::new(alloc);
-        for entry in self.list.walk() {
-            all.push(entry)?;
-        }
+        let mut all = self.groups.all(alloc)?;
+        sort_by_place(&mut all);
         Ok(all)
     }
 
@@ -77,12 +78,9 @@ impl<T: Drop> Sleepers<T> {
     ) -> Result<Vec<&Entry<T>>, NoMemory>
         ensures { IfOk result (λ woken. AllBut (IsAsleep events.now time) self.now.entries (shown woken.items)) }
     {
-        let mut woken = Vec::new(alloc);
-        for entry in self.list.walk() {
-            if !entry.is_asleep(events, time) {
-                woken.push(entry)?;
-            }
-        }
+        let numbers = awake(alloc, &self.groups, &self.index, events, time)?;
+        let mut woken = self.groups.entries_of(alloc, numbers.as_slice())?;
+        sort_by_place(&mut woken);
         Ok(woken)
     }
 
@@ -93,11 +91,20 @@ impl<T: Drop> Sleepers<T> {
         ensures err { OnErr result (self.new.entries ≡ self.old.entries) }
         ensures ahead { self.new.ahead ≡ [] }
     {
-        self.marks.clear();
-        seek(&mut self.list, entry.place.as_slice());
-        match self.list.insert_before(entry) {
-            Ok(()) => Ok(()),
-            Err(_refused) => Err(NoMemory),
+        self.walk.clear();
+        let Some(more) = self.count.checked_add(1) else {
+            return Err(NoMemory);
+        };
+        let number = group_for(self.alloc, &mut self.groups, &mut self.index, &entry)?;
+        match self.groups.put(number, entry) {
+            Ok(()) => {
+                self.count = more;
+                Ok(())
+            }
+            Err(refused) => {
+                release(&mut self.groups, &mut self.index, number, &refused);
+                Err(NoMemory)
+            }
         }
     }
 
@@ -107,10 +114,9 @@ impl<T: Drop> Sleepers<T> {
         ensures err { OnErr result (self.new.ahead ≡ self.old.ahead) }
         ensures entries { self.new.entries ≡ self.old.entries }
     {
-        let marks = marks_of(alloc, &self.list, events, time)?;
-        self.list.rewind();
-        self.marks = marks;
-        skip(&mut self.list, &mut self.marks);
+        let numbers = awake(alloc, &self.groups, &self.index, events, time)?;
+        rewind_each(&mut self.groups, numbers.as_slice());
+        self.walk = VecDeque::from(numbers);
         Ok(())
     }
 
@@ -119,10 +125,8 @@ impl<T: Drop> Sleepers<T> {
         ensures none { IsNone result ↔ (self.now.ahead ≡ []) }
         ensures some { IfSome result (λ entry. self.now.ahead ≡ entry.now ∷ drop 1 self.now.ahead) }
     {
-        if self.marks.is_empty() {
-            return None;
-        }
-        self.list.peek()
+        let number = self.walk.front().copied()?;
+        self.groups.peek(number)
     }
 
     /// Passes the entry at which the walk stands.
@@ -130,10 +134,11 @@ impl<T: Drop> Sleepers<T> {
         ensures entries { self.new.entries ≡ self.old.entries }
         ensures ahead { self.new.ahead ≡ drop 1 self.old.ahead }
     {
-        if self.marks.pop_front().is_some() {
-            self.list.move_next();
-        }
-        skip(&mut self.list, &mut self.marks);
+        let Some(number) = self.walk.front().copied() else {
+            return;
+        };
+        self.groups.pass(number);
+        leave(&self.groups, &mut self.walk, number);
     }
 
     /// Takes the entry out at which the walk stands.
@@ -142,67 +147,12 @@ impl<T: Drop> Sleepers<T> {
         ensures some { IfSome result (λ entry. HasOneMore entry self.new.entries self.old.entries) }
         ensures none { IfNone result ((self.old.ahead ≡ []) × (self.new.entries ≡ self.old.entries)) }
     {
-        self.marks.pop_front()?;
-        let entry = self.list.remove();
-        skip(&mut self.list, &mut self.marks);
-        entry
+        let number = self.walk.front().copied()?;
+        let entry = self.groups.take(number)?;
+        self.count -= 1;
+        leave(&self.groups, &mut self.walk, number);
+        release(&mut self.groups, &mut self.index, number, &entry);
+        renew(self.alloc, &mut self.groups, &mut self.index, self.count);
+        Some(entry)
     }
-}
-
-// Puts the cursor behind the entries that stand before the place.
-fn seek<T>(list: &mut CursorList<Entry<T>>, place: &[Beginning])
-    ensures items { items list.new ≡ items list.old }
-    ensures front { AllByRecursion (λ entry. IsBefore entry.place place.now) list.new.before }
-    ensures back { StartsBefore list.new.after place.now → ⊥ }
-{
-    list.rewind();
-    while starts_before(&*list, place) {
-        list.move_next();
-    }
-}
-
-// Whether the entry behind the cursor stands before the place.
-fn starts_before<T>(list: &CursorList<Entry<T>>, place: &[Beginning]) -> bool
-    ensures { IsTrue result ↔ StartsBefore list.now.after place.now }
-{
-    match list.peek() {
-        Some(entry) => is_before(entry.place.as_slice(), place),
-        None => false,
-    }
-}
-
-// Of each entry whether it is awake.
-fn marks_of<T>(
-    alloc: Global,
-    list: &CursorList<Entry<T>>,
-    events: &[Event],
-    time: u64,
-) -> Result<VecDeque<bool>, NoMemory>
-    ensures { IfOk result (λ marks. AreMarks (IsAsleep events.now time) (items list.now) marks.items) }
-{
-    let mut marks = VecDeque::new(alloc);
-    for entry in list.walk() {
-        marks.push_back(!entry.is_asleep(events, time))?;
-    }
-    Ok(marks)
-}
-
-// Passes the entries in front of the next that is marked.
-fn skip<T>(list: &mut CursorList<Entry<T>>, marks: &mut VecDeque<bool>)
-    requires { length marks.old.items ≤ length list.old.after }
-    ensures items { items list.new ≡ items list.old }
-    ensures marked { marked marks.new.items list.new.after ≡ marked marks.old.items list.old.after }
-    ensures within { length marks.new.items ≤ length list.new.after }
-    ensures first { StartsMarked marks.new.items }
-{
-    while starts_unmarked(&*marks) {
-        marks.pop_front();
-        list.move_next();
-    }
-}
-
-fn starts_unmarked(marks: &VecDeque<bool>) -> bool
-    ensures { IsTrue result ↔ StartsUnmarked marks.now.items }
-{
-    matches!(marks.front(), Some(false))
 }

@@ -1,8 +1,10 @@
 //! Worked cases of the definitions, each a clause of a function with an empty body.
-ghost use Rattle.std.specs.Prelude.{◌≡◌, ℕ, [], ◌∷◌, true, false};
-ghost use Rattle.sleepers.specs.Entries.{AllBut, IsAllBut};
+ghost use Rattle.std.specs.Prelude.{◌≡◌, ℕ, [], ◌∷◌, ◌++◌};
+ghost use Rattle.sleepers.specs.Cases.{begun_anew, ended, sleeper, wakeful};
+ghost use Rattle.sleepers.specs.Entries.{AllBut, IsAllBut, IsAsleep};
+ghost use Rattle.sleepers.specs.Groups.{by_place};
 ghost use Rattle.sleepers.specs.Order.{AreInOrder, IsBefore, beginning};
-ghost use Rattle.sleepers.specs.Sleeping.{marked};
+ghost use Rattle.sleepers.specs.Steps.{IsStep, PutsIn};
 
 /// Which of two places comes first: that of an earlier beginning, and a front before what goes on with it.
 pub fn places()
@@ -24,5 +26,20 @@ pub fn all_but_ones()
     ensures any_order { IsAllBut (λ (n : ℕ). n ≡ 1) (3 ∷ 1 ∷ 2 ∷ []) (2 ∷ 3 ∷ []) }
     ensures twice { IsAllBut (λ (n : ℕ). n ≡ 1) (1 ∷ 3 ∷ []) (3 ∷ 3 ∷ []) → ⊥ }
     ensures none { IsAllBut (λ (n : ℕ). n ≡ 1) (1 ∷ 3 ∷ []) [] → ⊥ }
-    ensures marked { marked {X = ℕ} (true ∷ false ∷ []) (5 ∷ 6 ∷ 7 ∷ []) ≡ 5 ∷ [] }
+{}
+
+/// What sleeps without an event: it is awake from its end on, and without patterns always.
+pub fn without_events()
+    ensures before { IsAsleep [] 4 (sleeper (beginning 1 0 ∷ []) 5) }
+    ensures at_its_end { IsAsleep [] 5 (sleeper (beginning 1 0 ∷ []) 5) → ⊥ }
+    ensures no_patterns { IsAsleep [] 4 (wakeful (beginning 1 0 ∷ []) 5) → ⊥ }
+{}
+
+/// A step at which an entry ends, one is begun for it, and one anew.
+pub fn steps()
+    ensures step { IsStep 2 10 (IsAsleep [] 5) (ended.entry ∷ []) (ended ∷ []) [] begun_anew }
+    ensures puts_in { PutsIn (ended.begun ++ begun_anew) [] (ended.begun ++ begun_anew) }
+    ensures not_made_twice { IsStep 1 10 (IsAsleep [] 5) (ended.entry ∷ []) (ended ∷ []) [] begun_anew → ⊥ }
+    ensures not_while_asleep { IsStep 2 10 (IsAsleep [] 4) (ended.entry ∷ []) (ended ∷ []) [] begun_anew → ⊥ }
+    ensures in_order { by_place (begun_anew ++ ended.begun) ≡ ended.begun ++ begun_anew }
 {}

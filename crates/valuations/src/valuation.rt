@@ -48,6 +48,8 @@ impl Valuation {
         ensures err { OnErr result (self.new ≡ self.old) }
     {
         let place = place_in(self.bindings.as_slice(), var);
+        // many are kept for long, each with few bindings
+        self.bindings.reserve_exact(1)?;
         self.bindings.insert(place, (var, value))?;
         Ok(())
     }

@@ -46,23 +46,23 @@ returns-clause-spared c =
     (c.in_ok-spared.ensures.spared c.if-not-spared.false)
 
 pub returns-clause-met : goal.returns-clause-met
-returns-clause-met c pending inserted given nothing can found before =
+returns-clause-met c pending waiting inserted given nothing can found before =
     let plans = map plan_of c.args.plans.now in
     let past = c.args.past.now in
-    met_behind plans pending past inserted c.args.time c.args.position c.act_on.new.events c.args.found.rule c.args.found.place.instances
+    met_behind plans pending past inserted c.args.time c.args.position waiting c.args.events.now c.act_on.new.events c.args.found.rule c.args.found.place
     (subst (λ ls. LeavesNothing past c.args.time c.args.position c.args.found.rule ls c.act.new.events c.act_on.new.events) c.as_slice.ensures.value
     (c.in_ok-spared.ensures.left c.if-not-spared.false)
     plans pending inserted given nothing can found.literals_are
     (left_spared plans pending past inserted c.args.time c.args.position c.unread_stays_met.ensures.plans c.unread_stays_met.ensures.instances c.unread_stays_met.ensures.rest can
     nothing given c.args.events.now c.act.new.events c.args.found.rule c.args.found.action c.args.found.literals.items
     (some c.args.found.literals.len c.args.found.literals.items (omega (arith, c.args.found.literals.ok.0)) (eqb-false c.args.found.literals.len 0 (sym c.is_empty.ensures ∙ c.if-is_empty.false))) c.in_ok-act.ensures
-    (λ there. true≢false (sym (c.looks_for.ensures.1 there) ∙ c.if-looks_for.false)) (c.has_no_choices.ensures c.if-not-has_no_choices.false) found))
+    (λ there. true≢false (sym (c.looks_for.ensures.1 there) ∙ c.if-looks_for.false)) (c.has_no_choices.ensures c.if-not-has_no_choices.false) found)) before
 
 pub returns-then-is_empty-clause-met : goal.returns-then-is_empty-clause-met
-returns-then-is_empty-clause-met c pending inserted given nothing can found before =
+returns-then-is_empty-clause-met c pending waiting inserted given nothing can found before =
     let plans = map plan_of c.args.plans.now in
     let past = c.args.past.now in
     place_stays plans pending past inserted c.args.time c.args.position c.unread_stays_met.ensures.plans c.unread_stays_met.ensures.instances c.unread_stays_met.ensures.rest can
-    nothing given c.args.events.now (c.args.found.action ∷ []) c.act.new.events c.args.found.place
+    waiting nothing given c.args.events.now (c.args.found.action ∷ []) c.act.new.events c.args.found.place
     (c.act.new.events, found.finds, found.wanted, c.in_ok-act.ensures, refl)
     ((λ there. true≢false (sym (c.looks_for.ensures.1 there) ∙ c.if-looks_for.false)), tt) before

@@ -4,6 +4,7 @@ use Rattle.past_state.specs.Known.{AreKnown}
 use Rattle.past_state.specs.Past.{AreOf, GuardsWillHold, guard_names}
 use Rattle.std.proofs.lemmas.Result.{on_ok_weaker}
 use Rattle.choice_step.specs.Situations.{IsFound, IsMetBefore, Leads}
+use Rattle.sleepers.specs.Entries.{shown}
 use Rattle.choice_step.proofs.choosing.act_from.Goals as goal
 
 pub go_on-requires : goal.go_on-requires
@@ -14,12 +15,13 @@ go_on-requires c =
     let same = sym (c.in_ok-ordered.ensures ∙ c.in_ok-given.ensures) in
     record {
       can = c.requires.can;
+      among = c.requires.among;
       are = subst (λ l. AreOf situation.past.now situation.time l tables) same c.requires.are;
       hold = subst (λ l. GuardsWillHold situation.past.now situation.time l tables) same c.requires.hold;
       known = subst (λ l. AreKnown situation.past.now l tables) same c.requires.known;
       same = same;
       found = subst (λ l. IsFound situation l l found) same c.requires.found;
-      place = subst (λ l. IsMetBefore situation l found.place) same c.requires.place;
+      place = subst (λ l. IsMetBefore situation (shown c.args.waiting.now) l found.place) same c.requires.place;
     }
 
 pub returns-clause-acts : goal.returns-clause-acts

@@ -13,6 +13,7 @@ go_round-requires c = record {
     wakes = c.requires.wakes;
     few = c.requires.few;
     roles = c.requires.roles;
+    kept = c.requires.kept;
     all = record { roots = c.requires.roots; instances = c.requires.instances };
     later = c.requires.later;
   };

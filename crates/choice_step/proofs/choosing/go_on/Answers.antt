@@ -4,12 +4,13 @@ use Rattle.enf_value.specs.Membership.{HasNoRepeats}
 use Rattle.past_state.specs.Past.{guard_names}
 use Rattle.choice_step.specs.Acting.{AreSparedBehind, StaysMet}
 use Rattle.choice_step.specs.Situations.{Finds, IsFound, IsMetBefore, plans_of}
+use Rattle.sleepers.specs.Entries.{shown}
 use Rattle.choice_step.proofs.PlaceLemmas.{few_on, led_on, longer, more_on, on_first, place_on, same_on}
 use Rattle.choice_step.proofs.choosing.go_on.Goals as goal
 
 pub loop-reached-init : goal.loop-reached-init
 loop-reached-init c =
-    on_first c.args.situation.now c.args.ordered.now c.args.actions.now c.args.found c.args.events.now c.requires.same c.requires.found c.requires.place
+    on_first c.args.situation.now (shown c.args.waiting.now) c.args.ordered.now c.args.actions.now c.args.found c.args.events.now c.requires.same c.requires.found c.requires.place
 
 pub act_for-requires : goal.act_for-requires
 act_for-requires c = record { changes = c.loop-reached.invariant.found.wanted.changes }
@@ -23,22 +24,23 @@ next_from-requires c =
     let spared = subst (λ o. IfSome o (λ place. AreSparedBehind (guard_names situation.past.now.guards) c.loop-reached.actions c.act_for.new.actions)) c.in-Some.is c.in_ok-reached.ensures.spared in
     record {
       can = can;
+      among = c.requires.among;
       are = c.requires.are;
       hold = c.requires.hold;
       known = c.requires.known;
-      same = same_on situation can given c.args.actions.now f c.loop-reached.events c.loop-reached.actions c.act_for.new.events c.act_for.new.actions
+      same = same_on situation (shown c.args.waiting.now) can given c.args.actions.now f c.loop-reached.events c.loop-reached.actions c.act_for.new.events c.act_for.new.actions
           c.loop-reached.invariant c.in_ok-reached.ensures.acts spared;
-      before = place_on situation can given c.args.actions.now f c.loop-reached.events c.loop-reached.actions c.act_for.new.events c.in-Some.place c.loop-reached.invariant
+      before = place_on situation (shown c.args.waiting.now) can given c.args.actions.now f c.loop-reached.events c.loop-reached.actions c.act_for.new.events c.in-Some.place c.loop-reached.invariant
           (subst (λ o. IfSome o (λ place. StaysMet (plans_of situation) situation.past.now situation.time situation.position f.action f.rule f.literals.items f.place c.loop-reached.events c.act_for.new.events place)) c.in-Some.is c.in_ok-reached.ensures.met);
     }
 
 pub returns-in_default-clause-acts : goal.returns-in_default-clause-acts
-returns-in_default-clause-acts c = led_on c.args.situation.now c.requires.can c.args.ordered.now c.args.actions.now c.loop-reached.first c.loop-reached.events c.loop-reached.actions c.act_for.new.events c.act_for.new.actions c.loop-reached.invariant c.in_ok-reached.ensures.acts
+returns-in_default-clause-acts c = led_on c.args.situation.now (shown c.args.waiting.now) c.requires.can c.args.ordered.now c.args.actions.now c.loop-reached.first c.loop-reached.events c.loop-reached.actions c.act_for.new.events c.act_for.new.actions c.loop-reached.invariant c.in_ok-reached.ensures.acts
 
 pub returns-in_default-clause-more : goal.returns-in_default-clause-more
 returns-in_default-clause-more c =
-    let more = more_on c.args.situation.now c.requires.can c.args.ordered.now c.args.actions.now c.loop-reached.first c.loop-reached.events c.loop-reached.actions c.act_for.new.events c.act_for.new.actions c.loop-reached.invariant c.in_ok-reached.ensures.acts in
-    omega (arith, more, longer c.args.situation.now c.requires.can c.args.ordered.now c.args.actions.now c.loop-reached.events c.loop-reached.actions c.loop-reached.invariant.led)
+    let more = more_on c.args.situation.now (shown c.args.waiting.now) c.requires.can c.args.ordered.now c.args.actions.now c.loop-reached.first c.loop-reached.events c.loop-reached.actions c.act_for.new.events c.act_for.new.actions c.loop-reached.invariant c.in_ok-reached.ensures.acts in
+    omega (arith, more, longer c.args.situation.now (shown c.args.waiting.now) c.requires.can c.args.ordered.now c.args.actions.now c.loop-reached.events c.loop-reached.actions c.loop-reached.invariant.led)
 
 pub loop-reached-preserved : goal.loop-reached-preserved
 loop-reached-preserved c =
@@ -46,27 +48,27 @@ loop-reached-preserved c =
     let given = c.args.ordered.now in
     let after = c.act_for.new.events in
     record {
-      led = led_on c.args.situation.now c.requires.can c.args.ordered.now c.args.actions.now c.loop-reached.first c.loop-reached.events c.loop-reached.actions c.act_for.new.events c.act_for.new.actions c.loop-reached.invariant c.in_ok-reached.ensures.acts;
-      same = same_on c.args.situation.now c.requires.can c.args.ordered.now c.args.actions.now c.loop-reached.first c.loop-reached.events c.loop-reached.actions c.act_for.new.events c.act_for.new.actions c.loop-reached.invariant c.in_ok-reached.ensures.acts
+      led = led_on c.args.situation.now (shown c.args.waiting.now) c.requires.can c.args.ordered.now c.args.actions.now c.loop-reached.first c.loop-reached.events c.loop-reached.actions c.act_for.new.events c.act_for.new.actions c.loop-reached.invariant c.in_ok-reached.ensures.acts;
+      same = same_on c.args.situation.now (shown c.args.waiting.now) c.requires.can c.args.ordered.now c.args.actions.now c.loop-reached.first c.loop-reached.events c.loop-reached.actions c.act_for.new.events c.act_for.new.actions c.loop-reached.invariant c.in_ok-reached.ensures.acts
           (subst (λ o. IfSome o (λ place. AreSparedBehind (guard_names c.args.situation.now.past.now.guards) c.loop-reached.actions c.act_for.new.actions)) c.in-Some.is c.in_ok-reached.ensures.spared);
       found = subst (λ o. IfSome o (IsFound situation given after)) c.in-Some-next.is c.in_ok-next.ensures.found;
-      place = subst (λ o. IfSome o (λ f. IsMetBefore situation after f.place)) c.in-Some-next.is c.in_ok-next.ensures.place;
+      place = subst (λ o. IfSome o (λ f. IsMetBefore situation (shown c.args.waiting.now) after f.place)) c.in-Some-next.is c.in_ok-next.ensures.place;
     }
 
 pub loop-reached-smaller : goal.loop-reached-smaller
 loop-reached-smaller c =
-    let led = led_on c.args.situation.now c.requires.can c.args.ordered.now c.args.actions.now c.loop-reached.first c.loop-reached.events c.loop-reached.actions c.act_for.new.events c.act_for.new.actions c.loop-reached.invariant c.in_ok-reached.ensures.acts in
-    let more = more_on c.args.situation.now c.requires.can c.args.ordered.now c.args.actions.now c.loop-reached.first c.loop-reached.events c.loop-reached.actions c.act_for.new.events c.act_for.new.actions c.loop-reached.invariant c.in_ok-reached.ensures.acts in
-    let most = few_on c.args.situation.now c.requires.can c.args.ordered.now (subst HasNoRepeats c.set.ensures c.as_slice-given.ensures.distinct) c.args.actions.now c.act_for.new.events c.act_for.new.actions led in
+    let led = led_on c.args.situation.now (shown c.args.waiting.now) c.requires.can c.args.ordered.now c.args.actions.now c.loop-reached.first c.loop-reached.events c.loop-reached.actions c.act_for.new.events c.act_for.new.actions c.loop-reached.invariant c.in_ok-reached.ensures.acts in
+    let more = more_on c.args.situation.now (shown c.args.waiting.now) c.requires.can c.args.ordered.now c.args.actions.now c.loop-reached.first c.loop-reached.events c.loop-reached.actions c.act_for.new.events c.act_for.new.actions c.loop-reached.invariant c.in_ok-reached.ensures.acts in
+    let most = few_on c.args.situation.now (shown c.args.waiting.now) c.requires.can c.args.ordered.now (subst HasNoRepeats c.set.ensures c.as_slice-given.ensures.distinct) c.args.actions.now c.act_for.new.events c.act_for.new.actions led in
     omega (arith, most, more)
 
 pub returns-in-None-clause-acts : goal.returns-in-None-clause-acts
-returns-in-None-clause-acts c = led_on c.args.situation.now c.requires.can c.args.ordered.now c.args.actions.now c.loop-reached.first c.loop-reached.events c.loop-reached.actions c.act_for.new.events c.act_for.new.actions c.loop-reached.invariant c.in_ok-reached.ensures.acts
+returns-in-None-clause-acts c = led_on c.args.situation.now (shown c.args.waiting.now) c.requires.can c.args.ordered.now c.args.actions.now c.loop-reached.first c.loop-reached.events c.loop-reached.actions c.act_for.new.events c.act_for.new.actions c.loop-reached.invariant c.in_ok-reached.ensures.acts
 
 pub returns-in-None-clause-more : goal.returns-in-None-clause-more
 returns-in-None-clause-more c =
-    let more = more_on c.args.situation.now c.requires.can c.args.ordered.now c.args.actions.now c.loop-reached.first c.loop-reached.events c.loop-reached.actions c.act_for.new.events c.act_for.new.actions c.loop-reached.invariant c.in_ok-reached.ensures.acts in
-    omega (arith, more, longer c.args.situation.now c.requires.can c.args.ordered.now c.args.actions.now c.loop-reached.events c.loop-reached.actions c.loop-reached.invariant.led)
+    let more = more_on c.args.situation.now (shown c.args.waiting.now) c.requires.can c.args.ordered.now c.args.actions.now c.loop-reached.first c.loop-reached.events c.loop-reached.actions c.act_for.new.events c.act_for.new.actions c.loop-reached.invariant c.in_ok-reached.ensures.acts in
+    omega (arith, more, longer c.args.situation.now (shown c.args.waiting.now) c.requires.can c.args.ordered.now c.args.actions.now c.loop-reached.events c.loop-reached.actions c.loop-reached.invariant.led)
 
 pub returns-in-None-clause-nothing : goal.returns-in-None-clause-nothing
 returns-in-None-clause-nothing c _ =
@@ -74,5 +76,5 @@ returns-in-None-clause-nothing c _ =
 
 pub returns-in-None-clause-same : goal.returns-in-None-clause-same
 returns-in-None-clause-same c _ =
-    same_on c.args.situation.now c.requires.can c.args.ordered.now c.args.actions.now c.loop-reached.first c.loop-reached.events c.loop-reached.actions c.act_for.new.events c.act_for.new.actions c.loop-reached.invariant c.in_ok-reached.ensures.acts
+    same_on c.args.situation.now (shown c.args.waiting.now) c.requires.can c.args.ordered.now c.args.actions.now c.loop-reached.first c.loop-reached.events c.loop-reached.actions c.act_for.new.events c.act_for.new.actions c.loop-reached.invariant c.in_ok-reached.ensures.acts
     (subst (λ o. IfSome o (λ place. AreSparedBehind (guard_names c.args.situation.now.past.now.guards) c.loop-reached.actions c.act_for.new.actions)) c.in-Some.is c.in_ok-reached.ensures.spared)

@@ -1,8 +1,13 @@
-use Rattle.std.proofs.Common.{[], None, refl, sym, subst, append-nil}
+use Rattle.std.proofs.Common.{[], None, refl, sym, subst, map, append-nil}
+use Rattle.obligations.specs.Asked.{placed_guard}
+use Rattle.pending.specs.Listed.{SleepsAt}
+use Rattle.sleepers.specs.Entries.{AllBut}
+use Rattle.choice_step.proofs.RoundLemmas.{covers_sleep, rest_among}
 use Rattle.std.specs.Prelude.{IfNone, IfSome, IsTrue}
 use Rattle.enf_formula.specs.Names.{HaveSameOf}
 use Rattle.past_state.specs.Past.{guard_names}
-use Rattle.choice_step.specs.Situations.{Finds, IsFound, IsMetBefore, NoneIsWoken}
+use Rattle.choice_step.specs.Situations.{plans_of, Finds, IsFound, IsMetBefore, NoneIsWoken}
+use Rattle.sleepers.specs.Entries.{shown}
 use Rattle.choice_step.proofs.choosing.go_round.Goals as goal
 
 pub returns-in_default-clause-acts : goal.returns-in_default-clause-acts
@@ -12,17 +17,40 @@ pub returns-in_default-clause-nothing : goal.returns-in_default-clause-nothing
 returns-in_default-clause-nothing c _ =
     subst (λ o. IfNone o (Finds c.args.situation.now c.args.events None)) c.in_default.is c.in_ok-found.ensures.nothing
 
+pub look-requires : goal.look-requires
+look-requires c =
+    let situation = c.args.situation.now in
+    let plans = plans_of situation in
+    let pending = situation.pending.now.instances in
+    let but =
+    subst (λ l. AllBut (SleepsAt plans c.as_slice.result.now situation.time) pending (shown l)) (sym c.as_slice-waiting.ensures.value) (c.in_ok-woken.ensures plans c.requires.can.kept) in
+    let waiting = shown c.as_slice-waiting.result.now in
+    record {
+      can = c.requires.can;
+      among = rest_among (SleepsAt plans c.as_slice.result.now situation.time) pending waiting but pending (λ x there. there);
+      start = λ trace stands long later. (
+        covers_sleep c.pending_exists.ensures.missing c.sleepers_stay.ensures.misses_nothing (map placed_guard situation.past.now.guards) plans situation.inserted trace situation.time c.args.events
+            pending waiting c.requires.can.all.instances (subst (λ l. AllBut (SleepsAt plans l situation.time) pending waiting) c.as_slice.ensures.events but),
+        tt,
+      );
+    }
+
 pub act_from-requires : goal.act_from-requires
 act_from-requires c =
     let situation = c.args.situation.now in
+    let plans = plans_of situation in
+    let pending = situation.pending.now.instances in
+    let but =
+    subst (λ l. AllBut (SleepsAt plans c.as_slice.result.now situation.time) pending (shown l)) (sym c.as_slice-waiting.ensures.value) (c.in_ok-woken.ensures plans c.requires.can.kept) in
     let events = c.args.events in
     record {
       can = c.requires.can;
+      among = rest_among (SleepsAt plans c.as_slice.result.now situation.time) pending (shown c.as_slice-waiting.result.now) but pending (λ x there. there);
       are = c.in_ok-found.ensures.are;
       hold = c.in_ok-found.ensures.hold;
       known = c.in_ok-found.ensures.known;
       found = subst (λ o. IfSome o (IsFound situation events events)) c.in-Some.is c.in_ok-found.ensures.found;
-      place = subst (λ o. IfSome o (λ f. IsMetBefore situation events f.place)) c.in-Some.is c.in_ok-found.ensures.place;
+      place = subst (λ o. IfSome o (λ f. IsMetBefore situation (shown c.as_slice-waiting.result.now) events f.place)) c.in-Some.is c.in_ok-found.ensures.place;
       last = subst (λ o. IfSome o (λ f. IsTrue c.in_ok-found.field-0.last → NoneIsWoken situation events f.rule)) c.in-Some.is c.in_ok-found.ensures.last;
     }
 

@@ -7,6 +7,7 @@ use Rattle.obligations.specs.Waiting.{CanAskOf, CanAskRoots}
 use Rattle.choice_step.specs.Situations.{plans_of}
 use Rattle.choice_step.specs.Choice.{with_step}
 use Rattle.choice_step.specs.Looking.{WillBeMetBefore, WillHaveFound}
+use Rattle.sleepers.specs.Entries.{shown}
 use Rattle.choice_step.proofs.LookingLemmas.{if_some}
 use Rattle.choice_step.proofs.StepLemmas.{found_behind_past, if_none, now_of}
 use Rattle.choice_step.proofs.choosing.next_from.Goals as goal
@@ -22,6 +23,7 @@ first_action-requires c =
       instances = subst (λ gs. AllByRecursion (CanAskOf (map placed_guard gs) plans) situation.pending.now.instances) same_guards c.requires.can.all.instances;
       few = c.requires.can.few;
       wakes = c.requires.can.wakes;
+      among = c.requires.among;
     }
 
 pub returns-clause-nothing : goal.returns-clause-nothing
@@ -61,7 +63,7 @@ returns-clause-place c =
     let past = situation.past.now in
     let events = c.args.events.now in
     let same = subst (λ gs. HaveSameOf (guard_names gs) c.args.ordered.now events) (sym c.requires.are.2.0) c.requires.same in
-    if_some c.in_ok-found.found _ (λ f. WillBeMetBefore (plans_of situation) situation.pending.now.instances past situation.inserted situation.time situation.position events f.place)
+    if_some c.in_ok-found.found _ (λ f. WillBeMetBefore (plans_of situation) situation.pending.now.instances (shown c.args.waiting.now) past situation.inserted situation.time situation.position events f.place)
     (λ f place trace stands long later. place (with_step trace situation.time events)
     (now_of c.dependence.ensures.names past _ trace c.requires.hold same stands long later)
     (c.requires.before trace stands long later))

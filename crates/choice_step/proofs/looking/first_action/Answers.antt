@@ -9,6 +9,7 @@ use Rattle.plan_terms.specs.Plans.{plan_of}
 use Rattle.obligations.specs.Asked.{IsNowOf}
 use Rattle.choice_step.specs.Choice.{MissesNothing, Waiting, all_asked, roots_from}
 use Rattle.choice_step.specs.Looking.{IsActionFor, IsWantedAt, NothingBefore, RootMisses, RootsAreMet, WasFound}
+use Rattle.sleepers.specs.Entries.{shown}
 use Rattle.choice_step.proofs.LookingLemmas.{found_behind, found_first, if_some}
 use Rattle.choice_step.proofs.looking.first_action.Goals as goal
 
@@ -17,18 +18,14 @@ returns-in-Some-clause-found c trace of before =
     let plans = map plan_of c.args.plans.now in
     let pending = c.args.pending.now.instances in
     found_first plans c.args.inserted trace (map Waiting pending) (roots_from 0 plans) c.in-Some.found.action
-    (subst (λ o. IsActionFor plans c.args.inserted trace (map Waiting pending) (option_map (λ f. f.action) o)) c.in-Some.is
-    (subst (λ l. NothingBefore plans l c.args.inserted trace c.args.from → IsActionFor plans c.args.inserted trace (map Waiting l) (option_map (λ f. f.action) c.in_ok-found.field-0)) c.as_slice.ensures
-    (c.in_ok-found.ensures.found trace of) before))
+    (subst (λ o. IsActionFor plans c.args.inserted trace (map Waiting pending) (option_map (λ f. f.action) o)) c.in-Some.is (c.in_ok-found.ensures.found trace of before))
 
 pub returns-in-Some-clause-place : goal.returns-in-Some-clause-place
 returns-in-Some-clause-place c =
     let plans = map plan_of c.args.plans.now in
     let now = c.args.now.now in
-    subst (λ o. IfSome o (λ f. (trace : List Step) → IsNowOf now trace → NothingBefore plans c.args.pending.now.instances c.args.inserted trace c.args.from
-    → NothingBefore plans c.args.pending.now.instances c.args.inserted trace f.place)) c.in-Some.is
-    (subst (λ l. IfSome c.in_ok-found.field-0 (λ f. (trace : List Step) → IsNowOf now trace → NothingBefore plans l c.args.inserted trace c.args.from
-    → NothingBefore plans l c.args.inserted trace f.place)) c.as_slice.ensures c.in_ok-found.ensures.place)
+    subst (λ o. IfSome o (λ f. (trace : List Step) → IsNowOf now trace → NothingBefore plans c.args.pending.now.instances (shown c.args.waiting.now) c.args.inserted trace c.args.from
+    → NothingBefore plans c.args.pending.now.instances (shown c.args.waiting.now) c.args.inserted trace f.place)) c.in-Some.is c.in_ok-found.ensures.place
 
 pub returns-in-Some-clause-rest : goal.returns-in-Some-clause-rest
 returns-in-Some-clause-rest c trace of before some =
@@ -40,8 +37,7 @@ pub returns-in-Some-clause-wanted : goal.returns-in-Some-clause-wanted
 returns-in-Some-clause-wanted c =
     let plans = map plan_of c.args.plans.now in
     let now = c.args.now.now in
-    subst (λ o. IfSome o (λ f. IsWantedAt plans c.args.pending.now.instances now.events.now now.ordered.now now.tables.now f.action)) c.in-Some.is
-    (subst (λ l. IfSome c.in_ok-found.field-0 (λ f. IsWantedAt plans l now.events.now now.ordered.now now.tables.now f.action)) c.as_slice.ensures c.in_ok-found.ensures.wanted)
+    subst (λ o. IfSome o (λ f. IsWantedAt plans c.args.pending.now.instances now.events.now now.ordered.now now.tables.now f.action)) c.in-Some.is c.in_ok-found.ensures.wanted
 
 pub returns-in-Some-clause-literals : goal.returns-in-Some-clause-literals
 returns-in-Some-clause-literals c literal among =
@@ -49,19 +45,17 @@ returns-in-Some-clause-literals c literal among =
     absurd (none_in_nil literal (subst (λ l. Contains l literal) none among))
 
 waiting : (c : goal.After-first_root) → (trace : List Step) → IsNowOf c.args.now.now trace
-    → NothingBefore (map plan_of c.args.plans.now) c.args.pending.now.instances c.args.inserted trace c.args.from
+    → NothingBefore (map plan_of c.args.plans.now) c.args.pending.now.instances (shown c.args.waiting.now) c.args.inserted trace c.args.from
     → AllByRecursion (MissesNothing (map plan_of c.args.plans.now) c.args.inserted trace) (map Waiting c.args.pending.now.instances)
 waiting c trace of before =
     let plans = map plan_of c.args.plans.now in
-    subst (λ o. IsActionFor plans c.args.inserted trace (map Waiting c.args.pending.now.instances) (option_map (λ f. f.action) o)) c.in-None.is
-    (subst (λ l. NothingBefore plans l c.args.inserted trace c.args.from → IsActionFor plans c.args.inserted trace (map Waiting l) (option_map (λ f. f.action) c.in_ok-found.field-0)) c.as_slice.ensures
-    (c.in_ok-found.ensures.found trace of) before)
+    subst (λ o. IsActionFor plans c.args.inserted trace (map Waiting c.args.pending.now.instances) (option_map (λ f. f.action) o)) c.in-None.is (c.in_ok-found.ensures.found trace of before)
 
 pub returns-in-None-clause-found : goal.returns-in-None-clause-found
 returns-in-None-clause-found c =
     let plans = map plan_of c.args.plans.now in
     let pending = c.args.pending.now.instances in
-    IfOk-weaker c.first_root.result _ (λ found. (trace : List Step) → IsNowOf c.args.now.now trace → NothingBefore plans pending c.args.inserted trace c.args.from
+    IfOk-weaker c.first_root.result _ (λ found. (trace : List Step) → IsNowOf c.args.now.now trace → NothingBefore plans pending (shown c.args.waiting.now) c.args.inserted trace c.args.from
     → IsActionFor plans c.args.inserted trace (all_asked plans pending) (option_map (λ f. f.action) found))
     (λ found behind trace of before. found_behind plans c.args.inserted trace (map Waiting pending) (roots_from 0 plans) (option_map (λ f. f.action) found)
     (waiting c trace of before) (behind trace of before.1))
@@ -72,11 +66,11 @@ returns-in-None-clause-place c =
     let plans = map plan_of c.args.plans.now in
     let pending = c.args.pending.now.instances in
     let now = c.args.now.now in
-    IfOk-weaker c.first_root.result _ (λ found. IfSome found (λ f. (trace : List Step) → IsNowOf now trace → NothingBefore plans pending c.args.inserted trace c.args.from
-    → NothingBefore plans pending c.args.inserted trace f.place))
+    IfOk-weaker c.first_root.result _ (λ found. IfSome found (λ f. (trace : List Step) → IsNowOf now trace → NothingBefore plans pending (shown c.args.waiting.now) c.args.inserted trace c.args.from
+    → NothingBefore plans pending (shown c.args.waiting.now) c.args.inserted trace f.place))
     (λ found place. if_some found (λ f. (trace : List Step) → IsNowOf now trace → RootsAreMet plans c.args.inserted trace c.args.from.rules
-    → AllByRecursion (MissesNothing plans c.args.inserted trace) (map Waiting pending) → NothingBefore plans pending c.args.inserted trace f.place)
-    (λ f. (trace : List Step) → IsNowOf now trace → NothingBefore plans pending c.args.inserted trace c.args.from → NothingBefore plans pending c.args.inserted trace f.place)
+    → AllByRecursion (MissesNothing plans c.args.inserted trace) (map Waiting pending) → NothingBefore plans pending (shown c.args.waiting.now) c.args.inserted trace f.place)
+    (λ f. (trace : List Step) → IsNowOf now trace → NothingBefore plans pending (shown c.args.waiting.now) c.args.inserted trace c.args.from → NothingBefore plans pending (shown c.args.waiting.now) c.args.inserted trace f.place)
     (λ f is trace of before. is trace of before.1 (waiting c trace of before))
     place)
     c.first_root.ensures.place
@@ -86,11 +80,11 @@ returns-in-None-clause-rest c =
     let plans = map plan_of c.args.plans.now in
     let pending = c.args.pending.now.instances in
     let now = c.args.now.now in
-    IfOk-weaker c.first_root.result _ (λ found. IfSome found (λ f. (trace : List Step) → IsNowOf now trace → NothingBefore plans pending c.args.inserted trace c.args.from
+    IfOk-weaker c.first_root.result _ (λ found. IfSome found (λ f. (trace : List Step) → IsNowOf now trace → NothingBefore plans pending (shown c.args.waiting.now) c.args.inserted trace c.args.from
     → WasFound plans pending c.args.inserted trace f.rule f.literals.items))
     (λ found rest. if_some found (λ f. (trace : List Step) → IsNowOf now trace → RootsAreMet plans c.args.inserted trace c.args.from.rules
     → RootMisses plans c.args.inserted trace f.rule f.literals.items)
-    (λ f. (trace : List Step) → IsNowOf now trace → NothingBefore plans pending c.args.inserted trace c.args.from → WasFound plans pending c.args.inserted trace f.rule f.literals.items)
+    (λ f. (trace : List Step) → IsNowOf now trace → NothingBefore plans pending (shown c.args.waiting.now) c.args.inserted trace c.args.from → WasFound plans pending c.args.inserted trace f.rule f.literals.items)
     (λ f misses trace of before some. (waiting c trace of before, misses trace of before.1))
     rest)
     c.first_root.ensures.rest

@@ -1,4 +1,4 @@
-use Rattle.std.proofs.Common.{◌≡◌, ◌∙◌, ℕ, ◌+◌, ◌<◌, ◌≤◌, Bool, List, Option, Contains, None, Some, map, take, refl, sym, subst, ap, arith}
+use Rattle.std.proofs.Common.{◌≡◌, ◌∙◌, ℕ, ◌+◌, ◌<◌, ◌≤◌, Bool, List, Option, Contains, None, Some, length, map, refl, sym, subst, ap, arith}
 use Rattle.std.specs.Prelude.{slice_get}
 use Rattle.std.specs.List.{AllByRecursion}
 use Rattle.std.specs.Option.{option_copied}
@@ -18,12 +18,13 @@ use Rattle.obligations.specs.declared.now.Now.{Now}
 use Rattle.obligations.specs.Missing.{Missing}
 use Rattle.obligations.specs.Unread.{IsPlain}
 use Rattle.obligations.specs.Waiting.{CanAskRoot, CanAskRoots}
-use Rattle.choice_step.specs.Choice.{MissesNothing, Root, Waiting}
-use Rattle.choice_step.specs.Looking.{RootsAreMet}
+use Rattle.choice_step.specs.Choice.{Root}
+use Rattle.choice_step.specs.Looking.{Covers, RootsAreMet}
 use Rattle.choice_step.specs.Waking.{HasNoneOf}
+use Rattle.sleepers.specs.Entries.{shown}
 use Rattle.choice_step.proofs.AsleepLemmas.{all_asleep}
 use Rattle.choice_step.proofs.FiniteLemmas.{Contains-map}
-use Rattle.choice_step.proofs.LookingLemmas.{all_waiting, for_trace, literal_root, misses_root, no_root, one_more_root, root_first, stays_root, wanted_root}
+use Rattle.choice_step.proofs.LookingLemmas.{Met, covers_all, drop_end, for_trace, literal_root, misses_root, no_root, one_more_root, root_first, stays_root, wanted_root}
 use Rattle.choice_step.proofs.WakingLemmas.{plan_at}
 use Rattle.choice_step.proofs.looking.first_root.Goals as goal
 
@@ -81,9 +82,10 @@ returns-in-Some-clause-found c trace of before =
 pub returns-in-Some-clause-place : goal.returns-in-Some-clause-place
 returns-in-Some-clause-place c trace of before waiting =
     let plans = map plan_of c.args.plans.now in
-    let pending = c.args.pending.now.instances in (
-      subst (λ n. AllByRecursion (MissesNothing plans c.args.inserted trace) (map Waiting (take n pending))) (sym c.len.ensures)
-          (all_waiting plans c.args.inserted trace pending waiting),
+    let pending = c.args.pending.now.instances in
+    let all = shown c.args.waiting.now in
+    let long = length-map c.args.waiting.now (λ x. x.now) in (
+      subst (Covers (Met plans c.args.inserted trace) pending) (sym (drop_end all (length c.args.waiting.now) (omega (arith, long)))) (covers_all plans c.args.inserted trace pending waiting),
       c.loop-rule.invariant trace of before,
     )
 

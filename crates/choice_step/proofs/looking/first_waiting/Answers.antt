@@ -1,25 +1,52 @@
-use Rattle.std.proofs.Common.{map, sym, subst, arith}
+use Rattle.std.proofs.Common.{◌+◌, ◌<◌, Contains, arith, drop, length, map, subst, sym}
 use Rattle.std.specs.Prelude.{IfSome}
+use Rattle.std.proofs.lemmas.List.{length-map}
+use Rattle.enf_value.specs.ListLaws.{AllByRecursion-contains}
 use Rattle.plan_terms.specs.Plans.{plan_of}
-use Rattle.obligations.specs.Waiting.{IsWantedOf}
+use Rattle.sleepers.specs.Entries.{shown}
+use Rattle.obligations.specs.Asked.{guards_at}
+use Rattle.obligations.specs.Waiting.{CanAskOf, IsWantedOf}
 use Rattle.choice_step.specs.Choice.{Waiting}
-use Rattle.choice_step.proofs.LookingLemmas.{first_waiting, for_trace, misses_waiting, none_waiting, one_more_waiting, waits, wanted_waiting}
+use Rattle.choice_step.specs.Looking.{Covers}
+use Rattle.choice_step.proofs.ActingLemmas.{drop_at}
+use Rattle.choice_step.proofs.LookingLemmas.{Met, covers_first, covers_none, covers_on, drop_end, for_trace, misses_waiting, shown_at, waits, wanted_waiting}
 use Rattle.choice_step.proofs.looking.first_waiting.Goals as goal
+
+pub first_missing_of-requires : goal.first_missing_of-requires
+first_missing_of-requires c =
+    let plans = map plan_of c.args.plans.now in
+    let pending = c.args.pending.now.instances in
+    let all = shown c.args.waiting.now in
+    let place = c.loop-place.place in
+    let i = c.index-waiting-place.result.now in
+    let within : place < length all = omega (arith, c.loop-place-test.true, length-map c.args.waiting.now (λ x. x.now)) in
+    let is = shown_at c.args.waiting.now place c.index-waiting-place.result c.index-waiting-place.is in
+    AllByRecursion-contains (CanAskOf (guards_at c.args.now.now.tables.now) plans) pending i c.requires.instances
+    (AllByRecursion-contains (Contains pending) all i c.requires.among (place, within, sym is))
 
 pub loop-place-preserved : goal.loop-place-preserved
 loop-place-preserved c trace of before =
     let plans = map plan_of c.args.plans.now in
-    one_more_waiting plans c.args.inserted trace c.args.pending.now c.loop-place.place c.index-pending-place.result c.loop-place-test.true c.index-pending-place.is (c.loop-place.invariant trace of before)
-    (waits plans c.args.inserted trace c.args.now.now c.index-pending-place.result c.is_forced-forced.result c.in_ok-literal.field-0 of c.is_forced-forced.ensures c.in_default.is (c.in_ok-literal.ensures.first trace of))
+    let all = shown c.args.waiting.now in
+    let place = c.loop-place.place in
+    let i = c.index-waiting-place.result.now in
+    let within : place < length all = omega (arith, c.loop-place-test.true, length-map c.args.waiting.now (λ x. x.now)) in
+    let rest = drop_at all place i within (shown_at c.args.waiting.now place c.index-waiting-place.result c.index-waiting-place.is) in
+    covers_on plans c.args.inserted trace c.args.pending.now.instances (drop (place + 1) all) i (subst (Covers (Met plans c.args.inserted trace) c.args.pending.now.instances) rest (c.loop-place.invariant trace of before))
+    (waits plans c.args.inserted trace c.args.now.now i c.is_forced-forced.result c.in_ok-literal.field-0 of c.is_forced-forced.ensures c.in_default.is (c.in_ok-literal.ensures.first trace of))
 
 pub returns-in-Some-clause-found : goal.returns-in-Some-clause-found
 returns-in-Some-clause-found c trace of before =
     let plans = map plan_of c.args.plans.now in
-    let i = c.index-pending-place.result in
+    let all = shown c.args.waiting.now in
+    let place = c.loop-place.place in
+    let i = c.index-waiting-place.result.now in
+    let within : place < length all = omega (arith, c.loop-place-test.true, length-map c.args.waiting.now (λ x. x.now)) in
+    let rest = drop_at all place i within (shown_at c.args.waiting.now place c.index-waiting-place.result c.index-waiting-place.is) in
     let misses = misses_waiting plans c.args.inserted trace c.args.now.now i c.is_forced-forced.result c.in_ok-literal.field-0 c.in-Some.literal of c.is_forced-forced.ensures c.in-Some.is (c.in_ok-literal.ensures.first trace of) in (
       Waiting i,
       c.in-Some.literal,
-      first_waiting plans c.args.inserted trace c.args.pending.now c.loop-place.place i c.in-Some.literal c.loop-place-test.true c.index-pending-place.is (c.loop-place.invariant trace of before) misses,
+      covers_first plans c.args.inserted trace c.args.pending.now.instances (drop (place + 1) all) i c.in-Some.literal (subst (Covers (Met plans c.args.inserted trace) c.args.pending.now.instances) rest (c.loop-place.invariant trace of before)) misses,
       for_trace c.args.now.now trace (Waiting i) c.in-Some.literal c.in_ok-action_of.field-0 of c.in_ok-action_of.ensures,
     )
 
@@ -29,12 +56,19 @@ returns-in-Some-clause-place c trace of before = (c.loop-place.invariant trace o
 pub returns-in-Some-clause-wanted : goal.returns-in-Some-clause-wanted
 returns-in-Some-clause-wanted c =
     let plans = map plan_of c.args.plans.now in
-    let i = c.index-pending-place.result in
-    wanted_waiting plans c.args.pending.now c.args.now.now i c.in-Some.literal c.in_ok-action_of.field-0
-    (c.loop-place.place, c.loop-place-test.true, sym c.index-pending-place.is)
+    let pending = c.args.pending.now.instances in
+    let all = shown c.args.waiting.now in
+    let place = c.loop-place.place in
+    let i = c.index-waiting-place.result.now in
+    let within : place < length all = omega (arith, c.loop-place-test.true, length-map c.args.waiting.now (λ x. x.now)) in
+    let is = shown_at c.args.waiting.now place c.index-waiting-place.result c.index-waiting-place.is in
+    wanted_waiting plans pending c.args.now.now i c.in-Some.literal c.in_ok-action_of.field-0
+    (AllByRecursion-contains (Contains pending) all i c.requires.among (place, within, sym is))
     (subst (λ o. IfSome o (IsWantedOf c.args.now.now plans i)) c.in-Some.is c.in_ok-literal.ensures.wanted)
     c.in_ok-action_of.ensures
 
 pub returns-clause-found : goal.returns-clause-found
 returns-clause-found c trace of before =
-    none_waiting (map plan_of c.args.plans.now) c.args.inserted trace c.args.pending.now c.loop-place.place (omega (arith, c.loop-place-test.false)) (c.loop-place.invariant trace of before)
+    let all = shown c.args.waiting.now in
+    covers_none (map plan_of c.args.plans.now) c.args.inserted trace c.args.pending.now.instances (drop c.loop-place.place all)
+    (drop_end all c.loop-place.place (omega (arith, c.loop-place-test.false, length-map c.args.waiting.now (λ x. x.now)))) (c.loop-place.invariant trace of before)

@@ -1,4 +1,4 @@
-use Rattle.std.proofs.Common.{Contains, subst, sym, true≢false, ◌∙◌}
+use Rattle.std.proofs.Common.{◌++◌, ◌∷◌, [], Contains, ap, subst, sym, true≢false, ◌∙◌}
 use Rattle.enf_value.proofs.Distinct.{stays}
 use Rattle.enf_value.specs.Membership.{HasNoRepeats}
 use Rattle.enf_value.specs.MembershipLaws.{HasNoRepeats-push}
@@ -10,5 +10,5 @@ returns-then-is_among-clause-inserted c =
 
 pub returns-in-Ok-clause-distinct : goal.returns-in-Ok-clause-distinct
 returns-in-Ok-clause-distinct c =
-    subst HasNoRepeats (sym c.in-Ok.ensures.items)
+    subst HasNoRepeats (sym (c.in-Ok.ensures.items ∙ ap (λ few. few ++ c.args.event ∷ []) c.reserve_exact.ensures.items))
     (HasNoRepeats-push c.args.few.now.items c.args.event c.requires (λ there. true≢false (sym (c.is_among.ensures.1 (subst (λ l. Contains l c.args.event) (sym c.as_slice.ensures.value) there)) ∙ c.if-is_among.false)))

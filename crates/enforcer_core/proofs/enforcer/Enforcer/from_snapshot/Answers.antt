@@ -1,4 +1,4 @@
-use Rattle.std.proofs.Common.{◌∙◌, ℕ, ◌≤◌, List, length, map, sym, ap, subst, arith}
+use Rattle.std.proofs.Common.{◌∙◌, ℕ, ◌≤◌, List, length, map, refl, sym, ap, subst, arith}
 use Rattle.std.specs.List.{AllByRecursion}
 use Rattle.monitorable_guard.specs.Guards.{BoundFormula}
 use Rattle.plan_terms.specs.Guards.{guards_of}
@@ -15,9 +15,11 @@ use Rattle.obligations.specs.Pending.{NoneIsOver, Pend}
 use Rattle.obligations.specs.declared.instances.Instance.{Instance}
 use Rattle.obligations.specs.declared.now.TheConstants.{MOST_TIME}
 use Rattle.enforcer_core.specs.Ending.{reach_of}
-use Rattle.obligations.specs.Waiting.{CanAskOf, CanAskRoots, KeepsDeadlines}
+use Rattle.obligations.specs.Waiting.{CanAskOf, CanAskRoots}
+use Rattle.pending.specs.Listed.{IsKeptFor}
 use Rattle.enforcer_core.specs.Enforcers.{plans_in}
-use Rattle.enforcer_core.proofs.SnapshotLemmas.{all_asked, from_clock, kept_in_reach, none_over_kept}
+use Rattle.enforcer_core.specs.Snapshots.{operators_in}
+use Rattle.enforcer_core.proofs.SnapshotLemmas.{all_asked, from_clock, kept_in_reach, none_over_kept, rows_rise}
 use Rattle.enforcer_core.proofs.enforcer.Enforcer.from_snapshot.Goals as goal
 
 pub invariant_of-result : goal.invariant_of-result
@@ -40,8 +42,8 @@ invariant_of-result c =
     subst (AllByRecursion (CanAskOf guards plans)) (sym c.in_ok-pending.ensures.instances)
     (all_asked c.nodes_have_scopes.ensures.found c.found_node_inherits.ensures.ends guards plans c.args.snapshot.clock c.args.snapshot.position c.args.snapshot.pending roots
     c.requires.bounds.pending) in
-    let deadlines : KeepsDeadlines plans c.in_ok-pending.pending =
-    subst (λ (l : List StoredPlan). KeepsDeadlines (map plan_of l) c.in_ok-pending.pending) c.plans-2.ensures.plans c.in_ok-pending.ensures.deadlines in (
+    let deadlines : IsKeptFor plans c.in_ok-pending.pending =
+    subst (λ (l : List StoredPlan). IsKeptFor (map plan_of l) c.in_ok-pending.pending) c.plans-2.ensures.plans c.in_ok-pending.ensures.kept in (
       record {
         together = together;
         bounded = bounded;
@@ -67,6 +69,20 @@ invariant_of-result c =
       c.in_ok-wakes.ensures ∙ ap (λ (l : List StoredPlan). map guard_triggers (map plan_of l)) c.plans.ensures.plans,
     )
 
+pub returns-clause-taken_up : goal.returns-clause-taken_up
+returns-clause-taken_up c = record {
+  policy_is = refl;
+  goes_on = refl;
+  as_kept = record {
+    clock = refl;
+    last = refl;
+    position = refl;
+    rising = rows_rise (operators_in c.args.policy) c.args.snapshot.last c.args.snapshot.kept c.requires.bounds.kept;
+    kept = c.in_ok-past.ensures.exact;
+    pending = sym c.in_ok-pending.ensures.instances;
+  };
+}
+
 pub returns-clause-stands : goal.returns-clause-stands
 returns-clause-stands c = λ trace is_trace ready is. record {
   is_trace = is_trace;
@@ -76,5 +92,5 @@ returns-clause-stands c = λ trace is_trace ready is. record {
   past = c.in_ok-past.ensures.stands trace is.last
       (subst (λ (l : List BoundFormula). AreKeptOf trace (all_operators (map tree_in l)) c.args.snapshot.kept) (sym c.guards.ensures.guards) is.kept);
   pending = subst (Pend (plans_in c.args.policy) trace) (sym c.in_ok-pending.ensures.instances) is.pending;
-  deadlines = subst (λ (l : List StoredPlan). KeepsDeadlines (map plan_of l) c.in_ok-pending.pending) c.plans-2.ensures.plans c.in_ok-pending.ensures.deadlines;
+  deadlines = subst (λ (l : List StoredPlan). IsKeptFor (map plan_of l) c.in_ok-pending.pending) c.plans-2.ensures.plans c.in_ok-pending.ensures.kept;
 }

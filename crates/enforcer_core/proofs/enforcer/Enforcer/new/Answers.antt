@@ -1,4 +1,4 @@
-use Rattle.std.proofs.Common.{◌∙◌, ℕ, ◌≤◌, List, length, map, sym, ap, subst, arith}
+use Rattle.std.proofs.Common.{◌∙◌, ℕ, ◌≤◌, List, [], length, map, refl, sym, ap, subst, arith}
 use Rattle.std.specs.List.{AllByRecursion}
 use Rattle.std.proofs.lemmas.List.Elements.{All-nil}
 use Rattle.monitorable_guard.specs.Guards.{BoundFormula}
@@ -16,7 +16,6 @@ use Rattle.obligations.specs.declared.instances.Instance.{Instance}
 use Rattle.obligations.specs.declared.now.TheConstants.{MOST_TIME}
 use Rattle.enforcer_core.specs.Ending.{reach_of}
 use Rattle.enforcer_core.specs.Enforcers.{plans_in}
-use Rattle.enforcer_core.proofs.SnapshotLemmas.{keeps_none}
 use Rattle.enforcer_core.proofs.enforcer.Enforcer.new.Goals as goal
 
 pub invariant_of-result : goal.invariant_of-result
@@ -46,7 +45,7 @@ invariant_of-result c =
               named = c.well_formed_can_be_asked.ensures.stand plans (guards_of c.args.policy.guards) together.formed;
               roots = c.well_formed_can_be_asked.ensures.asked plans c.args.policy.guards c.in_ok-past.past.guards together.formed copies;
               instances = subst (AllByRecursion (CanAskOf guards plans)) (sym c.new-pending.ensures.instances) tt;
-              deadlines = keeps_none plans c.new-pending.result c.new-pending.ensures.instances c.new-pending.ensures.deadlines;
+              deadlines = c.new-pending.ensures.kept plans;
             };
             up_to = c.in_ok-past.ensures.up_to time;
           };
@@ -57,3 +56,20 @@ invariant_of-result c =
       },
       c.in_ok-wakes.ensures ∙ ap (λ (l : List StoredPlan). map guard_triggers (map plan_of l)) c.plans.ensures.plans,
     )
+
+pub returns-clause-stands : goal.returns-clause-stands
+returns-clause-stands c = record {
+  is_trace = record { distinct = λ i below. absurd (omega arith); ordered = λ i j before below. absurd (omega arith) };
+  ready = record {
+    clean = λ steps below. absurd (omega arith);
+    pending = [];
+    pend = refl;
+    in_time = All-nil (λ (i : Instance). (deadline : ℕ) → HasDeadline (plans_in c.args.policy) i deadline → 0 ≤ deadline);
+    not_later = omega arith;
+  };
+  position = refl;
+  last = refl;
+  past = c.in_ok-past.ensures.stands;
+  pending = c.new-pending.ensures.instances;
+  deadlines = c.new-pending.ensures.kept (plans_in c.args.policy);
+}

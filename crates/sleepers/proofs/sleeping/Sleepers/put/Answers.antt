@@ -1,35 +1,29 @@
-use Rattle.std.proofs.Common.{subst, sym, ap, ◌∙◌, arith, OnOk}
-use Rattle.std.specs.List.{AllByRecursion}
-use Rattle.cursor_list.specs.Split.{items}
-use Rattle.sleepers.proofs.EntryLemmas.{inserted_more, inserted_placed}
-use Rattle.sleepers.specs.Entries.{ArePlaced, HasOneMore, IsFree}
-use Rattle.sleepers.specs.Order.{IsBefore}
-use Rattle.sleepers.specs.Sleeping.{AreMarksOf, StartsBefore}
+use Rattle.std.proofs.Common.{◌≡◌, ◌+◌, ap, arith, sym, subst, subst₂, ◌∙◌}
+use Rattle.sleepers.proofs.NotedLemmas.{kept_put, kept_stay}
+use Rattle.sleepers.proofs.PlacedLemmas.{by_place_more}
+use Rattle.sleepers.specs.Entries.{HasOneMore, IsFree}
+use Rattle.sleepers.specs.Groups.{AreKept, by_place, held}
 use Rattle.sleepers.proofs.sleeping.Sleepers.put.Goals as goal
-use Rattle.sleepers.proofs.sleeping.Sleepers.put.Goals.{in-Ok, in-Err}
 
-pub invariant_of-self : goal.invariant_of-self
-invariant_of-self g c =
+pub invariant_of-self-in-Ok : goal.invariant_of-self-in-Ok
+invariant_of-self-in-Ok g c =
+    let first = c.self.inside.groups in
+    let old = c.group_for.new.groups in
+    let new = c.put.new.self in
+    let noted = c.group_for.new.index in
+    let count = c.self.inside.count in
     let entry = c.args.entry in
-    let list = c.seek.new.list in
-    let new = c.insert_before.new.self in
-    let all = c.seek.ensures.items ∙ ap (λ s. s.entries) c.self.view_is in (
-      inserted_placed c.insert_before.result list new entry c.insert_before.ensures.after c.insert_before.ensures.ok c.insert_before.ensures.err
-          (subst ArePlaced (sym c.seek.ensures.items) c.self.invariant.0)
-          (subst (λ p. AllByRecursion (λ f. IsBefore f.place p) list.before) c.as_slice.ensures c.seek.ensures.front)
-          (λ starts. c.seek.ensures.back (subst (λ p. StartsBefore list.after p) (sym c.as_slice.ensures) starts)) (subst (IsFree entry.place) (sym all) c.requires),
-      subst (AreMarksOf new.after) (sym c.clear.ensures.items) (record { within = omega arith; first = tt }),
-    )
+    let kept = kept_stay first old c.self.inside.index noted count c.self.inside.walk.items c.group_for.ensures.stay c.group_for.ensures.noted c.self.invariant in
+    let free : IsFree entry.place (by_place (held old)) =
+    subst (λ l. IsFree entry.place (by_place l)) (sym c.group_for.ensures.stay.all) (subst (λ s. IsFree entry.place s.entries) (sym c.self.view_is) c.requires) in
+    let more : count + 1 ≡ c.in-Some.more = omega (arith, c.in-Some.ensures) in
+    subst₂ (AreKept new noted) more (sym c.clear.ensures.items)
+    (kept_put old new noted count c.in_ok-number.number _ entry c.in_ok-number.ensures.ok c.put.ensures.others c.in-Ok.ensures.group c.in-Ok.ensures.ok free kept)
 
-pub returns-clause-ok : goal.returns-clause-ok
-returns-clause-ok g c =
+pub returns-in-Ok-clause-ok : goal.returns-in-Ok-clause-ok
+returns-in-Ok-clause-ok g c =
+    let old = c.group_for.new.groups in
+    let new = c.put.new.self in
     let entry = c.args.entry in
-    let list = c.seek.new.list in
-    let new = c.insert_before.new.self in
-    let before = c.args.self.now.entries in
-    let all = c.seek.ensures.items ∙ ap (λ s. s.entries) c.self.view_is in
-    let kept = invariant_of-self g c in
-    elim c.match-insert_before.branch [
-      | in-Ok w ↦ subst (λ r. OnOk r (HasOneMore entry before (items new))) (sym w.result-is) (subst (λ l. HasOneMore entry l (items new)) all (inserted_more list new entry c.insert_before.ensures.after w.in-Ok.ensures.ok kept.0))
-      | in-Err w ↦ subst (λ r. OnOk r (HasOneMore entry before (items new))) (sym w.result-is) tt
-    ]
+    subst (λ l. HasOneMore entry l (by_place (held new))) (ap by_place c.group_for.ensures.stay.all ∙ ap (λ s. s.entries) c.self.view_is)
+    (by_place_more entry (held old) (held new) c.in-Ok.ensures.ok (invariant_of-self-in-Ok g c).apart)

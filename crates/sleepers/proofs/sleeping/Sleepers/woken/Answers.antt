@@ -1,20 +1,14 @@
-use Rattle.std.proofs.lemmas.Bool.{iff_false}
-use Rattle.sleepers.proofs.EntryLemmas.{shown_on, shown_rest_more, shown_rest_on}
-use Rattle.sleepers.specs.Entries.{IsAsleep, shown}
+use Rattle.std.proofs.Common.{ap, subst, ◌∙◌}
+use Rattle.sleepers.proofs.SortedLemmas.{woken_in_order}
+use Rattle.sleepers.specs.Entries.{AllBut, IsAsleep, shown}
+use Rattle.sleepers.specs.Groups.{entries_of}
 use Rattle.sleepers.proofs.sleeping.Sleepers.woken.Goals as goal
 
-pub loop-entry-preserved-in-Continue-1 : goal.loop-entry-preserved-in-Continue-1
-loop-entry-preserved-in-Continue-1 g c =
-    let loop = c.loop-entry.invariant in
-    let entry = c.in-Some.entry in (
-      shown_on c.loop-entry.yielded entry c.args.self.now.entries c.loop-entry.entry-iterator c.next.new.self loop.0 c.in-Some.ensures.steps,
-      shown_rest_more (IsAsleep c.args.events.now c.args.time) c.loop-entry.yielded c.loop-entry.woken.items c.push.new.self.items entry loop.1 (iff_false c.is_asleep.ensures c.if-not-is_asleep.true) c.in_ok-push.ensures.items,
-    )
-
-pub loop-entry-preserved : goal.loop-entry-preserved
-loop-entry-preserved g c =
-    let loop = c.loop-entry.invariant in
-    let entry = c.in-Some.entry in (
-      shown_on c.loop-entry.yielded entry c.args.self.now.entries c.loop-entry.entry-iterator c.next.new.self loop.0 c.in-Some.ensures.steps,
-      shown_rest_on (IsAsleep c.args.events.now c.args.time) c.loop-entry.yielded (shown c.loop-entry.woken.items) entry loop.1 (c.is_asleep.ensures.0 c.if-not-is_asleep.false),
-    )
+pub returns : goal.returns
+returns g c =
+    let groups = c.self.inside.groups in
+    let numbers = c.in_ok-numbers.numbers.items in
+    let after = c.sort_by_place.new.entries.items in
+    subst (λ s. AllBut (IsAsleep c.args.events.now c.args.time) s.entries (shown after)) c.self.view_is
+    (woken_in_order c.args.events.now c.args.time groups numbers c.in_ok-woken.woken.items after c.sort_by_place.ensures.same c.sort_by_place.ensures.order
+    (c.in_ok-woken.ensures ∙ ap (entries_of groups) c.as_slice.ensures.value) c.in_ok-numbers.ensures c.self.invariant.apart)

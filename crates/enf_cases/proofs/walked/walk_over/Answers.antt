@@ -1,0 +1,33 @@
+use Rattle.std.proofs.Common.{◌≤◌, ◌==◌, ◌∙◌, List, length, map, ap, arith, subst, sym}
+use Rattle.std.specs.List.{AllByRecursion, count_by}
+use Rattle.obligations.specs.Asked.{placed_guard}
+use Rattle.obligations.specs.Waiting.{CanAskOf, count_due}
+use Rattle.plan_terms.specs.Guards.{guards_of}
+use Rattle.plan_terms.specs.Plans.{plan_of}
+use Rattle.plan_terms.specs.declared.plans.Plan.{Plan as StoredPlan}
+use Rattle.enf_cases.specs.Walking.{CanGoOn}
+use Rattle.enf_cases.specs.declared.walked.Walks.{Walks}
+use Rattle.enf_cases.proofs.walked.walk_over.Goals as goal
+
+pub walk_each-requires : goal.walk_each-requires
+walk_each-requires c =
+    let plans = map plan_of c.args.typed.now.plans in
+    let running = c.in_ok-running.running in
+    let walks : Walks = record { plain = c.new-plain.result; woken = c.new-woken.result } in
+    let guards = map placed_guard c.in_ok-running.running.state.guards in
+    let formed = c.plans-plans.ensures.formed in
+    let few : length plans ≤ 64 = formed.few in
+    subst (λ (l : List StoredPlan). CanGoOn (map plan_of l) running walks) (sym c.plans-plans.ensures.plans)
+    (record {
+      stands = c.in_ok-running.ensures.stands;
+      can = record {
+        few = omega (arith, few);
+        named = c.well_formed_can_be_asked.ensures.stand plans (guards_of c.args.typed.now.guards) formed;
+        roots = c.well_formed_can_be_asked.ensures.asked plans c.args.typed.now.guards c.in_ok-running.running.state.guards formed c.in_ok-running.ensures.guards;
+        plain = subst (AllByRecursion (CanAskOf guards plans)) (sym c.new-plain.ensures.instances) tt;
+        deadlines = λ d. ap (count_by (λ entry. entry == d)) c.new-plain.ensures.deadlines
+            ∙ sym (ap (λ l. count_due plans l d) c.new-plain.ensures.instances);
+        woken = subst (AllByRecursion (CanAskOf guards plans)) (sym c.new-woken.ensures.instances) tt;
+        kept = c.new-woken.ensures.kept plans;
+      };
+    })

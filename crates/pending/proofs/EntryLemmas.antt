@@ -1,0 +1,89 @@
+-- Pending instances as entries.
+use Rattle.std.proofs.Common.{◌≡◌, ℕ, suc, ◌+◌, List, [], ◌∷◌, ◌++◌, refl, sym, ap, subst, ◌∙◌, arith, length, map}
+use Rattle.std.specs.List.{AllByRecursion}
+use Rattle.std.proofs.lemmas.List.Sums.{sum_by-append}
+use Rattle.enf_value.specs.ListLaws.{AllByRecursion-append, AllByRecursion-of_append}
+use Rattle.plan_terms.specs.Plans.{Plan}
+use Rattle.sleepers.specs.Entries.{HasOneMore, places}
+use Rattle.sleepers.specs.EntryLaws.{fewer_placed}
+use Rattle.sleepers.specs.Order.{Place, places_from, beginning}
+use Rattle.sleepers.specs.Steps.{PutsIn, TakesOut}
+use Rattle.sleepers.specs.declared.entries.Entry.{Entry}
+use Rattle.obligations.specs.Waiting.{count_due}
+use Rattle.obligations.specs.declared.instances.Instance.{Instance}
+use Rattle.pending.specs.Waking.{waking_of}
+use Rattle.pending.specs.Entries.{AreKept, FitsStep, entries_from, entry_at, items_of, waits_of}
+
+-- ---- entries that go on from a place
+
+module _ (plans : List Plan) (place : Place) (number : ℕ) where
+  -- one more
+  pub entries_more : (k : ℕ) (xs : List Instance) (x : Instance) (n : ℕ) → n ≡ k + length xs
+      → entries_from plans place number k (xs ++ x ∷ []) ≡ entries_from plans place number k xs ++ entry_at plans (place ++ beginning number n ∷ []) x ∷ []
+  entries_more k [] x n is = let same : k ≡ n = omega (arith, is) in ap (λ m. entry_at plans (place ++ beginning number m ∷ []) x ∷ []) same
+  entries_more k (z ∷ xs) x n is =
+      let on : n ≡ suc k + length xs = omega (arith, is) in
+      ap (λ l. entry_at plans (place ++ beginning number k ∷ []) z ∷ l) (entries_more (suc k) xs x n on)
+
+  pub entries_items : (k : ℕ) (xs : List Instance) → items_of (entries_from plans place number k xs) ≡ xs
+  entries_items k [] = refl
+  entries_items k (x ∷ xs) = ap (λ l. x ∷ l) (entries_items (suc k) xs)
+
+  pub entries_wait : (k : ℕ) (xs : List Instance) → waits_of (entries_from plans place number k xs) ≡ map (waking_of plans) (items_of (entries_from plans place number k xs))
+  entries_wait k [] = refl
+  entries_wait k (x ∷ xs) = ap (λ l. waking_of plans x ∷ l) (entries_wait (suc k) xs)
+
+  pub entries_places : (k : ℕ) (xs : List Instance)
+      → places (entries_from plans place number k xs) ≡ places_from place number k (length (entries_from plans place number k xs))
+  entries_places k [] = refl
+  entries_places k (x ∷ xs) = ap (λ l. (place ++ beginning number k ∷ []) ∷ l) (entries_places (suc k) xs)
+
+-- ---- one entry more
+
+map_append : {X Y : Type 0} (f : X → Y) (xs ys : List X) → map f (xs ++ ys) ≡ map f xs ++ map f ys
+map_append f [] ys = refl
+map_append f (x ∷ xs) ys = ap (λ l. f x ∷ l) (map_append f xs ys)
+
+pub items_append : (xs ys : List (Entry Instance)) → items_of (xs ++ ys) ≡ items_of xs ++ items_of ys
+items_append xs ys = map_append (λ e. e.item) xs ys
+
+count_append : (plans : List Plan) (xs ys : List (Entry Instance)) (d : ℕ)
+    → count_due plans (items_of (xs ++ ys)) d ≡ count_due plans (items_of xs) d + count_due plans (items_of ys) d
+count_append plans xs ys d = ap (λ l. count_due plans l d) (items_append xs ys) ∙ sum_by-append _ (items_of xs) (items_of ys)
+
+pub count_more : (plans : List Plan) (x : Entry Instance) (fewer more : List (Entry Instance)) → HasOneMore x fewer more → (d : ℕ)
+    → count_due plans (items_of more) d ≡ count_due plans (items_of fewer) d + count_due plans (x.item ∷ []) d
+count_more plans x fewer more one d =
+    let a = ap (λ l. count_due plans (items_of l) d) one.more_is in
+    let b = ap (λ l. count_due plans (items_of l) d) one.fewer_is in
+    let f = count_append plans one.front (x ∷ one.back) d in
+    let g = count_append plans one.front one.back d in
+    let h = count_append plans (x ∷ []) one.back d in
+    omega (arith, a, b, f, g, h)
+
+pub fewer_kept : (steps : ℕ) (x : Entry Instance) (fewer more : List (Entry Instance)) → HasOneMore x fewer more → AreKept steps more → AreKept steps fewer
+fewer_kept steps x fewer more one kept =
+    let parts = AllByRecursion-of_append (FitsStep steps) one.front (x ∷ one.back) (subst (AllByRecursion (FitsStep steps)) one.more_is kept.fit) in
+    record {
+      placed = fewer_placed x fewer more one;
+      fit = subst (AllByRecursion (FitsStep steps)) (sym one.fewer_is) (AllByRecursion-append (FitsStep steps) one.front one.back parts.0 parts.1.1);
+    }
+
+pub more_kept : (steps : ℕ) (x : Entry Instance) (fewer more : List (Entry Instance)) → HasOneMore x fewer more → AreKept steps fewer → FitsStep steps x → AreKept steps more
+more_kept steps x fewer more one kept fits =
+    let parts = AllByRecursion-of_append (FitsStep steps) one.front one.back (subst (AllByRecursion (FitsStep steps)) one.fewer_is kept.fit) in
+    record {
+      placed = one.placed;
+      fit = subst (AllByRecursion (FitsStep steps)) (sym one.more_is) (AllByRecursion-append (FitsStep steps) one.front (x ∷ one.back) parts.0 (fits, parts.1));
+    }
+
+-- ---- one after another
+
+pub takes_append : (xs ys all mid left : List (Entry Instance)) → TakesOut xs all mid → TakesOut ys mid left → TakesOut (xs ++ ys) all left
+takes_append [] ys all mid left one two = subst (λ (l : List (Entry Instance)). TakesOut ys l left) one two
+takes_append (x ∷ xs) ys all mid left one two = (one.0, one.1, takes_append xs ys one.0 mid left one.2 two)
+
+pub puts_more : (xs : List (Entry Instance)) (x : Entry Instance) (all mid grown : List (Entry Instance)) → PutsIn xs all mid → HasOneMore x mid grown
+    → PutsIn (xs ++ x ∷ []) all grown
+puts_more [] x all mid grown one more = (grown, subst (λ (l : List (Entry Instance)). HasOneMore x l grown) one more, refl)
+puts_more (z ∷ xs) x all mid grown one more = (one.0, one.1, puts_more xs x one.0 mid grown one.2 more)

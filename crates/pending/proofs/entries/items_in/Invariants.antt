@@ -1,0 +1,7 @@
+use Rattle.std.proofs.Common.{◌≡◌, take}
+use Rattle.sleepers.specs.Entries.{shown}
+use Rattle.pending.specs.Entries.{items_of}
+use Rattle.pending.proofs.entries.items_in.Given as goal
+
+abbrev pub invariant-loop-entry : goal.invariant-loop-entry
+invariant-loop-entry l = shown l.items.items ≡ items_of (shown (take l.entry-index l.entries))

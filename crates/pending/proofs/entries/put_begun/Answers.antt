@@ -1,0 +1,23 @@
+use Rattle.std.proofs.Common.{◌≡◌, ◌++◌, ◌∷◌, [], ap, sym, ◌∙◌, arith, append_assoc, length, length-append, map}
+use Rattle.plan_terms.specs.Plans.{plan_of}
+use Rattle.pending.specs.Entries.{entries_from}
+use Rattle.pending.proofs.EntryLemmas.{entries_more}
+use Rattle.pending.proofs.entries.put_begun.Goals as goal
+
+pub loop-instance-preserved : goal.loop-instance-preserved
+loop-instance-preserved c =
+    let plans = map plan_of c.args.plans.now in
+    let place = c.args.place.now in
+    let loop = c.loop-instance.invariant in
+    let yielded = c.loop-instance.yielded in
+    let x = c.in-Some.instance in
+    let rest = c.next.new.self.rest.items in
+    let count : c.loop-instance.among ≡ length yielded = loop.1 in
+    let entry = c.in_ok-entry_behind.ensures in
+    let into = loop.2 in (
+      loop.0 ∙ ap (λ l. yielded ++ l) c.in-Some.ensures.steps.0 ∙ sym (append_assoc yielded (x ∷ []) rest),
+      omega (arith, count, length-append yielded (x ∷ [])),
+      c.in_ok-push.ensures.items ∙ (λ i. into i ++ entry i ∷ [])
+          ∙ append_assoc c.args.into.now.items (entries_from plans place c.args.number 0 yielded) _
+          ∙ ap (λ l. c.args.into.now.items ++ l) (sym (entries_more plans place c.args.number 0 yielded x c.loop-instance.among (omega (arith, count)))),
+    )

@@ -1,0 +1,6 @@
+use Rattle.std.proofs.Common.{◌≡◌, take}
+use Rattle.sleepers.specs.Entries.{shown}
+use Rattle.pending.proofs.pending.duplicates.Given as goal
+
+abbrev pub invariant-loop-instance : goal.invariant-loop-instance
+invariant-loop-instance l = l.copies.items ≡ shown (take l.instance-index l.instances)

@@ -1,0 +1,194 @@
+//! Lists of pending instances, of which a step looks at those that it wakes.
+ghost use Rattle.std.specs.Prelude.{◌≡◌, ◌+◌, ◌-◌, ◌<◌, ◌≤◌, ◌^◌, IfOk, List};
+ghost use Rattle.std.specs.Prelude.{OnOk, [], length, map};
+ghost use Rattle.std.specs.List.{AllByRecursion};
+ghost use Rattle.enf_value.specs.declared.steps.Step.{Step};
+ghost use Rattle.plan_terms.specs.Plans.{Plan as AnyPlan, plan_of};
+ghost use Rattle.sleepers.specs.Entries.{AllBut, shown};
+ghost use Rattle.obligations.specs.Asked.{IsNowOf, guards_at};
+ghost use Rattle.obligations.specs.Carrying.{AreServed, Leads};
+ghost use Rattle.obligations.specs.Pending.{Goes};
+ghost use Rattle.obligations.specs.Traces.{PlansStand};
+ghost use Rattle.obligations.specs.Waiting.{CanAskOf, CanAskRoots, IsLeastOf};
+ghost use Rattle.obligations.specs.declared.now.TheConstants.{MOST_TIME};
+ghost use Rattle.pending.specs.Listed.{IsKeptFor, SleepsAt};
+
+use crate::entries::{items_in, put_begun};
+use crate::laws::sleepers_stay;
+use crate::walking::{carry, put_each};
+use deadline_queue::DeadlineQueue;
+use enf_value::Event;
+use enf_value::items::Duplicate;
+use enf_value::memory::NoMemory;
+use obligations::instances::Instances;
+use obligations::laws::pending_exists;
+use obligations::{Instance, Now};
+use plan_terms::Plan;
+use sleepers::Sleepers;
+use sleepers::laws::steps_go_in_order;
+use std::alloc::Global;
+use std::marker::Model;
+
+/// Pending instances in the order in which they were begun, with the deadlines among the ends of their windows and the
+/// patterns of the events that each waits for.
+#[derive(Drop)]
+pub struct Pending {
+    sleepers: Sleepers<Instance>,
+    deadlines: DeadlineQueue,
+    // How many steps were carried over: the number of the next beginning.
+    steps: u64,
+}
+
+impl Model for Pending {
+    ghost use Rattle.deadline_queue.specs.Queues.{IsQueue, entries};
+    ghost use Rattle.pending.specs.Entries.{AreKept, items_of, waits_of};
+    ghost use Rattle.pending.specs.Listed.{PendingList, pending_code};
+
+    ghost Value = { PendingList };
+
+    ghost coded = { pending_code };
+
+    ghost view = { λ p. record {
+      instances = items_of p.sleepers.entries;
+      deadlines = entries p.deadlines;
+      waits = waits_of p.sleepers.entries;
+    } };
+
+    ghost invariant = { λ p. IsQueue p.deadlines × AreKept p.steps p.sleepers.entries };
+}
+
+impl Pending {
+    /// Nothing is pending.
+    pub fn new(alloc: Global) -> Pending
+        ensures instances { result.instances ≡ [] }
+        ensures kept { (plans : List AnyPlan) → IsKeptFor plans result }
+    {
+        let sleepers = Sleepers::new(alloc);
+        let deadlines = DeadlineQueue::new(alloc);
+        Pending {
+            sleepers,
+            deadlines,
+            steps: 0,
+        }
+    }
+
+    /// Those of a list, with the deadlines that they have and what they wait for.
+    pub fn from_list(alloc: Global, plans: &[Plan], list: Instances) -> Result<Pending, NoMemory>
+        ensures instances { IfOk result (λ p. p.instances ≡ list) }
+        ensures kept { IfOk result (IsKeptFor (map plan_of plans.now)) }
+    {
+        steps_go_in_order::<Instance>();
+        let mut more = Vec::new(alloc);
+        put_begun(alloc, plans, &[], 0, list.into_vec(), &mut more)?;
+        let mut sleepers = Sleepers::new(alloc);
+        let mut deadlines = DeadlineQueue::new(alloc);
+        put_each(plans, more, &mut sleepers, &mut deadlines)?;
+        Ok(Pending {
+            sleepers,
+            deadlines,
+            steps: 1,
+        })
+    }
+
+    /// How many instances there are.
+    pub fn len(&self) -> usize
+        ensures { result ≡ length self.now.instances }
+    {
+        self.sleepers.len()
+    }
+
+    /// The instances in order, as a list of their own.
+    pub fn to_list(&self, alloc: Global) -> Result<Instances, NoMemory>
+        ensures { IfOk result (λ list. list ≡ self.now.instances) }
+    {
+        let entries = self.sleepers.in_order(alloc)?;
+        let instances = items_in(alloc, entries.as_slice())?;
+        duplicates(alloc, instances.as_slice())
+    }
+
+    /// All instances but those that sleep at a step of this time with these events, in order.
+    pub fn woken(
+        &self,
+        alloc: Global,
+        events: &[Event],
+        time: u64,
+    ) -> Result<Vec<&Instance>, NoMemory>
+        ensures { IfOk result (λ woken. (plans : List AnyPlan) → IsKeptFor plans self.now
+            → AllBut (SleepsAt plans events.now time) self.now.instances (shown woken.items)) }
+    {
+        let entries = self.sleepers.woken(alloc, events, time)?;
+        items_in(alloc, entries.as_slice())
+    }
+
+    /// The least of the deadlines.
+    pub fn least_deadline(&self) -> Option<u64>
+        ensures { IsLeastOf self.now.deadlines result }
+    {
+        self.deadlines.least()
+    }
+
+    /// Each instance becomes what it becomes behind the step, in its place, and what the roots of the rules begin comes
+    /// last. At an inserted step those are served whose deadline it is: nothing is asked of them. After want of memory
+    /// it is fit to be dropped.
+    pub fn progress(
+        &mut self,
+        alloc: Global,
+        plans: &[Plan],
+        now: &Now<'_>,
+        inserted: bool,
+    ) -> Result<(), NoMemory>
+        requires roots { CanAskRoots (guards_at now.now.tables.now) (map plan_of plans.now) }
+        requires named { PlansStand (map plan_of plans.now) }
+        requires instances { AllByRecursion (CanAskOf (guards_at now.now.tables.now) (map plan_of plans.now))
+            self.old.instances }
+        requires keeps { IsKeptFor (map plan_of plans.now) self.old }
+        requires few { length plans.now ≤ 2 ^ 32 }
+        requires in_time { now.now.time ≤ MOST_TIME }
+        ensures goes { OnOk result ((trace : List Step) → IsNowOf now.now trace
+            → AreServed (map plan_of plans.now) inserted trace self.old.instances
+            → Goes (map plan_of plans.now) trace self.old.instances self.new.instances) }
+        ensures leads { OnOk result (Leads now.now (map plan_of plans.now) inserted
+            self.old.instances self.new.instances) }
+        ensures keeps { OnOk result (IsKeptFor (map plan_of plans.now) self.new) }
+        ensures instances { OnOk result (AllByRecursion
+            (CanAskOf (guards_at now.now.tables.now) (map plan_of plans.now)) self.new.instances) }
+    {
+        sleepers_stay();
+        pending_exists();
+        steps_go_in_order::<Instance>();
+        let number = self.steps;
+        let next = beginning_behind(number)?;
+        self.steps = next;
+        let more = carry(
+            alloc,
+            plans,
+            now,
+            inserted,
+            number,
+            &mut self.sleepers,
+            &mut self.deadlines,
+        )?;
+        put_each(plans, more, &mut self.sleepers, &mut self.deadlines)
+    }
+}
+
+// The number of the beginning behind one.
+fn beginning_behind(number: u64) -> Result<u64, NoMemory>
+    ensures { IfOk result (λ next. (next ≡ number + 1) × (number < 2 ^ 64 - 1)) }
+{
+    match number.checked_add(1) {
+        Some(next) => Ok(next),
+        None => Err(NoMemory),
+    }
+}
+
+// Copies of instances.
+fn duplicates(alloc: Global, instances: &[&Instance]) -> Result<Instances, NoMemory>
+    ensures { IfOk result (λ copies. copies ≡ shown instances.now) }
+{
+    let mut copies = Vec::with_capacity(alloc, instances.len())?;
+    for instance in instances {
+        copies.push(instance.duplicate(alloc)?)?;
+    }
+    Ok(Instances::from_vec(copies))
+}

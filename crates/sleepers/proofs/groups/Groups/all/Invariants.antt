@@ -1,0 +1,7 @@
+use Rattle.std.proofs.Common.{◌≡◌, take}
+use Rattle.sleepers.specs.Entries.{shown}
+use Rattle.sleepers.specs.Groups.{held}
+use Rattle.sleepers.proofs.groups.Groups.all.Given as goal
+
+abbrev pub invariant-loop-list : goal.invariant-loop-list
+invariant-loop-list g l = shown l.all.items ≡ held (take l.list-index l.self)

@@ -1,0 +1,10 @@
+use Rattle.std.proofs.Common.{take}
+use Rattle.std.specs.List.{AllByRecursion}
+use Rattle.sleepers.specs.Noted.{IsNoted, KeepsAll}
+use Rattle.sleepers.proofs.index.Index.note_each.Given as goal
+
+abbrev pub invariant-loop-pattern : goal.invariant-loop-pattern
+invariant-loop-pattern l = record {
+  each : AllByRecursion (IsNoted l.self l.group) (take l.pattern-index l.patterns);
+  kept : KeepsAll l.fn.self l.self;
+}
