@@ -6,8 +6,8 @@ use Rattle.enf_value.specs.Names.{is_word_byte}
 use Rattle.enf_value.specs.Spelling.{spelled}
 use Rattle.enf_value.specs.ValueTokens.{IsValue}
 use Rattle.enf_value.specs.declared.values.Value.{Value}
+use Rattle.signature.specs.Columns.{has_sort}
 use Rattle.signature.specs.declared.entries.Sort.{Sort}
-use Rattle.log_stream.specs.Judgement.{has_sort}
 use Rattle.log_stream.specs.RoundTrip.{FitColumns}
 
 -- a number behind a word

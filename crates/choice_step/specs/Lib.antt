@@ -7,6 +7,7 @@ pub mod Waking
 pub mod Looking
 pub mod Choosing
 pub mod AskedLaws
+pub mod JoinLaws
 pub mod Acting
 pub mod Situations
 pub mod Laws

@@ -1,8 +1,11 @@
 //! What is pending over a log as it stands: by the walk over what a step wakes, and by the plain one over all.
-ghost use Rattle.std.specs.Prelude.{◌≤◌, IfOk, OnOk, map};
+ghost use Rattle.std.specs.Prelude.{◌≡◌, ◌≤◌, ◌++◌, ◌∷◌, [], IfOk, OnOk, cond, map};
+ghost use Rattle.std.specs.List.{AllByRecursion};
 ghost use Rattle.enf_cases.specs.Running.{StandsUpTo};
-ghost use Rattle.enf_cases.specs.Walking.{CanGoOn, CanWalk};
+ghost use Rattle.enf_cases.specs.Walking.{CanGoOn, CanWalk, CanWalkOver};
 ghost use Rattle.obligations.specs.Asked.{guards_at};
+ghost use Rattle.obligations.specs.Traces.{PlansStand};
+ghost use Rattle.obligations.specs.Waiting.{CanAskOf};
 ghost use Rattle.past_state.specs.Guarded.{AreCopies};
 ghost use Rattle.past_state.specs.LastTimes.{IsFrom};
 ghost use Rattle.plan_terms.specs.Plans.{plan_of};
@@ -14,9 +17,11 @@ use crate::parts::{read_signature, three};
 use crate::running::{Logged, Running, commit, next_step};
 use crate::typing::read_typed;
 use enf_value::Step;
+use enf_value::memory::NoMemory;
 use enforce_types::TypedPolicy;
 use log_stream::{LogMode, LogReader};
 use monitorable_guard::StepEvents;
+use obligations::carrying::{begun_by_roots, outcome_of};
 use obligations::laws::well_formed_can_be_asked;
 use obligations::{Instance, Now};
 use past_state::{PastState, Tables};
@@ -24,6 +29,7 @@ use pending::Pending;
 use plan_terms::Plan;
 use signature::Signature;
 use std::alloc::Global;
+use std::mem::replace;
 use trace_meaning::StepKind;
 
 // How many steps are walked over at most, and the greatest time of one.
@@ -34,7 +40,7 @@ const MOST_TIME: u64 = 2_000_000_000_000_000;
 // What is pending, by either walk.
 #[derive(Drop)]
 struct Walks {
-    plain: obligations::Pending,
+    plain: Vec<Instance>,
     woken: Pending,
 }
 
@@ -61,7 +67,7 @@ fn walk_over(
     let mut reader = LogReader::new(alloc, names, LogMode::TraceLog);
     reader.feed(log)?;
     let mut running = begun(alloc, typed)?;
-    let plain = obligations::Pending::new(alloc);
+    let plain = Vec::new(alloc);
     let woken = Pending::new(alloc);
     let mut walks = Walks { plain, woken };
     let plans = typed.plans();
@@ -161,8 +167,63 @@ fn progress_over(
         tables,
     };
     let inserted = matches!(logged.kind, StepKind::Inserted);
-    walks.plain.progress(alloc, plans, &now, inserted)?;
+    carry_each(alloc, plans, &now, inserted, &mut walks.plain)?;
     walks.woken.progress(alloc, plans, &now, inserted)?;
+    Ok(())
+}
+
+// Each instance stays in its place, or not, with what is begun for it behind, and what the roots of the rules begin
+// comes last.
+fn carry_each(
+    alloc: Global,
+    plans: &[Plan],
+    now: &Now<'_>,
+    inserted: bool,
+    pending: &mut Vec<Instance>,
+) -> Result<(), NoMemory>
+    requires in_time { now.now.time ≤ MOST_TIME }
+    requires can { CanWalkOver (guards_at now.now.tables.now) (map plan_of plans.now) pending.old.items }
+    ensures { OnOk result (CanWalkOver (guards_at now.now.tables.now) (map plan_of plans.now) pending.new.items) }
+{
+    let before = replace(pending, Vec::new(alloc));
+    for instance in before {
+        carry_one(alloc, plans, instance, now, inserted, pending)?;
+    }
+    let mut begun = begun_by_roots(alloc, plans, now)?;
+    pending.append(&mut begun)?;
+    Ok(())
+}
+
+// Puts last what the instance becomes.
+fn carry_one(
+    alloc: Global,
+    plans: &[Plan],
+    instance: Instance,
+    now: &Now<'_>,
+    inserted: bool,
+    into: &mut Vec<Instance>,
+) -> Result<(), NoMemory>
+    requires in_time { now.now.time ≤ MOST_TIME }
+    requires named { PlansStand (map plan_of plans.now) }
+    requires asked { CanAskOf (guards_at now.now.tables.now) (map plan_of plans.now) instance }
+    requires into { AllByRecursion (CanAskOf (guards_at now.now.tables.now) (map plan_of plans.now)) into.old.items }
+    ensures { OnOk result (AllByRecursion (CanAskOf (guards_at now.now.tables.now) (map plan_of plans.now))
+        into.new.items) }
+{
+    let mut outcome = outcome_of(alloc, plans, &instance, now, inserted)?;
+    put_staying(instance, outcome.stays, into)?;
+    into.append(&mut outcome.begun)?;
+    Ok(())
+}
+
+// Puts the instance last, where it stays.
+fn put_staying(instance: Instance, stays: bool, into: &mut Vec<Instance>) -> Result<(), NoMemory>
+    ensures { OnOk result (into.new.items ≡ into.old.items ++ cond stays (instance ∷ []) []) }
+{
+    if !stays {
+        return Ok(());
+    }
+    into.push(instance)?;
     Ok(())
 }
 
@@ -179,7 +240,7 @@ fn print_woken(
 }
 
 fn print_walks(alloc: Global, walks: &Walks, out: &mut Output) -> Result<(), CaseError> {
-    let plain = printed(alloc, walks.plain.as_slice());
+    let plain = printed(alloc, &walks.plain);
     let woken = printed(alloc, walks.woken.to_list(alloc)?.as_slice());
     print_same(plain.text(Ok(())), woken.text(Ok(())), out);
     Ok(())

@@ -1,5 +1,5 @@
 -- Where each status must come: what holds at the other statuses leaves no room for it.
-use Rattle.std.proofs.Common.{◌≡◌, ◌≢◌, ℕ, List, Option, Ok, refl, sym, ap, subst, ◌∙◌, inl, inr}
+use Rattle.std.proofs.Common.{◌≡◌, ◌≢◌, ℕ, List, Ok, refl, sym, ap, subst, ◌∙◌, inl, inr}
 use Rattle.std.specs.Prelude.{◌⊎◌}
 use Rattle.enf_io.specs.FileCalls.{FileView, WritesFile}
 use Rattle.enf_io.specs.Streams.{Stream}

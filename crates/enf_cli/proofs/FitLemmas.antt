@@ -11,11 +11,8 @@ use Rattle.enf_value.specs.Decided.{has_event}
 use Rattle.enf_value.specs.ListLaws.{AllByRecursion-append, AllByRecursion-contains, none_in_nil}
 use Rattle.enf_value.specs.declared.events.Event.{Event}
 use Rattle.enf_value.specs.declared.steps.Step.{Step}
-use Rattle.enf_value.specs.declared.values.Value.{Value}
-use Rattle.enf_value.specs.declared.values.Value.TheVariants.{Num, Text}
-use Rattle.enforce_types.specs.Sorting.{FillColumns, FitsSignature, TraceFits}
-use Rattle.formula_reader.specs.Sorts.{constant_sort}
-use Rattle.log_stream.specs.Judgement.{IsAnswer, clash, entry_with, event_of, event_refusal, event_refusal_by, events_of, first_refusal, has_sort, judged_step, put, put_all, values_of}
+use Rattle.enforce_types.specs.Sorting.{TraceFits}
+use Rattle.log_stream.specs.Judgement.{IsAnswer, clash, entry_with, event_of, event_refusal, event_refusal_by, events_of, first_refusal, judged_step, put, put_all, values_of}
 use Rattle.log_stream.specs.Logs.{Spells}
 use Rattle.log_stream.specs.Written.{Line, TickLine, WrittenArgument, WrittenEvent}
 use Rattle.log_stream.specs.declared.items.LogItem.{LogItem}
@@ -23,22 +20,17 @@ use Rattle.log_stream.specs.declared.items.LogItem.TheVariants as items
 use Rattle.log_stream.specs.declared.items.LogMode.TheVariants.{Input}
 use Rattle.log_stream.specs.declared.items.LogRefusal.{LogRefusal}
 use Rattle.log_stream.specs.declared.items.LogRefusal.TheVariants.{Arity, SortClash, TimeTooLarge, UnknownName}
+use Rattle.signature.specs.ColumnLaws.{of_it}
+use Rattle.signature.specs.Columns.{FillColumns, FitsSignature, has_sort}
 use Rattle.signature.specs.Grammar.{number_of}
 use Rattle.signature.specs.declared.entries.NameEntry.{NameEntry}
 use Rattle.signature.specs.declared.entries.Sort.{Sort}
-use Rattle.signature.specs.declared.entries.Sort.TheVariants.{Int, Text as SortText}
 use Rattle.trace_meaning.specs.Records.{most_time, recorded}
 use Rattle.trace_meaning.specs.declared.kinds.StepKind.{StepKind}
 use Rattle.enf_cli.specs.Readings.{records_of}
 use Rattle.enf_cli.proofs.LogLemmas.{same_item}
 
 -- ---- a record
-
-is_of : (sort : Sort) (value : Value) → has_sort sort value ≡ true → constant_sort value ≡ sort
-is_of Int (Num number) is = refl
-is_of SortText (Text text) is = refl
-is_of Int (Text text) is = absurd (cc)
-is_of SortText (Num number) is = absurd (cc)
 
 fill_columns : (sorts : List Sort) (args : List WrittenArgument) → length args ≡ length sorts → clash sorts args ≡ None → FillColumns (values_of args) sorts
 fill_columns [] [] many none = tt
@@ -47,7 +39,7 @@ fill_columns (sort ∷ sorts) [] many none = absurd (omega (arith, many))
 fill_columns (sort ∷ sorts) (arg ∷ args) many none = by (has_sort sort arg.value) refl none (fill_columns sorts args (omega (arith, many)))
   where
     by : (b : Bool) → has_sort sort arg.value ≡ b → (if b then clash sorts args else Some arg.place) ≡ None → (clash sorts args ≡ None → FillColumns (values_of args) sorts) → FillColumns (values_of (arg ∷ args)) (sort ∷ sorts)
-    by true is rest behind = (is_of sort arg.value is, behind rest)
+    by true is rest behind = (of_it sort arg.value is, behind rest)
     by false is never behind = absurd (none-some arg.place (sym never))
 
 numbered : (entries : List NameEntry) (number : Option ℕ) (entry : NameEntry) → option_and_then (slice_get entries) number ≡ Some entry → slice_get entries (unwrap_or number 0) ≡ Some entry

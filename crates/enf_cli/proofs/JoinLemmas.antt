@@ -1,7 +1,7 @@
--- Records, what goes out for them and traces, one list behind another.
-use Rattle.std.proofs.Common.{◌≡◌, ℕ, zero, suc, ◌≤◌, Bool, List, [], ◌∷◌, ◌++◌, length, map, refl, sym, ap, subst, ◌∙◌, append_assoc, arith, length-append}
+-- Records and traces, one list behind another.
+use Rattle.std.proofs.Common.{ℕ, zero, suc, ◌≤◌, Bool, List, [], ◌∷◌, ◌++◌, length, map, refl, sym, ap, subst, ◌∙◌, append_assoc, arith, length-append}
 use Rattle.std.specs.List.{All, AllByRecursion}
-use Rattle.std.proofs.lemmas.List.{append-nil, get_or_at, map-append}
+use Rattle.std.proofs.lemmas.List.{append-nil, get_or_at}
 use Rattle.std.proofs.lemmas.List.Elements.{All-append, All-from_recursion, All-head, All-tail, All-weaker}
 use Rattle.enf_formula.specs.Formulas.{Formula}
 use Rattle.enf_value.specs.Data.{IsTrace, no_step}
@@ -13,19 +13,12 @@ use Rattle.trace_meaning.specs.Good.{Good}
 use Rattle.trace_meaning.specs.Lawful.{AreChangedTo, AreInOrder, IsInsertedLawfully, IsLaterThan, Lawful}
 use Rattle.trace_meaning.specs.Laws.{ClockRises, FrontIsGood, GoodIsTrace, LastIsTheNew, SatisfyingIsGood, TraceGrows}
 use Rattle.trace_meaning.specs.OutSteps.{OutStep, IsUntil, event_of, onto_system, system_steps, trace_of}
+use Rattle.trace_meaning.specs.RecordLaws.{recorded_join, records_changed_join}
 use Rattle.trace_meaning.specs.Records.{NeverFall, Record, StepRecord, Tick, clock_after, recorded, time_of}
 use Rattle.trace_meaning.specs.declared.kinds.StepKind.{StepKind}
 use Rattle.trace_meaning.specs.declared.kinds.StepKind.TheVariants.{Inserted, System}
-use Rattle.plan_terms.specs.Plans.{Plan}
-use Rattle.choice_step.specs.Follows.{ActedStep, Follows, steps_of}
-use Rattle.choice_step.specs.Justifying.{AllAreJustified, StepIsJustified}
 
 -- ---- records
-
-pub recorded_join : (records more : List Record) → recorded (records ++ more) ≡ recorded records ++ recorded more
-recorded_join [] more = refl
-recorded_join (StepRecord step ∷ records) more = ap (λ (steps : List Step). step ∷ steps) (recorded_join records more)
-recorded_join (Tick time ∷ records) more = recorded_join records more
 
 -- of records that do not fall neither the first ones do nor those behind them
 pub falls_first : (clock : ℕ) (records more : List Record) → NeverFall clock (records ++ more) → NeverFall clock records
@@ -46,80 +39,6 @@ none_before earlier clock (StepRecord step ∷ records) le fall =
 none_before earlier clock (Tick time ∷ records) le fall =
     let from : earlier ≤ time = omega (arith, le, fall.0) in
     none_before earlier time records from fall.1
-
--- ---- what goes out
-
-pub steps_join : (out more : List ActedStep) → steps_of (out ++ more) ≡ steps_of out ++ steps_of more
-steps_join out more = map-append (λ (o : ActedStep). o.step) out more
-
-pub behind : (trace : List Step) (out more : List ActedStep) → (trace ++ steps_of out) ++ steps_of more ≡ trace ++ steps_of (out ++ more)
-behind trace out more = append_assoc trace (steps_of out) (steps_of more) ∙ ap (λ (steps : List Step). trace ++ steps) (sym (steps_join out more))
-
-pub follows_join : (plans : List Plan) (trace : List Step) (records more : List Record) (out others : List ActedStep)
-    → Follows plans trace records out → Follows plans (trace ++ steps_of out) more others
-    → Follows plans trace (records ++ more) (out ++ others)
-follows_join plans trace [] more out others none later =
-    subst (λ (first : List ActedStep). Follows plans trace more (first ++ others)) (sym none)
-    (subst (λ (steps : List Step). Follows plans steps more others) (append-nil trace)
-    (subst (λ (first : List ActedStep). Follows plans (trace ++ steps_of first) more others) none later))
-follows_join plans trace (next ∷ records) more out others (inserted, answer, rest, inserts, answers, follows, are) later = (
-  inserted,
-  answer,
-  rest ++ others,
-  inserts,
-  answers,
-  follows_join plans (trace ++ steps_of (inserted ++ answer)) records more rest others follows
-      (subst (λ (steps : List Step). Follows plans steps more others)
-      (ap (λ (steps : List ActedStep). trace ++ steps_of steps) are ∙ sym (behind trace (inserted ++ answer) rest)) later),
-  ap (λ (steps : List ActedStep). steps ++ others) are ∙ append_assoc (inserted ++ answer) rest others,
-)
-
--- what goes out for records is what goes out for the first ones, and what goes out behind that for the others
-pub record Splits (plans : List Plan) (trace : List Step) (records more : List Record) (out : List ActedStep) : Type 0 where
-  pub first : List ActedStep
-  pub last : List ActedStep
-  pub split : out ≡ first ++ last
-  pub follows : Follows plans trace records first
-  pub later : Follows plans (trace ++ steps_of first) more last
-
-pub follows_split : (plans : List Plan) (trace : List Step) (records more : List Record) (out : List ActedStep)
-    → Follows plans trace (records ++ more) out → Splits plans trace records more out
-follows_split plans trace [] more out follows = record {
-  first = [];
-  last = out;
-  split = refl;
-  follows = refl;
-  later = subst (λ (steps : List Step). Follows plans steps more out) (sym (append-nil trace)) follows;
-}
-follows_split plans trace (next ∷ records) more out (inserted, answer, rest, inserts, answers, follows, are) =
-    let s = follows_split plans (trace ++ steps_of (inserted ++ answer)) records more rest follows in record {
-      first = (inserted ++ answer) ++ s.first;
-      last = s.last;
-      split = are ∙ ap (λ (steps : List ActedStep). (inserted ++ answer) ++ steps) s.split ∙ sym (append_assoc (inserted ++ answer) s.first s.last);
-      follows = (inserted, answer, s.first, inserts, answers, s.follows, refl);
-      later = subst (λ (steps : List Step). Follows plans steps more s.last) (behind trace (inserted ++ answer) s.first) s.later;
-    }
-
--- what comes behind a step that is justified may be another thing, for more steps to be answered
-weaker : (plans : List Plan) (trace : List Step) (kind : StepKind) (given more : List Step) (o : ActedStep) (P Q : List Step → Type 0)
-    → ((rest : List Step) → P rest → Q (rest ++ more)) → StepIsJustified plans trace kind given o P
-    → StepIsJustified plans trace kind (given ++ more) o Q
-weaker plans trace Inserted given more o P Q then (needed, actions, rest) = (needed, actions, then given rest)
-weaker plans trace System [] more o P Q then none = absurd none
-weaker plans trace System (step ∷ given) more o P Q then (actions, rest) = (actions, then given rest)
-
-pub justified_join : (plans : List Plan) (trace : List Step) (given more : List Step) (out others : List ActedStep)
-    → AllAreJustified plans trace given out → AllAreJustified plans (trace ++ steps_of out) more others
-    → AllAreJustified plans trace (given ++ more) (out ++ others)
-justified_join plans trace given more [] others none rest =
-    subst (λ (steps : List Step). AllAreJustified plans trace (steps ++ more) others) (sym none)
-    (subst (λ (steps : List Step). AllAreJustified plans steps more others) (append-nil trace) rest)
-justified_join plans trace given more (o ∷ out) others each rest =
-    weaker plans trace o.kind given more o (λ left. AllAreJustified plans (trace ++ o.step ∷ []) left out)
-    (λ left. AllAreJustified plans (trace ++ o.step ∷ []) left (out ++ others))
-    (λ left front. justified_join plans (trace ++ o.step ∷ []) left more out others front
-    (subst (λ (steps : List Step). AllAreJustified plans steps more others) (sym (append_assoc trace (o.step ∷ []) (steps_of out))) rest))
-    each
 
 -- ---- traces
 
@@ -178,13 +97,6 @@ module _ (causable suppressible : NameId → Bool) where
       by System others (s ∷ ss) l c = (omega (arith, l.0, c.0.same_time), others ss l.1 c.1)
       by Inserted others ss l c = (tt, others ss l c)
 
-  changed_join : (steps more : List Step) (out others : List OutStep) → AreChangedTo causable suppressible steps out
-      → AreChangedTo causable suppressible more others → AreChangedTo causable suppressible (steps ++ more) (out ++ others)
-  changed_join [] more [] others a b = b
-  changed_join [] more (o ∷ out) others a b = absurd a
-  changed_join (step ∷ steps) more [] others a b = absurd a
-  changed_join (step ∷ steps) more (o ∷ out) others a b = (a.0, changed_join steps more out others a.1 b)
-
   -- the steps of records behind a trace are one with it, where what they were changed to is, with the inserted steps
   recorded_trace : TraceGrows → LastIsTheNew → (out : List OutStep) (trace built steps : List Step) → last_time built ≤ last_time trace
       → IsTrace built → IsTrace (trace ++ trace_of out) → AllByRecursion (λ (s : Step). HasNoRepeats s.events) steps
@@ -207,14 +119,6 @@ module _ (causable suppressible : NameId → Bool) where
           (others (built ++ s ∷ []) ss (omega (arith, new trace o.step, new built s, cc.0.same_time))
           (grows built s b (omega (arith, le, later, cc.0.same_time)) dd.0) dd.1 cc.1)
       by later Inserted others ss dd cc = others built ss (omega (arith, le, later, new trace o.step)) b dd cc
-
-onto_join : (kind : StepKind) (o : OutStep) (out others : List OutStep) → onto_system kind o (out ++ others) ≡ onto_system kind o out ++ others
-onto_join System o out others = refl
-onto_join Inserted o out others = refl
-
-system_join : (out others : List OutStep) → system_steps (out ++ others) ≡ system_steps out ++ system_steps others
-system_join [] others = refl
-system_join (o ∷ out) others = ap (onto_system o.kind o) (system_join out others) ∙ onto_join o.kind o (system_steps out) (system_steps others)
 
 -- of two steps, the first until a time and the second from it on
 two_in_order : (kind other : StepKind) (time later clock : ℕ) → IsUntil clock kind time → IsFrom clock other later → time ≤ later
@@ -248,9 +152,7 @@ pub lawful_join : (causable suppressible : NameId → Bool) (trace : List Step) 
     → Lawful causable suppressible records out → Lawful causable suppressible more others
     → Lawful causable suppressible (records ++ more) (out ++ others)
 lawful_join causable suppressible trace clock records more out others until fall t first last = record {
-  changed = subst (λ (steps : List Step). AreChangedTo causable suppressible steps (system_steps (out ++ others))) (sym (recorded_join records more))
-      (subst (AreChangedTo causable suppressible (recorded records ++ recorded more)) (sym (system_join out others))
-      (changed_join causable suppressible (recorded records) (recorded more) (system_steps out) (system_steps others) first.changed last.changed));
+  changed = records_changed_join causable suppressible records more out others first.changed last.changed;
   inserted = All-append (λ (o : OutStep). IsInsertedLawfully causable suppressible o o.kind) out others first.inserted last.inserted;
   once = All-append (λ (o : OutStep). HasNoRepeats (map event_of o.changes)) out others first.once last.once;
   in_order = order_join clock out others until

@@ -11,6 +11,7 @@ use Rattle.trace_meaning.specs.Good.{Good}
 use Rattle.trace_meaning.specs.Lawful.{Lawful}
 use Rattle.trace_meaning.specs.Laws.{ClockRises, SatisfyingIsGood}
 use Rattle.trace_meaning.specs.OutSteps.{IsWithin, OutStep, trace_of}
+use Rattle.trace_meaning.specs.RecordLaws.{recorded_join}
 use Rattle.trace_meaning.specs.Records.{NeverFall, Record, clock_after, recorded}
 use Rattle.trace_meaning.specs.Satisfies.{Satisfies}
 use Rattle.trace_meaning.specs.Start.{Start}
@@ -20,6 +21,7 @@ use Rattle.signature.specs.Grammar.{names as names_of}
 use Rattle.signature.specs.declared.entries.NameEntry.{NameEntry}
 use Rattle.enforce_types.specs.Marks.{is_causable, is_suppressible}
 use Rattle.enforce_types.specs.PolicyLaws.{OnePlans}
+use Rattle.choice_step.specs.JoinLaws.{behind, follows_join, follows_split, justified_join}
 use Rattle.choice_step.specs.Follows.{ActedStep, Follows, FollowsDrain, out_step, steps_of}
 use Rattle.choice_step.specs.Justifying.{AllAreJustified}
 use Rattle.choice_step.specs.Laws.{AreDistinct}
@@ -42,7 +44,7 @@ use Rattle.enf_cli.specs.TwoRuns.{AreNumbered, GivesJoins, IsLastBehind, Joins, 
 use Rattle.enf_cli.specs.TwoRuns.{setting_after, setting_behind, start_after}
 use Rattle.enf_cli.specs.declared.refusals.Status.{Status}
 use Rattle.enf_cli.specs.declared.refusals.Status.TheVariants as statuses
-use Rattle.enf_cli.proofs.JoinLemmas.{behind, falls_behind, falls_first, follows_join, follows_split, good_first, justified_join, lawful_join, recorded_is_trace, recorded_join}
+use Rattle.enf_cli.proofs.JoinLemmas.{falls_behind, falls_first, good_first, lawful_join, recorded_is_trace}
 use Rattle.enf_cli.proofs.LineLemmas.{lines_behind}
 use Rattle.enf_cli.proofs.LogLemmas.{read_distinct}
 use Rattle.enf_cli.proofs.EndLemmas.{EndsOn, OneLog, ends_one, ends_over, ends_stop}

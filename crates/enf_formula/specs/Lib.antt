@@ -2,8 +2,10 @@ pub use Rattle.enf_value.specs.Data
 pub mod Formulas
 pub use Rattle.enf_value.specs.Valuations
 pub mod Satisfaction
+pub mod SameLaws
 pub mod Cases
 pub mod FreeVariables
+pub mod FreeLaws
 pub mod Binding
 pub mod Laws
 pub mod Names

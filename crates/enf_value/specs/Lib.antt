@@ -9,6 +9,7 @@ pub mod Membership
 pub mod MembershipLaws
 pub mod Names
 pub mod Order
+pub mod RisingLaws
 pub mod Spelling
 pub mod Stored
 pub mod Text

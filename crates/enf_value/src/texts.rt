@@ -13,6 +13,7 @@ ghost use Rattle.enf_value.specs.declared.texts.TextRefusal.TheVariants.{NoMemor
 use crate::items::Duplicate;
 use crate::limits::MOST_TEXT_BYTES;
 use crate::memory::NoMemory;
+use smallvec::SmallVec;
 use std::alloc::{AllocError, Global};
 use std::cmp::Ordering;
 use std::hash::{Hash, Hasher};
@@ -34,10 +35,13 @@ impl From<AllocError> for TextRefusal {
     }
 }
 
+// Texts of so many bytes take no memory of their own.
+const SHORT: usize = 16;
+
 /// A text, seen as its bytes.
 #[derive(Debug, Drop)]
 pub struct TextValue {
-    text: Vec<u8>,
+    text: SmallVec<u8, SHORT>,
 }
 
 impl Model for TextValue {
@@ -76,7 +80,7 @@ impl TextValue {
             return Err(TextRefusal::NotUtf8);
         }
         Ok(TextValue {
-            text: Vec::from_slice(alloc, bytes)?,
+            text: SmallVec::from_slice(alloc, bytes)?,
         })
     }
 
@@ -92,7 +96,7 @@ impl TextValue {
 impl Duplicate for TextValue {
     fn duplicate(&self, alloc: Global) -> Result<TextValue, NoMemory> {
         Ok(TextValue {
-            text: Vec::from_slice(alloc, self.text.as_slice())?,
+            text: SmallVec::from_slice(alloc, self.text.as_slice())?,
         })
     }
 }
@@ -103,7 +107,7 @@ impl PartialEq for TextValue {
     ghost laws = { Prim.search (comparing, rules) };
 
     fn eq(&self, other: &TextValue) -> bool {
-        self.text == other.text
+        self.text.as_slice() == other.text.as_slice()
     }
 }
 
@@ -131,7 +135,7 @@ impl Ord for TextValue {
     ghost matches_eq = { Prim.search (comparing, rules) };
 
     fn cmp(&self, other: &TextValue) -> Ordering {
-        self.text.cmp(&other.text)
+        self.text.as_slice().cmp(other.text.as_slice())
     }
 }
 

@@ -1,5 +1,5 @@
 -- The rules of a text are sorted: what its second pass finds of sorts fits them.
-use Rattle.std.proofs.Common.{◌≡◌, ◌∙◌, ◌⊎◌, inl, inr, ⊎_elim, ℕ, zero, suc, Bool, true, false, cond, ◌==◌, List, [], ◌∷◌, ◌++◌, length, map, Option, None, Some, Result, Ok, Err, Contains, refl, sym, ap, subst, arith, slice_get}
+use Rattle.std.proofs.Common.{◌≡◌, ◌∙◌, ◌⊎◌, ⊎_elim, ℕ, Bool, true, false, cond, ◌==◌, List, [], ◌∷◌, ◌++◌, length, Option, None, Some, Result, Ok, Err, Contains, refl, sym, ap, subst, arith, slice_get}
 use Rattle.std.specs.List.{AllByRecursion}
 use Rattle.std.specs.Option.{option_map, option_or, option_and_then}
 use Rattle.std.proofs.lemmas.Option.{same_Some, none-some}
@@ -8,55 +8,29 @@ use Rattle.enf_value.specs.declared.events.NameId.{NameId}
 use Rattle.enf_value.specs.declared.terms.Term.{Term}
 use Rattle.enf_value.specs.declared.terms.Term.TheVariants.{Var, Const}
 use Rattle.enf_value.specs.declared.terms.VarId.{VarId}
-use Rattle.enf_value.specs.declared.values.Value.{Value}
 use Rattle.enf_formula.specs.Formulas as tree
 use Rattle.monitorable_guard.specs.Safety.{IsBoundIn, Nothing}
 use Rattle.policy_syntax.specs.Trees.{Formula, True, False, Atom, Equal, Less, AtMost, Not, And, Or, Implies, Exists}
 use Rattle.policy_syntax.specs.Trees.{Forall, Prev, Next, Once, Historically, Since, Eventually, Always, Until}
 use Rattle.policy_syntax.specs.Trees as syntax
 use Rattle.policy_syntax.specs.declared.refusals.SyntaxRefusal.{SyntaxRefusal}
-use Rattle.policy_syntax.specs.declared.trees.Binding.{Binding}
 use Rattle.policy_syntax.specs.declared.trees.SyntaxTerm.{SyntaxTerm}
+use Rattle.signature.specs.Columns.{columns, value_sort}
 use Rattle.signature.specs.Grammar.{number_of}
 use Rattle.signature.specs.declared.entries.NameEntry.{NameEntry}
 use Rattle.signature.specs.declared.entries.Sort.{Sort}
 use Rattle.signature.specs.declared.entries.Sort.TheVariants.{Int, Text}
-use Rattle.formula_reader.specs.Points.{Binder, EventName, Point, SortOf, This, Use, Wanted, argument_points, binder_points, bound_names, columns, entry_named, names_of, place_of, points, term_in, use_of, variables_from}
+use Rattle.formula_reader.specs.Points.{EventName, Point, SortOf, This, Use, argument_points, binder_points, bound_names, entry_named, names_of, place_of, points, term_in, use_of, variables_from}
 use Rattle.formula_reader.specs.Points as wanted
 use Rattle.formula_reader.specs.Reading.{Follows, IsTextAnswer}
 use Rattle.formula_reader.specs.Resolution.{Rule, formula_in, name_in, rule_in, rule_with, rules_in, terms_in, with_both}
-use Rattle.formula_reader.specs.Sorts.{clash, constant_sort, first_refusal, for_variable, given, known_after, name_refusal, policy_refusal, refusal_at, rule_refusal, sort_of, wanted_sort}
+use Rattle.formula_reader.specs.Sorts.{clash, first_refusal, for_variable, given, known_after, name_refusal, policy_refusal, refusal_at, rule_refusal, sort_of}
+use Rattle.formula_reader.specs.MadeLaws.{One, both_from, one_from, or_none}
 use Rattle.formula_reader.specs.declared.policies.PolicyRefusal.{PolicyRefusal}
-use Rattle.enforce_types.specs.PolicyPlans.{formulas_of}
 use Rattle.enforce_types.specs.Sorting.{AreOf, Besides, FillSorts, Fit, Found, IsSorted, TakesSort, term_sort}
 use Rattle.enforce_types.specs.SortingLaws.{Under, fit_under, found_under}
 
--- ---- what made a value that is there
-
-record Both {A B C : Type 0} (make : A → B → C) (a : Option A) (b : Option B) (c : C) : Type 0 where
-  x : A
-  y : B
-  left : a ≡ Some x
-  right : b ≡ Some y
-  made : make x y ≡ c
-
-both_from : {A B C : Type 0} (make : A → B → C) (a : Option A) (b : Option B) (c : C) → with_both make a b ≡ Some c → Both make a b c
-both_from make None b c e = absurd (cc)
-both_from make (Some x) None c e = absurd (cc)
-both_from make (Some x) (Some y) c e = record { x = x; y = y; left = refl; right = refl; made = cc }
-
-record One {A C : Type 0} (make : A → C) (a : Option A) (c : C) : Type 0 where
-  x : A
-  from : a ≡ Some x
-  made : make x ≡ c
-
-one_from : {A C : Type 0} (make : A → C) (a : Option A) (c : C) → option_map make a ≡ Some c → One make a c
-one_from make None c e = absurd (cc)
-one_from make (Some x) c e = record { x = x; from = refl; made = cc }
-
-or_none : {A : Type 0} (a b : Option A) → option_or a b ≡ None → (a ≡ None) × (b ≡ None)
-or_none None b e = (refl, e)
-or_none (Some x) b e = absurd (cc)
+-- ---- the first of two that is there
 
 or_first : {A : Type 0} (a b : Option A) (x : A) → a ≡ Some x → option_or a b ≡ Some x
 or_first None b x e = absurd (none-some x e)
@@ -103,7 +77,7 @@ module _ (entries : List NameEntry) (sorts : VarId → Sort) where
   -- a term of which the sort is known has it
   known_term : (before : List Point) (t : Term) (sort : Sort) → Extend before → sort_of (known_after before) (Some t) ≡ Some sort → term_sort sorts t ≡ sort
   known_term before (Var x) sort extend is = extend x sort is
-  known_term before (Const value) sort extend is = same_Some (constant_sort value) sort is
+  known_term before (Const value) sort extend is = same_Some (value_sort value) sort is
 
   no_clash : (place : ℕ) (a b : Sort) → clash place (Some a) (Some b) ≡ None → a ≡ b
   no_clash place Int Int e = refl
@@ -119,7 +93,7 @@ module _ (entries : List NameEntry) (sorts : VarId → Sort) where
   -- behind it the term is known to be of the sort
   wanted_there : (place : ℕ) (before : List Point) (t : Term) (sort : Sort) → refusal_at entries (known_after before) (Use place (Some t) (This sort)) ≡ None
       → sort_of (known_after (Use place (Some t) (This sort) ∷ before)) (Some t) ≡ Some sort
-  wanted_there place before (Const value) sort clear = ap Some (no_clash place (constant_sort value) sort clear)
+  wanted_there place before (Const value) sort clear = ap Some (no_clash place (value_sort value) sort clear)
   wanted_there place before (Var x) sort clear = by (known_after before x) refl clear
     where
       by : (known : Option Sort) → known_after before x ≡ known → clash place known (Some sort) ≡ None → option_or (known_after before x) (for_variable x (Some (Var x)) (Some sort)) ≡ Some sort
@@ -186,7 +160,7 @@ module _ (entries : List NameEntry) (sorts : VarId → Sort) where
   -- what was found before is known
   bound_known : (before : List Point) (t : Term) → IsBoundIn (Knows before) t → (sort : Sort) × (sort_of (known_after before) (Some t) ≡ Some sort)
   bound_known before (Var x) bound = bound
-  bound_known before (Const value) bound = (constant_sort value, refl)
+  bound_known before (Const value) bound = (value_sort value, refl)
 
   -- behind an equation of which one side is known to be of a sort, so is the other
   record Equated (before after : List Point) (s t : Term) : Type 0 where
@@ -207,7 +181,7 @@ module _ (entries : List NameEntry) (sorts : VarId → Sort) where
   -- the second side is known where the first is
   second_known : (place : ℕ) (before : List Point) (s t : Term) (sort : Sort) → clash place (sort_of (known_after before) (Some t)) (sort_of (known_after before) (Some s)) ≡ None
       → sort_of (known_after before) (Some s) ≡ Some sort → sort_of (known_after (Use place (Some t) (SortOf (Some s)) ∷ before)) (Some t) ≡ Some sort
-  second_known place before s (Const value) sort clear is = ap Some (no_clash place (constant_sort value) sort (subst (λ (o : Option Sort). clash place (Some (constant_sort value)) o ≡ None) is clear))
+  second_known place before s (Const value) sort clear is = ap Some (no_clash place (value_sort value) sort (subst (λ (o : Option Sort). clash place (Some (value_sort value)) o ≡ None) is clear))
   second_known place before s (Var y) sort clear is = by (known_after before y) refl (subst (λ (o : Option Sort). clash place (known_after before y) o ≡ None) is clear)
     where
       gives : for_variable y (Some (Var y)) (sort_of (known_after before) (Some s)) ≡ Some sort
@@ -226,7 +200,7 @@ module _ (entries : List NameEntry) (sorts : VarId → Sort) where
   first_known : (place : ℕ) (before : List Point) (s t : Term) (sort : Sort) → clash place (sort_of (known_after before) (Some t)) (sort_of (known_after before) (Some s)) ≡ None
       → sort_of (known_after before) (Some t) ≡ Some sort → sort_of (known_after (Use place (Some t) (SortOf (Some s)) ∷ before)) (Some s) ≡ Some sort
   first_known place before (Const value) t sort clear is =
-      ap Some (sym (no_clash place sort (constant_sort value) (subst (λ (o : Option Sort). clash place o (Some (constant_sort value)) ≡ None) is clear)))
+      ap Some (sym (no_clash place sort (value_sort value) (subst (λ (o : Option Sort). clash place o (Some (value_sort value)) ≡ None) is clear)))
   first_known place before (Var y) t sort clear is = by (known_after before y) refl (subst (λ (o : Option Sort). clash place o (known_after before y) ≡ None) is clear)
     where
       gives : for_variable y (Some (Var y)) (sort_of (known_after before) (Some t)) ≡ Some sort
@@ -278,7 +252,7 @@ module _ (entries : List NameEntry) (sorts : VarId → Sort) where
 
       known_here : (u : Term) → IsBoundIn (Knows before) u → (sort : Sort) × (sort_of (known_after middle) (Some u) ≡ Some sort)
       known_here (Var x) bound = (bound.0, stays_known before (Use place (Some s) wanted.Nothing ∷ []) x bound.0 bound.1)
-      known_here (Const value) bound = (constant_sort value, refl)
+      known_here (Const value) bound = (value_sort value, refl)
 
   -- ---- formulas
 

@@ -1,14 +1,11 @@
 -- What a safe formula finds, and the sorts of the values under which it holds.
-use Rattle.std.proofs.Common.{◌≡◌, ℕ, ◌-◌, ◌<◌, ◌⊎◌, inl, inr, ⊎_elim, List, [], ◌∷◌, ◌++◌, All, Option, None, Some, Contains, refl, sym, ap, subst, ◌∙◌, length, arith}
+use Rattle.std.proofs.Common.{◌≡◌, ℕ, ◌-◌, ◌⊎◌, inl, inr, ⊎_elim, List, [], ◌∷◌, Option, None, Some, Contains, refl, sym, ap, subst, ◌∙◌}
 use Rattle.std.specs.Prelude.{slice_get}
-use Rattle.std.proofs.lemmas.List.Elements.{All-contains}
 use Rattle.std.proofs.lemmas.Option.{same_Some, none-some}
 use Rattle.enf_value.specs.Data.{step_at}
-use Rattle.enf_value.specs.ListLaws.{Contains-append}
 use Rattle.enf_value.specs.Valuations.{Valuation, value_at, value_of, values_of, onto_values, with_values}
 use Rattle.enf_value.specs.declared.events.Event.{Event}
 use Rattle.enf_value.specs.declared.events.NameId.{NameId}
-use Rattle.enf_value.specs.declared.intervals.Interval.{Interval}
 use Rattle.enf_value.specs.declared.steps.Step.{Step}
 use Rattle.enf_value.specs.declared.terms.Term.{Term}
 use Rattle.enf_value.specs.declared.terms.Term.TheVariants.{Var, Const}
@@ -17,30 +14,19 @@ use Rattle.enf_value.specs.declared.values.Value.{Value}
 use Rattle.enf_formula.specs.Formulas.{Formula, True, False, Atom, Equal, Less, AtMost, Not, And, Or, Implies}
 use Rattle.enf_formula.specs.Formulas.{Exists, Forall, Prev, Next, Once, Historically, Since, Eventually, Always, Until}
 use Rattle.enf_formula.specs.FreeVariables.{IsFree}
-use Rattle.enf_formula.specs.Satisfaction.{Sat, IsAmong, AreSame, Classically}
+use Rattle.enf_formula.specs.SameLaws.{same_other, turned}
+use Rattle.enf_formula.specs.Satisfaction.{Sat, IsAmong, AreSame}
 use Rattle.valuations.specs.Columns.{first_or_later, none_in_nil, among_or_not}
 use Rattle.valuations.specs.RowLaws.{value_at-with_outside}
-use Rattle.monitorable_guard.specs.Safety.{Assigns, BindsFresh, FreeUnder, FreeWithin, IsBoundIn, Nothing, Safe, SafeBelow, With}
+use Rattle.monitorable_guard.specs.Safety.{Assigns, BindsFresh, IsBoundIn, Nothing, Safe, With}
+use Rattle.signature.specs.Columns.{FillColumns, FitsSignature, columns, value_sort}
 use Rattle.signature.specs.declared.entries.NameEntry.{NameEntry}
 use Rattle.signature.specs.declared.entries.Sort.{Sort}
-use Rattle.signature.specs.declared.entries.Sort.TheVariants.{Int, Text}
-use Rattle.formula_reader.specs.Points.{columns}
-use Rattle.formula_reader.specs.Sorts.{constant_sort}
 use Rattle.enforce_types.specs.SortingLaws.{Under, fit_under, fits_stable, nothing_under}
-use Rattle.enforce_types.specs.Sorting.{AreOf, Besides, FillColumns, FillSorts, Fit, FitsSignature, Found, TakesSort, TraceFits, ValueFits, term_sort}
+use Rattle.enforce_types.specs.Sorting.{Besides, FillSorts, Fit, Found, TakesSort, TraceFits, ValueFits, term_sort}
+use Rattle.monitorable_guard.specs.SafetyLaws.{below_within, historically_within}
 
 -- ---- a safe formula finds its free variables
-
-below_within : (xs : List VarId) (g : Formula) (B : VarId → Type 0) → SafeBelow (Some xs) g B → FreeUnder xs g B
-below_within xs (Forall place ys g) B safe = λ x free absent. below_within (xs ++ ys) g B safe x free.0 (λ there. ⊎_elim absent free.1 (Contains-append xs ys x there))
-below_within xs (Implies place g h) B safe = safe.0
-below_within xs (Not place g) B safe = safe.0
-below_within xs g B safe = absurd safe
-
-historically_within : (place : ℕ) (interval : Interval) (g : Formula) (B : VarId → Type 0) → Safe (Historically place interval g) B → FreeWithin g B
-historically_within place interval (Not p h) B safe = safe.0
-historically_within place interval (Implies p a b) B safe = λ x free. ⊎_elim (safe.0 x) (safe.1 x) free
-historically_within place interval g B safe = safe.0
 
 variable_is : (x y : VarId) → Var x ≡ Var y → x ≡ y
 variable_is x y e = cc
@@ -100,16 +86,6 @@ finds (Until place interval g h) B N safe more x free = absurd safe
 
 -- ---- sorts of values
 
-same_other : (a b : Option Value) (value : Value) → AreSame a b → a ≡ Some value → b ≡ Some value
-same_other None b value same is = absurd same
-same_other (Some a) None value same is = absurd same
-same_other (Some a) (Some b) value same is = ap Some (sym same) ∙ is
-
-turned : (a b : Option Value) → AreSame a b → AreSame b a
-turned None b same = absurd same
-turned (Some a) None same = absurd same
-turned (Some a) (Some b) same = sym same
-
 module _ (entries : List NameEntry) (sorts : VarId → Sort) where
   -- the values of terms fill columns that the terms fill: so each variable among them has a value of its sort
   in_columns : (v : Valuation) (term : Term) (terms : List Term) (args : List Value) (column : Sort) (cols : List Sort) (first : Option Value) (rest : Option (List Value)) → value_of v term ≡ first → values_of v terms ≡ rest → onto_values first rest ≡ Some args
@@ -120,7 +96,7 @@ module _ (entries : List NameEntry) (sorts : VarId → Sort) where
   in_columns v term terms args column cols (Some a) (Some behind) is_first is_rest is fill filled x either later =
       let cells : FillColumns (a ∷ behind) (column ∷ cols) = subst (λ l. FillColumns l (column ∷ cols)) (sym (same_Some (a ∷ behind) args is)) filled in
       ⊎_elim
-      (λ same value at. ap constant_sort (same_Some value a (sym at ∙ sym (ap (value_of v) same) ∙ is_first)) ∙ cells.0 ∙ sym fill.0 ∙ ap (term_sort sorts) same)
+      (λ same value at. ap value_sort (same_Some value a (sym at ∙ sym (ap (value_of v) same) ∙ is_first)) ∙ cells.0 ∙ sym fill.0 ∙ ap (term_sort sorts) same)
       (λ there. later behind is_rest cells.1 there)
       either
 
@@ -147,7 +123,7 @@ module _ (entries : List NameEntry) (sorts : VarId → Sort) where
       (λ second. bound z opens.1 value (ap (value_at v) (variable_is z x second) ∙ is) ∙ ap sorts (variable_is z x second))
       free
   assigned B N v (Var y) (Const c) more fit bound opens same x free value is = ⊎_elim
-      (λ first. ap constant_sort (sym (same_Some c value (same_other (value_at v y) (Some c) value same (ap (value_at v) (variable_is y x first) ∙ is)))) ∙ sym (fit tt) ∙ ap sorts (variable_is y x first))
+      (λ first. ap value_sort (sym (same_Some c value (same_other (value_at v y) (Some c) value same (ap (value_at v) (variable_is y x first) ∙ is)))) ∙ sym (fit tt) ∙ ap sorts (variable_is y x first))
       (λ second. absurd (cc))
       free
   assigned B N v (Const c) t more fit bound opens same x free value is = absurd opens

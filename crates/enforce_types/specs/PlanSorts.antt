@@ -10,12 +10,12 @@ use Rattle.enf_formula.specs.Binding.{BindsFresh, IsClosed}
 use Rattle.enf_formula.specs.Formulas.{Formula}
 use Rattle.enf_formula.specs.Satisfaction.{Sat}
 use Rattle.monitorable_guard.specs.Safety.{Nothing}
-use Rattle.formula_reader.specs.Points.{columns}
 use Rattle.formula_reader.specs.Resolution.{Rule}
 use Rattle.formula_reader.specs.WellFormed.{IsWellFormedPolicy}
 use Rattle.plan_terms.specs.Plans.{Plan, Cause, Suppress, Both, Either, TestOr, Guarded, Eventually, Always}
 use Rattle.plan_terms.specs.Plans.{Until, Next}
 use Rattle.plan_terms.specs.Scopes.{AtEach}
+use Rattle.signature.specs.Columns.{columns}
 use Rattle.signature.specs.declared.entries.NameEntry.{NameEntry}
 use Rattle.signature.specs.declared.entries.Sort.{Sort}
 use Rattle.enforce_types.specs.Elab.{Elab, Up}

@@ -15,13 +15,12 @@ use Rattle.enf_formula.specs.Formulas.{Exists, Forall, Prev, Next, Once, Histori
 use Rattle.enf_formula.specs.FreeVariables.{IsFree}
 use Rattle.enf_formula.specs.Satisfaction.{Sat}
 use Rattle.monitorable_guard.specs.Safety.{BindsFresh, IsBoundIn, Nothing, Safe}
+use Rattle.signature.specs.Columns.{FitsSignature, columns, value_sort}
 use Rattle.signature.specs.declared.entries.NameEntry.{NameEntry}
 use Rattle.signature.specs.declared.entries.Sort.{Sort}
 use Rattle.signature.specs.declared.entries.Sort.TheVariants.{Int}
-use Rattle.formula_reader.specs.Points.{columns}
 use Rattle.formula_reader.specs.Reading.{IsTextAnswer}
 use Rattle.formula_reader.specs.Resolution.{Rule}
-use Rattle.formula_reader.specs.Sorts.{constant_sort}
 
 -- ---- what is found, and when sorts fit a formula
 
@@ -59,7 +58,7 @@ Found N (Until place interval g h) x = Found N g x ⊎ Found (Besides N (Found N
 -- the sort of a term, where each variable has one
 abbrev pub term_sort : (VarId → Sort) → Term → Sort
 term_sort sorts (Var x) = sorts x
-term_sort sorts (Const value) = constant_sort value
+term_sort sorts (Const value) = value_sort value
 
 -- there is a term for each column, of the column's sort
 abbrev pub FillSorts : (VarId → Sort) → List Term → (columns : List Sort) → Type 0
@@ -103,26 +102,14 @@ IsSorted entries f = (sorts : VarId → Sort) × Fit entries sorts Nothing f
 
 -- ---- values that fit
 
--- a value for each column, of its sort
-abbrev pub FillColumns : List Value → (columns : List Sort) → Type 0
-FillColumns [] [] = Unit {0}
-FillColumns [] (column ∷ columns) = ⊥
-FillColumns (value ∷ values) [] = ⊥
-FillColumns (value ∷ values) (column ∷ columns) = (constant_sort value ≡ column) × FillColumns values columns
-
--- the event is of a name of the signature
-abbrev pub FitsSignature : List NameEntry → Event → Type 0
-FitsSignature entries event =
-    (entry : NameEntry) × (slice_get entries event.name.0 ≡ Some entry) × FillColumns event.args entry.sorts
-
--- so are all events of the trace
+-- all events of the trace fit the signature
 abbrev pub TraceFits : List NameEntry → List Step → Type 0
 TraceFits entries trace =
     (i : ℕ) (event : Event) → Contains (step_at trace i).events event → FitsSignature entries event
 
 -- the value of the variable, if it has one, is of its sort
 abbrev pub ValueFits : (VarId → Sort) → Valuation → VarId → Type 0
-ValueFits sorts v x = (value : Value) → value_at v x ≡ Some value → constant_sort value ≡ sorts x
+ValueFits sorts v x = (value : Value) → value_at v x ≡ Some value → value_sort value ≡ sorts x
 
 -- ---- laws
 
@@ -130,11 +117,6 @@ ValueFits sorts v x = (value : Value) → value_at v x ≡ Some value → consta
 abbrev pub ReadIsSorted : Type 0
 ReadIsSorted = (entries : List NameEntry) (bytes : List ℕ) (rules : List Rule)
     → IsTextAnswer entries bytes (Ok rules) → AllByRecursion (λ (rule : Rule). IsSorted entries rule.formula) rules
-
--- sorts that fit where variables were found before fit where none was
-abbrev pub FitWhereNoneWasFound : Type 0
-FitWhereNoneWasFound = (entries : List NameEntry) (sorts : VarId → Sort) (found : List VarId) (f : Formula)
-    → Fit entries sorts (Contains found) f → Fit entries sorts Nothing f
 
 -- with the bound variables found before, a safe formula finds its free variables
 abbrev pub SafeIsFound : Type 0

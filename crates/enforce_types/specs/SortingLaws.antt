@@ -8,10 +8,10 @@ use Rattle.enf_formula.specs.Formulas.{Formula, True, False, Atom, Equal, Less, 
 use Rattle.enf_formula.specs.Formulas.{Exists, Forall, Prev, Next, Once, Historically, Since, Eventually, Always, Until}
 use Rattle.enf_formula.specs.Satisfaction.{Classically}
 use Rattle.monitorable_guard.specs.Safety.{IsBoundIn, Nothing}
+use Rattle.signature.specs.Columns.{value_sort}
 use Rattle.signature.specs.declared.entries.NameEntry.{NameEntry}
 use Rattle.signature.specs.declared.entries.Sort.{Sort}
 use Rattle.signature.specs.declared.entries.Sort.TheVariants.{Int, Text}
-use Rattle.formula_reader.specs.Sorts.{constant_sort}
 use Rattle.enforce_types.specs.Sorting.{Besides, Fit, Found, TakesSort, ValueFits}
 
 -- ---- less that was found before
@@ -123,4 +123,4 @@ stable Text Int n = absurd (n (λ e. absurd (cc)))
 
 pub fits_stable : (sorts : VarId → Sort) (v : Valuation) (x : VarId) → Classically (ValueFits sorts v x)
     → ValueFits sorts v x
-fits_stable sorts v x h value is = stable (constant_sort value) (sorts x) (λ n. h (λ f. n (f value is)))
+fits_stable sorts v x h value is = stable (value_sort value) (sorts x) (λ n. h (λ f. n (f value is)))

@@ -8,7 +8,7 @@ ghost use Rattle.enforce_types.specs.PolicyLaws.{IsAnswered, NotBoth, OnePlans, 
 ghost use Rattle.enforce_types.specs.PolicyLaws.{GuardsAreAtNumbers, PlansAreWellFormed, PlansAreWithinLimits};
 ghost use Rattle.enforce_types.specs.PolicyLaws.{PlansEndLater, PlansKeepToSignature};
 ghost use Rattle.enforce_types.specs.PlanSorts.{MadeKeepsSorts, PolicyKeepsSorts};
-ghost use Rattle.enforce_types.specs.Sorting.{FitWhereNoneWasFound, ReadIsSorted, SafeIsFound, SafeValuesFit};
+ghost use Rattle.enforce_types.specs.Sorting.{ReadIsSorted, SafeIsFound, SafeValuesFit};
 ghost use Rattle.enforce_types.specs.Accepted.{AcceptedIsNotRefused, AcceptedOrRefused, RefusedOnce};
 
 use enf_formula::laws::is_classical;
@@ -98,10 +98,9 @@ pub fn policy_is_accepted_or_refused()
     plans_have_one_answer();
 }
 
-/// Sorts that fit where variables were found before fit where none was; a safe formula finds the sorts of its free
-/// variables; and the values of these under which it holds are of their sorts, on a trace of which the events are.
+/// A safe formula finds the sorts of its free variables, and the values of these under which it holds are of their
+/// sorts, on a trace of which the events are.
 pub fn safe_values_fit()
-    ensures none { FitWhereNoneWasFound }
     ensures found { SafeIsFound }
     ensures values { SafeValuesFit }
 {}

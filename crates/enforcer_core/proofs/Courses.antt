@@ -1,5 +1,5 @@
 -- What an enforcer has done, one record more, and at the end.
-use Rattle.std.proofs.Common.{◌≡◌, ℕ, ◌<◌, ◌≤◌, List, [], ◌∷◌, ◌++◌, length, refl, sym, ap, subst, ◌∙◌, append_assoc, arith, Bool}
+use Rattle.std.proofs.Common.{◌≡◌, ℕ, ◌<◌, ◌≤◌, List, [], ◌∷◌, ◌++◌, length, refl, sym, ap, subst, ◌∙◌, arith, Bool}
 use Rattle.std.specs.List.{AllByRecursion, AllZip}
 use Rattle.std.proofs.lemmas.List.{append-nil}
 use Rattle.std.proofs.lemmas.List.Elements.{All-from_recursion, recursion_from_All}
@@ -21,6 +21,7 @@ use Rattle.enforce_types.specs.PolicyLaws.{MeansSame, PolicyKeepsMeaning}
 use Rattle.enforce_types.specs.Typed.{StoredTyped, WorkTogether, typed_of}
 use Rattle.obligations.specs.Pending.{IsReady}
 use Rattle.choice_step.specs.Follows.{ActedStep, Follows, FollowsDrain, steps_of}
+use Rattle.choice_step.specs.JoinLaws.{behind, follows_join, justified_join}
 use Rattle.choice_step.specs.Justifying.{AllAreJustified}
 use Rattle.enforcer_core.specs.Answered.{ChangesLawfully, Permits}
 use Rattle.enforcer_core.specs.Course.{Course}
@@ -32,31 +33,11 @@ use Rattle.enforcer_core.specs.StepLaws.{DrainLaws}
 use Rattle.enforcer_core.specs.Stands.{KeepsStanding, SatisfiesBehind, Stands}
 use Rattle.enforcer_core.proofs.ChangeLemmas.{changes_join, none_changes, out_join}
 use Rattle.enforcer_core.proofs.DrainLemmas.{ready_is_good}
-use Rattle.enforcer_core.proofs.JustifyingLemmas.{justified_join}
-use Rattle.enforcer_core.proofs.PassLemmas.{behind}
 
 -- the trace of the steps that went out
 pub trace_is : (out : List ActedStep) → trace_of (out_steps out) ≡ steps_of out
 trace_is [] = refl
 trace_is (o ∷ out) = ap (λ (steps : List Step). o.step ∷ steps) (trace_is out)
-
-follows_join : (plans : List Plan) (trace : List Step) (records more : List Record) (out others : List ActedStep)
-    → Follows plans trace records out → Follows plans (trace ++ steps_of out) more others
-    → Follows plans trace (records ++ more) (out ++ others)
-follows_join plans trace [] more out others none then =
-    subst (λ (first : List ActedStep). Follows plans trace more (first ++ others)) (sym none)
-    (subst (λ (steps : List Step). Follows plans steps more others) (append-nil trace)
-    (subst (λ (first : List ActedStep). Follows plans (trace ++ steps_of first) more others) none then))
-follows_join plans trace (next ∷ records) more out others (inserted, answer, rest, inserts, answers, follows, are) then = (
-  inserted,
-  answer,
-  rest ++ others,
-  inserts,
-  answers,
-  follows_join plans (trace ++ steps_of (inserted ++ answer)) records more rest others follows
-      (subst (λ (steps : List Step). Follows plans steps more others) (ap (λ (steps : List ActedStep). trace ++ steps_of steps) are ∙ sym (behind trace (inserted ++ answer) rest)) then),
-  ap (λ (steps : List ActedStep). steps ++ others) are ∙ append_assoc (inserted ++ answer) rest others,
-)
 
 module _ (start : Enforcing) (trace : List Step) (records : List Record) (out : List ActedStep) (now : Enforcing)
     (c : Course start trace records out now) where

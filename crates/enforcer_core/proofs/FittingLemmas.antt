@@ -14,14 +14,14 @@ use Rattle.enf_value.specs.declared.terms.Term.{Term}
 use Rattle.enf_value.specs.declared.terms.Term.TheVariants.{Var, Const}
 use Rattle.enf_value.specs.declared.terms.VarId.{VarId}
 use Rattle.enf_value.specs.declared.values.Value.{Value}
-use Rattle.formula_reader.specs.Points.{columns}
-use Rattle.formula_reader.specs.Sorts.{constant_sort}
 use Rattle.formula_reader.specs.WellFormed.{ReadIsWellFormed}
 use Rattle.plan_terms.specs.Nodes.{nodes}
 use Rattle.plan_terms.specs.Plans.{Plan}
 use Rattle.plan_terms.specs.Plans as plan
 use Rattle.plan_terms.specs.Scopes.{AtEach, IsScopedNode}
 use Rattle.plan_terms.specs.WellFormed.{IsWellFormed}
+use Rattle.signature.specs.ColumnLaws.{has_it, of_it}
+use Rattle.signature.specs.Columns.{FillColumns, FitsSignature, columns, has_sort, value_sort}
 use Rattle.signature.specs.declared.entries.NameEntry.{NameEntry}
 use Rattle.signature.specs.declared.entries.Sort.{Sort}
 use Rattle.obligations.specs.Right.{AreRight, GuardsGiveRight}
@@ -29,10 +29,9 @@ use Rattle.choice_step.specs.Fitting.{AllFit, CausesFit, FollowedFits}
 use Rattle.enforce_types.specs.Marks.{FillsColumns}
 use Rattle.enforce_types.specs.PlanSorts.{KeepsSorts, PolicyKeepsSorts}
 use Rattle.enforce_types.specs.PolicyLaws.{PlansKeepToSignature}
-use Rattle.enforce_types.specs.Sorting.{FillColumns, FillSorts, FitsSignature, ReadIsSorted, term_sort}
+use Rattle.enforce_types.specs.Sorting.{FillSorts, ReadIsSorted, term_sort}
 use Rattle.enforcer_core.specs.Fitting.{FollowsFitsSignature}
-use Rattle.enforcer_core.specs.HaveSorts.{AllKeepSorts, KeepersGiveRight, has_sort, sorts_in}
-use Rattle.enforcer_core.proofs.RightSorts.{has_it, of_it, sorts_keep}
+use Rattle.enforcer_core.proofs.RightSorts.{AllKeepSorts, gives_right, sorts_in, sorts_keep}
 
 -- ---- whether an event fits, as a test
 
@@ -83,9 +82,9 @@ module _ (entries : List NameEntry) (sorts : VarId → Sort) where
 
   -- values of terms that have the sorts of columns have them too
   term_value : (scope : List VarId) (v : Valuation) → AreRight Right scope v → (t : Term) (column : Sort) → term_sort sorts t ≡ column → IsInScope scope t
-      → (value : Value) → value_of v t ≡ Some value → constant_sort value ≡ column
+      → (value : Value) → value_of v t ≡ Some value → value_sort value ≡ column
   term_value scope v right (Var x) column fill_it there value is = of_it column value (subst (λ (sort : Sort). IsTrue (has_sort sort value)) fill_it (right x value there is))
-  term_value scope v right (Const constant) column fill_it there value is = subst (λ (w : Value). constant_sort w ≡ column) (same_Some constant value is) fill_it
+  term_value scope v right (Const constant) column fill_it there value is = subst (λ (w : Value). value_sort w ≡ column) (same_Some constant value is) fill_it
 
   terms_fill : (scope : List VarId) (v : Valuation) → AreRight Right scope v → (terms : List Term) → AreInScope scope terms → (cols : List Sort) → FillSorts sorts terms cols
       → (args : List Value) → values_of v terms ≡ Some args → FillColumns args cols
@@ -140,8 +139,8 @@ nodes_of_rule entries (q ∷ plans) many zero p at =
 nodes_of_rule entries (q ∷ plans) many (suc rule) p at =
     nodes_of_rule entries plans (AllByRecursion-of_append (FillsColumns entries) (nodes q) (flat_map nodes plans) many).1 rule p at
 
-pub follows_fits : FollowedFits → KeepersGiveRight → ReadIsSorted → PolicyKeepsSorts → ReadIsWellFormed → PlansKeepToSignature → FollowsFitsSignature
-follows_fits followed gives read_sorted policy_keeps well_formed kept entries rules bytes plans guards trace records out answer planned formed trace_fits records_fit follows i event there =
+pub follows_fits : FollowedFits → ReadIsSorted → PolicyKeepsSorts → ReadIsWellFormed → PlansKeepToSignature → FollowsFitsSignature
+follows_fits followed read_sorted policy_keeps well_formed kept entries rules bytes plans guards trace records out answer planned formed trace_fits records_fit follows i event there =
     fits_signature entries event (followed guards plans trace records out (fits entries) right formed (record { causes = causes; give = give })
     (λ j e at. signature_fits entries e (trace_fits j e at)) (λ j e at. signature_fits entries e (records_fit j e at)) follows i event there)
   where
@@ -163,4 +162,4 @@ follows_fits followed gives read_sorted policy_keeps well_formed kept entries ru
 
     give : (steps : List Step) → AllFit (fits entries) steps → GuardsGiveRight plans steps right
     give steps all rule p at =
-        gives entries (sorts_in entries plans keep rule) p steps (λ j e there'. fits_signature entries e (all j e there')) (scoped rule p at) (sorts_keep entries plans keep rule p at)
+        gives_right entries (sorts_in entries plans keep rule) p steps (λ j e there'. fits_signature entries e (all j e there')) (scoped rule p at) (sorts_keep entries plans keep rule p at)

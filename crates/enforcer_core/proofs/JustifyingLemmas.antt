@@ -17,35 +17,14 @@ use Rattle.obligations.specs.Pending.{HasDeadline, IsReady, NoneIsOver, Pend}
 use Rattle.obligations.specs.Reached.{PendCame}
 use Rattle.obligations.specs.declared.instances.Instance.{Instance}
 use Rattle.choice_step.specs.Follows.{ActedStep, Follows, GoesOut, Inserts, IsPassed, StepGoesOut, is_inserted, steps_of}
+use Rattle.choice_step.specs.JoinLaws.{behind, justified_join}
 use Rattle.choice_step.specs.Justifying.{AllAreJustified, AreJustified, DecidedAreJustified, LeastDeadlineIsNeeded, StepIsJustified}
 use Rattle.choice_step.specs.Laws.{AreDistinct, DecidedIsDistinct}
 use Rattle.enforcer_core.specs.Justifying.{DrainIsJustified, FollowsIsJustified}
 use Rattle.enforcer_core.specs.StepLaws.{StepLaws}
-use Rattle.enforcer_core.proofs.PassLemmas.{behind}
 use Rattle.enforcer_core.proofs.StepLemmas.{ready_behind}
 
 -- ---- lists of what is justified
-
--- what comes behind a step that is justified may be another thing, for more steps to be answered
-weaker : (plans : List Plan) (trace : List Step) (kind : StepKind) (given more : List Step) (o : ActedStep) (P Q : List Step → Type 0)
-    → ((rest : List Step) → P rest → Q (rest ++ more)) → StepIsJustified plans trace kind given o P
-    → StepIsJustified plans trace kind (given ++ more) o Q
-weaker plans trace Inserted given more o P Q then (needed, actions, rest) = (needed, actions, then given rest)
-weaker plans trace System [] more o P Q then none = absurd none
-weaker plans trace System (step ∷ given) more o P Q then (actions, rest) = (actions, then given rest)
-
-pub justified_join : (plans : List Plan) (trace : List Step) (given more : List Step) (out others : List ActedStep)
-    → AllAreJustified plans trace given out → AllAreJustified plans (trace ++ steps_of out) more others
-    → AllAreJustified plans trace (given ++ more) (out ++ others)
-justified_join plans trace given more [] others none rest =
-    subst (λ (steps : List Step). AllAreJustified plans trace (steps ++ more) others) (sym none)
-    (subst (λ (steps : List Step). AllAreJustified plans steps more others) (append-nil trace) rest)
-justified_join plans trace given more (o ∷ out) others each rest =
-    weaker plans trace o.kind given more o (λ left. AllAreJustified plans (trace ++ o.step ∷ []) left out)
-    (λ left. AllAreJustified plans (trace ++ o.step ∷ []) left (out ++ others))
-    (λ left front. justified_join plans (trace ++ o.step ∷ []) left more out others front
-    (subst (λ (steps : List Step). AllAreJustified plans steps more others) (sym (append_assoc trace (o.step ∷ []) (steps_of out))) rest))
-    each
 
 recorded_behind : (next : Record) (records : List Record) → recorded (next ∷ []) ++ recorded records ≡ recorded (next ∷ records)
 recorded_behind (StepRecord step) records = refl

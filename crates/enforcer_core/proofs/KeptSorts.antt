@@ -5,7 +5,8 @@ use Rattle.std.specs.List.{AllByRecursion}
 use Rattle.std.proofs.lemmas.List.Elements.{All-contains}
 use Rattle.std.proofs.lemmas.Option.{none-some, same_Some}
 use Rattle.enf_value.specs.ListLaws.{AllByRecursion-contains, here, later, none_in_nil, there_from_get}
-use Rattle.enf_value.specs.Valuations.{Valuation, no_values, value_at}
+use Rattle.enf_value.specs.RisingLaws.{rising_distinct}
+use Rattle.enf_value.specs.Valuations.{Valuation, no_values, value_at, variable_cmp_total}
 use Rattle.enf_value.specs.declared.steps.Step.{Step}
 use Rattle.enf_value.specs.declared.terms.VarId.{VarId}
 use Rattle.enf_value.specs.declared.values.Value.{Value}
@@ -29,10 +30,9 @@ use Rattle.save_codec.specs.Sorts.{FitTold, FitsTold, GuardTells}
 use Rattle.enforce_types.specs.PlanSorts.{PlanKeepsSorts}
 use Rattle.enforce_types.specs.Sorting.{Fit, SafeValuesFit, TraceFits, ValueFits}
 use Rattle.enforce_types.specs.SortingLaws.{fit_under, fits_stable}
-use Rattle.enforcer_core.specs.HaveSorts.{AllKeepSorts}
 use Rattle.enforcer_core.specs.SavedBounds.{formulas_in}
-use Rattle.enforcer_core.proofs.RightSorts.{rising_distinct}
-use Rattle.enforcer_core.proofs.ToldSorts.{fit_operands, guard_fits, sort_same, told_plan}
+use Rattle.enforcer_core.proofs.RightSorts.{AllKeepSorts}
+use Rattle.enforcer_core.proofs.ToldSorts.{fit_operands, guard_fits, told_plan}
 
 -- ---- windows by their numbers
 
@@ -137,8 +137,8 @@ kept_has_sorts values_fit safe_listed can_be_kept kept_held entries plans guards
           let fit : Fit entries own.0 Nothing h.f = guard_fits entries own.0 guards guard h.f h.bound h.at tells.0 [] lies own.1 tells.2 in
           let operand : Fit entries own.0 Nothing (kept_operand operator) = fit_operands entries own.0 h.f Nothing fit operator h.has in
           let there : Contains h.columns x = there_from_get h.columns k x at_k in
-          let apart = rising_distinct h.columns h.free.rising in
+          let apart = rising_distinct variable_cmp_total h.columns h.free.rising in
           let value_at_x : value_at (valuation_of h.columns r.row) x ≡ Some value = value_at-with_inside h.columns r.row no_values x apart h.long there ∙ sym (cell_at h.columns r.row k x apart h.long at_k) ∙ value_k in
           let fits_x : ValueFits own.0 (valuation_of h.columns r.row) x = value_fits values_fit safe_listed entries own.0 trace h.columns (valuation_of h.columns r.row) (kept_operand operator) trace_fits h.alone h.free operand x there in
-          sort_same value ∙ fits_x value value_at_x ∙ told_plan entries own.0 x sort tells.0 [] own.1 tells.3),
+          fits_x value value_at_x ∙ told_plan entries own.0 x sort tells.0 [] own.1 tells.3),
     )

@@ -14,6 +14,7 @@ use Rattle.enforce_types.specs.Typed.{StoredTyped, WorkTogether, typed_of}
 use Rattle.obligations.specs.Pending.{NoneIsOver}
 use Rattle.obligations.specs.declared.now.TheConstants.{MOST_TIME}
 use Rattle.choice_step.specs.Follows.{ActedStep, GoesOut, steps_of}
+use Rattle.choice_step.specs.JoinLaws.{behind}
 use Rattle.enforcer_core.specs.Answered.{ChangesLawfully, GoesOn, RiseWithin, RisesBy}
 use Rattle.enforcer_core.specs.Enforcers.{Enforcing, acted_step, acted_steps, plans_in}
 use Rattle.enforcer_core.specs.Keeping.{enforcing_at, reach_in}
@@ -24,7 +25,7 @@ use Rattle.enforcer_core.specs.StepLaws.{StepLaws}
 use Rattle.enforcer_core.specs.declared.remembered.Remembered.{Remembered}
 use Rattle.enforcer_core.specs.declared.steps.OutStep as made
 use Rattle.enforcer_core.proofs.ChangeLemmas.{changes_join, none_changes, system_changes}
-use Rattle.enforcer_core.proofs.PassLemmas.{behind, passes_all, rise_join}
+use Rattle.enforcer_core.proofs.PassLemmas.{passes_all, rise_join}
 use Rattle.enforcer_core.proofs.StepLemmas.{none_earlier, stands_behind, stands_later}
 
 module _ (laws : StepLaws) (policy : StoredTyped) (r r' : Remembered) (from middle time : ℕ) (le : from ≤ time) (out : List ActedStep)

@@ -14,6 +14,7 @@ use Rattle.obligations.specs.Pending.{HasDeadline, NoneIsOver}
 use Rattle.obligations.specs.Waiting.{IsLeastOf}
 use Rattle.obligations.specs.declared.instances.Instance.{Instance}
 use Rattle.choice_step.specs.Follows.{ActedStep, GoesOut, Inserts, IsLeastDeadline, IsPassed, NoneIsPassed, steps_of}
+use Rattle.choice_step.specs.JoinLaws.{behind}
 use Rattle.enforcer_core.specs.Answered.{RiseWithin, RisesBy, clock_drained}
 use Rattle.enforcer_core.specs.Enforcers.{Enforcing, acted_step, acted_steps, plans_in}
 use Rattle.enforcer_core.specs.Keeping.{Serves, enforcing_at, reach_in}
@@ -27,14 +28,6 @@ use Rattle.enforcer_core.proofs.ChangeLemmas.{changes_join, inserted_changes, no
 use Rattle.enforcer_core.proofs.StepLemmas.{deadline_listed, least_is, stands_behind}
 
 -- ---- steps behind steps
-
-pub steps_join : (out more : List ActedStep) → steps_of (out ++ more) ≡ steps_of out ++ steps_of more
-steps_join out more = map-append (λ (o : ActedStep). o.step) out more
-
-pub behind : (trace : List Step) (out more : List ActedStep)
-    → (trace ++ steps_of out) ++ steps_of more ≡ trace ++ steps_of (out ++ more)
-behind trace out more =
-    append_assoc trace (steps_of out) (steps_of more) ∙ ap (λ (steps : List Step). trace ++ steps) (sym (steps_join out more))
 
 drained_join : (clock : ℕ) (out more : List ActedStep)
     → clock_drained clock (out ++ more) ≡ clock_drained (clock_drained clock out) more

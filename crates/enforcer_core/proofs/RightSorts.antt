@@ -1,72 +1,46 @@
 -- The guards of a plan that keeps to sorts give values of them.
-use Rattle.std.proofs.Common.{◌≡◌, ◌∙◌, ℕ, zero, suc, ◌-◌, ◌≤◌, ⊎_elim, Bool, true, false, nat_lt, IsTrue, List, [], ◌∷◌, ◌++◌, Some, length, take, Contains, refl, sym, ap, subst, arith}
+use Rattle.std.proofs.Common.{◌≡◌, ◌∙◌, ℕ, zero, suc, ◌-◌, ◌≤◌, ⊎_elim, Bool, true, false, nat_lt, List, [], ◌∷◌, ◌++◌, Some, length, take, Contains, refl, sym, subst, arith}
 use Rattle.std.specs.Prelude.{slice_get}
-use Rattle.std.specs.List.Sorted.{IsStrictlySortedBy}
-use Rattle.std.specs.Ordering.{ordering_reverse}
-use Rattle.std.specs.declared.cmp.Ordering.TheVariants.{Less, Greater}
+use Rattle.std.specs.List.{AllByRecursion}
 use Rattle.std.proofs.lemmas.List.{get_or-take, get_or_past, length-take-le}
-use Rattle.std.proofs.lemmas.List.Elements.{Contains-append_right}
-use Rattle.std.proofs.lemmas.Map.Keys.{sorted_head, sorted_tail}
 use Rattle.std.proofs.lemmas.Option.{none-some, same_Some}
 use Rattle.enf_value.specs.Data.{no_step}
-use Rattle.enf_value.specs.ListLaws.{AllByRecursion-contains, Contains-append, first_or_later, none_in_nil}
-use Rattle.enf_value.specs.Membership.{HasNoRepeats}
-use Rattle.enf_value.specs.Valuations.{variable_cmp, variable_cmp_total}
+use Rattle.enf_value.specs.ListLaws.{Contains-append, none_in_nil}
+use Rattle.enf_value.specs.RisingLaws.{rising_apart}
+use Rattle.enf_value.specs.Valuations.{variable_cmp_total}
 use Rattle.enf_value.specs.declared.steps.Step.{Step}
 use Rattle.enf_value.specs.declared.terms.VarId.{VarId}
 use Rattle.enf_value.specs.declared.values.Value.{Value}
-use Rattle.enf_value.specs.declared.values.Value.TheVariants.{Num, Text}
 use Rattle.valuations.specs.RowLaws.{value_at-with_outside}
 use Rattle.plan_terms.specs.Plans.{Plan}
 use Rattle.plan_terms.specs.Plans as plan
-use Rattle.plan_terms.specs.Scopes.{AtEach, IsScopedNode}
+use Rattle.plan_terms.specs.Scopes.{AtEach, IsScoped, IsScopedNode}
+use Rattle.signature.specs.ColumnLaws.{has_it, of_it}
+use Rattle.signature.specs.Columns.{FitsSignature, has_sort}
 use Rattle.signature.specs.declared.entries.NameEntry.{NameEntry}
 use Rattle.signature.specs.declared.entries.Sort.{Sort}
-use Rattle.signature.specs.declared.entries.Sort.TheVariants.{Int, Text as ColumnText}
-use Rattle.formula_reader.specs.Sorts.{constant_sort}
+use Rattle.signature.specs.declared.entries.Sort.TheVariants.{Int}
 use Rattle.enforce_types.specs.PlanSorts.{KeepsSorts, PlanKeepsSorts}
-use Rattle.enforce_types.specs.Sorting.{FitsSignature, TraceFits}
+use Rattle.enforce_types.specs.Sorting.{TraceFits}
 use Rattle.obligations.specs.Right.{GivesRight}
-use Rattle.enforcer_core.specs.HaveSorts.{AllKeepSorts, KeepersGiveRight, has_sort, sorts_in}
 
--- ---- the sorts of values and of rules
+-- ---- the sorts of rules
 
-pub has_it : (sort : Sort) (value : Value) → constant_sort value ≡ sort → IsTrue (has_sort sort value)
-has_it Int (Num number) e = refl
-has_it ColumnText (Text text) e = refl
-has_it Int (Text text) e = absurd (cc)
-has_it ColumnText (Num number) e = absurd (cc)
+-- each plan keeps to some sorts
+abbrev pub AllKeepSorts : List NameEntry → List Plan → Type 0
+AllKeepSorts entries plans = AllByRecursion (λ (plan : Plan). (sorts : VarId → Sort) × PlanKeepsSorts entries sorts plan) plans
 
-pub of_it : (sort : Sort) (value : Value) → IsTrue (has_sort sort value) → constant_sort value ≡ sort
-of_it Int (Num number) e = refl
-of_it ColumnText (Text text) e = refl
-of_it Int (Text text) e = absurd (cc)
-of_it ColumnText (Num number) e = absurd (cc)
+-- those of the variables of a rule
+abbrev pub sorts_in : (entries : List NameEntry) (plans : List Plan) → AllKeepSorts entries plans → (rule : ℕ) → VarId → Sort
+sorts_in entries [] keep rule = λ x. Int
+sorts_in entries (plan ∷ plans) keep zero = keep.0.0
+sorts_in entries (plan ∷ plans) keep (suc rule) = sorts_in entries plans keep.1 rule
 
 -- what is known of the sorts of a rule is known of its plan
 pub sorts_keep : (entries : List NameEntry) (plans : List Plan) (keep : AllKeepSorts entries plans) (rule : ℕ) (p : Plan) → slice_get plans rule ≡ Some p → PlanKeepsSorts entries (sorts_in entries plans keep rule) p
 sorts_keep entries [] keep rule p at = absurd (none-some p at)
 sorts_keep entries (q ∷ plans) keep zero p at = subst (PlanKeepsSorts entries keep.0.0) (same_Some q p at) keep.0.1
 sorts_keep entries (q ∷ plans) keep (suc rule) p at = sorts_keep entries plans keep.1 rule p at
-
--- ---- variables that rise
-
-not_itself : (x : VarId) → variable_cmp x x ≡ Less → ⊥
-not_itself x less =
-    let turned : variable_cmp x x ≡ ordering_reverse (variable_cmp x x) = variable_cmp_total.antisymm x x in
-    let other : ordering_reverse (variable_cmp x x) ≡ Greater = ap ordering_reverse less in absurd (cc)
-
-pub rising_distinct : (xs : List VarId) → IsStrictlySortedBy variable_cmp xs → HasNoRepeats xs
-rising_distinct [] rise = tt
-rising_distinct (x ∷ xs) rise = (
-  λ there. not_itself x (AllByRecursion-contains (λ y. variable_cmp x y ≡ Less) xs x (sorted_head variable_cmp x xs rise) there),
-  rising_distinct xs (sorted_tail variable_cmp x xs rise),
-)
-
-apart : (scope xs : List VarId) → HasNoRepeats (scope ++ xs) → (x : VarId) → Contains scope x → Contains xs x → ⊥
-apart [] xs distinct x there also = none_in_nil x there
-apart (y ∷ ys) xs distinct x there also =
-    ⊎_elim (λ same. distinct.0 (Contains-append_right ys xs y (subst (Contains xs) (sym same) also))) (λ behind. apart ys xs distinct.1 x behind also) (first_or_later x y ys there)
 
 front_fits : (entries : List NameEntry) (trace : List Step) (n : ℕ) → n ≤ length trace → TraceFits entries trace → TraceFits entries (take n trace)
 front_fits entries trace n le fit i event there = by (nat_lt i n) refl
@@ -90,7 +64,7 @@ module _ (entries : List NameEntry) (sorts : VarId → Sort) (trace : List Step)
   gives (plan.Guarded node xs guard test body) scope scoped keeps = (
     λ steps v row less long right holds x value there at.
         ⊎_elim
-        (λ old. right x value old (sym (value_at-with_outside xs row v x (λ also. apart scope xs (rising_distinct (scope ++ xs) scoped.0.0) x old also)) ∙ at))
+        (λ old. right x value old (sym (value_at-with_outside xs row v x (λ also. rising_apart variable_cmp_total scope xs scoped.0.0 x also old)) ∙ at))
         (λ new. has_it (sorts x) value (keeps.0.1 (take (suc steps) trace) (length (take (suc steps) trace) - 1) v row (front_fits entries trace (suc steps) (omega (arith, less)) trace_fits)
         (λ y y_there other y_at. of_it (sorts y) other (right y other y_there y_at)) holds x new value at))
         (Contains-append scope xs x there),
@@ -101,5 +75,7 @@ module _ (entries : List NameEntry) (sorts : VarId → Sort) (trace : List Step)
   gives (plan.Until node place low high l r) scope scoped keeps = (tt, gives l scope scoped.1 keeps.1, gives r scope scoped.2 keeps.2)
   gives (plan.Next node place high body) scope scoped keeps = (tt, gives body scope scoped.1 keeps.1)
 
-pub gives_right : KeepersGiveRight
+-- at each position of a trace that fits
+pub gives_right : (entries : List NameEntry) (sorts : VarId → Sort) (plan : Plan) (trace : List Step) → TraceFits entries trace → IsScoped plan [] → PlanKeepsSorts entries sorts plan
+    → AtEach (GivesRight trace (λ x value. has_sort (sorts x) value)) plan []
 gives_right entries sorts p trace trace_fits scoped keeps = gives entries sorts trace trace_fits p [] scoped keeps

@@ -15,6 +15,8 @@ use Rattle.enf_value.specs.declared.values.Value.{Value}
 use Rattle.enf_formula.specs.Formulas.{Formula}
 use Rattle.enf_formula.specs.Shape.{size_of}
 use Rattle.monitorable_guard.specs.Listed.{SafeWithNoneListed}
+use Rattle.signature.specs.ColumnLaws.{of_it}
+use Rattle.signature.specs.Columns.{has_sort}
 use Rattle.signature.specs.declared.entries.NameEntry.{NameEntry}
 use Rattle.formula_reader.specs.WellFormed.{ReadIsWellFormed}
 use Rattle.trace_meaning.specs.Records.{most_time}
@@ -47,12 +49,11 @@ use Rattle.save_codec.specs.Sorts.{FitsTold}
 use Rattle.save_codec.specs.Sound.{IsSound, IsSoundRow, SoundKeepsBounds}
 use Rattle.save_codec.specs.declared.snapshots.Snapshot.{Snapshot}
 use Rattle.enforcer_core.specs.Ending.{HighsAreNear}
-use Rattle.enforcer_core.specs.HaveSorts.{AllKeepSorts, has_sort, sorts_in}
 use Rattle.enforcer_core.specs.SavedBounds.{SavedKeepsBounds, bounds_of, formulas_in}
 use Rattle.enforcer_core.proofs.KeptSorts.{kept_has_sorts}
-use Rattle.enforcer_core.proofs.RightSorts.{gives_right, of_it, sorts_keep}
+use Rattle.enforcer_core.proofs.RightSorts.{AllKeepSorts, gives_right, sorts_in, sorts_keep}
 use Rattle.enforcer_core.proofs.SnapshotLemmas.{can_pend, kept_at, last_from}
-use Rattle.enforcer_core.proofs.ToldSorts.{sort_same, told_plan}
+use Rattle.enforcer_core.proofs.ToldSorts.{told_plan}
 
 -- ---- numbers
 
@@ -105,7 +106,7 @@ value_told is_right entries plans guards trace pending i formed keep trace_fits 
     let right = is_right plans guards trace pending (λ rule y other. has_sort (sorts rule y) other) formed
     (λ rule p p_at. gives_right entries (sorts rule) p trace trace_fits (AllByRecursion-contains (IsWellFormed guards) plans p formed.each (there_from_get plans rule p p_at)).scoped (sorts_keep entries plans keep rule p p_at))
     pend i there node scope named x value inside at in
-    sort_same value ∙ of_it (sorts i.rule x) value right ∙ told_plan entries (sorts i.rule) x sort told.0 [] (sorts_keep entries plans keep i.rule told.0 told.1) told.2
+    of_it (sorts i.rule x) value right ∙ told_plan entries (sorts i.rule) x sort told.0 [] (sorts_keep entries plans keep i.rule told.0 told.1) told.2
 
 -- ---- the state
 

@@ -34,7 +34,7 @@ use Rattle.enforcer_core.specs.declared.remembered.Remembered.{Remembered}
 pub deadline_listed : (plans : List Plan) (pending : PendingList) (i : Instance) (deadline : ℕ) → IsKeptFor plans pending
     → Contains pending.instances i → HasDeadline plans i deadline → Contains pending.deadlines deadline
 deadline_listed plans pending i deadline keeps there has =
-    deadline_is_listed plans (record { instances = pending.instances; deadlines = pending.deadlines }) i deadline keeps.due there has
+    deadline_is_listed plans pending.instances pending.deadlines keeps.due i deadline there has
 
 -- where no deadline of the list is earlier, none of the instances is
 pub none_earlier : (plans : List Plan) (pending : PendingList) (time : ℕ) → IsKeptFor plans pending
@@ -47,7 +47,7 @@ none_earlier plans pending time keeps later =
 pub least_is : (plans : List Plan) (pending : PendingList) (deadline : ℕ) → IsKeptFor plans pending
     → IsLeastOf pending.deadlines (Some deadline) → IsLeastDeadline plans pending.instances deadline
 least_is plans pending deadline keeps least =
-    let has : (i : Instance) × Contains pending.instances i × HasDeadline plans i deadline = listed_is_deadline plans (record { instances = pending.instances; deadlines = pending.deadlines }) deadline keeps.due least.0 in
+    let has : (i : Instance) × Contains pending.instances i × HasDeadline plans i deadline = listed_is_deadline plans pending.instances pending.deadlines keeps.due deadline least.0 in
     record { instance = has.0; there = has.1; is = has.2; least = none_earlier plans pending deadline keeps least.1 }
 
 -- no deadline is below the clock

@@ -1,5 +1,5 @@
 -- What plans tell of sorts, and the sorts of what is in guards.
-use Rattle.std.proofs.Common.{◌≡◌, ◌∙◌, ℕ, ⊎_elim, Bool, true, false, ◌||◌, nat_eq, IsTrue, List, [], ◌∷◌, ◌++◌, Option, None, Some, Contains, refl, sym, ap, subst, arith}
+use Rattle.std.proofs.Common.{◌≡◌, ◌∙◌, ℕ, ⊎_elim, Bool, true, false, ◌||◌, nat_eq, IsTrue, List, [], ◌∷◌, ◌++◌, Some, Contains, refl, sym, ap, subst, arith}
 use Rattle.std.specs.Prelude.{slice_get}
 use Rattle.std.specs.List.{list_any}
 use Rattle.std.proofs.lemmas.List.Folds.{list_any-append}
@@ -8,16 +8,13 @@ use Rattle.enf_value.specs.ListLaws.{Contains-append, first_or_later, none_in_ni
 use Rattle.enf_value.specs.declared.terms.Term.{Term}
 use Rattle.enf_value.specs.declared.terms.Term.TheVariants.{Var}
 use Rattle.enf_value.specs.declared.terms.VarId.{VarId}
-use Rattle.enf_value.specs.declared.values.Value.{Value}
-use Rattle.enf_value.specs.declared.values.Value.TheVariants.{Num, Text}
 use Rattle.enf_formula.specs.Formulas.{Formula, True, False, Atom, Equal, Less, AtMost, Not, And, Or, Implies}
 use Rattle.enf_formula.specs.Formulas.{Exists, Forall, Prev, Next, Once, Historically, Since, Eventually, Always, Until}
 use Rattle.monitorable_guard.specs.Safety.{Nothing, denial}
+use Rattle.signature.specs.Columns.{columns}
 use Rattle.signature.specs.declared.entries.NameEntry.{NameEntry}
 use Rattle.signature.specs.declared.entries.Sort.{Sort}
 use Rattle.signature.specs.declared.entries.Sort.TheVariants.{Int}
-use Rattle.formula_reader.specs.Points.{columns}
-use Rattle.formula_reader.specs.Sorts.{constant_sort}
 use Rattle.past_state.specs.Operators.{operators}
 use Rattle.past_state.specs.Saved.{kept_operand}
 use Rattle.plan_terms.specs.Guards.{IsListedNode}
@@ -25,16 +22,12 @@ use Rattle.plan_terms.specs.Nodes.{nodes}
 use Rattle.plan_terms.specs.Plans.{Plan}
 use Rattle.plan_terms.specs.Plans as plan
 use Rattle.plan_terms.specs.Scopes.{AtEach}
-use Rattle.save_codec.specs.Sorts.{FormulaTells, PlanTells, SidesTell, TermsTell, columns_of, is_of_guard, sort_of}
+use Rattle.save_codec.specs.Sorts.{FormulaTells, PlanTells, SidesTell, TermsTell, is_of_guard}
 use Rattle.enforce_types.specs.PlanSorts.{KeepsSorts}
 use Rattle.enforce_types.specs.Sorting.{AreOf, Besides, FillSorts, Fit, Found, term_sort}
 use Rattle.enforce_types.specs.SortingLaws.{fit_under, nothing_under}
 
 -- ---- what is told is the sort
-
-pub sort_same : (value : Value) → sort_of value ≡ constant_sort value
-sort_same (Num number) = refl
-sort_same (Text text) = refl
 
 module _ (entries : List NameEntry) (sorts : VarId → Sort) (x : VarId) (sort : Sort) where
   told_term : (t : Term) (column : Sort) → term_sort sorts t ≡ column → t ≡ Var x → column ≡ sort → sorts x ≡ sort
@@ -45,17 +38,13 @@ module _ (entries : List NameEntry) (sorts : VarId → Sort) (x : VarId) (sort :
   told_terms (t ∷ terms) [] fill never = absurd never
   told_terms (t ∷ terms) (column ∷ cols) fill tells = ⊎_elim (λ one. told_term t column fill.0 one.0 one.1) (λ more. told_terms terms cols fill.1 more) tells
 
-  told_columns : (found : Option NameEntry) (terms : List Term) → FillSorts sorts terms (columns found) → TermsTell terms (columns_of found) x sort → sorts x ≡ sort
-  told_columns None terms fill tells = told_terms terms [] fill tells
-  told_columns (Some entry) terms fill tells = told_terms terms entry.sorts fill tells
-
   told_sides : (s t : Term) → AreOf Int sorts s t → SidesTell s t x sort → sorts x ≡ sort
   told_sides s t are tells = ⊎_elim (λ one. told_term s Int are.0 one.0 one.1) (λ two. told_term t Int are.1 two.0 two.1) tells
 
   told_formula : (f : Formula) (N : VarId → Type 0) → Fit entries sorts N f → FormulaTells entries f x sort → sorts x ≡ sort
   told_formula (True place) N fit never = absurd never
   told_formula (False place) N fit never = absurd never
-  told_formula (Atom place name terms) N fit tells = told_columns (slice_get entries name.0) terms fit tells
+  told_formula (Atom place name terms) N fit tells = told_terms terms (columns (slice_get entries name.0)) fit tells
   told_formula (Equal place s t) N fit never = absurd never
   told_formula (Less place s t) N fit tells = told_sides s t fit tells
   told_formula (AtMost place s t) N fit tells = told_sides s t fit tells
@@ -75,8 +64,8 @@ module _ (entries : List NameEntry) (sorts : VarId → Sort) (x : VarId) (sort :
   told_formula (Until place interval g h) N fit tells = ⊎_elim (λ one. told_formula g N fit.0 one) (λ two. told_formula h (Besides N (Found N g)) fit.1 two) tells
 
   pub told_plan : (p : Plan) (scope : List VarId) → AtEach (KeepsSorts entries sorts) p scope → PlanTells entries p x sort → sorts x ≡ sort
-  told_plan (plan.Cause node place name terms) scope keeps tells = told_columns (slice_get entries name.0) terms keeps tells
-  told_plan (plan.Suppress node place name terms) scope keeps tells = told_columns (slice_get entries name.0) terms keeps tells
+  told_plan (plan.Cause node place name terms) scope keeps tells = told_terms terms (columns (slice_get entries name.0)) keeps tells
+  told_plan (plan.Suppress node place name terms) scope keeps tells = told_terms terms (columns (slice_get entries name.0)) keeps tells
   told_plan (plan.Both node l r) scope keeps tells = ⊎_elim (λ one. told_plan l scope keeps.1 one) (λ two. told_plan r scope keeps.2 two) tells
   told_plan (plan.Either node l r) scope keeps tells = ⊎_elim (λ one. told_plan l scope keeps.1 one) (λ two. told_plan r scope keeps.2 two) tells
   told_plan (plan.TestOr node guard test body) scope keeps tells = ⊎_elim (λ one. told_formula test Nothing keeps.0 one) (λ two. told_plan body scope keeps.1 two) tells

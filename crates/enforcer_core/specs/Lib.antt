@@ -12,7 +12,6 @@ pub mod Enforcers
 pub mod Existing
 pub mod Fitting
 pub mod Follows
-pub mod HaveSorts
 pub mod Justifying
 pub mod Keeping
 pub mod Laws

@@ -101,8 +101,8 @@ pub fn kept_can_be_taken_up()
     serving_ends();
 }
 
-/// And it keeps the bounds of states, where the events of the trace are of the signature: a state that is kept so is
-/// not refused under the same signature and policy.
+/// And it keeps the bounds by which a resumed state is judged under the signature and the policy, where the events of
+/// the trace are of the signature.
 pub fn saved_keeps_bounds()
     ensures { SavedKeepsBounds }
 {

@@ -10,12 +10,13 @@ use Rattle.policy_syntax.specs.declared.trees.SyntaxTerm.{SyntaxTerm}
 use Rattle.policy_syntax.specs.declared.trees.SyntaxTerm.TheVariants.{Variable, Constant}
 use Rattle.policy_syntax.specs.Trees.{Formula, True, False, Atom, Equal, Less, AtMost, Not, And, Or, Implies, Exists, Forall, Prev, Next, Once, Historically, Since, Eventually, Always, Until}
 use Rattle.policy_syntax.specs.Trees as syntax
+use Rattle.signature.specs.Columns.{columns}
 use Rattle.signature.specs.declared.entries.NameEntry.{NameEntry}
 use Rattle.signature.specs.declared.entries.Sort.{Sort}
 use Rattle.signature.specs.declared.entries.Sort.TheVariants.{Int, Text}
 use Rattle.formula_reader.specs.Places.{bare_tree, bare_refusal, bare_resolved}
 use Rattle.policy_syntax.specs.Places.{bare, bare_binding, bare_rule, bare_term}
-use Rattle.formula_reader.specs.Points.{Wanted, Nothing, This, SortOf, Point, EventName, Binder, Use, term_in, entry_named, columns, use_of, argument_points, binder_points, bound_names, names_of, numbered, points, variables_from, variable_named}
+use Rattle.formula_reader.specs.Points.{Wanted, Nothing, This, SortOf, Point, EventName, Binder, Use, term_in, entry_named, use_of, argument_points, binder_points, bound_names, names_of, numbered, points, variables_from, variable_named}
 use Rattle.formula_reader.specs.Resolution.{Rule, with_both, name_in, terms_in, formula_in, rule_in, rule_with}
 use Rattle.formula_reader.specs.Sorts.{sort_of, wanted_sort, given, known_after, name_refusal, binder_refusal, clash, refusal_at, first_refusal, rule_refusal}
 use Rattle.formula_reader.specs.declared.policies.PolicyRefusal.{PolicyRefusal}

@@ -9,10 +9,11 @@ use Rattle.policy_syntax.specs.declared.trees.Binding.{Binding}
 use Rattle.policy_syntax.specs.declared.trees.SyntaxTerm.{SyntaxTerm}
 use Rattle.policy_syntax.specs.declared.trees.SyntaxTerm.TheVariants.{Variable, Constant}
 use Rattle.policy_syntax.specs.Trees.{Formula, True, False, Atom, Equal, Less, AtMost, Not, And, Or, Implies, Exists, Forall, Prev, Next, Once, Historically, Since, Eventually, Always, Until}
+use Rattle.signature.specs.Columns.{columns}
 use Rattle.signature.specs.declared.entries.NameEntry.{NameEntry}
 use Rattle.signature.specs.declared.entries.Sort.{Sort}
 use Rattle.signature.specs.declared.entries.Sort.TheVariants.{Int}
-use Rattle.formula_reader.specs.Points.{Wanted, Nothing, This, SortOf, Point, EventName, Binder, Use, is_named, variable_named, term_in, entry_named, columns, use_of, argument_points, binder_points, bound_names, names_of, numbered, points, variables_from}
+use Rattle.formula_reader.specs.Points.{Wanted, Nothing, This, SortOf, Point, EventName, Binder, Use, is_named, variable_named, term_in, entry_named, use_of, argument_points, binder_points, bound_names, names_of, numbered, points, variables_from}
 use Rattle.formula_reader.proofs.Agreement.{InScope, WantedInScope, Fits}
 
 -- how many variables are bound at points

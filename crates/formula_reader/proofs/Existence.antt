@@ -1,17 +1,19 @@
 -- A policy without a refusal has its rules under the signature.
 use Rattle.std.proofs.Common.{◌≡◌, ℕ, List, [], ◌∷◌, ◌++◌, length, Option, None, Some, Result, Ok, Err, refl, ap, slice_get}
-use Rattle.std.specs.Option.{option_or, option_map, option_and_then}
+use Rattle.std.specs.Option.{option_map, option_and_then}
 use Rattle.enf_formula.specs.Formulas as tree
 use Rattle.enf_value.specs.declared.terms.Term.{Term}
 use Rattle.enf_value.specs.declared.terms.VarId.{VarId}
 use Rattle.policy_syntax.specs.declared.trees.SyntaxTerm.{SyntaxTerm}
 use Rattle.policy_syntax.specs.Trees.{Formula, True, False, Atom, Equal, Less, AtMost, Not, And, Or, Implies, Exists, Forall, Prev, Next, Once, Historically, Since, Eventually, Always, Until}
 use Rattle.policy_syntax.specs.Trees as syntax
+use Rattle.signature.specs.Columns.{columns}
 use Rattle.signature.specs.declared.entries.NameEntry.{NameEntry}
 use Rattle.signature.specs.declared.entries.Sort.{Sort}
 use Rattle.signature.specs.Grammar.{number_of}
 use Rattle.formula_reader.specs.Answers.{IsAnswer}
-use Rattle.formula_reader.specs.Points.{Point, EventName, Binder, Use, entry_named, columns, term_in, argument_points, binder_points, bound_names, names_of, points, variables_from}
+use Rattle.formula_reader.specs.Points.{Point, EventName, Binder, Use, entry_named, term_in, argument_points, binder_points, bound_names, names_of, points, variables_from}
+use Rattle.formula_reader.specs.MadeLaws.{or_none}
 use Rattle.formula_reader.specs.Resolution.{Rule, with_both, name_in, terms_in, formula_in, rule_in, rules_in, rule_with}
 use Rattle.formula_reader.specs.Sorts.{name_refusal, known_after, refusal_at, first_refusal, rule_refusal, policy_refusal}
 use Rattle.formula_reader.specs.declared.policies.PolicyRefusal.{PolicyRefusal}
@@ -28,10 +30,6 @@ pub name_known : (entries : List NameEntry) (place terms : ℕ) (number : Option
     → name_refusal place terms (option_and_then (slice_get entries) number) ≡ None → (n : ℕ) × (number ≡ Some n)
 name_known entries place terms None e = absurd (cc)
 name_known entries place terms (Some n) e = (n, refl)
-
-pub or_none : {A : Type 0} (a b : Option A) → option_or a b ≡ None → (a ≡ None) × (b ≡ None)
-or_none None b e = (refl, e)
-or_none (Some x) b e = absurd (cc)
 
 -- points without a refusal are known
 pub points_known : (entries : List NameEntry) (before points : List Point) → first_refusal entries before points ≡ None → AreKnown entries points

@@ -21,10 +21,11 @@ use Rattle.policy_syntax.specs.declared.lexemes.Sign as signs
 use Rattle.policy_syntax.specs.declared.lexemes.Sign.TheVariants as sign_marks
 use Rattle.policy_syntax.specs.declared.lexemes.Symbol.TheVariants as symbol
 use Rattle.policy_syntax.specs.declared.trees.Binding.{Binding}
+use Rattle.signature.specs.Columns.{columns}
 use Rattle.signature.specs.declared.entries.NameEntry.{NameEntry}
 use Rattle.signature.specs.declared.entries.Sort.{Sort}
 use Rattle.signature.specs.declared.entries.Sort.TheVariants.{Int}
-use Rattle.formula_reader.specs.Points.{Nothing, This, SortOf, Point, EventName, Binder, argument_points, binder_points, bound_names, columns, entry_named, names_of, numbered, place_of, points, term_in, use_of, variable_named, variables_from}
+use Rattle.formula_reader.specs.Points.{Nothing, This, SortOf, Point, EventName, Binder, argument_points, binder_points, bound_names, entry_named, names_of, numbered, place_of, points, term_in, use_of, variable_named, variables_from}
 use Rattle.formula_reader.specs.Standing.{place_at}
 
 -- the places rise from a place on

@@ -13,6 +13,7 @@ use Rattle.policy_syntax.specs.Writing.{AreLow, HasLevels, IsWritableRule, Texts
 use Rattle.policy_syntax.specs.declared.refusals.SyntaxRefusal.{SyntaxRefusal}
 use Rattle.signature.specs.declared.entries.NameEntry.{NameEntry}
 use Rattle.formula_reader.specs.Canonical.{rule_text}
+use Rattle.formula_reader.specs.MadeLaws.{both_from, or_none}
 use Rattle.formula_reader.specs.Pieces.{rule_pieces}
 use Rattle.formula_reader.specs.Places.{bare_refusal, bare_resolved}
 use Rattle.formula_reader.specs.Reading.{Follows}
@@ -24,10 +25,9 @@ use Rattle.formula_reader.specs.declared.policies.PolicyRefusal.{PolicyRefusal}
 use Rattle.formula_reader.proofs.Alike.{rule_alike, writable_plain}
 use Rattle.formula_reader.proofs.Apart.{rule-apart}
 use Rattle.formula_reader.proofs.Blind.{rule-blind, rule_refusal-blind}
-use Rattle.formula_reader.proofs.Existence.{or_none}
 use Rattle.formula_reader.proofs.Printed.{printed-rule}
 use Rattle.formula_reader.proofs.Respelled.{placed_kinds, rule_is_text, rule_kinds}
-use Rattle.formula_reader.proofs.WrittenBack.{both_from, rule_written as rule_is_written}
+use Rattle.formula_reader.proofs.WrittenBack.{rule_written as rule_is_written}
 
 -- the rule of the syntax tree that the rule came from
 pub record Source (entries : List NameEntry) (rule : Rule) : Type 0 where

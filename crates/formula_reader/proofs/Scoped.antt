@@ -1,12 +1,11 @@
 -- Variables that are numbered in the order of their binding are new where they are bound.
-use Rattle.std.proofs.Common.{◌≡◌, ℕ, ◌+◌, ◌<◌, ◌≤◌, zero, suc, Bool, true, false, cond, List, [], ◌∷◌, ◌++◌, length, Option, None, Some, Contains, refl, sym, ap, subst, ◌∙◌, arith, slice_get}
-use Rattle.std.proofs.lemmas.Map.Keys.{sorted_head, sorted_tail}
+use Rattle.std.proofs.Common.{◌≡◌, ℕ, ◌+◌, ◌<◌, ◌≤◌, zero, suc, Bool, true, false, cond, List, [], ◌∷◌, ◌++◌, length, Some, Contains, refl, sym, ap, subst, ◌∙◌, arith, slice_get}
 use Rattle.std.specs.Cmp.{nat_cmp_is}
 use Rattle.std.specs.List.{AllByRecursion}
 use Rattle.std.specs.List.Sorted.{IsStrictlySortedBy}
 use Rattle.std.specs.declared.cmp.Ordering.TheVariants as ordering
 use Rattle.enf_formula.specs.Binding.{numbered_from}
-use Rattle.enf_formula.specs.Scopes.{AreInScope, AreNew, IsInScope}
+use Rattle.enf_formula.specs.Scopes.{AreInScope, IsInScope}
 use Rattle.enf_value.specs.Valuations.{variable_cmp}
 use Rattle.enf_value.specs.declared.terms.Term.{Term}
 use Rattle.enf_value.specs.declared.terms.Term.TheVariants.{Var, Const}
@@ -16,7 +15,7 @@ use Rattle.policy_syntax.specs.declared.trees.SyntaxTerm.{SyntaxTerm}
 use Rattle.policy_syntax.specs.declared.trees.SyntaxTerm.TheVariants.{Variable, Constant}
 use Rattle.formula_reader.specs.Points.{is_named, numbered, term_in, variable_named, variables_from}
 use Rattle.formula_reader.specs.Resolution.{terms_in}
-use Rattle.formula_reader.proofs.WrittenBack.{both_from, one_from}
+use Rattle.formula_reader.specs.MadeLaws.{both_from, one_from}
 
 -- variables in scope rise, and stand below the next number
 pub record IsScope (next : ℕ) (scope : List VarId) : Type 0 where

@@ -1,5 +1,5 @@
 -- The rules of a text are well formed.
-use Rattle.std.proofs.Common.{◌≡◌, ◌==◌, ℕ, ◌+◌, ◌≤◌, suc, Bool, true, false, true≢false, cond, ◌||◌, ◌&&◌, not, IsTrue, List, [], ◌∷◌, ◌++◌, length, map, Option, None, Some, Ok, refl, sym, ap, subst, ◌∙◌, arith, codes, slice_get}
+use Rattle.std.proofs.Common.{◌≡◌, ◌==◌, ℕ, ◌+◌, ◌≤◌, suc, Bool, true, false, true≢false, cond, ◌||◌, ◌&&◌, not, List, [], ◌∷◌, ◌++◌, length, map, Option, None, Some, Ok, refl, sym, ap, subst, ◌∙◌, arith, slice_get}
 use Rattle.std.proofs.lemmas.Bool.Decides.{nat_tests}
 use Rattle.std.proofs.lemmas.List.{length-append, length-map}
 use Rattle.std.proofs.lemmas.Slice.Eq.{bytes_eq-Decides}
@@ -12,7 +12,7 @@ use Rattle.enf_formula.specs.ScopeLaws.{scoped_closed, scoped_fresh}
 use Rattle.enf_formula.specs.Scopes.{AreNew, IsInScope, IsScoped}
 use Rattle.enf_formula.specs.Shape.{size_of}
 use Rattle.enf_value.specs.Membership.{HasNoRepeats}
-use Rattle.enf_value.specs.Names.{is_name, is_reserved, is_word, reserved}
+use Rattle.enf_value.specs.Names.{is_reserved, reserved}
 use Rattle.enf_value.specs.declared.events.NameId.{NameId}
 use Rattle.enf_value.specs.declared.terms.Term.{Term}
 use Rattle.enf_value.specs.declared.terms.VarId.{VarId}
@@ -27,16 +27,16 @@ use Rattle.policy_syntax.specs.declared.trees.Binding.{Binding}
 use Rattle.policy_syntax.specs.declared.trees.SyntaxTerm.{SyntaxTerm}
 use Rattle.signature.specs.declared.entries.NameEntry.{NameEntry}
 use Rattle.signature.specs.Grammar.{number_of}
-use Rattle.formula_reader.specs.Points.{bound_names, binder_points, columns, entry_named, names_of, points, term_in, variables_from}
+use Rattle.formula_reader.specs.MadeLaws.{both_from, one_from, or_none}
+use Rattle.formula_reader.specs.Points.{bound_names, binder_points, entry_named, names_of, points, term_in, variables_from}
 use Rattle.formula_reader.specs.Reading.{IsTextAnswer}
 use Rattle.formula_reader.specs.Resolution.{Rule, formula_in, name_in, rule_in, rule_with, rules_in, terms_in, with_both}
 use Rattle.formula_reader.specs.Sorts.{name_refusal, policy_refusal, rule_refusal}
 use Rattle.formula_reader.specs.declared.policies.PolicyRefusal.TheVariants.{Arity}
 use Rattle.formula_reader.specs.WellFormed.{IsName, IsPolicyFormula, IsWellFormedPolicy, IsWellFormedRule, arity_of}
-use Rattle.formula_reader.proofs.Existence.{AreKnown, known_back, known_front, or_none, points_known}
+use Rattle.formula_reader.proofs.Existence.{AreKnown, known_back, known_front, points_known}
 use Rattle.formula_reader.proofs.RoundTrip.{policy_of, text_of}
 use Rattle.formula_reader.proofs.Scoped.{IsScope, bound_in_turn, count_numbered, no_scope, numbered_on, scope_later, scope_on, term_in_scope, terms_in_scope}
-use Rattle.formula_reader.proofs.WrittenBack.{both_from, number_names, one_from}
 
 -- ---- names
 

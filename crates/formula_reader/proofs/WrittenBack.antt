@@ -18,32 +18,11 @@ use Rattle.signature.specs.declared.entries.NameEntry.{NameEntry}
 use Rattle.signature.specs.Grammar.{number_of}
 use Rattle.signature.specs.NumberLaws.{name_at, position-cons}
 use Rattle.formula_reader.specs.Canonical.{name_text}
+use Rattle.formula_reader.specs.MadeLaws.{both_from, one_from}
 use Rattle.formula_reader.specs.Points.{is_named, variable_named, term_in, bound_names, names_of, variables_from}
 use Rattle.formula_reader.specs.Resolution.{Rule, with_both, name_in, terms_in, formula_in, rule_in, rule_with}
 use Rattle.formula_reader.specs.Written.{term_back, binding_back, formula_back, plain, rule_back, rule_plain}
 use Rattle.policy_syntax.specs.Places.{bare_binding, bare_term}
-
--- what made a value that is there
-pub record Both {A B C : Type 0} (make : A → B → C) (a : Option A) (b : Option B) (c : C) : Type 0 where
-  pub x : A
-  pub y : B
-  pub left : a ≡ Some x
-  pub right : b ≡ Some y
-  pub made : make x y ≡ c
-
-pub both_from : {A B C : Type 0} (make : A → B → C) (a : Option A) (b : Option B) (c : C) → with_both make a b ≡ Some c → Both make a b c
-both_from make None b c e = absurd (cc)
-both_from make (Some x) None c e = absurd (cc)
-both_from make (Some x) (Some y) c e = record { x = x; y = y; left = refl; right = refl; made = cc }
-
-pub record One {A C : Type 0} (make : A → C) (a : Option A) (c : C) : Type 0 where
-  pub x : A
-  pub from : a ≡ Some x
-  pub made : make x ≡ c
-
-pub one_from : {A C : Type 0} (make : A → C) (a : Option A) (c : C) → option_map make a ≡ Some c → One make a c
-one_from make None c e = absurd (cc)
-one_from make (Some x) c e = record { x = x; from = refl; made = cc }
 
 front_get : (names rest : List (List ℕ)) (i : ℕ) (name : List ℕ) → slice_get names i ≡ Some name → slice_get (names ++ rest) i ≡ Some name
 front_get [] rest i name e = absurd (cc)

@@ -1,6 +1,7 @@
 pub mod Points
 pub mod Sorts
 pub mod Resolution
+pub mod MadeLaws
 pub mod Answers
 pub mod Passing
 pub mod Canonical

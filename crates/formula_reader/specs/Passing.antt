@@ -9,6 +9,7 @@ use Rattle.enf_formula.specs.Formulas as tree
 use Rattle.policy_syntax.specs.declared.trees.Binding.{Binding}
 use Rattle.policy_syntax.specs.declared.trees.SyntaxTerm.{SyntaxTerm}
 use Rattle.policy_syntax.specs.Trees.{Formula}
+use Rattle.signature.specs.Columns.{columns}
 use Rattle.signature.specs.declared.entries.NameEntry.{NameEntry}
 use Rattle.signature.specs.declared.entries.Sort.{Sort}
 use Rattle.signature.specs.declared.entries.Sort.TheVariants.{Int}
@@ -17,7 +18,7 @@ use Rattle.formula_reader.specs.declared.policies.PolicyRefusal.TheVariants.{NoM
 use Rattle.formula_reader.specs.declared.variables.Variables.{Variables}
 use Rattle.formula_reader.specs.Points.{Wanted, Nothing, This, SortOf, Point, EventName, Binder, Use, points}
 use Rattle.formula_reader.specs.Points.{binder_points, bound_names, variable_named, names_of, variables_from, use_of}
-use Rattle.formula_reader.specs.Points.{term_in, argument_points, columns, entry_named}
+use Rattle.formula_reader.specs.Points.{term_in, argument_points, entry_named}
 use Rattle.formula_reader.specs.Resolution.{with_both, formula_in, terms_in}
 use Rattle.formula_reader.specs.Sorts.{sort_of, refusal_at}
 

@@ -13,6 +13,7 @@ use Rattle.policy_syntax.specs.declared.trees.SyntaxTerm.{SyntaxTerm}
 use Rattle.policy_syntax.specs.declared.trees.SyntaxTerm.TheVariants.{Variable, Constant}
 use Rattle.policy_syntax.specs.Trees.{Formula, True, False, Atom, Equal, Less, AtMost, Not, And, Or, Implies, Exists}
 use Rattle.policy_syntax.specs.Trees.{Forall, Prev, Next, Once, Historically, Since, Eventually, Always, Until}
+use Rattle.signature.specs.Columns.{columns}
 use Rattle.signature.specs.declared.entries.NameEntry.{NameEntry}
 use Rattle.signature.specs.declared.entries.Sort.{Sort}
 use Rattle.signature.specs.declared.entries.Sort.TheVariants.{Int}
@@ -55,11 +56,6 @@ place_of (Constant place value) = place
 -- the entry of a name
 abbrev pub entry_named : List NameEntry → List ℕ → Option NameEntry
 entry_named entries name = option_and_then (slice_get entries) (number_of entries name)
-
--- the sorts of an entry's columns
-abbrev pub columns : Option NameEntry → List Sort
-columns None = []
-columns (Some entry) = entry.sorts
 
 -- a term of which something is wanted
 abbrev pub use_of : (names : List (List ℕ)) → (scope : List VarId) → SyntaxTerm → Wanted → Point

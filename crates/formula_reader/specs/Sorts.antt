@@ -4,9 +4,8 @@ use Rattle.std.specs.Option.{option_or}
 use Rattle.enf_value.specs.declared.terms.Term.{Term}
 use Rattle.enf_value.specs.declared.terms.Term.TheVariants.{Var, Const}
 use Rattle.enf_value.specs.declared.terms.VarId.{VarId}
-use Rattle.enf_value.specs.declared.values.Value.{Value}
-use Rattle.enf_value.specs.declared.values.Value.TheVariants.{Num, Text as TextConstant}
 use Rattle.policy_syntax.specs.Trees.{Rule}
+use Rattle.signature.specs.Columns.{value_sort}
 use Rattle.signature.specs.declared.entries.NameEntry.{NameEntry}
 use Rattle.signature.specs.declared.entries.Sort.{Sort}
 use Rattle.signature.specs.declared.entries.Sort.TheVariants.{Int, Text}
@@ -16,16 +15,11 @@ use Rattle.formula_reader.specs.declared.policies.PolicyRefusal.TheVariants.{Fre
 use Rattle.formula_reader.specs.Points.{Wanted, Nothing, This, SortOf, Point, EventName, Binder, Use, entry_named}
 use Rattle.formula_reader.specs.Points.{points}
 
--- the sort of a constant
-abbrev pub constant_sort : Value → Sort
-constant_sort (Num number) = Int
-constant_sort (TextConstant bytes) = Text
-
 -- the sort of a term, where those of variables are known or not
 abbrev pub sort_of : (VarId → Option Sort) → Option Term → Option Sort
 sort_of known None = None
 sort_of known (Some (Var x)) = known x
-sort_of known (Some (Const value)) = Some (constant_sort value)
+sort_of known (Some (Const value)) = Some (value_sort value)
 
 -- the sort that is wanted, where it is known
 abbrev pub wanted_sort : (VarId → Option Sort) → Wanted → Option Sort

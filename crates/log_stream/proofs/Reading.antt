@@ -3,6 +3,7 @@ use Rattle.std.proofs.Common.{◌≡◌, ℕ, ◌==◌, Bool, true, false, List,
 use Rattle.std.specs.Option.{option_or}
 use Rattle.std.proofs.lemmas.Bool.{eqb-true}
 use Rattle.enf_value.specs.declared.values.Value.{Value}
+use Rattle.signature.specs.Columns.{has_sort}
 use Rattle.signature.specs.declared.entries.Sort.{Sort}
 use Rattle.trace_meaning.specs.declared.kinds.StepKind.{StepKind}
 use Rattle.trace_meaning.specs.declared.kinds.StepKind.TheVariants.{System}
@@ -10,7 +11,7 @@ use Rattle.log_stream.specs.declared.items.LogMode.{LogMode}
 use Rattle.log_stream.specs.declared.items.LogMode.TheVariants.{Input, TraceLog}
 use Rattle.log_stream.specs.declared.items.LogRefusal.{LogRefusal}
 use Rattle.log_stream.specs.declared.items.LogRefusal.TheVariants.{BadRecord, UnknownName, Arity, SortClash, TooLong, TimeTooLarge, Truncated, NoMemory}
-use Rattle.log_stream.specs.Judgement.{clash, has_sort}
+use Rattle.log_stream.specs.Judgement.{clash}
 use Rattle.log_stream.specs.States.{State, Start, Marked, Ticking, Ticked, Events, Named, Opened, Valued, Comma, Done, IsBadFrom, IsStuckAt, Fails, argument_at, clash_at, event_at, inserted, next, run}
 use Rattle.log_stream.specs.Tokens.{Token, Mark, Time, Name, Argument, StandsAt, Leads}
 use Rattle.log_stream.specs.Written.{WrittenArgument, WrittenEvent, Written, Line, TickLine, IsBad}

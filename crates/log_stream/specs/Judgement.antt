@@ -1,16 +1,15 @@
 -- What a record says under a signature, or why it is refused.
-use Rattle.std.specs.Prelude.{◌≡◌, ℕ, ◌==◌, nat_lt, Bool, true, false, List, [], ◌∷◌, ◌++◌}
+use Rattle.std.specs.Prelude.{◌≡◌, ℕ, ◌==◌, nat_lt, List, [], ◌∷◌, ◌++◌}
 use Rattle.std.specs.Prelude.{length, map, Option, None}
 use Rattle.std.specs.Prelude.{Some, Result, Ok, Err, unwrap_or, slice_get, if◌then◌else◌}
 use Rattle.std.specs.Option.{option_map, option_and_then, option_or}
 use Rattle.enf_value.specs.Decided.{has_event}
 use Rattle.enf_value.specs.declared.events.Event.{Event}
 use Rattle.enf_value.specs.declared.values.Value.{Value}
-use Rattle.enf_value.specs.declared.values.Value.TheVariants as values
+use Rattle.signature.specs.Columns.{has_sort}
 use Rattle.signature.specs.Grammar.{number_of}
 use Rattle.signature.specs.declared.entries.NameEntry.{NameEntry}
 use Rattle.signature.specs.declared.entries.Sort.{Sort}
-use Rattle.signature.specs.declared.entries.Sort.TheVariants as sorts
 use Rattle.trace_meaning.specs.declared.kinds.StepKind.{StepKind}
 use Rattle.trace_meaning.specs.Records.{most_time}
 use Rattle.trace_meaning.specs.declared.kinds.StepKind.TheVariants.{System}
@@ -21,12 +20,6 @@ use Rattle.log_stream.specs.declared.items.LogRefusal.{LogRefusal}
 use Rattle.log_stream.specs.declared.items.LogRefusal.TheVariants.{BadRecord, UnknownName, Arity, SortClash}
 use Rattle.log_stream.specs.declared.items.LogRefusal.TheVariants.{TimeTooLarge}
 use Rattle.log_stream.specs.Written.{WrittenArgument, WrittenEvent, Written, Line, TickLine, IsBad, IsSpelled}
-
-abbrev pub has_sort : Sort → Value → Bool
-has_sort sorts.Int (values.Num number) = true
-has_sort sorts.Int (values.Text text) = false
-has_sort sorts.Text (values.Num number) = false
-has_sort sorts.Text (values.Text text) = true
 
 -- where the first argument of another sort than its column's begins
 abbrev pub clash : List Sort → List WrittenArgument → Option ℕ

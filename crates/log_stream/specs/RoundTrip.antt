@@ -5,13 +5,13 @@ use Rattle.enf_value.specs.Membership.{HasNoRepeats}
 use Rattle.enf_value.specs.ValueTokens.{IsValue}
 use Rattle.enf_value.specs.declared.events.Event.{Event}
 use Rattle.enf_value.specs.declared.values.Value.{Value}
+use Rattle.signature.specs.Columns.{has_sort}
 use Rattle.signature.specs.Grammar.{IsSignature, names}
 use Rattle.signature.specs.declared.entries.NameEntry.{NameEntry}
 use Rattle.signature.specs.declared.entries.Sort.{Sort}
 use Rattle.trace_meaning.specs.declared.kinds.StepKind.{StepKind}
 use Rattle.log_stream.specs.declared.items.LogItem.TheVariants.{Step}
 use Rattle.log_stream.specs.declared.items.LogMode.{LogMode}
-use Rattle.log_stream.specs.Judgement.{has_sort}
 use Rattle.trace_meaning.specs.Records.{most_time}
 use Rattle.log_stream.specs.Lines.{spelled_step, step_line}
 use Rattle.log_stream.specs.Logs.{BeginsWith}

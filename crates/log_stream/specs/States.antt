@@ -7,6 +7,7 @@ use Rattle.std.specs.List.{flat_map}
 use Rattle.std.specs.Option.{option_and_then}
 use Rattle.enf_value.specs.declared.events.Event.{Event}
 use Rattle.enf_value.specs.declared.values.Value.{Value}
+use Rattle.signature.specs.Columns.{has_sort}
 use Rattle.signature.specs.declared.entries.NameEntry.{NameEntry}
 use Rattle.signature.specs.declared.entries.Sort.{Sort}
 use Rattle.trace_meaning.specs.declared.kinds.StepKind.{StepKind}
@@ -16,7 +17,7 @@ use Rattle.log_stream.specs.declared.items.LogMode.{LogMode}
 use Rattle.log_stream.specs.declared.items.LogMode.TheVariants.{Input, TraceLog}
 use Rattle.log_stream.specs.declared.items.LogRefusal.{LogRefusal}
 use Rattle.log_stream.specs.declared.items.LogRefusal.TheVariants.{BadRecord, UnknownName, Arity, SortClash, NoMemory}
-use Rattle.log_stream.specs.Judgement.{IsAnswer, clash, event_of, event_refusal, first_refusal, has_sort, values_of}
+use Rattle.log_stream.specs.Judgement.{IsAnswer, clash, event_of, event_refusal, first_refusal, values_of}
 use Rattle.log_stream.specs.Logs.{length_to_end}
 use Rattle.log_stream.specs.Tokens.{Token, Mark, Time, Name, Argument, StandsAt, Leads}
 use Rattle.log_stream.specs.Written.{WrittenArgument, WrittenEvent, Written, Line, TickLine, row_tokens, event_tokens}

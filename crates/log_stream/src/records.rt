@@ -3,11 +3,12 @@ ghost use Rattle.std.specs.Prelude.{◌≡◌, ◌↔◌, ◌<◌, ◌≤◌, �
 ghost use Rattle.std.specs.Prelude.{IfOk, IfSome, IsTrue, None};
 ghost use Rattle.std.specs.Prelude.{OnOk, Result, Some, length, slice_get};
 ghost use Rattle.std.specs.Option.{option_map, option_or};
+ghost use Rattle.signature.specs.Columns.{has_sort};
 ghost use Rattle.signature.specs.Grammar.{number_of};
 ghost use Rattle.signature.specs.declared.entries.NameEntry.{NameEntry as AnyEntry};
 ghost use Rattle.trace_meaning.specs.declared.kinds.StepKind.{StepKind as AnyKind};
 ghost use Rattle.log_stream.specs.declared.items.LogMode.{LogMode as AnyMode};
-ghost use Rattle.log_stream.specs.Judgement.{entry_with, has_sort};
+ghost use Rattle.log_stream.specs.Judgement.{entry_with};
 ghost use Rattle.trace_meaning.specs.Records.{most_time};
 ghost use Rattle.enf_value.specs.declared.events.Event.{Event as AnyEvent};
 ghost use Rattle.log_stream.specs.declared.items.LogRefusal.{LogRefusal as AnyRefusal};

@@ -1,14 +1,10 @@
 -- What the functions of the evaluation hand on to each other.
-use Rattle.std.proofs.Common.{◌≡◌, ℕ, suc, ◌+◌, ◌-◌, ◌^◌, ◌<◌, ◌≤◌, Bool, true, false, not, ◌==◌, Fits, w64, ◌⊎◌, inl, inr, ⊎_elim, List, [], ◌∷◌, ◌++◌, length, get_or, take, drop, Result, Ok, Err, IfOk, IsSome, IsTrue, Contains, ◌↔◌, refl, sym, ap, subst, ◌∙◌, arith, length-append, length-drop}
-use Rattle.std.specs.Cmp.{tied_itself}
-use Rattle.std.specs.List.Sorted.{IsStrictlySortedBy}
-use Rattle.std.specs.declared.cmp.Ordering.TheVariants.{Less, Equal}
+use Rattle.std.proofs.Common.{◌≡◌, ℕ, ◌+◌, ◌-◌, ◌^◌, ◌<◌, ◌≤◌, Bool, true, false, not, ◌==◌, Fits, w64, ◌⊎◌, inl, inr, ⊎_elim, List, [], ◌∷◌, ◌++◌, length, get_or, take, drop, Result, Ok, Err, IfOk, IsSome, IsTrue, Contains, ◌↔◌, refl, sym, ap, subst, ◌∙◌, arith, length-append, length-drop}
+use Rattle.std.specs.declared.cmp.Ordering.TheVariants.{Equal}
 use Rattle.std.proofs.lemmas.Bool.{false≢true, eqb-true}
 use Rattle.std.proofs.lemmas.List.{drop-drop, take_more}
 use Rattle.std.proofs.lemmas.List.Elements.{Contains-append_left, Contains-append_right, Contains-push_cases}
-use Rattle.std.proofs.lemmas.Map.Keys.{Less-from_sorted}
-use Rattle.enf_value.specs.Membership.{HasNoRepeats}
-use Rattle.enf_value.specs.Valuations.{Valuation, no_values, value_at, value_of, variable_cmp, variable_cmp_total}
+use Rattle.enf_value.specs.Valuations.{Valuation, no_values, value_at, value_of}
 use Rattle.enf_value.specs.declared.events.Event.{Event}
 use Rattle.enf_value.specs.declared.terms.Term.{Term}
 use Rattle.enf_value.specs.declared.terms.Term.TheVariants.{Var, Const}
@@ -20,7 +16,7 @@ use Rattle.valuations.specs.Columns.{here, none_in_nil}
 use Rattle.valuations.specs.RowLaws.{fits}
 use Rattle.valuations.specs.ScopeLaws.{some_or_none}
 use Rattle.valuations.specs.Scopes.{filled}
-use Rattle.valuations.specs.Tables.{Relation, IsTable, Has}
+use Rattle.valuations.specs.Tables.{Relation, IsTable}
 use Rattle.valuations.specs.Tables as tabled
 use Rattle.monitorable_guard.specs.Answers.{AddsRows, AmongRows, IsSolution, AreInScope, AreOpenUnder, CanAsk, Fit, HasAnswers, IsAnswer, IsBoundBy}
 use Rattle.monitorable_guard.specs.Evaluation.{FitOperators}
@@ -30,20 +26,6 @@ use Rattle.monitorable_guard.proofs.AskLemmas.{ask_nested}
 use Rattle.monitorable_guard.proofs.EvaluationLemmas.{bound_from, closed_to, closed_from, filled_binds, filled_binds_only, nested_same, not_bound}
 use Rattle.monitorable_guard.proofs.RowsLemmas.{adds_as}
 use Rattle.monitorable_guard.proofs.ScopeLemmas.{all_from}
-
--- ---- columns in rising order are distinct
-
-pub rising_distinct : (xs : List VarId) → IsStrictlySortedBy variable_cmp xs → HasNoRepeats xs
-unfolding IsStrictlySortedBy
-rising_distinct [] rising = tt
-rising_distinct (x ∷ xs) rising = (
-  λ there.
-      let less : variable_cmp x (get_or xs there.0 x) ≡ Less = Less-from_sorted variable_cmp (x ∷ xs) 0 (suc there.0) x rising (omega arith) (omega (arith, there.1)) in
-      let same : variable_cmp x x ≡ Less = sym (ap (variable_cmp x) there.2) ∙ less in
-      let tied : variable_cmp x x ≡ Equal = tied_itself variable_cmp_total x in
-      absurd (cc),
-  rising_distinct xs rising.1,
-)
 
 -- ---- rows made into a table
 

@@ -8,7 +8,7 @@ use Rattle.enf_value.specs.declared.terms.VarId.{VarId}
 use Rattle.enf_formula.specs.Formulas.{tree_of}
 use Rattle.enf_formula.specs.declared.formulas.Formula as stored
 use Rattle.monitorable_guard.specs.Safety.{Safe, SafeBelow, FreeWithin}
-use Rattle.monitorable_guard.proofs.SafetyLemmas.{below_within, historically_within}
+use Rattle.monitorable_guard.specs.SafetyLaws.{below_within, historically_within}
 
 -- what is safe and none of these has no open variable
 pub closed_kind : (f : stored.Formula)

@@ -11,6 +11,7 @@ use Rattle.enf_value.specs.declared.values.Value.{Value}
 use Rattle.enf_formula.specs.Formulas.{Formula, True, False, Atom, Equal, Less, AtMost, Not, And, Or, Implies}
 use Rattle.enf_formula.specs.Formulas.{Exists, Forall, Prev, Next, Once, Historically, Since, Eventually, Always, Until}
 use Rattle.enf_formula.specs.FreeVariables.{IsFree}
+use Rattle.enf_formula.specs.SameLaws.{turned}
 use Rattle.enf_formula.specs.Satisfaction.{Classically}
 use Rattle.valuations.specs.Columns.{here, later, first_or_later, none_in_nil, among_or_not}
 use Rattle.valuations.specs.RowLaws.{value_at-with_outside, cell_here, cell_later, fits, contains_valuation, agrees_itself}
@@ -27,8 +28,8 @@ use Rattle.monitorable_guard.specs.Sources.{IsArgument, IsConstant, IsBoundValue
 use Rattle.monitorable_guard.proofs.AgreementLemmas.{fit_front, fit_back}
 use Rattle.monitorable_guard.proofs.Decided.{Decided, contains_decided, decided_as, decided_either, stable_from}
 use Rattle.monitorable_guard.proofs.EvaluationLemmas.{not_bound}
-use Rattle.monitorable_guard.proofs.KnownValues.{From, from_stable, among_arguments, assigned, turned}
-use Rattle.monitorable_guard.proofs.SafetyLemmas.{below_within, historically_within}
+use Rattle.monitorable_guard.proofs.KnownValues.{From, from_stable, among_arguments, assigned}
+use Rattle.monitorable_guard.specs.SafetyLaws.{below_within, historically_within}
 
 -- a table behind others is one of all
 tabled_behind : (n : ℕ) (tables : List Relation) (value : Value) → IsTabled (drop n tables) value → IsTabled tables value
@@ -63,7 +64,7 @@ module _ (S : Value → Type 0) (stable : (value : Value) → Classically (S val
         (λ within. bound x (within x free))
         (λ opens. ⊎_elim
         (λ first. assigned S stable B v s t (λ value is. constant value (inr is)) bound first holds x free)
-        (λ second. assigned S stable B v t s (λ value is. constant value (inl is)) bound second (turned S stable (value_of v s) (value_of v t) holds) x (⊎_elim inr inl free))
+        (λ second. assigned S stable B v t s (λ value is. constant value (inl is)) bound second (turned (value_of v s) (value_of v t) holds) x (⊎_elim inr inl free))
         opens)
         safe
     known_now tables v (Less place s t) B scope safe fresh fit in_scope free_scope tabled constant bound holds x free = bound x (safe x free)

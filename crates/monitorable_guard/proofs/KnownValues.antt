@@ -13,11 +13,12 @@ use Rattle.enf_value.specs.declared.values.Value.{Value}
 use Rattle.enf_formula.specs.Formulas.{Formula, True, False, Atom, Equal, Less, AtMost, Not, And, Or, Implies}
 use Rattle.enf_formula.specs.Formulas.{Exists, Forall, Prev, Next, Once, Historically, Since, Eventually, Always, Until}
 use Rattle.enf_formula.specs.FreeVariables.{IsFree}
+use Rattle.enf_formula.specs.SameLaws.{same_other, turned}
 use Rattle.enf_formula.specs.Satisfaction.{Sat, IsAmong, AreSame, Classically}
 use Rattle.valuations.specs.Columns.{later, first_or_later, none_in_nil, among_or_not}
 use Rattle.valuations.specs.RowLaws.{value_at-with_outside}
 use Rattle.monitorable_guard.specs.Safety.{Safe, BindsFresh, With, Nothing, Assigns}
-use Rattle.monitorable_guard.proofs.SafetyLemmas.{below_within, historically_within}
+use Rattle.monitorable_guard.specs.SafetyLaws.{below_within, historically_within}
 use Rattle.monitorable_guard.specs.Sources.{IsArgument, IsArgumentUpTo, IsConstant}
 
 -- where a condition that holds wherever its denial is false is shown from one of two cases
@@ -46,16 +47,6 @@ module _ (S : Value → Type 0) (stable : (value : Value) → Classically (S val
   pub among_arguments : (v : Valuation) (terms : List Term) (events : List Event) (name : NameId) (got : Option (List Value)) (x : VarId) (value : Value) → values_of v terms ≡ got → IsAmong events name got → Contains terms (Var x) → value_at v x ≡ Some value → IsArgument events value
   among_arguments v terms events name None x value e holds there at = absurd holds
   among_arguments v terms events name (Some args) x value e holds there at = (record { name = name; args = args }, holds, argument_there v terms args x value e there at)
-
-  same_other : (a b : Option Value) (value : Value) → AreSame a b → a ≡ Some value → b ≡ Some value
-  same_other None b value same is = absurd same
-  same_other (Some a) None value same is = absurd same
-  same_other (Some a) (Some b) value same is = ap Some (sym same) ∙ is
-
-  pub turned : (a b : Option Value) → AreSame a b → AreSame b a
-  turned None b same = absurd same
-  turned (Some a) None same = absurd same
-  turned (Some a) (Some b) same = sym same
 
   variable_is : (x y : VarId) → Var x ≡ Var y → x ≡ y
   variable_is x y e = cc

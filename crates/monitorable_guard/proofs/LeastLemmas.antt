@@ -7,6 +7,7 @@ use Rattle.enf_value.specs.declared.terms.Term.{Term}
 use Rattle.enf_value.specs.declared.terms.Term.TheVariants.{Var}
 use Rattle.enf_value.specs.declared.terms.VarId.{VarId}
 use Rattle.enf_value.specs.declared.values.Value.{Value}
+use Rattle.enf_formula.specs.SameLaws.{same_other, turned}
 use Rattle.enf_formula.specs.Satisfaction.{AreSame, Classically}
 use Rattle.valuations.specs.Tables.{AgreeOn}
 use Rattle.monitorable_guard.specs.Answers.{IsBoundBy, IsEquated, IsMatchOf, IsValued}
@@ -43,16 +44,6 @@ least_value term value copy v found m same is told = subst (λ u. IsLeastFor ter
 
 -- ---- where one of two terms has a value
 
-other_is : (a b : Option Value) (value : Value) → AreSame a b → a ≡ Some value → b ≡ Some value
-other_is None b value same is = absurd same
-other_is (Some a) None value same is = absurd same
-other_is (Some a) (Some b) value same is = ap Some (sym same) ∙ is
-
-turned : (a b : Option Value) → AreSame a b → AreSame b a
-turned None b same = absurd same
-turned (Some a) None same = absurd same
-turned (Some a) (Some b) same = sym same
-
 same_from : (a b : Option Value) (value : Value) → a ≡ Some value → b ≡ Some value → AreSame a b
 same_from None b value e f = none-some value e
 same_from (Some a) None value e f = none-some value f
@@ -63,10 +54,10 @@ module _ (v : Valuation) (columns : List VarId) (s t : Term) (value : Value) whe
   left_to is w some = (some.0, some.1, same_from (value_of some.0 s) (value_of some.0 t) value (value_of-extends v some.0 s value some.1 is) some.2, some.3)
 
   pub left_from : value_of v s ≡ Some value → (w : Valuation) → IsEquated s t v columns w → Classically (IsValued t value v columns w)
-  left_from is w some none = none (some.0, some.1, other_is (value_of some.0 s) (value_of some.0 t) value some.2 (value_of-extends v some.0 s value some.1 is), some.3)
+  left_from is w some none = none (some.0, some.1, same_other (value_of some.0 s) (value_of some.0 t) value some.2 (value_of-extends v some.0 s value some.1 is), some.3)
 
   pub right_to : value_of v t ≡ Some value → (w : Valuation) → IsValued s value v columns w → IsEquated s t v columns w
   right_to is w some = (some.0, some.1, same_from (value_of some.0 s) (value_of some.0 t) value some.2 (value_of-extends v some.0 t value some.1 is), some.3)
 
   pub right_from : value_of v t ≡ Some value → (w : Valuation) → IsEquated s t v columns w → Classically (IsValued s value v columns w)
-  right_from is w some none = none (some.0, some.1, other_is (value_of some.0 t) (value_of some.0 s) value (turned (value_of some.0 s) (value_of some.0 t) some.2) (value_of-extends v some.0 t value some.1 is), some.3)
+  right_from is w some none = none (some.0, some.1, same_other (value_of some.0 t) (value_of some.0 s) value (turned (value_of some.0 s) (value_of some.0 t) some.2) (value_of-extends v some.0 t value some.1 is), some.3)

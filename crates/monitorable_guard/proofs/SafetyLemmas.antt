@@ -6,8 +6,7 @@ use Rattle.enf_value.specs.declared.terms.Term.TheVariants.{Var, Const}
 use Rattle.enf_value.specs.declared.terms.VarId.{VarId}
 use Rattle.enf_formula.specs.Formulas.{Formula, True, False, Atom, Equal, Less, AtMost, Not, And, Or, Implies}
 use Rattle.enf_formula.specs.Formulas.{Exists, Forall, Prev, Next, Once, Historically, Since, Eventually, Always, Until}
-use Rattle.valuations.specs.Columns.{Contains-append}
-use Rattle.monitorable_guard.specs.Safety.{Safe, SafeBelow, FreeWithin, FreeUnder, With, Nothing, Assigns, denial}
+use Rattle.monitorable_guard.specs.Safety.{Safe, SafeBelow, FreeWithin, With, Nothing, Assigns, denial}
 
 pub historically_denial : (place : ℕ) (interval : Interval) (g : Formula) (B : VarId → Type 0) → Safe (Historically place interval g) B ↔ (FreeWithin g B × Safe (denial g) Nothing)
 historically_denial place interval (Not p h) B = (λ s. (s.0, s.1), λ s. (s.0, s.1))
@@ -55,16 +54,3 @@ safe_same (Some xs) (Forall place ys g) B C same safe = safe_same (Some (xs ++ y
 safe_same (Some xs) (Implies place g h) B C same safe = (λ x free absent. (same x).0 (safe.0 x free absent), safe.1, safe_same None g B C same safe.2, safe_same None h (With B g) (With C g) (with_same B C g same) safe.3, within_same (With B g) (With C g) h (with_same B C g same) safe.4)
 safe_same (Some xs) (Not place g) B C same safe = (λ x free absent. (same x).0 (safe.0 x free absent), safe_same None g B C same safe.1)
 safe_same (Some xs) g B C same safe = absurd safe
-
--- the free variables of the kinds that are only asked whether they hold
-
-pub below_within : (xs : List VarId) (g : Formula) (B : VarId → Type 0) → SafeBelow (Some xs) g B → FreeUnder xs g B
-below_within xs (Forall place ys g) B safe = λ x free absent. below_within (xs ++ ys) g B safe x free.0 (λ there. ⊎_elim absent free.1 (Contains-append xs ys x there))
-below_within xs (Implies place g h) B safe = safe.0
-below_within xs (Not place g) B safe = safe.0
-below_within xs g B safe = absurd safe
-
-pub historically_within : (place : ℕ) (interval : Interval) (g : Formula) (B : VarId → Type 0) → Safe (Historically place interval g) B → FreeWithin g B
-historically_within place interval (Not p h) B safe = safe.0
-historically_within place interval (Implies p a b) B safe = λ x free. ⊎_elim (safe.0 x) (safe.1 x) free
-historically_within place interval g B safe = safe.0

@@ -1,10 +1,13 @@
--- What can be evaluated does not look ahead.
-use Rattle.std.proofs.Common.{Bool, true, false, ◌&&◌, IsTrue, List, ◌++◌, Option, None, Some, refl}
+-- What can be evaluated does not look ahead, and of what is only asked whether it holds, the free variables are bound.
+use Rattle.std.proofs.Common.{ℕ, Bool, true, false, ◌&&◌, IsTrue, List, ◌++◌, Option, None, Some, refl}
+use Rattle.std.proofs.Common.{⊎_elim}
+use Rattle.enf_value.specs.ListLaws.{Contains-append}
+use Rattle.enf_value.specs.declared.intervals.Interval.{Interval}
 use Rattle.enf_value.specs.declared.terms.VarId.{VarId}
 use Rattle.enf_formula.specs.Formulas.{Formula, True, False, Atom, Equal, Less, AtMost, Not, And, Or, Implies}
 use Rattle.enf_formula.specs.Formulas.{Exists, Forall, Prev, Next, Once, Historically, Since, Eventually, Always, Until}
 use Rattle.enf_formula.specs.Past.{is_past}
-use Rattle.monitorable_guard.specs.Safety.{SafeBelow, With, Nothing}
+use Rattle.monitorable_guard.specs.Safety.{FreeUnder, FreeWithin, Safe, SafeBelow, With, Nothing}
 
 both : (a b : Bool) → IsTrue a → IsTrue b → IsTrue (a && b)
 both true b first second = second
@@ -44,3 +47,20 @@ safe_past (Some xs) (Implies place g h) B safe =
     both (is_past g) (is_past h) (safe_past None g B safe.2) (safe_past None h (With B g) safe.3)
 safe_past (Some xs) (Not place g) B safe = safe_past None g B safe.1
 safe_past (Some xs) g B safe = absurd safe
+
+-- ---- the free variables of the kinds that are only asked whether they hold
+
+pub below_within : (xs : List VarId) (g : Formula) (B : VarId → Type 0)
+    → SafeBelow (Some xs) g B → FreeUnder xs g B
+below_within xs (Forall place ys g) B safe =
+    λ x free absent. below_within (xs ++ ys) g B safe x free.0
+    (λ there. ⊎_elim absent free.1 (Contains-append xs ys x there))
+below_within xs (Implies place g h) B safe = safe.0
+below_within xs (Not place g) B safe = safe.0
+below_within xs g B safe = absurd safe
+
+pub historically_within : (place : ℕ) (interval : Interval) (g : Formula) (B : VarId → Type 0)
+    → Safe (Historically place interval g) B → FreeWithin g B
+historically_within place interval (Not p h) B safe = safe.0
+historically_within place interval (Implies p a b) B safe = λ x free. ⊎_elim (safe.0 x) (safe.1 x) free
+historically_within place interval g B safe = safe.0

@@ -59,12 +59,6 @@ module _ {X : Type 0} (now : Now) where
 
 -- ---- what is gathered
 
-pub gathers_append : {X Y : Type 0} (P : X → List Y → Type 0) (ps bs : List X) (xs ys : List Y) → Gathers P ps xs
-    → Gathers P bs ys → Gathers P (ps ++ bs) (xs ++ ys)
-gathers_append P [] bs xs ys first next = subst (λ l. Gathers P bs (l ++ ys)) (sym first) next
-gathers_append P (a ∷ ps) bs xs ys (one, rest, is, others, are) next =
-    (one, rest ++ ys, is, gathers_append P ps bs rest ys others next, ap (λ l. l ++ ys) are ∙ append_assoc one rest ys)
-
 gathers_next : {X Y : Type 0} (P : X → List Y → Type 0) (ps : List X) (k : ℕ) (a : X) (xs ys : List Y)
     → k < length ps → a ≡ get_or ps k a → Gathers P (take k ps) xs → P a ys → Gathers P (take (suc k) ps) (xs ++ ys)
 gathers_next P [] k a xs ys within at first next = absurd (omega (arith, within))

@@ -5,7 +5,8 @@ use Rattle.std.proofs.lemmas.List.Elements.{Contains-append_left, Contains-appen
 use Rattle.std.proofs.lemmas.Option.{same_Some, none-some}
 use Rattle.enf_value.specs.ListLaws.{AllByRecursion-contains, Contains-append}
 use Rattle.enf_value.specs.Membership.{HasNoRepeats}
-use Rattle.enf_value.specs.Valuations.{Valuation, value_at, variable_cmp_total, with_values}
+use Rattle.enf_value.specs.RisingLaws.{rising_apart, rising_behind, rising_distinct, same_rising}
+use Rattle.enf_value.specs.Valuations.{Valuation, value_at, variable_cmp, variable_cmp_total, with_values}
 use Rattle.enf_value.specs.declared.steps.Step.{Step}
 use Rattle.enf_value.specs.declared.terms.Term.{Term}
 use Rattle.enf_value.specs.declared.terms.Term.TheVariants.{Var}
@@ -27,7 +28,6 @@ use Rattle.valuations.specs.Tables.{AgreeOn, Agrees, Has, IsTable, Relation}
 use Rattle.obligations.specs.Asked.{FitsScope, IsGuardAt, IsNowOf, placed_guard, guards_at}
 use Rattle.obligations.specs.Rows.{AreRowsOf, HoldsLast}
 use Rattle.obligations.specs.declared.now.Now.{Now}
-use Rattle.obligations.proofs.RowsLemmas.{rising_apart, rising_behind, rising_distinct, same_rising}
 
 -- ---- a guard at its number
 
@@ -71,7 +71,7 @@ some_value : (o : Option Value) (value : Value) → o ≡ Some value → IsSome 
 some_value o value e = subst IsSome (sym e) refl
 
 pub new_distinct : (scope xs : List VarId) → AreNew scope xs → HasNoRepeats xs
-new_distinct scope xs new = rising_distinct variable_cmp_total xs (rising_behind variable_cmp_total scope xs new)
+new_distinct scope xs new = rising_distinct variable_cmp_total xs (rising_behind variable_cmp scope xs new)
 
 pub new_apart : (scope xs : List VarId) → AreNew scope xs → (x : VarId) → Contains xs x → Contains scope x → ⊥
 new_apart scope xs new = rising_apart variable_cmp_total scope xs new

@@ -1,10 +1,9 @@
 -- What is pending behind a trace can be so: by induction over plans, and along the trace.
-use Rattle.std.proofs.Common.{◌≡◌, ◌∙◌, ◌⊎◌, ℕ, zero, suc, ◌+◌, ◌-◌, ◌<◌, ◌≤◌, Bool, true, false, cond, nat_eq, List, [], ◌∷◌, ◌++◌, length, map, take, All, Contains, Option, None, Some, inl, inr, ⊎_elim, refl, sym, ap, subst, arith}
+use Rattle.std.proofs.Common.{◌≡◌, ◌∙◌, ◌⊎◌, ℕ, zero, suc, ◌+◌, ◌-◌, ◌<◌, ◌≤◌, Bool, true, false, cond, List, [], ◌∷◌, ◌++◌, length, take, Contains, Option, None, Some, ⊎_elim, refl, sym, ap, subst, arith}
 use Rattle.std.specs.Prelude.{slice_get}
-use Rattle.std.specs.List.{AllByRecursion, find}
+use Rattle.std.specs.List.{find}
 use Rattle.std.specs.Option.{option_map}
 use Rattle.std.specs.FinMap as finite
-use Rattle.std.proofs.lemmas.Bool.{false≢true}
 use Rattle.std.proofs.lemmas.List.{length-take-le}
 use Rattle.std.proofs.lemmas.List.Elements.{All-contains, All-contains_itself, All-weaker, Contains-append_left, Contains-append_right}
 use Rattle.std.proofs.lemmas.Option.{none-some, same_Some, slice_get-get_or, slice_get-map}
@@ -24,9 +23,8 @@ use Rattle.plan_terms.specs.WellFormed.{AreWellFormed, IsWellFormed}
 use Rattle.obligations.specs.Asked.{FitsScope}
 use Rattle.obligations.specs.Begun.{BeginsAlways, BeginsOrWaits, Begun, WithBehind, begun_now}
 use Rattle.obligations.specs.Bounds.{CanBePending, IsNext, PendCanBePending, first_end, second_end}
-use Rattle.obligations.specs.Pending.{After, AtNode, BecomesAt, Goes, HasDeadline, NoneIsOver, PendsBehind, node_of}
+use Rattle.obligations.specs.Pending.{After, AtNode, BecomesAt, HasDeadline, PendsBehind}
 use Rattle.obligations.specs.Reached.{BegunByRoots-contains, Gathers-contains}
-use Rattle.obligations.specs.Rows.{AreRowsOf}
 use Rattle.obligations.specs.Scopes.{ahead, future_in, scoped_in_plan}
 use Rattle.obligations.specs.declared.instances.Instance.{Instance}
 use Rattle.obligations.proofs.AskLemmas.{under_row}

@@ -5,7 +5,8 @@ use Rattle.std.specs.FinMap as finite
 use Rattle.std.specs.List.{AllByRecursion}
 use Rattle.enf_value.specs.Data.{step_at}
 use Rattle.enf_value.specs.ListLaws.{AllByRecursion-contains, Contains-append, none_in_nil, there_from_get}
-use Rattle.enf_value.specs.Valuations.{Valuation, variable_cmp, variable_cmp_total}
+use Rattle.enf_value.specs.RisingLaws.{rising_behind}
+use Rattle.enf_value.specs.Valuations.{Valuation, variable_cmp}
 use Rattle.enf_value.specs.declared.steps.Step.{Step}
 use Rattle.enf_value.specs.declared.terms.VarId.{VarId}
 use Rattle.enf_formula.specs.Formulas.{Formula}
@@ -30,7 +31,6 @@ use Rattle.obligations.specs.Rows.{HoldsLast, last_position}
 use Rattle.obligations.specs.Waiting.{CanAskRoot, CanAskRoots}
 use Rattle.obligations.specs.declared.now.Now.{Now}
 use Rattle.obligations.proofs.AskLemmas.{new_apart}
-use Rattle.obligations.proofs.RowsLemmas.{rising_behind}
 
 -- ---- what holds at each node
 
@@ -50,7 +50,7 @@ both_at P Q (Next node place high body) scope p q = ((p.0, q.0), both_at P Q bod
 opens : (scope xs : List VarId) (test : Formula) (guard node : ℕ) (body : Plan) → IsScopedNode (Guarded node xs guard test body) scope
     → IsSafeNode (Guarded node xs guard test body) scope → AreOpen test scope xs
 opens scope xs test guard node body scoped safe = record {
-  rising = rising_behind variable_cmp_total scope xs scoped.0;
+  rising = rising_behind variable_cmp scope xs scoped.0;
   exact = λ x. (
     (λ there. (safe.1 x there, new_apart scope xs scoped.0 x there)),
     (λ free. ⊎_elim (λ old. absurd (free.1 old)) (λ brought. brought) (Contains-append scope xs x (scoped.1 x free.0))),

@@ -1,6 +1,5 @@
 -- What is missed is of right values, where guards give such: by induction over plans.
-use Rattle.std.proofs.Common.{◌≡◌, ◌∙◌, ◌⊎◌, ℕ, zero, suc, ◌+◌, ◌-◌, ◌<◌, ◌≤◌, Bool, true, false, List, [], ◌∷◌, ◌++◌, length, take, All, Contains, Option, None, Some, ⊎_elim, refl, sym, ap, subst, arith, length-append}
-use Rattle.std.specs.Prelude.{slice_get}
+use Rattle.std.proofs.Common.{◌≡◌, ◌⊎◌, ℕ, zero, suc, ◌+◌, ◌-◌, ◌<◌, Bool, true, false, List, [], ◌∷◌, ◌++◌, length, take, Contains, Option, None, Some, ⊎_elim, refl, sym, subst, arith, length-append}
 use Rattle.std.proofs.lemmas.List.{take_all}
 use Rattle.std.proofs.lemmas.List.Elements.{All-contains, Contains-append_left, Contains-append_right}
 use Rattle.enf_value.specs.ListLaws.{AllByRecursion-contains, Contains-append, first_or_later, here, later, none_in_nil}
@@ -14,17 +13,16 @@ use Rattle.enf_value.specs.declared.values.Value.{Value}
 use Rattle.plan_terms.specs.Plans.{Plan, Cause, Suppress, Both, Either, TestOr, Guarded, Eventually, Always, Until, Next}
 use Rattle.plan_terms.specs.ScopeLaws.{AtEach-below, AtEach-found, AtEach-root, FoundIsFirst, NodesHaveScopes}
 use Rattle.plan_terms.specs.Scopes.{AtEach, scoped_nodes}
-use Rattle.obligations.specs.Asked.{terms_of}
 use Rattle.obligations.specs.Begun.{Where}
 use Rattle.obligations.specs.Missing.{IsAbsent, IsPresent, LiteralUnless, Missing, MissesAlways, MissesUntil, OfEvent, cause, suppress}
-use Rattle.obligations.specs.Pending.{AtNode, MissesAt, PendsBehind}
+use Rattle.obligations.specs.Pending.{AtNode, MissesAt}
 use Rattle.obligations.specs.Reached.{Gathers-contains}
-use Rattle.obligations.specs.Right.{AreRight, GivesRight, IsRightIn, IsRightLiteral, MissedIsRight, MissedOfIsRight}
+use Rattle.obligations.specs.Right.{AreRight, GivesRight, IsRightLiteral, MissedIsRight, MissedOfIsRight}
 use Rattle.obligations.specs.Rows.{HoldsLast}
 use Rattle.obligations.specs.declared.instances.Instance.{Instance}
 use Rattle.obligations.specs.declared.literals.Literal.{Literal}
 use Rattle.obligations.proofs.BoundLemmas.{each_from_nodes, named_node, node_in_plan}
-use Rattle.obligations.proofs.RightLemmas.{IsRight, pends_right}
+use Rattle.obligations.proofs.RightLemmas.{pends_right}
 use Rattle.obligations.proofs.TraceLemmas.{longer_pends}
 use Rattle.obligations.proofs.WantedLemmas.{args_long}
 

@@ -1,7 +1,5 @@
 -- What is pending has right values, where guards give such: by induction over plans, and along the trace.
-use Rattle.std.proofs.Common.{◌≡◌, ◌∙◌, ◌⊎◌, ℕ, zero, suc, ◌+◌, ◌<◌, ◌≤◌, Bool, true, false, cond, IsTrue, List, [], ◌∷◌, ◌++◌, length, take, All, Contains, Option, None, Some, inl, inr, ⊎_elim, refl, sym, ap, subst, arith}
-use Rattle.std.specs.Prelude.{slice_get}
-use Rattle.std.proofs.lemmas.List.{length-take-le}
+use Rattle.std.proofs.Common.{◌≡◌, ◌∙◌, ◌⊎◌, ℕ, zero, suc, ◌+◌, ◌<◌, ◌≤◌, Bool, true, cond, List, [], ◌∷◌, ◌++◌, length, take, Contains, None, Some, ⊎_elim, refl, sym, ap, subst, arith}
 use Rattle.std.proofs.lemmas.List.Elements.{All-contains}
 use Rattle.std.proofs.lemmas.Option.{same_Some}
 use Rattle.enf_value.specs.ListLaws.{Contains-append, first_or_later, none_in_nil}
@@ -20,7 +18,6 @@ use Rattle.obligations.specs.Bounds.{first_end, second_end}
 use Rattle.obligations.specs.Pending.{After, AtNode, BecomesAt, PendsBehind}
 use Rattle.obligations.specs.Reached.{BegunByRoots-contains, Gathers-contains}
 use Rattle.obligations.specs.Right.{AreRight, GivesRight, GuardsGiveRight, PendingIsRight}
-use Rattle.obligations.specs.Rows.{AreRowsOf}
 use Rattle.obligations.specs.Scopes.{ahead, future_in}
 use Rattle.obligations.specs.declared.instances.Instance.{Instance}
 use Rattle.obligations.proofs.BoundLemmas.{Lies, all_lie, named_node}

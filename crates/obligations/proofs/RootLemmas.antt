@@ -1,9 +1,9 @@
 -- What stays in front, and what roots begin, one after another.
-use Rattle.std.proofs.Common.{◌≡◌, Bool, Contains, ⊎_elim, ℕ, zero, suc, ◌+◌, ◌<◌, List, [], ◌∷◌, ◌++◌, length, map, take, get_or, Some, refl, sym, ap, subst, arith, ◌∙◌, append_assoc}
+use Rattle.std.proofs.Common.{◌≡◌, Contains, ⊎_elim, ℕ, zero, suc, ◌+◌, ◌<◌, List, [], ◌∷◌, ◌++◌, length, map, take, get_or, Some, refl, sym, ap, subst, arith, ◌∙◌, append_assoc}
 use Rattle.std.specs.Prelude.{slice_get}
 use Rattle.std.specs.List.{AllByRecursion}
-use Rattle.std.proofs.lemmas.List.{append-nil, length-map, length-take-le, map_more, take_more}
-use Rattle.enf_value.specs.ListLaws.{AllByRecursion-append, AllByRecursion-contains, Contains-append, first_or_later, here, none_in_nil}
+use Rattle.std.proofs.lemmas.List.{append-nil, length-map, length-take-le, map_more}
+use Rattle.enf_value.specs.ListLaws.{AllByRecursion-append, AllByRecursion-contains, Contains-append}
 use Rattle.enf_value.specs.Valuations.{no_values}
 use Rattle.enf_value.specs.declared.steps.Step.{Step}
 use Rattle.plan_terms.specs.Plans.{Plan}
@@ -11,30 +11,11 @@ use Rattle.plan_terms.specs.Standing.{StandsIn}
 use Rattle.obligations.specs.Adding.{AddsAsked, IsBegunHere}
 use Rattle.obligations.specs.Asked.{IsNowOf, guards_at}
 use Rattle.obligations.specs.Begun.{Begun}
-use Rattle.obligations.specs.Carrying.{ComeOf, ComesOf, ComesOfRoot}
+use Rattle.obligations.specs.Carrying.{ComesOfRoot}
 use Rattle.obligations.specs.Pending.{BegunByRoots}
-use Rattle.obligations.specs.Rows.{Gathers}
 use Rattle.obligations.specs.Waiting.{CanAskOf}
 use Rattle.obligations.specs.declared.instances.Instance.{Instance}
 use Rattle.obligations.specs.declared.now.Now.{Now}
-use Rattle.obligations.proofs.AddingLemmas.{gathers_one_more}
-use Rattle.obligations.proofs.CarryLemmas.{come_both}
-
--- one instance more that stays
-pub stays_one_more : (P : Instance → List Instance → Type 0) (is : List Instance) (k : ℕ) (i : Instance) → k < length is
-    → i ≡ get_or is k i → Gathers P (take k is) (take k is) → P i (i ∷ [])
-    → Gathers P (take (k + 1) is) (take (k + 1) is)
-stays_one_more P is k i within at front stays =
-    subst (Gathers P (take (k + 1) is)) (sym (take_more is k i within ∙ ap (λ j. take k is ++ j ∷ []) (sym at)))
-    (gathers_one_more P is k i (take k is) (i ∷ []) within at front stays)
-
-pub waits_one_more : (now : Now) (plans : List Plan) (inserted : Bool) (is : List Instance) (k : ℕ) (i : Instance) → k < length is
-    → i ≡ get_or is k i → ComeOf now plans inserted (take k is) (take k is) → ComesOf now plans inserted i i
-    → ComeOf now plans inserted (take (k + 1) is) (take (k + 1) is)
-waits_one_more now plans inserted is k i within at front waits =
-    subst (λ l. ComeOf now plans inserted l l) (sym (take_more is k i within ∙ ap (λ j. take k is ++ j ∷ []) (sym at)))
-    (come_both now plans inserted (take k is) (i ∷ []) (take k is) (i ∷ []) front
-    (λ j there. ⊎_elim (λ same. (i, here i [], subst (ComesOf now plans inserted i) same waits)) (λ none. absurd (none_in_nil j none)) (first_or_later j i [] there)))
 
 -- what stands at a place of a list
 pub all_at : {X Y : Type 0} (P : Y → Type 0) (f : X → Y) (xs : List X) (k : ℕ) (x : X) → k < length xs → x ≡ get_or xs k x

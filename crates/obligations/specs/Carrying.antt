@@ -1,20 +1,17 @@
 -- What of pending instances goes on behind a step, and what is begun for them, whatever trace the step stands for.
-use Rattle.std.specs.Prelude.{◌≡◌, ◌⊎◌, ℕ, ◌+◌, ◌==◌, ◌&&◌, Bool, true, false, cond, List, []}
+use Rattle.std.specs.Prelude.{◌≡◌, ◌⊎◌, ℕ, ◌==◌, ◌&&◌, Bool, true, false, cond, List, []}
 use Rattle.std.specs.Prelude.{◌∷◌, ◌++◌, Option, None}
 use Rattle.std.specs.Prelude.{Some, IfSome, Contains, slice_get}
 use Rattle.std.specs.List.{AllByRecursion}
 use Rattle.enf_value.specs.declared.events.Event.{Event}
 use Rattle.enf_value.specs.declared.steps.Step.{Step}
-use Rattle.deadline_queue.specs.Queues.{held}
 use Rattle.plan_terms.specs.Nodes.{has_deadline, nodes}
 use Rattle.plan_terms.specs.Plans.{Plan, Eventually, Until, Next}
-use Rattle.obligations.specs.Adding.{Adds}
 use Rattle.obligations.specs.Asked.{CanAsk, IsNowOf, guards_at}
 use Rattle.obligations.specs.Begun.{Begun, LacksNothing, time_now}
 use Rattle.obligations.specs.Pending.{After, AtNode, BecomesAt, IsNowIn, node_of}
 use Rattle.obligations.specs.Reaching.{IsBegunUnder}
-use Rattle.obligations.specs.Rows.{Gathers}
-use Rattle.obligations.specs.Waiting.{CanAskOf, HasPart, count_due}
+use Rattle.obligations.specs.Waiting.{HasPart}
 use Rattle.obligations.specs.declared.instances.Instance.{Instance}
 use Rattle.obligations.specs.declared.now.Now.{Now}
 
@@ -61,13 +58,9 @@ pub record WillBecome (now : Now) (node : Plan) (i : Instance) (forced stays : B
   pub waits : stays ≡ true → has_deadline node ≡ true → forced ≡ false
   pub has : IfSome begins (HasPart node)
 
--- what an instance becomes, and what each of some does, where those that are forced are served
+-- what an instance becomes, where it is served if it is forced
 abbrev pub BecomesOne : List Plan → (inserted : Bool) → Instance → List Step → List Instance → Type 0
 BecomesOne plans inserted i trace after = AreServed plans inserted trace (i ∷ []) → After plans trace i after
-
-abbrev pub BecomeAll : List Plan → (inserted : Bool) → List Instance → List Step → List Instance → Type 0
-BecomeAll plans inserted pending trace after =
-    AreServed plans inserted trace pending → Gathers (After plans trace) pending after
 
 -- at a step at a time and a position, with these events: the instance is the one that waits, or is begun for it,
 -- whatever the guards say
@@ -98,18 +91,3 @@ ComesOfRoot now = RootComesAt now.ordered.now now.time now.position
 
 abbrev pub Leads : Now → List Plan → (inserted : Bool) → (before after : List Instance) → Type 0
 Leads now = LeadsAt now.ordered.now now.time now.position
-
--- each instance comes of one of these
-abbrev pub ComeOf : Now → List Plan → (inserted : Bool) → (gone more : List Instance) → Type 0
-ComeOf now plans inserted gone more = (j : Instance) → Contains more j
-    → (i : Instance) × Contains gone i × ComesOf now plans inserted i j
-
--- instances of the plans went out of what is pending, and others that have the property were put last in a list of it:
--- they can be asked and come of those, and the queue of deadlines went along
-pub record CarriesOn (now : Now) (plans : List Plan) (inserted : Bool) (P : List Step → List Instance → Type 0)
-    (gone : List Instance) (before after : List Instance) (queue later : List (ℕ × ℕ)) : Type 0 where
-  pub adds : Adds now P before after
-  pub asked : AllByRecursion (CanAskOf (guards_at now.tables.now) plans) adds.more
-  pub come : ComeOf now plans inserted gone adds.more
-  pub deadlines : (deadline : ℕ) → held later deadline + count_due plans gone deadline
-      ≡ held queue deadline + count_due plans adds.more deadline

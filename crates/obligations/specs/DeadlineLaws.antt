@@ -9,7 +9,7 @@ use Rattle.enf_value.specs.ListLaws.{here, later, first_or_later, none_in_nil}
 use Rattle.plan_terms.specs.Nodes.{has_deadline}
 use Rattle.plan_terms.specs.Plans.{Plan}
 use Rattle.obligations.specs.Pending.{AtNode, HasDeadline, node_of}
-use Rattle.obligations.specs.Waiting.{KeepsDeadlines, PendingList, deadline_at, is_due, is_time}
+use Rattle.obligations.specs.Waiting.{count_due, deadline_at, is_due, is_time}
 use Rattle.obligations.specs.declared.instances.Instance.{Instance}
 
 -- of what is in a list and passes a test, one at least is counted
@@ -69,29 +69,27 @@ has_from_due plans i deadline = by (node_of plans i)
     by None due = absurd (false≢true due)
     by (Some node) due = has_at (has_deadline node) i.high deadline due
 
--- the deadline of what is pending is listed,
-abbrev pub DeadlineIsListed : Type 0
-DeadlineIsListed = (plans : List Plan) (pending : PendingList) (i : Instance) (deadline : ℕ)
-    → KeepsDeadlines plans pending → Contains pending.instances i → HasDeadline plans i deadline
-    → Contains pending.deadlines deadline
+-- a list has the deadlines of instances, each as often as one of them has it
+abbrev pub AreDeadlines : List Plan → List Instance → List ℕ → Type 0
+AreDeadlines plans instances deadlines = (deadline : ℕ)
+    → count_by (λ entry. entry == deadline) deadlines ≡ count_due plans instances deadline
 
--- and what is listed is the deadline of something that is pending
-abbrev pub ListedIsDeadline : Type 0
-ListedIsDeadline = (plans : List Plan) (pending : PendingList) (deadline : ℕ) → KeepsDeadlines plans pending
-    → Contains pending.deadlines deadline
-    → (i : Instance) × Contains pending.instances i × HasDeadline plans i deadline
+-- the deadline of one of them is listed,
+pub deadline_is_listed : (plans : List Plan) (instances : List Instance) (deadlines : List ℕ)
+    → AreDeadlines plans instances deadlines → (i : Instance) (deadline : ℕ) → Contains instances i
+    → HasDeadline plans i deadline → Contains deadlines deadline
+deadline_is_listed plans instances deadlines are i deadline there has =
+    let some = counted (is_due plans deadline) instances i there (due_from_has plans i deadline has) in
+    let same = are deadline in
+    let found = one_there (λ entry. entry == deadline) deadlines (omega (arith, some, same)) in
+    subst (Contains deadlines) (same_number found.0 deadline found.2) found.1
 
-pub deadline_is_listed : DeadlineIsListed
-deadline_is_listed plans pending i deadline keeps there has =
-    let some = counted (is_due plans deadline) pending.instances i there (due_from_has plans i deadline has) in
-    let same = keeps deadline in
-    let found = one_there (λ entry. entry == deadline) pending.deadlines (omega (arith, some, same)) in
-    subst (Contains pending.deadlines) (same_number found.0 deadline found.2) found.1
-
-pub listed_is_deadline : ListedIsDeadline
-listed_is_deadline plans pending deadline keeps there =
-    let some = counted (λ entry. entry == deadline) pending.deadlines deadline there
-    (is_same deadline deadline refl) in
-    let same = keeps deadline in
-    let found = one_there (is_due plans deadline) pending.instances (omega (arith, some, same)) in
+-- and what is listed is the deadline of one of them
+pub listed_is_deadline : (plans : List Plan) (instances : List Instance) (deadlines : List ℕ)
+    → AreDeadlines plans instances deadlines → (deadline : ℕ) → Contains deadlines deadline
+    → (i : Instance) × Contains instances i × HasDeadline plans i deadline
+listed_is_deadline plans instances deadlines are deadline there =
+    let some = counted (λ entry. entry == deadline) deadlines deadline there (is_same deadline deadline refl) in
+    let same = are deadline in
+    let found = one_there (is_due plans deadline) instances (omega (arith, some, same)) in
     (found.0, found.1, has_from_due plans found.0 deadline found.2)

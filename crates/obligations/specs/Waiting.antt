@@ -1,9 +1,7 @@
 -- Pending instances of plans, what it takes to ask them, and their deadlines.
 use Rattle.std.specs.Prelude.{◌≡◌, ◌⊎◌, ℕ, ◌==◌, Bool, true, false, cond, List, [], ◌∷◌, Option}
 use Rattle.std.specs.Prelude.{None, Some, Contains}
-use Rattle.std.specs.Coded.{Coded, coded_ℕ, coded_list, coded×, code_by}
 use Rattle.std.specs.List.{AllByRecursion, count_by}
-use Rattle.std.specs.Prelude.{refl}
 use Rattle.enf_value.specs.Valuations.{Valuation, no_values}
 use Rattle.enf_value.specs.declared.steps.Step.{Step}
 use Rattle.enf_value.specs.declared.terms.VarId.{VarId}
@@ -18,7 +16,6 @@ use Rattle.obligations.specs.Asked.{CanAsk, IsNowOf, IsWanted, guards_at}
 use Rattle.obligations.specs.Missing.{Missing}
 use Rattle.obligations.specs.Pending.{MissesAt, MissingOf, node_of}
 pub use Rattle.deadline_queue.specs.Queues.{IsLeastOf}
-use Rattle.obligations.specs.contracts.instances.Instance as stored
 use Rattle.obligations.specs.declared.instances.Instance.{Instance}
 use Rattle.obligations.specs.declared.literals.Literal.{Literal}
 use Rattle.obligations.specs.declared.now.Now.{Now}
@@ -87,17 +84,6 @@ CanAskRoot guards plan = CanAsk guards plan no_values × AllByRecursion EndsInTi
 abbrev pub CanAskRoots : List (Formula × List VarId) → List Plan → Type 0
 CanAskRoots guards plans = AllByRecursion (CanAskRoot guards) plans
 
--- a list of pending instances, and the deadlines among their windows' ends
-pub record PendingList : Type 0 where
-  pub instances : List Instance
-  pub deadlines : List ℕ
-
--- stored as the pair of both
-abbrev pub pending_code : Coded PendingList
-pending_code =
-    code_by (List Instance × List ℕ) (coded× (coded_list stored.the_row.coded) (coded_list coded_ℕ))
-    (λ p. (p.instances, p.deadlines)) (λ p. record { instances = p.0; deadlines = p.1 }) (λ _. refl)
-
 -- the deadline of an instance of a node, if the node has one
 abbrev pub deadline_at : Option Plan → Instance → Option ℕ
 deadline_at None i = None
@@ -117,8 +103,3 @@ is_due plans deadline i = is_time (deadline_of plans i) deadline
 -- how many of the instances have the deadline
 abbrev pub count_due : List Plan → List Instance → (deadline : ℕ) → ℕ
 count_due plans instances deadline = count_by (is_due plans deadline) instances
-
--- the deadlines are those of the instances, each as often as an instance has it
-abbrev pub KeepsDeadlines : List Plan → PendingList → Type 0
-KeepsDeadlines plans pending = (deadline : ℕ)
-    → count_by (λ entry. entry == deadline) pending.deadlines ≡ count_due plans pending.instances deadline

@@ -1,6 +1,6 @@
 //! What a pending instance becomes behind a step.
-ghost use Rattle.std.specs.Prelude.{◌≡◌, ◌≤◌, ◌∷◌, [], false, true, Contains, IfOk, IfSome, List};
-ghost use Rattle.std.specs.Prelude.{OnOk, Some, map};
+ghost use Rattle.std.specs.Prelude.{◌≡◌, ◌≤◌, false, true, Contains, IfOk, IfSome, List};
+ghost use Rattle.std.specs.Prelude.{OnOk, Some};
 ghost use Rattle.std.specs.List.{AllByRecursion};
 ghost use Rattle.std.specs.Option.{option_copied, option_map};
 ghost use Rattle.enf_value.specs.declared.steps.Step.{Step};
@@ -12,8 +12,7 @@ ghost use Rattle.valuations.specs.Scopes.{bound_in};
 ghost use Rattle.obligations.specs.Adding.{AddsAsked, IsBegunHere};
 ghost use Rattle.obligations.specs.Asked.{CanAsk, IsNowOf, guards_at};
 ghost use Rattle.obligations.specs.Begun.{Begun};
-ghost use Rattle.obligations.specs.Carrying.{BegunFor, ComesOf, IsPartOf, WillBecome, awaited_in, is_forced_at};
-ghost use Rattle.obligations.specs.Pending.{After};
+ghost use Rattle.obligations.specs.Carrying.{BegunFor, WillBecome, awaited_in, is_forced_at};
 ghost use Rattle.obligations.specs.Waiting.{CanAskOf};
 ghost use Rattle.obligations.specs.declared.instances.Instance.{Instance as AnyInstance};
 ghost use Rattle.obligations.specs.declared.now.TheConstants.{MOST_TIME};
@@ -24,7 +23,7 @@ use crate::instances::Instance;
 use crate::laws::missing_exists;
 use crate::now::Now;
 use crate::sleeping::is_asleep;
-use crate::waiting::{is_in_window, node_in};
+use crate::waiting::is_in_window;
 use enf_value::memory::NoMemory;
 use plan_terms::Plan;
 use std::alloc::Global;
@@ -194,30 +193,4 @@ pub fn begun_for(
         begin_ahead(alloc, instance.rule, part, &v, now, &mut begun)?;
     }
     Ok(begun)
-}
-
-// Whether a pending instance may become anything but itself.
-pub fn reacts(
-    alloc: Global,
-    plans: &[Plan],
-    instance: &Instance,
-    now: &Now<'_>,
-    inserted: bool,
-) -> Result<bool, NoMemory>
-    requires asked { CanAskOf (guards_at now.now.tables.now) (map plan_of plans.now) instance.now }
-    requires in_time { now.now.time ≤ MOST_TIME }
-    ensures stays { IfOk result (λ reacts. reacts ≡ false → (trace : List Step) → IsNowOf now.now trace
-        → After (map plan_of plans.now) trace instance.now (instance.now ∷ [])) }
-    ensures waits { IfOk result (λ reacts. reacts ≡ false
-        → ComesOf now.now (map plan_of plans.now) inserted instance.now instance.now) }
-{
-    let Some(node) = node_in(plans, instance) else {
-        return Ok(true);
-    };
-    let becoming = becoming_of(alloc, node, instance, now, inserted)?;
-    if !becoming.stays {
-        return Ok(true);
-    }
-    let begun = begun_for(alloc, instance, becoming.begins, now)?;
-    Ok(!begun.is_empty())
 }

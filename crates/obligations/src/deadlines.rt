@@ -1,6 +1,6 @@
 //! The deadlines of instances, in the queue of those that are pending.
 ghost use Rattle.std.specs.Prelude.{◌≡◌, ◌+◌, ◌-◌, ◌<◌, ◌≤◌, ◌^◌, ℕ, OnOk};
-ghost use Rattle.std.specs.Prelude.{[], ◌∷◌, length, map};
+ghost use Rattle.std.specs.Prelude.{[], ◌∷◌, map};
 ghost use Rattle.deadline_queue.specs.Queues.{IsQueue, held};
 ghost use Rattle.plan_terms.specs.Plans.{plan_of};
 ghost use Rattle.obligations.specs.Waiting.{count_due, deadline_of};
@@ -25,24 +25,6 @@ fn deadline_in(plans: &[Plan], instance: &Instance) -> Option<u64>
         | Plan::Guarded { .. }
         | Plan::Always { .. } => None,
     }
-}
-
-/// The deadline of each of the instances is held once more.
-pub fn hold_each(
-    plans: &[Plan],
-    instances: &[Instance],
-    deadlines: &mut DeadlineQueue,
-) -> Result<(), NoMemory>
-    requires queue { IsQueue deadlines.old }
-    requires few { (deadline : ℕ) → held deadlines.old deadline + length instances.now < 2 ^ 64 }
-    ensures held { OnOk result ((deadline : ℕ) → held deadlines.new deadline
-        ≡ held deadlines.old deadline + count_due (map plan_of plans.now) instances.now deadline) }
-    ensures queue { IsQueue deadlines.new }
-{
-    for instance in instances {
-        hold(plans, instance, deadlines)?;
-    }
-    Ok(())
 }
 
 /// The deadline of an instance is held once more.

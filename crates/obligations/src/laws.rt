@@ -1,6 +1,5 @@
 //! Laws of what plans miss and begin, each the contract of a function that does nothing.
 ghost use Rattle.obligations.specs.Bounds.{PendCanBePending};
-ghost use Rattle.obligations.specs.DeadlineLaws.{DeadlineIsListed, ListedIsDeadline};
 ghost use Rattle.obligations.specs.Enough.{NothingMissedIsEnough, NothingMissedIsEnoughPending, SomethingMissedIsLost};
 ghost use Rattle.obligations.specs.Existing.{AfterExists, BegunCanBeAsked, BegunExists, GoesCanBeAsked, GoesExists};
 ghost use Rattle.obligations.specs.Existing.{MissingExists, MissingOfExists, PendCanBeAsked, PendExists};
@@ -183,12 +182,6 @@ pub fn pending_was_begun()
     triggers_are_met();
     nodes_have_scopes();
 }
-
-/// Where the deadlines of what is pending are kept, each is listed, and none else.
-pub fn deadlines_are_listed()
-    ensures listed { DeadlineIsListed }
-    ensures only { ListedIsDeadline }
-{}
 
 /// Where guards give right values, what is pending behind a trace has such, and what is missed is of such.
 pub fn pending_is_right()

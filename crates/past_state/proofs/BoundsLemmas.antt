@@ -8,6 +8,7 @@ use Rattle.enf_value.specs.declared.intervals.Interval.{Interval}
 use Rattle.enf_value.specs.declared.steps.Step.{Step}
 use Rattle.enf_value.specs.declared.terms.VarId.{VarId}
 use Rattle.enf_formula.specs.Formulas.{Formula, Prev, Once, Historically, Since}
+use Rattle.enf_formula.specs.FreeLaws.{same_free}
 use Rattle.enf_formula.specs.FreeVariables.{AreFreeVariables}
 use Rattle.enf_formula.specs.Satisfaction.{Sat, Anywhere}
 use Rattle.monitorable_guard.specs.Safety.{denial}
@@ -23,7 +24,6 @@ use Rattle.past_state.specs.Restoring.{KeptAreWithinBounds}
 use Rattle.past_state.specs.Saved.{AreKeptOf, IsKept, KeptFor, kept_operand, kept_row}
 use Rattle.past_state.specs.declared.kept.KeptRow.{KeptRow}
 use Rattle.past_state.proofs.ChosenLemmas.{not_below}
-use Rattle.past_state.proofs.ColumnLemmas.{same_free}
 use Rattle.past_state.proofs.RestoringLemmas.{all_of, chosen_fewer}
 
 -- a row that has to be kept is so for the operator of its number, with the values of that one's columns

@@ -15,6 +15,7 @@ use Rattle.enf_value.specs.declared.terms.VarId.{VarId}
 use Rattle.enf_value.specs.declared.values.Value.TheVariants.{Num}
 use Rattle.enf_formula.specs.Cases.{event_q, formula_p, formula_q, name_p, x}
 use Rattle.enf_formula.specs.Formulas.{Formula, Once, Prev}
+use Rattle.enf_formula.specs.FreeLaws.{same_free}
 use Rattle.enf_formula.specs.FreeVariables.{AreFreeVariables}
 use Rattle.enf_formula.specs.Satisfaction.{Sat, Anywhere, IsAmong}
 use Rattle.valuations.specs.Columns.{first_or_later, here, none_in_nil}
@@ -29,7 +30,6 @@ use Rattle.past_state.specs.Saved.{IsRowBefore, KeptFor, kept_operand}
 use Rattle.past_state.specs.declared.kept.KeptRow.{KeptRow}
 use Rattle.past_state.proofs.BoundsLemmas.{kept_with}
 use Rattle.past_state.proofs.ChosenLemmas.{not_below}
-use Rattle.past_state.proofs.ColumnLemmas.{same_free}
 use Rattle.past_state.proofs.RestoringLemmas.{only}
 
 pub same_number : (m n : ℕ) → row m ≡ row n → m ≡ n

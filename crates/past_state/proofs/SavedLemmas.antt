@@ -8,6 +8,7 @@ use Rattle.std.proofs.lemmas.Option.{get_or_from_slice_get, same_Some, slice_get
 use Rattle.enf_value.specs.declared.steps.Step.{Step}
 use Rattle.enf_value.specs.declared.values.Value.{Value}
 use Rattle.enf_formula.specs.Formulas.{Formula, True, Prev, Once, Historically, Since}
+use Rattle.enf_formula.specs.FreeLaws.{same_free}
 use Rattle.enf_formula.specs.FreeVariables.{AreFreeVariables}
 use Rattle.valuations.specs.Columns.{none_in_nil}
 use Rattle.valuations.specs.SearchLaws.{Contains-map, Contains-from_map}
@@ -25,7 +26,6 @@ use Rattle.past_state.specs.declared.kept.KeptRow.{KeptRow}
 use Rattle.past_state.specs.declared.memories.Memory.{Memory}
 use Rattle.past_state.specs.declared.memories.Memory.TheVariants as memories
 use Rattle.past_state.specs.declared.operators.OperatorState.{OperatorState}
-use Rattle.past_state.proofs.ColumnLemmas.{same_free}
 use Rattle.past_state.proofs.RowLemmas.{row_binds}
 
 -- ---- window by window

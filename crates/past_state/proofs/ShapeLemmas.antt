@@ -1,8 +1,8 @@
 -- Rows that can be kept, and one more behind the last of them.
-use Rattle.std.proofs.Common.{◌≡◌, ◌∙◌, ◌↔◌, ◌⊎◌, inl, inr, ⊎_elim, ℕ, suc, ◌+◌, ◌-◌, ◌<◌, ◌≤◌, List, [], ◌∷◌, ◌++◌, append_assoc, get_or, length, map, take, All, Contains, Option, None, Some, refl, sym, ap, subst, arith}
+use Rattle.std.proofs.Common.{◌≡◌, ◌∙◌, ◌↔◌, ◌⊎◌, inl, inr, ⊎_elim, ℕ, suc, ◌+◌, ◌-◌, ◌<◌, ◌≤◌, List, [], ◌∷◌, ◌++◌, append_assoc, get_or, length, map, All, Contains, Option, None, Some, refl, sym, ap, subst, arith}
 use Rattle.std.specs.Prelude.{slice_get}
 use Rattle.std.specs.Cmp.{tied_itself}
-use Rattle.std.specs.declared.cmp.Ordering.TheVariants.{Less, Equal, Greater}
+use Rattle.std.specs.declared.cmp.Ordering.TheVariants.{Less, Greater}
 use Rattle.std.proofs.lemmas.List.Elements.{All-contains, Contains-append_cases, Contains-append_left, Contains-append_right}
 use Rattle.std.specs.Option.{option_map}
 use Rattle.std.proofs.lemmas.List.{length-map, map-append}
@@ -12,6 +12,7 @@ use Rattle.enf_value.specs.declared.values.Value.{Value}
 use Rattle.enf_value.specs.ListLaws.{there_from_get}
 use Rattle.enf_value.specs.declared.terms.VarId.{VarId}
 use Rattle.enf_formula.specs.Formulas.{Formula, Not, Implies, Prev, Once, Historically, Since}
+use Rattle.enf_formula.specs.FreeLaws.{same_free}
 use Rattle.enf_formula.specs.FreeVariables.{AreFreeVariables}
 use Rattle.monitorable_guard.specs.Safety.{denial}
 use Rattle.valuations.specs.Columns.{here, none_in_nil}
@@ -26,7 +27,6 @@ use Rattle.past_state.specs.Operators.{all_operators, operators}
 use Rattle.past_state.specs.Shapes.{AreOfOne, CanFollow, ComesBehind, FitsIn, HasItsColumns, IsOther, Joins, JoinsBy, numbered_operators, operator_of}
 use Rattle.past_state.specs.declared.kept.KeptRow.{KeptRow}
 use Rattle.past_state.specs.declared.shapes.WindowShape.{WindowShape}
-use Rattle.past_state.proofs.ColumnLemmas.{same_free}
 use Rattle.past_state.proofs.RestoringLemmas.{all_of, only}
 
 -- ---- the order of rows

@@ -1,12 +1,12 @@
 -- Pending instances as entries.
-use Rattle.std.proofs.Common.{◌≡◌, ℕ, suc, ◌+◌, List, [], ◌∷◌, ◌++◌, refl, sym, ap, subst, ◌∙◌, arith, length, map}
+use Rattle.std.proofs.Common.{◌≡◌, ℕ, suc, ◌+◌, ◌<◌, List, [], ◌∷◌, ◌++◌, Contains, ⊎_elim, refl, sym, ap, subst, ◌∙◌, arith, get_or, length, map}
 use Rattle.std.specs.List.{AllByRecursion}
 use Rattle.std.proofs.lemmas.List.Sums.{sum_by-append}
-use Rattle.enf_value.specs.ListLaws.{AllByRecursion-append, AllByRecursion-of_append}
+use Rattle.enf_value.specs.ListLaws.{AllByRecursion-append, AllByRecursion-of_append, first_or_later, here, later, none_in_nil}
 use Rattle.plan_terms.specs.Plans.{Plan}
-use Rattle.sleepers.specs.Entries.{HasOneMore, places}
+use Rattle.sleepers.specs.Entries.{ArePlaced, HasOneMore, IsFree, places}
 use Rattle.sleepers.specs.EntryLaws.{fewer_placed}
-use Rattle.sleepers.specs.Order.{Place, places_from, beginning}
+use Rattle.sleepers.specs.Order.{IsBefore, Place, places_from, beginning}
 use Rattle.sleepers.specs.Steps.{PutsIn, TakesOut}
 use Rattle.sleepers.specs.declared.entries.Entry.{Entry}
 use Rattle.obligations.specs.Waiting.{count_due}
@@ -24,6 +24,10 @@ module _ (plans : List Plan) (place : Place) (number : ℕ) where
   entries_more k (z ∷ xs) x n is =
       let on : n ≡ suc k + length xs = omega (arith, is) in
       ap (λ l. entry_at plans (place ++ beginning number k ∷ []) z ∷ l) (entries_more (suc k) xs x n on)
+
+  pub none_from : (k : ℕ) (xs : List Instance) → length xs ≡ 0 → entries_from plans place number k xs ≡ []
+  none_from k [] none = refl
+  none_from k (x ∷ xs) none = absurd (omega (arith, none))
 
   pub entries_items : (k : ℕ) (xs : List Instance) → items_of (entries_from plans place number k xs) ≡ xs
   entries_items k [] = refl
@@ -83,7 +87,42 @@ pub takes_append : (xs ys all mid left : List (Entry Instance)) → TakesOut xs 
 takes_append [] ys all mid left one two = subst (λ (l : List (Entry Instance)). TakesOut ys l left) one two
 takes_append (x ∷ xs) ys all mid left one two = (one.0, one.1, takes_append xs ys one.0 mid left one.2 two)
 
+pub puts_none : (more all : List (Entry Instance)) → length more ≡ 0 → PutsIn more all all
+puts_none [] all none = refl
+puts_none (x ∷ more) all none = absurd (omega (arith, none))
+
 pub puts_more : (xs : List (Entry Instance)) (x : Entry Instance) (all mid grown : List (Entry Instance)) → PutsIn xs all mid → HasOneMore x mid grown
     → PutsIn (xs ++ x ∷ []) all grown
 puts_more [] x all mid grown one more = (grown, subst (λ (l : List (Entry Instance)). HasOneMore x l grown) one more, refl)
 puts_more (z ∷ xs) x all mid grown one more = (one.0, one.1, puts_more xs x one.0 mid grown one.2 more)
+
+-- ---- entries that are put in at the first beginning, from the last to the first
+
+module _ (plans : List Plan) where
+  -- none of them comes at an earlier place
+  pub free_below : (j k : ℕ) (xs : List Instance) → j < k → IsFree (beginning 0 j ∷ []) (entries_from plans [] 0 k xs)
+  free_below j k [] less there = none_in_nil (beginning 0 j ∷ []) there
+  free_below j k (x ∷ xs) less there =
+      ⊎_elim (λ same. let at = ap (λ (p : Place). (get_or p 0 (beginning 0 j)).among) same in omega (arith, at, less)) (free_below j (suc k) xs (omega (arith, less)))
+      (first_or_later (beginning 0 j ∷ []) (beginning 0 k ∷ []) (places (entries_from plans [] 0 (suc k) xs)) there)
+
+  at_middle : (front back : List (Entry Instance)) (e : Entry Instance) → Contains (places (front ++ e ∷ back)) e.place
+  at_middle [] back e = here e.place (places back)
+  at_middle (f ∷ front) back e = later e.place f.place (places (front ++ e ∷ back)) (at_middle front back e)
+
+  -- what comes at an earlier place is the first
+  pub put_first : (n : ℕ) (x : Instance) (xs : List Instance) (fewer more : List (Entry Instance)) → fewer ≡ entries_from plans [] 0 (suc n) xs
+      → HasOneMore (entry_at plans (beginning 0 n ∷ []) x) fewer more → more ≡ entries_from plans [] 0 n (x ∷ xs)
+  put_first n x xs fewer more is one = one.more_is ∙ by one.front xs (sym is ∙ one.fewer_is) (subst ArePlaced one.more_is one.placed)
+    where
+      entry : Entry Instance
+      entry = entry_at plans (beginning 0 n ∷ []) x
+
+      by : (front : List (Entry Instance)) (ys : List Instance) → entries_from plans [] 0 (suc n) ys ≡ front ++ one.back → ArePlaced (front ++ entry ∷ one.back)
+          → front ++ entry ∷ one.back ≡ entries_from plans [] 0 n (x ∷ ys)
+      by [] ys are placed = ap (λ l. entry ∷ l) (sym are)
+      by (f ∷ front) [] are placed = absurd (omega (arith, ap length are))
+      by (f ∷ front) (y ∷ ys) are placed =
+          let first : beginning 0 (suc n) ∷ [] ≡ f.place = ap (λ l. (get_or l 0 f).place) are in
+          let before : IsBefore (beginning 0 (suc n) ∷ []) (beginning 0 n ∷ []) = subst (λ p. IsBefore p (beginning 0 n ∷ [])) (sym first) (placed.0 (beginning 0 n ∷ []) (at_middle front one.back entry)) in
+          absurd (⊎_elim (λ b. ⊎_elim (λ less. omega (arith, less)) (λ both. let less = both.1 in omega (arith, less)) b) (λ both. both.1) before)

@@ -1,5 +1,5 @@
 -- What was pending, behind a step.
-use Rattle.std.proofs.Common.{◌≡◌, ℕ, suc, ◌+◌, ◌-◌, ◌<◌, ◌≤◌, ◌^◌, ◌==◌, Bool, true, false, cond, List, [], ◌∷◌, ◌++◌, Contains, ◌⊎◌, inl, inr, ⊎_elim, refl, sym, ap, subst, subst₂, ◌∙◌, arith, length, map, drop, get_or, Option, None}
+use Rattle.std.proofs.Common.{◌≡◌, ℕ, suc, ◌+◌, ◌-◌, ◌<◌, ◌≤◌, ◌^◌, ◌==◌, Bool, true, false, cond, List, [], ◌∷◌, ◌++◌, Contains, ◌⊎◌, inl, inr, ⊎_elim, refl, sym, ap, subst, ◌∙◌, arith, length, map, drop, get_or, Option, None}
 use Rattle.std.specs.List.{AllByRecursion}
 use Rattle.std.proofs.lemmas.Bool.{and_right, ne_eqb}
 use Rattle.std.proofs.lemmas.List.{append-nil}
@@ -311,34 +311,3 @@ module _ (now : Now) (plans : List Plan) (inserted : Bool) (n : ℕ) (all left m
             carried.by_roots trace is,
             grown_items,
           )
-
--- ---- a list that is taken up
-
-module _ (plans : List Plan) (list : List Instance) where
-  abbrev listed : List (Entry Instance)
-  listed = entries_from plans [] 0 0 list
-
-  listed_step : IsStep 0 0 (IsAsleep [] 0) [] [] [] listed
-  listed_step = record {
-    placed = tt;
-    made = tt;
-    looked_at = record { once = tt; without = λ x there. absurd (none_in_nil x there); others = λ x there. absurd (none_in_nil x there) };
-    go_on = tt;
-    taken_out = refl;
-    first_beginning = entries_places plans [] 0 0 list;
-  }
-
-  pub listed_can : StepsCanPutIn Instance → (more all : List (Entry Instance)) → more ≡ listed → all ≡ [] → CanPutIn more all
-  listed_can law more all is none = subst₂ CanPutIn (sym is) (sym none) (law [] 0 0 0 [] [] [] listed listed_step)
-
-  pub listed_are : StepsGoInOrder Instance → (more all grown : List (Entry Instance)) → more ≡ listed → all ≡ [] → PutsIn more all grown → grown ≡ listed
-  listed_are law more all grown is none puts =
-      let order = law [] 0 0 0 [] [] [] listed grown listed_step (subst₂ (λ (m a : List (Entry Instance)). PutsIn m a grown) is none puts) in
-      order.are ∙ by order.every order.entries
-    where
-      by : (every : List (Outcome Instance)) → map (λ (o : Outcome Instance). o.entry) every ≡ [] → behind every ++ listed ≡ listed
-      by [] none = refl
-      by (o ∷ every) none = absurd (omega (arith, ap length none))
-
-  pub listed_fit : AllByRecursion (FitsStep 1) listed
-  listed_fit = fit_from plans 1 0 0 [] list (λ j. made_now 0 1 (2 ^ 64 - 1 - 1) j (omega arith))

@@ -41,7 +41,7 @@ fn place_behind(alloc: Global, place: &[Beginning], beginning: Beginning) -> Res
 }
 
 // The entry of an instance that goes on from a place at a beginning.
-fn entry_behind(
+pub fn entry_behind(
     alloc: Global,
     plans: &[Plan],
     place: &[Beginning],
@@ -72,6 +72,9 @@ pub fn put_begun(
     ensures { OnOk result (into.new.items
         ≡ into.old.items ++ entries_from (map plan_of plans.now) place.now number 0 instances.items) }
 {
+    if instances.is_empty() {
+        return Ok(());
+    }
     let mut among = 0;
     for instance in instances {
         let beginning = Beginning { number, among };

@@ -13,9 +13,9 @@ ghost use Rattle.obligations.specs.Waiting.{CanAskOf, CanAskRoots, IsLeastOf};
 ghost use Rattle.obligations.specs.declared.now.TheConstants.{MOST_TIME};
 ghost use Rattle.pending.specs.Listed.{IsKeptFor, SleepsAt};
 
-use crate::entries::{items_in, put_begun};
+use crate::entries::items_in;
 use crate::laws::sleepers_stay;
-use crate::walking::{carry, put_each};
+use crate::walking::{carry, put_each, put_listed};
 use deadline_queue::DeadlineQueue;
 use enf_value::Event;
 use enf_value::items::Duplicate;
@@ -77,12 +77,9 @@ impl Pending {
         ensures instances { IfOk result (λ p. p.instances ≡ list) }
         ensures kept { IfOk result (IsKeptFor (map plan_of plans.now)) }
     {
-        steps_go_in_order::<Instance>();
-        let mut more = Vec::new(alloc);
-        put_begun(alloc, plans, &[], 0, list.into_vec(), &mut more)?;
         let mut sleepers = Sleepers::new(alloc);
         let mut deadlines = DeadlineQueue::new(alloc);
-        put_each(plans, more, &mut sleepers, &mut deadlines)?;
+        put_listed(alloc, plans, list, &mut sleepers, &mut deadlines)?;
         Ok(Pending {
             sleepers,
             deadlines,

@@ -26,11 +26,30 @@ pub fn patterns_of(alloc: Global, node: &Plan, v: &Frame<'_>) -> Result<Option<P
     match node {
         Plan::Eventually { body, .. } => met_by(alloc, body, v),
         Plan::Always { body, .. } => missed_by(alloc, body, v),
-        Plan::Until { left, right, .. } => {
-            of_both(met_by(alloc, right, v)?, missed_by(alloc, left, v)?)
-        }
+        Plan::Until { left, right, .. } => with_missed(alloc, met_by(alloc, right, v)?, left, v),
         _ => Ok(None),
     }
+}
+
+// Patterns and those of which the plan misses something, where both have some. That of an atom goes straight behind.
+fn with_missed(
+    alloc: Global,
+    patterns: Option<Patterns>,
+    plan: &Plan,
+    v: &Frame<'_>,
+) -> Result<Option<Patterns>, NoMemory>
+    ensures { IfOk result (λ found. found
+        ≡ waking.of_both patterns (waking.missed_by (bound_in v.now) (plan_of plan.now))) }
+{
+    let Plan::Suppress { name, terms, .. } = plan else {
+        return of_both(patterns, missed_by(alloc, plan, v)?);
+    };
+    let Some(patterns) = patterns else {
+        return Ok(None);
+    };
+    let mut all = patterns.into_vec();
+    all.push(pattern_of(alloc, *name, terms, v)?)?;
+    Ok(Some(Items::from_vec(all)))
 }
 
 // Without an event of these the plan misses something.
@@ -124,9 +143,22 @@ fn one_pattern(
 ) -> Result<Option<Patterns>, NoMemory>
     ensures { IfOk result (λ found. found ≡ waking.of_one (bound_in v.now) name terms.now) }
 {
+    // room for that of another side
+    let mut patterns = Vec::with_capacity(alloc, 2)?;
+    patterns.push(pattern_of(alloc, name, terms, v)?)?;
+    Ok(Some(Items::from_vec(patterns)))
+}
+
+fn pattern_of(
+    alloc: Global,
+    name: NameId,
+    terms: &Terms,
+    v: &Frame<'_>,
+) -> Result<Pattern, NoMemory>
+    ensures { IfOk result (λ pattern. pattern ≡ waking.pattern_of (bound_in v.now) name terms.now) }
+{
     let args = fixed_in(alloc, terms.as_slice(), v)?;
-    let pattern = Pattern { name, args };
-    Ok(Some(Items::from_vec(vec![in alloc; pattern]?)))
+    Ok(Pattern { name, args })
 }
 
 // The value of each term that has one.

@@ -9,20 +9,21 @@ ghost use Rattle.obligations.specs.Traces.{PlansStand};
 ghost use Rattle.obligations.specs.Waiting.{CanAskOf, CanAskRoots, count_due};
 ghost use Rattle.obligations.specs.declared.now.TheConstants.{MOST_TIME};
 ghost use Rattle.pending.specs.Carried.{Becomes, Carries, Walks};
-ghost use Rattle.pending.specs.Entries.{AreKept, FitsStep, items_of};
+ghost use Rattle.pending.specs.Entries.{AreKept, FitsStep, entries_from, items_of};
 ghost use Rattle.sleepers.specs.Entries.{HasOneMore, IsAllBut, IsAsleep, IsFree};
 ghost use Rattle.sleepers.specs.Steps.{CanPutIn, PutsIn};
 ghost use Rattle.sleepers.specs.declared.entries.Entry.{Entry as AnyEntry};
 ghost use Rattle.obligations.specs.declared.instances.Instance.{Instance as AnyInstance};
 
-use crate::entries::put_begun;
+use crate::entries::{entry_behind, put_begun};
 use deadline_queue::DeadlineQueue;
 use enf_value::memory::NoMemory;
 use obligations::carrying::{begun_by_roots, outcome_of};
 use obligations::deadlines::{hold, let_go};
+use obligations::instances::Instances;
 use obligations::{Instance, Now};
 use plan_terms::Plan;
-use sleepers::{Entry, Sleepers};
+use sleepers::{Beginning, Entry, Sleepers};
 use std::alloc::Global;
 
 // What is awake at a step becomes what it becomes: those that go are taken out, and what is begun is answered, for them
@@ -182,7 +183,38 @@ pub fn put_each(
         ≡ count_due (map plan_of plans.now) (items_of sleepers.new.entries) deadline) }
     ensures queue { IsQueue deadlines.new }
 {
+    if more.is_empty() {
+        return Ok(());
+    }
     for entry in more {
+        put_one(plans, entry, sleepers, deadlines)?;
+    }
+    Ok(())
+}
+
+// Puts the instances of a list in as begun at the first beginning, and holds their deadlines. They go in from the last
+// to the first: what was begun later ends later mostly, and a tree finds what comes before all that it has at once.
+pub fn put_listed(
+    alloc: Global,
+    plans: &[Plan],
+    list: Instances,
+    sleepers: &mut Sleepers<Instance>,
+    deadlines: &mut DeadlineQueue,
+) -> Result<(), NoMemory>
+    requires none { sleepers.old.entries ≡ [] }
+    requires queue { IsQueue deadlines.old }
+    requires held { (deadline : ℕ) → held deadlines.old deadline
+        ≡ count_due (map plan_of plans.now) (items_of sleepers.old.entries) deadline }
+    ensures entries { OnOk result (sleepers.new.entries ≡ entries_from (map plan_of plans.now) [] 0 0 list) }
+    ensures kept { OnOk result (AreKept 1 sleepers.new.entries) }
+    ensures held { OnOk result ((deadline : ℕ) → held deadlines.new deadline
+        ≡ count_due (map plan_of plans.now) (items_of sleepers.new.entries) deadline) }
+    ensures queue { IsQueue deadlines.new }
+{
+    let mut instances = list.into_vec();
+    while let Some(instance) = instances.pop() {
+        let among = instances.len() as u64;
+        let entry = entry_behind(alloc, plans, &[], Beginning { number: 0, among }, instance)?;
         put_one(plans, entry, sleepers, deadlines)?;
     }
     Ok(())

@@ -10,7 +10,7 @@ use Rattle.enf_formula.specs.Scopes.{AreNew}
 use Rattle.monitorable_guard.specs.Evaluation.{AreOpen}
 use Rattle.monitorable_guard.specs.Safety.{FreeWithin}
 use Rattle.plan_terms.specs.Columns.{ColumnsAreVariables}
-use Rattle.plan_terms.specs.RisingLaws.{rising_behind, same_rising}
+use Rattle.enf_value.specs.RisingLaws.{rising_behind, same_rising}
 
 own : (test : Formula) (scope xs columns : List VarId) → AreNew scope xs → FreeWithin test (Contains (scope ++ xs))
     → ((x : VarId) → Contains xs x → IsFree x test) → AreOpen test scope columns → columns ≡ xs

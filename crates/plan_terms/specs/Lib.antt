@@ -12,6 +12,5 @@ pub mod Names
 pub mod WellFormed
 pub mod Standing
 pub mod Columns
-pub mod RisingLaws
 pub mod ScopeLaws
 pub mod Cases

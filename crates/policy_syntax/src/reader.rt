@@ -163,9 +163,8 @@ fn infix(parts: &mut Parts<'_>, depth: Depth) -> Result<SyntaxFormula, SyntaxRef
     let place = parts.take_node(depth.level)?;
     let interval = parts.interval(depth)?;
     let right = unary(parts, depth.deeper())?;
-    let left = boxed(parts.alloc, left)?;
-    let right = boxed(parts.alloc, right)?;
-    Ok(with_infix(operator, place, interval, left, right))
+    let formula = joined(parts.alloc, operator, place, interval, left, right)?;
+    Ok(formula)
 }
 
 #[cycle(formulas)]
@@ -297,6 +296,23 @@ fn constant(value: bool, place: Place) -> SyntaxFormula
     } else {
         SyntaxFormula::False(place)
     }
+}
+
+// The formula of both sides, each in memory of its own.
+fn joined(
+    alloc: Global,
+    operator: Infix,
+    place: Place,
+    interval: Interval,
+    left: SyntaxFormula,
+    right: SyntaxFormula,
+) -> Result<SyntaxFormula, NoMemory>
+    ensures { IfOk result (λ f. formula_of f
+        ≡ infix_tree operator place interval (formula_of left) (formula_of right)) }
+{
+    let left = boxed(alloc, left)?;
+    let right = boxed(alloc, right)?;
+    Ok(with_infix(operator, place, interval, left, right))
 }
 
 fn with_infix(

@@ -1,5 +1,5 @@
 -- Lines that follow one another.
-use Rattle.std.proofs.Common.{◌≡◌, ◌++◌, ◌∷◌, ◌-◌, [], suc, ℕ, Result, Err, IfErr, List, Option, Some, None, IsTrue, length, slice_get, refl, sym, ap, subst, ◌∙◌, arith, append_assoc}
+use Rattle.std.proofs.Common.{◌≡◌, ◌++◌, ◌∷◌, [], suc, ℕ, Result, Err, IfErr, List, Option, Some, IsTrue, refl, sym, ap, subst, ◌∙◌, arith, append_assoc}
 use Rattle.std.proofs.lemmas.List.{append-nil}
 use Rattle.std.proofs.lemmas.List.Concat.{flat_map-append}
 use Rattle.save_codec.specs.Forms.{Follow, follows, last_line}
@@ -8,15 +8,6 @@ use Rattle.save_codec.specs.Reading.{IsFault, IsStop, IsSyntax}
 use Rattle.save_codec.specs.declared.refusals.StateRefusal.{StateRefusal}
 use Rattle.save_codec.specs.declared.refusals.StateRefusal.TheVariants.{Syntax, OtherPolicy, Inconsistent, NoMemory}
 use Rattle.save_codec.specs.declared.lines.Line.{Line}
-
-pub last_line_of : (before : Line) (lines : List Line) → last_line (Some before) lines ≡ slice_get (before ∷ lines) (length lines)
-last_line_of before [] = refl
-last_line_of before (line ∷ lines) = last_line_of line lines
-
-pub last_line_is : (lines : List Line) → slice_get lines (length lines - 1) ≡ last_line None lines
-last_line_is [] = refl
-last_line_is (line ∷ lines) =
-    ap (slice_get (line ∷ lines)) (omega arith) ∙ sym (last_line_of line lines)
 
 pub last_line_behind : (before : Option Line) (lines : List Line) (line : Line) → last_line before (lines ++ line ∷ []) ≡ Some line
 last_line_behind before [] line = refl

@@ -8,6 +8,7 @@ use Rattle.std.proofs.lemmas.Option.{get_or_from_slice_get, slice_get-map, slice
 use Rattle.enf_value.specs.declared.terms.VarId.{VarId}
 use Rattle.enf_value.specs.declared.values.Value.{Value}
 use Rattle.enf_formula.specs.Formulas.{Formula}
+use Rattle.enf_formula.specs.FreeLaws.{same_free}
 use Rattle.enf_formula.specs.FreeVariables.{AreFreeVariables}
 use Rattle.signature.specs.declared.entries.Sort.{Sort}
 use Rattle.past_state.specs.Bounds.{AreWithinBounds}
@@ -24,7 +25,6 @@ use Rattle.save_codec.specs.declared.judging.Fitting.{Fitting}
 use Rattle.save_codec.specs.declared.judging.Judge.{Judge}
 use Rattle.save_codec.specs.declared.parts.RowLine.{RowLine}
 use Rattle.save_codec.specs.declared.sorts.Known.{Known}
-use Rattle.save_codec.proofs.ColumnLemmas.{same_free}
 use Rattle.save_codec.proofs.KnowLemmas.{window_known}
 
 pub fit_as : (P Q : VarId → Sort → Type 0) → ((x : VarId) (sort : Sort) → Q x sort → P x sort) → (xs : List VarId) (values : List Value) → FitTold P xs values → FitTold Q xs values

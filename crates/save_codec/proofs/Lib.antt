@@ -1,5 +1,4 @@
 pub mod BoundLemmas
-pub mod ColumnLemmas
 pub mod FormLemmas
 pub mod Fronts
 pub mod InstanceLemmas
@@ -9,7 +8,9 @@ pub mod LineTexts
 pub mod OneAnswer
 pub mod OneText
 pub mod PartLemmas
+pub mod PlainTexts
 pub mod PrintLemmas
+pub mod ReadLemmas
 pub mod ResumeLemmas
 pub mod SavedParts
 pub mod SavedTexts

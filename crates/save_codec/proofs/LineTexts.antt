@@ -1,15 +1,20 @@
 -- The lines by their parts.
-use Rattle.std.proofs.Common.{◌≡◌, ◌++◌, ◌∷◌, [], ℕ, List, Option, Some, None, codes, decimal, slice_index, refl, sym, ap, ◌∙◌, append_assoc}
+use Rattle.std.proofs.Common.{◌≡◌, ◌++◌, ◌∷◌, ℕ, List, Option, Some, None, codes, decimal, slice_index, refl, sym, ap, ◌∙◌, append_assoc}
 use Rattle.enf_value.specs.declared.values.Value.{Value}
-use Rattle.save_codec.specs.Lines.{IsSmallTime, due_text, last_text, line_text, spaced, values_text}
-use Rattle.save_codec.specs.declared.lines.Line.TheVariants.{Row, Due}
+use Rattle.save_codec.specs.Lines.{IsSmallTime, due_text, line_text, spaced, values_text}
+use Rattle.save_codec.specs.declared.lines.Line.TheVariants.{Last, Row, Due}
 use Rattle.save_codec.proofs.Fronts.{cancel, decimal_is_no_minus}
 
-pub no_dash : (last : Option ℕ) (rest left behind : List ℕ) → IsSmallTime last → left ≡ last_text last ++ rest → left ≡ 32 ∷ 45 ∷ behind → None ≡ last
+pub no_dash : (last : Option ℕ) (rest left behind : List ℕ) → IsSmallTime last → left ≡ line_text (Last last) ++ rest → left ≡ codes "last -\n" ++ behind → None ≡ last
 no_dash None rest left behind small e dash = refl
 no_dash (Some time) rest left behind small e dash =
-    let after : decimal time ++ rest ≡ 45 ∷ behind = cancel (32 ∷ []) (decimal time ++ rest) (45 ∷ behind) (sym e ∙ dash) in
-    absurd (decimal_is_no_minus time rest (decimal time ++ rest) small refl (ap (λ l. slice_index l 0) after))
+    let text : decimal time ++ (10 ∷ rest) ≡ 45 ∷ 10 ∷ behind = cancel (codes "last ") (decimal time ++ (10 ∷ rest)) (45 ∷ 10 ∷ behind) (ap (λ l. codes "last " ++ l) (sym (append_assoc (decimal time) (codes "\n") rest)) ∙ sym e ∙ dash) in
+    absurd (decimal_is_no_minus time (10 ∷ rest) (decimal time ++ (10 ∷ rest)) small refl (ap (λ l. slice_index l 0) text))
+
+-- a word, a number and the end of the line
+pub single_split : (word : List ℕ) (number : ℕ) (rest : List ℕ) → (word ++ (spaced number ++ codes "\n")) ++ rest ≡ word ++ (spaced number ++ (codes "\n" ++ rest))
+single_split word number rest =
+    append_assoc word (spaced number ++ codes "\n") rest ∙ ap (λ l. word ++ l) (append_assoc (spaced number) (codes "\n") rest)
 
 pub row_split : (window time : ℕ) (values : List Value) (rest : List ℕ)
     → line_text (Row window time values) ++ rest ≡ codes "row" ++ (spaced window ++ (spaced time ++ (values_text values ++ (codes "\n" ++ rest))))

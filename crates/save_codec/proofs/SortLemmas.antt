@@ -6,11 +6,12 @@ use Rattle.enf_value.specs.declared.terms.Term.TheVariants.{Var}
 use Rattle.enf_value.specs.declared.terms.VarId.{VarId}
 use Rattle.enf_value.specs.declared.values.Value.{Value}
 use Rattle.enf_value.specs.declared.values.Value.TheVariants as values
+use Rattle.signature.specs.Columns.{columns}
 use Rattle.signature.specs.declared.entries.NameEntry.{NameEntry}
 use Rattle.signature.specs.declared.entries.Sort.{Sort}
 use Rattle.signature.specs.declared.entries.Sort.TheVariants.{Int, Text}
 use Rattle.save_codec.specs.Known.{HasBesides, Knows, Learns}
-use Rattle.save_codec.specs.Sorts.{AtomTells, FitsTold, TermTells, TermsTell, columns_of}
+use Rattle.save_codec.specs.Sorts.{AtomTells, FitsTold, TermTells, TermsTell}
 use Rattle.save_codec.specs.declared.sorts.Known.{Known}
 
 pub on_ok_from : {T E P Q : Type 0} (r : Result T E) → (P → Q) → OnOk r P → OnOk r Q
@@ -98,4 +99,4 @@ no_columns (term ∷ terms) x sort told = told
 -- a name without an entry tells nothing
 pub no_entry : (entries : List NameEntry) (name : NameId) (terms : List Term) → slice_get entries name.0 ≡ None → (x : VarId) (sort : Sort) → AtomTells entries name terms x sort → ⊥
 no_entry entries name terms none x sort told =
-    no_columns terms x sort (subst (λ (o : Option NameEntry). TermsTell terms (columns_of o) x sort) none told)
+    no_columns terms x sort (subst (λ (o : Option NameEntry). TermsTell terms (columns o) x sort) none told)

@@ -4,6 +4,7 @@ use Rattle.std.specs.List.{AllByRecursion}
 use Rattle.std.proofs.lemmas.List.Elements.{All-contains}
 use Rattle.enf_value.specs.ListLaws.{here, later}
 use Rattle.enf_value.specs.declared.terms.VarId.{VarId}
+use Rattle.enf_formula.specs.FreeLaws.{same_free}
 use Rattle.plan_terms.specs.ScopeLaws.{FoundHasRisingScope}
 use Rattle.plan_terms.specs.Scopes.{IsScoped}
 use Rattle.past_state.specs.Bounds.{AreWithinBounds}
@@ -22,7 +23,6 @@ use Rattle.save_codec.specs.declared.lines.Line.TheVariants.{Clock, Last, Positi
 use Rattle.save_codec.specs.declared.parts.DueLine.{DueLine}
 use Rattle.save_codec.specs.declared.parts.RowLine.{RowLine}
 use Rattle.save_codec.specs.declared.snapshots.Snapshot.{Snapshot}
-use Rattle.save_codec.proofs.ColumnLemmas.{same_free}
 use Rattle.save_codec.proofs.InstanceLemmas.{scope_rises, wait_same}
 use Rattle.save_codec.proofs.SavedTexts.{fits_scope, values_there}
 use Rattle.save_codec.proofs.StateLemmas.{keep_is_within, whole}

@@ -1,6 +1,7 @@
 -- What is left of a list of values of which some were read.
 use Rattle.std.proofs.Common.{◌≡◌, ◌++◌, ◌∷◌, [], ℕ, List, refl, sym, ap, subst, ◌∙◌, arith, append_assoc}
 use Rattle.std.proofs.lemmas.List.{append-nil}
+use Rattle.std.proofs.lemmas.List.Concat.{flat_map-append}
 use Rattle.std.specs.List.{AllByRecursion}
 use Rattle.enf_value.specs.Spelling.{spelled}
 use Rattle.enf_value.specs.ValueTokens.{EndsBefore, IsNoDigit, IsValue}
@@ -73,6 +74,13 @@ one_more text left behind after read row value are space put again = λ values r
     let n = next_left text left behind read are space values rest fit ends e in
     let a = again n.value (values_text n.others ++ rest) n.fits n.ends n.there in
     (n.others, n.are ∙ ap (λ v. read ++ v ∷ n.others) (sym a.0) ∙ sym (append_assoc read (value ∷ []) n.others) ∙ ap (λ r. r ++ n.others) (sym put), n.more, a.1)
+
+pub values_on : (text left behind after : List ℕ) (read row : List Value) (value : Value) → text ≡ values_text read ++ left → left ≡ 32 ∷ behind → behind ≡ spelled value ++ after → row ≡ read ++ value ∷ [] → text ≡ values_text row ++ after
+values_on text left behind after read row value is space there put =
+    is ∙ ap (λ l. values_text read ++ l) (space ∙ ap (λ l. 32 ∷ l) there)
+    ∙ sym (append_assoc (values_text read) (32 ∷ spelled value) after)
+    ∙ ap (λ l. l ++ after) (ap (λ l. values_text read ++ l) (sym (append-nil (32 ∷ spelled value)))
+    ∙ sym (flat_map-append (λ (v : Value). 32 ∷ spelled v) read (value ∷ [])) ∙ ap values_text (sym put))
 
 -- none is left
 pub none_left : (text left : List ℕ) (read : List Value) → AreLeft text read left → ((behind : List ℕ) → left ≡ 32 ∷ behind → ⊥)

@@ -3,6 +3,7 @@ use Rattle.std.specs.Prelude.{◌≡◌, ◌↔◌, ◌⊎◌, ℕ, ◌+◌, ◌
 use Rattle.std.specs.Prelude.{false, List, [], ◌∷◌, ◌++◌, Option}
 use Rattle.std.specs.Prelude.{None, Some, All, map, length, take}
 use Rattle.std.specs.List.{AllByRecursion}
+use Rattle.std.specs.Option.{option_map}
 use Rattle.enf_value.specs.declared.terms.VarId.{VarId}
 use Rattle.enf_formula.specs.Formulas.{Formula}
 use Rattle.signature.specs.declared.entries.NameEntry.{NameEntry}
@@ -14,12 +15,14 @@ use Rattle.past_state.specs.LastTimes.{IsFrom}
 use Rattle.past_state.specs.Operators.{all_operators}
 use Rattle.past_state.specs.Shapes.{HasItsColumns, numbered, numbered_operators, operator_of}
 use Rattle.obligations.specs.Bounds.{CanBePending}
+use Rattle.obligations.specs.Scopes.{future_in, node_with_scope}
 use Rattle.obligations.specs.declared.instances.Instance.{Instance}
 use Rattle.save_codec.specs.Bounds.{DueFits, IsFirstUnfit, IsWithin, RowFits, Setting, kept_of}
 use Rattle.save_codec.specs.Known.{Knows}
 use Rattle.save_codec.specs.LineParts.{line_of_due}
 use Rattle.save_codec.specs.Saved.{due_line, lines_of}
 use Rattle.save_codec.specs.Sorts.{GuardTells, PlanTells}
+use Rattle.save_codec.specs.declared.instances.Named.{Named}
 use Rattle.save_codec.specs.declared.judging.Fitting.{Fitting}
 use Rattle.save_codec.specs.declared.judging.Judge.{Judge}
 use Rattle.save_codec.specs.declared.judging.Unfit.{Unfit}
@@ -95,6 +98,10 @@ BreaksAt Fit xs place = (place < length xs) × Fit (take place xs) × (Fit (take
 abbrev pub IsUnfit : {X : Type 0} → (List X → Type 0) → List X → Unfit → Type 0
 IsUnfit Fit xs (At place) = BreaksAt Fit xs place
 IsUnfit Fit xs NoMemory = Unit {0}
+
+-- what the numbers name
+abbrev pub IsNamed : Setting → Named → Type 0
+IsNamed s n = option_map node_with_scope n.found ≡ future_in s.plans n.rule n.node
 
 -- the instance of a line
 pub record IsInstanceOf (s : Setting) (clock position : ℕ) (d : DueLine) (i : Instance) : Type 0 where

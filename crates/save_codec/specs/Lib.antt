@@ -4,6 +4,7 @@ pub mod Forms
 pub mod Judged
 pub mod Known
 pub mod Laws
+pub mod LineKinds
 pub mod LineParts
 pub mod Lines
 pub mod Parts

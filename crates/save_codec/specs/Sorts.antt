@@ -1,6 +1,6 @@
 -- The sorts of a rule's variables, as far as its plan tells them.
-use Rattle.std.specs.Prelude.{◌≡◌, ◌⊎◌, ℕ, Bool, false, List, [], ◌∷◌, Option}
-use Rattle.std.specs.Prelude.{None, Some, Contains, IsTrue, nat_eq}
+use Rattle.std.specs.Prelude.{◌≡◌, ◌⊎◌, ℕ, Bool, false, List, [], ◌∷◌}
+use Rattle.std.specs.Prelude.{Contains, IsTrue, nat_eq}
 use Rattle.std.specs.Prelude.{slice_get}
 use Rattle.std.specs.List.{list_any}
 use Rattle.enf_value.specs.declared.events.NameId.{NameId}
@@ -8,25 +8,15 @@ use Rattle.enf_value.specs.declared.terms.Term.{Term}
 use Rattle.enf_value.specs.declared.terms.Term.TheVariants.{Var}
 use Rattle.enf_value.specs.declared.terms.VarId.{VarId}
 use Rattle.enf_value.specs.declared.values.Value.{Value}
-use Rattle.enf_value.specs.declared.values.Value.TheVariants as values
 use Rattle.enf_formula.specs.Formulas.{Formula, True, False, Atom, Equal, Less, AtMost, Not, And, Or, Implies}
 use Rattle.enf_formula.specs.Formulas.{Exists, Forall, Prev, Next, Once, Historically, Since, Eventually, Always}
 use Rattle.enf_formula.specs.Formulas.{Until}
+use Rattle.signature.specs.Columns.{columns, value_sort}
 use Rattle.signature.specs.declared.entries.NameEntry.{NameEntry}
 use Rattle.signature.specs.declared.entries.Sort.{Sort}
 use Rattle.signature.specs.declared.entries.Sort.TheVariants as sorts
 use Rattle.plan_terms.specs.Nodes.{nodes}
 use Rattle.plan_terms.specs.Plans as plans
-
--- the sort of a value
-abbrev pub sort_of : Value → Sort
-sort_of (values.Num number) = sorts.Int
-sort_of (values.Text text) = sorts.Text
-
--- the columns of a name
-abbrev pub columns_of : Option NameEntry → List Sort
-columns_of None = []
-columns_of (Some entry) = entry.sorts
 
 -- the variable is a term that is of this sort
 abbrev pub TermTells : Term → (column : Sort) → VarId → Sort → Type 0
@@ -40,7 +30,7 @@ TermsTell (term ∷ terms) (column ∷ columns) x sort =
     TermTells term column x sort ⊎ TermsTell terms columns x sort
 
 abbrev pub AtomTells : List NameEntry → NameId → List Term → VarId → Sort → Type 0
-AtomTells entries name terms x sort = TermsTell terms (columns_of (slice_get entries name.0)) x sort
+AtomTells entries name terms x sort = TermsTell terms (columns (slice_get entries name.0)) x sort
 
 -- the variable is a side of a comparison of numbers
 abbrev pub SidesTell : Term → Term → VarId → Sort → Type 0
@@ -109,7 +99,7 @@ GuardTells entries all guard x sort =
 
 -- the value has each sort that is told of the variable
 abbrev pub FitsTold : (VarId → Sort → Type 0) → VarId → Value → Type 0
-FitsTold tells x value = (sort : Sort) → tells x sort → sort_of value ≡ sort
+FitsTold tells x value = (sort : Sort) → tells x sort → value_sort value ≡ sort
 
 -- one value for each of the variables, of the sorts that are told
 abbrev pub FitTold : (VarId → Sort → Type 0) → List VarId → List Value → Type 0

@@ -1,22 +1,36 @@
 //! What is left of a text, and the parts that are taken from its front.
-ghost use Rattle.std.specs.Prelude.{◌≡◌, ◌++◌, ◌<◌, ◌≤◌, ℕ, List, IfOk, IfSome, IsTrue, decimal};
-ghost use Rattle.std.specs.Prelude.{length, false, true};
-ghost use Rattle.std.specs.List.{AllByRecursion};
-ghost use Rattle.enf_value.specs.Spelling.{spelled};
+ghost use Rattle.std.specs.Prelude.{◌≡◌, ◌↔◌, ◌++◌, ℕ, List, IfOk, IfSome, IsTrue, decimal};
+ghost use Rattle.std.specs.Prelude.{false, slice_index, true};
+ghost use Rattle.std.specs.List.{AllByRecursion, flat_map};
+ghost use Rattle.enf_value.specs.Spelling.{escaped, quoted, spelled};
 ghost use Rattle.enf_value.specs.ValueTokens.{EndsBefore, IsNoDigit, IsValue};
 ghost use Rattle.enf_value.specs.declared.values.Value.{Value as AnyValue};
 ghost use Rattle.save_codec.specs.Lines.{IsSmall, spaced, values_text};
 ghost use Rattle.save_codec.specs.Parts.{EndsValues, IsRead};
 
 use enf_value::laws::{one_token_at_place, printed_is_token};
-use enf_value::{NoMemory, Row, Value, read_digits, read_value};
-use itoa::Buffer;
+use enf_value::names::ByteKind;
+use enf_value::{NoMemory, Row, Value, print_value, read_digits, read_value};
 use std::alloc::Global;
 
 // What is left of a text.
 #[derive(Drop)]
 pub(crate) struct Cursor<'a> {
     pub rest: &'a [u8],
+}
+
+// Whether digits that end there have no zero in front of others.
+fn is_canonical(digits: &[u8], end: usize) -> bool
+    ensures { IsTrue result ↔ (slice_index digits.now 0 ≡ 48 → end ≡ 1) }
+{
+    end == 1 || digits.first() != Some(&b'0')
+}
+
+// Whether each byte of a text is printed as it is.
+fn is_plain(text: &[u8]) -> bool
+    ensures { IsTrue result → flat_map escaped text.now ≡ text.now }
+{
+    ByteKind::Plain.front_length(text) == text.len()
 }
 
 impl<'a> Cursor<'a> {
@@ -36,7 +50,7 @@ impl<'a> Cursor<'a> {
         }
     }
 
-    // Takes the number that stands next in its canonical form.
+    // Takes the number that stands next, where it has its canonical form.
     pub fn number(&mut self) -> Option<u64>
         ensures told { IfSome result (λ number. IsSmall number
             × (self.old.rest.now ≡ decimal number ++ self.new.rest.now)) }
@@ -45,16 +59,16 @@ impl<'a> Cursor<'a> {
     {
         printed_is_token();
         one_token_at_place();
-        let (number, _) = read_digits(self.rest, 0)?;
-        let mut buffer = Buffer::new();
-        if !self.take(buffer.format(number).as_bytes()) {
+        let (number, end) = read_digits(self.rest, 0)?;
+        if !is_canonical(self.rest, end) {
             return None;
         }
+        self.rest = &self.rest[end..];
         Some(number)
     }
 
     // Takes a space and a number in its canonical form.
-    pub fn counted(&mut self) -> Option<u64>
+    pub fn spaced(&mut self) -> Option<u64>
         ensures told { IfSome result (λ number. IsSmall number
             × (self.old.rest.now ≡ spaced number ++ self.new.rest.now)) }
         ensures again { (number : ℕ) (rest : List ℕ) → IsSmall number → IsNoDigit rest
@@ -66,35 +80,40 @@ impl<'a> Cursor<'a> {
         self.number()
     }
 
-    // Takes the digits that stand next, however their number is printed.
-    fn digits(&mut self) -> Option<u64>
-        ensures told { IfSome result IsSmall }
-        ensures again { (number : ℕ) (rest : List ℕ) → IsSmall number → IsNoDigit rest
-            → self.old.rest.now ≡ decimal number ++ rest → IsRead result self.new.rest.now number rest }
+    // Takes a text between quotes, where each of its bytes is printed as it is.
+    fn quoted(&mut self, text: &[u8]) -> bool
+        ensures taken { IsTrue result → self.old.rest.now ≡ quoted text.now ++ self.new.rest.now }
+        ensures stays { result ≡ false → self.new.rest.now ≡ self.old.rest.now }
     {
-        printed_is_token();
-        one_token_at_place();
-        let (number, end) = read_digits(self.rest, 0)?;
-        self.rest = &self.rest[end..];
-        Some(number)
-    }
-
-    // Takes a space and digits.
-    pub fn spaced(&mut self) -> Option<u64>
-        ensures told { IfSome result IsSmall }
-        ensures again { (number : ℕ) (rest : List ℕ) → IsSmall number → IsNoDigit rest
-            → self.old.rest.now ≡ spaced number ++ rest → IsRead result self.new.rest.now number rest }
-    {
-        if !self.take(b" ") {
-            return None;
+        let mut ahead = Cursor { rest: self.rest };
+        if !is_plain(text) || !ahead.take(b"\"") || !ahead.take(text) || !ahead.take(b"\"") {
+            return false;
         }
-        self.digits()
+        self.rest = ahead.rest;
+        true
     }
 
-    // Takes the value that stands next, in any of its forms.
-    pub fn value(&mut self, alloc: Global) -> Result<Option<Value>, NoMemory>
-        ensures value { IfOk result (λ found. IfSome found IsValue) }
-        ensures left { length self.new.rest.now ≤ length self.old.rest.now }
+    // Takes a value as it is printed. The bytes are room for that, which few values need.
+    fn printed(&mut self, value: &Value, written: &mut Vec<u8>) -> Result<bool, NoMemory>
+        ensures taken { IfOk result (λ taken. IsTrue taken
+            → self.old.rest.now ≡ spelled value.now ++ self.new.rest.now) }
+        ensures again { (rest : List ℕ) → self.old.rest.now ≡ spelled value.now ++ rest
+            → IfOk result (λ taken. (taken ≡ true) × (self.new.rest.now ≡ rest)) }
+    {
+        if let Value::Text(text) = value {
+            if self.quoted(text.bytes()) {
+                return Ok(true);
+            }
+        }
+        written.clear();
+        print_value(value, written)?;
+        Ok(self.take(written.as_slice()))
+    }
+
+    // Takes the value that stands next, where it is spelled as it is printed.
+    pub fn value(&mut self, alloc: Global, written: &mut Vec<u8>) -> Result<Option<Value>, NoMemory>
+        ensures told { IfOk result (λ found. IfSome found (λ value. IsValue value
+            × (self.old.rest.now ≡ spelled value ++ self.new.rest.now))) }
         ensures again { (value : AnyValue) (rest : List ℕ) → IsValue value → EndsBefore value rest
             → self.old.rest.now ≡ spelled value ++ rest
             → IfOk result (λ found. IsRead found self.new.rest.now value rest) }
@@ -102,8 +121,11 @@ impl<'a> Cursor<'a> {
         printed_is_token();
         one_token_at_place();
         match read_value(alloc, self.rest, 0)? {
-            Some((value, end)) => {
-                self.rest = &self.rest[end..];
+            Some((value, _)) => {
+                let taken = self.printed(&value, written)?;
+                if !taken {
+                    return Ok(None);
+                }
                 Ok(Some(value))
             }
             None => Ok(None),
@@ -111,15 +133,16 @@ impl<'a> Cursor<'a> {
     }
 
     // Takes the values that stand next, each behind a space.
-    pub fn values(&mut self, alloc: Global) -> Result<Option<Row>, NoMemory>
-        ensures values { IfOk result (λ found. IfSome found (AllByRecursion IsValue)) }
+    pub fn values(&mut self, alloc: Global, written: &mut Vec<u8>) -> Result<Option<Row>, NoMemory>
+        ensures told { IfOk result (λ found. IfSome found (λ values. AllByRecursion IsValue values
+            × (self.old.rest.now ≡ values_text values ++ self.new.rest.now))) }
         ensures again { (values : List AnyValue) (rest : List ℕ) → AllByRecursion IsValue values → EndsValues rest
             → self.old.rest.now ≡ values_text values ++ rest
             → IfOk result (λ found. IsRead found self.new.rest.now values rest) }
     {
         let mut row = Row::new(alloc);
         while self.take(b" ") {
-            match self.value(alloc)? {
+            match self.value(alloc, written)? {
                 Some(value) => row.put(value)?,
                 None => return Ok(None),
             }

@@ -41,7 +41,7 @@ impl<'a> Cursor<'a> {
         if !self.take(word) {
             return None;
         }
-        let count = self.counted()?;
+        let count = self.spaced()?;
         if !self.take(b"\n") {
             return None;
         }

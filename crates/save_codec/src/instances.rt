@@ -5,8 +5,9 @@ ghost use Rattle.std.specs.Prelude.{Some, slice_get};
 ghost use Rattle.enf_value.specs.Valuations.{no_values};
 ghost use Rattle.valuations.specs.Scopes.{filled};
 ghost use Rattle.plan_terms.specs.Plans.{Plan as AnyPlan};
+ghost use Rattle.obligations.specs.Scopes.{future_in, node_with_scope};
 ghost use Rattle.save_codec.specs.Bounds.{RuleTells, Setting};
-ghost use Rattle.save_codec.specs.Judged.{AreInstancesOf, DuesFit, IsJudge, IsUnfit, JudgesLine};
+ghost use Rattle.save_codec.specs.Judged.{AreInstancesOf, DuesFit, IsJudge, IsNamed, IsUnfit, JudgesLine};
 ghost use Rattle.save_codec.specs.Sorts.{FitTold};
 
 use crate::judging::{Judge, Unfit, item_at};
@@ -14,15 +15,23 @@ use crate::limits::MOST_STATE_TIME;
 use crate::parts::DueLine;
 use enf_value::{NoMemory, Value, VarId};
 use obligations::bounds::can_wait;
-use obligations::scopes::future_node;
+use obligations::scopes::{FutureNode, future_node};
 use obligations::{Instance, Instances};
 use plan_terms::laws::nodes_have_scopes;
 use std::alloc::Global;
 use valuations::filling::valuation_in;
 use valuations::{Frame, Valuation};
 
+// An operator on the future, if its numbers name one.
+#[derive(Drop)]
+pub(crate) struct Named<'a> {
+    pub rule: u32,
+    pub node: u32,
+    pub found: Option<FutureNode<'a>>,
+}
+
 // The numbers of rule and node, where they have 32 bits.
-fn named(due: &DueLine) -> Option<(u32, u32)>
+fn numbers_of(due: &DueLine) -> Option<(u32, u32)>
     ensures some { IfSome result (λ n. (n.0 ≡ due.now.rule) × (n.1 ≡ due.now.node)
         × (due.now.rule < 2 ^ 32) × (due.now.node < 2 ^ 32)) }
     ensures none { IfNone result (due.now.rule < 2 ^ 32 → due.now.node < 2 ^ 32 → ⊥) }
@@ -54,7 +63,7 @@ fn put(instance: Instance, instances: &mut Vec<Instance>) -> Result<(), NoMemory
     Ok(())
 }
 
-impl Judge<'_> {
+impl<'a> Judge<'a> {
     // Whether these are values for the variables, of the sorts that the plan of the rule tells.
     fn fit_rule(&self, rule: u32, variables: &[VarId], values: &[Value]) -> bool
         ensures { (s : Setting) (plan : AnyPlan) → IsJudge s self.now → slice_get s.plans rule ≡ Some plan
@@ -66,33 +75,59 @@ impl Judge<'_> {
         }
     }
 
-    // The instance of a line, where it keeps the bounds.
-    fn instance(
+    // What two numbers name.
+    fn named(&self, alloc: Global, rule: u32, node: u32) -> Result<Named<'a>, NoMemory>
+        ensures numbers { IfOk result (λ named. (named.rule ≡ rule) × (named.node ≡ node)) }
+        ensures named { (s : Setting) → IsJudge s self.now → IfOk result (IsNamed s) }
+    {
+        let found = future_node(alloc, self.plans, rule, node)?;
+        Ok(Named { rule, node, found })
+    }
+
+    // Turns to other numbers. Most lines have those of the line before them.
+    fn turn(
+        &self,
+        alloc: Global,
+        rule: u32,
+        node: u32,
+        named: &mut Named<'a>,
+    ) -> Result<(), NoMemory>
+        ensures numbers { OnOk result ((named.new.rule ≡ rule) × (named.new.node ≡ node)) }
+        ensures named { (s : Setting) → IsJudge s self.now → IsNamed s named.old → IsNamed s named.new }
+    {
+        if named.rule != rule || named.node != node {
+            *named = self.named(alloc, rule, node)?;
+        }
+        Ok(())
+    }
+
+    // The instance of a line for this node, where it keeps the bounds.
+    fn instance_at(
         &self,
         alloc: Global,
         clock: u64,
         position: u64,
         due: &DueLine,
+        found: &FutureNode<'_>,
     ) -> Result<Option<Instance>, NoMemory>
-        ensures { (s : Setting) → IsJudge s self.now → IfOk result (JudgesLine s clock position due.now) }
+        requires rule { due.now.rule < 2 ^ 32 }
+        requires node { due.now.node < 2 ^ 32 }
+        ensures { (s : Setting) → IsJudge s self.now
+            → future_in s.plans due.now.rule due.now.node ≡ Some (node_with_scope found.now)
+            → IfOk result (JudgesLine s clock position due.now) }
     {
         nodes_have_scopes();
-        let Some((rule, node)) = named(due) else {
-            return Ok(None);
-        };
-        let Some(found) = future_node(alloc, self.plans, rule, node)? else {
-            return Ok(None);
-        };
         if !is_early(due) {
             return Ok(None);
         }
+        let rule = due.rule as u32;
         if !self.fit_rule(rule, found.scope.as_slice(), due.values.as_slice()) {
             return Ok(None);
         }
         let valuation = bound(alloc, found.scope.as_slice(), due.values.as_slice())?;
         let instance = Instance {
             rule,
-            node,
+            node: due.node as u32,
             valuation,
             origin: due.origin,
             low: due.low,
@@ -102,6 +137,29 @@ impl Judge<'_> {
             return Ok(None);
         }
         Ok(Some(instance))
+    }
+
+    // The instance of a line, where it keeps the bounds.
+    fn instance(
+        &self,
+        alloc: Global,
+        clock: u64,
+        position: u64,
+        due: &DueLine,
+        named: &mut Named<'a>,
+    ) -> Result<Option<Instance>, NoMemory>
+        ensures judges { (s : Setting) → IsJudge s self.now → IsNamed s named.old
+            → IfOk result (JudgesLine s clock position due.now) }
+        ensures named { (s : Setting) → IsJudge s self.now → IsNamed s named.old → IsNamed s named.new }
+    {
+        let Some((rule, node)) = numbers_of(due) else {
+            return Ok(None);
+        };
+        self.turn(alloc, rule, node, named)?;
+        match &named.found {
+            Some(found) => self.instance_at(alloc, clock, position, due, found),
+            None => Ok(None),
+        }
     }
 
     // The instances of lines, where they keep the bounds.
@@ -117,8 +175,9 @@ impl Judge<'_> {
             → IfErr result (IsUnfit (DuesFit s clock position) dues.now) }
     {
         let mut instances = Vec::new(alloc);
+        let mut named = self.named(alloc, 0, 0)?;
         for (place, due) in dues.iter().enumerate() {
-            match self.instance(alloc, clock, position, due)? {
+            match self.instance(alloc, clock, position, due, &mut named)? {
                 Some(instance) => put(instance, &mut instances)?,
                 None => return Err(Unfit::At(place)),
             }

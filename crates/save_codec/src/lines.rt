@@ -2,7 +2,8 @@
 ghost use Rattle.std.specs.Prelude.{◌≡◌, ◌∷◌, ◌++◌, All, OnOk, codes};
 ghost use Rattle.enf_value.specs.Spelling.{spelled};
 ghost use Rattle.enf_value.specs.ValueTokens.{IsValue};
-ghost use Rattle.save_codec.specs.Lines.{due_text, last_text, line_text, spaced, values_text};
+ghost use Rattle.save_codec.specs.LineKinds.{kind_of};
+ghost use Rattle.save_codec.specs.Lines.{due_text, last_text, spaced, values_text};
 
 use enf_value::{NoMemory, Row, Value, print_byte, print_bytes, print_number, print_value};
 
@@ -26,6 +27,32 @@ pub enum Line {
         values: Row,
     },
     End,
+}
+
+// A kind of line.
+#[derive(Clone, Copy)]
+pub(crate) enum Kind {
+    Clock,
+    Last,
+    Position,
+    Row,
+    Due,
+    End,
+}
+
+impl Line {
+    pub(crate) fn kind(&self) -> Kind
+        ensures { result ≡ kind_of self.now }
+    {
+        match self {
+            Line::Clock(_) => Kind::Clock,
+            Line::Last(_) => Kind::Last,
+            Line::Position(_) => Kind::Position,
+            Line::Row { .. } => Kind::Row,
+            Line::Due { .. } => Kind::Due,
+            Line::End => Kind::End,
+        }
+    }
 }
 
 // Appends a number behind a space.
@@ -123,33 +150,4 @@ pub(crate) fn print_due(
     print_spaced(origin, out)?;
     print_spaced(low, out)?;
     print_spaced(high, out)
-}
-
-// Appends a line.
-pub(crate) fn print_line(line: &Line, out: &mut Vec<u8>) -> Result<(), NoMemory>
-    ensures { OnOk result (out.new.items ≡ out.old.items ++ line_text line.now) }
-{
-    match line {
-        Line::Clock(time) => print_numbered(b"clock", *time, out),
-        Line::Last(last) => print_last(*last, out),
-        Line::Position(position) => print_numbered(b"position", *position, out),
-        Line::Row {
-            window,
-            time,
-            values,
-        } => print_row(*window, *time, values.as_slice(), out),
-        Line::Due {
-            rule,
-            node,
-            origin,
-            low,
-            high,
-            values,
-        } => {
-            print_due(*rule, *node, *origin, *low, *high, out)?;
-            print_values(values.as_slice(), out)?;
-            print_byte(b'\n', out)
-        }
-        Line::End => print_bytes(b"end\n", out),
-    }
 }

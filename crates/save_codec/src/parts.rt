@@ -1,7 +1,6 @@
 //! The lines of a text by their kinds.
-ghost use Rattle.std.specs.Prelude.{◌≡◌, ◌<◌, ◌^◌, IfOk, length};
-ghost use Rattle.save_codec.specs.Forms.{AreLines};
-ghost use Rattle.save_codec.specs.LineParts.{lines_in};
+ghost use Rattle.std.specs.Prelude.{◌≡◌, ◌++◌, [], None, OnOk};
+ghost use Rattle.save_codec.specs.LineParts.{clock_after, due_in, last_after, position_after, row_in};
 
 use crate::lines::Line;
 use enf_value::{NoMemory, Row};
@@ -36,32 +35,35 @@ pub(crate) struct LineParts {
     pub dues: Vec<DueLine>,
 }
 
-// Lines that stand in memory are fewer than 2^63.
-fn are_few(lines: &[Line])
-    ensures { length lines.now < 2 ^ 63 }
-{
-    let _count = lines.len();
-}
+impl LineParts {
+    // What no line says.
+    pub fn nothing(alloc: Global) -> LineParts
+        ensures numbers { (result.clock ≡ 0) × (result.last ≡ None) × (result.position ≡ 0) }
+        ensures items { (result.rows.items ≡ []) × (result.dues.items ≡ []) }
+    {
+        LineParts {
+            clock: 0,
+            last: None,
+            position: 0,
+            rows: Vec::new(alloc),
+            dues: Vec::new(alloc),
+        }
+    }
 
-// The lines by their kinds.
-pub(crate) fn parts_of(alloc: Global, lines: Vec<Line>) -> Result<LineParts, NoMemory>
-    requires { AreLines lines.items }
-    ensures parts { IfOk result (λ parts. lines.items ≡ lines_in parts) }
-    ensures few { IfOk result (λ parts. length (lines_in parts) < 2 ^ 63) }
-{
-    are_few(lines.as_slice());
-    let mut clock = 0;
-    let mut last = None;
-    let mut position = 0;
-    let mut rows = Vec::new(alloc);
-    let mut dues = Vec::new(alloc);
-    for line in lines {
+    // Puts what one more line says.
+    pub fn put(&mut self, line: Line) -> Result<(), NoMemory>
+        ensures clock { OnOk result (self.new.clock ≡ clock_after self.old.clock line) }
+        ensures last { OnOk result (self.new.last ≡ last_after self.old.last line) }
+        ensures position { OnOk result (self.new.position ≡ position_after self.old.position line) }
+        ensures rows { OnOk result (self.new.rows.items ≡ self.old.rows.items ++ row_in line) }
+        ensures dues { OnOk result (self.new.dues.items ≡ self.old.dues.items ++ due_in line) }
+    {
         match line {
             Line::Row {
                 window,
                 time,
                 values,
-            } => rows.push(RowLine {
+            } => self.rows.push(RowLine {
                 window,
                 time,
                 values,
@@ -73,7 +75,7 @@ pub(crate) fn parts_of(alloc: Global, lines: Vec<Line>) -> Result<LineParts, NoM
                 low,
                 high,
                 values,
-            } => dues.push(DueLine {
+            } => self.dues.push(DueLine {
                 rule,
                 node,
                 origin,
@@ -81,17 +83,11 @@ pub(crate) fn parts_of(alloc: Global, lines: Vec<Line>) -> Result<LineParts, NoM
                 high,
                 values,
             })?,
-            Line::Clock(time) => clock = time,
-            Line::Last(time) => last = time,
-            Line::Position(number) => position = number,
+            Line::Clock(time) => self.clock = time,
+            Line::Last(time) => self.last = time,
+            Line::Position(number) => self.position = number,
             Line::End => {}
         }
+        Ok(())
     }
-    Ok(LineParts {
-        clock,
-        last,
-        position,
-        rows,
-        dues,
-    })
 }

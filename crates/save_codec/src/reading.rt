@@ -1,21 +1,23 @@
 //! The line that stands at the front of a text.
 ghost use Rattle.std.specs.Prelude.{◌≡◌, ◌++◌, ℕ, List, IfOk, IfSome, Option, Some, codes};
-ghost use Rattle.enf_value.specs.ValueTokens.{IsNoDigit};
+ghost use Rattle.std.specs.List.{AllByRecursion};
+ghost use Rattle.enf_value.specs.ValueTokens.{IsNoDigit, IsValue};
 ghost use Rattle.enf_value.specs.declared.values.Value.{Value as AnyValue};
-ghost use Rattle.save_codec.specs.Lines.{IsLine, IsSmall, IsSmallTime, last_text, line_text, spaced};
+ghost use Rattle.save_codec.specs.Lines.{IsLine, IsSmall, IsSmallTime, line_text, spaced, values_text};
 ghost use Rattle.save_codec.specs.Parts.{AreDueNumbers, IsRead, IsReadLine};
 ghost use Rattle.save_codec.specs.declared.lines.Line.{Line as AnyLine};
 ghost use Rattle.save_codec.specs.declared.lines.Line.TheVariants as lines;
 
 use crate::cursor::Cursor;
-use crate::lines::{Line, print_line};
-use enf_value::NoMemory;
+use crate::lines::Line;
+use enf_value::{NoMemory, Row};
 use std::alloc::Global;
 
 impl Cursor<'_> {
-    // The number behind a word.
+    // Takes a word and a number.
     fn numbered(&mut self, word: &[u8]) -> Option<u64>
-        ensures told { IfSome result IsSmall }
+        ensures told { IfSome result (λ number. IsSmall number
+            × (self.old.rest.now ≡ word.now ++ (spaced number ++ self.new.rest.now))) }
         ensures again { (number : ℕ) (rest : List ℕ) → IsSmall number → IsNoDigit rest
             → self.old.rest.now ≡ word.now ++ (spaced number ++ rest)
             → IsRead result self.new.rest.now number rest }
@@ -26,24 +28,36 @@ impl Cursor<'_> {
         self.spaced()
     }
 
-    // The last time, where that line stands next.
-    fn last(&mut self) -> Option<Option<u64>>
-        ensures told { IfSome result IsSmallTime }
-        ensures again { (last : Option ℕ) (rest : List ℕ) → IsSmallTime last → IsNoDigit rest
-            → self.old.rest.now ≡ codes "last" ++ (last_text last ++ rest) → result ≡ Some last }
+    // Takes a line that has one number.
+    fn single(&mut self, word: &[u8]) -> Option<u64>
+        ensures told { IfSome result (λ number. IsSmall number
+            × (self.old.rest.now ≡ (word.now ++ (spaced number ++ codes "\n")) ++ self.new.rest.now)) }
+        ensures again { (number : ℕ) (rest : List ℕ) → IsSmall number
+            → self.old.rest.now ≡ (word.now ++ (spaced number ++ codes "\n")) ++ rest → result ≡ Some number }
     {
-        if !self.take(b"last") {
+        let number = self.numbered(word)?;
+        if !self.take(b"\n") {
             return None;
         }
-        if self.take(b" -") {
-            return Some(None);
-        }
-        Some(Some(self.spaced()?))
+        Some(number)
     }
 
-    // A kept row, where its line stands next.
-    fn row(&mut self, alloc: Global) -> Result<Option<Line>, NoMemory>
-        ensures told { IfOk result (λ found. IfSome found IsLine) }
+    // Takes the line of the last time.
+    fn last(&mut self) -> Option<Option<u64>>
+        ensures told { IfSome result (λ last. IsReadLine self.old.rest.now (lines.Last last) self.new.rest.now) }
+        ensures again { (last : Option ℕ) (rest : List ℕ) → IsSmallTime last
+            → self.old.rest.now ≡ line_text (lines.Last last) ++ rest → result ≡ Some last }
+    {
+        if self.take(b"last -\n") {
+            return Some(None);
+        }
+        Some(Some(self.single(b"last")?))
+    }
+
+    // Takes the line of a kept row.
+    fn row(&mut self, alloc: Global, written: &mut Vec<u8>) -> Result<Option<Line>, NoMemory>
+        ensures told { IfOk result (λ found. IfSome found
+            (λ line. IsReadLine self.old.rest.now line self.new.rest.now)) }
         ensures again { (window time : ℕ) (values : List AnyValue) (rest : List ℕ)
             → IsLine (lines.Row window time values)
             → self.old.rest.now ≡ line_text (lines.Row window time values) ++ rest
@@ -55,7 +69,7 @@ impl Cursor<'_> {
         let Some(time) = self.spaced() else {
             return Ok(None);
         };
-        let Some(values) = self.values(alloc)? else {
+        let Some(values) = self.values_line(alloc, written)? else {
             return Ok(None);
         };
         Ok(Some(Line::Row {
@@ -65,9 +79,28 @@ impl Cursor<'_> {
         }))
     }
 
-    // Rule, node, origin and the window's ends.
+    // Takes values and the end of their line.
+    fn values_line(&mut self, alloc: Global, written: &mut Vec<u8>) -> Result<Option<Row>, NoMemory>
+        ensures told { IfOk result (λ found. IfSome found (λ values. AllByRecursion IsValue values
+            × (self.old.rest.now ≡ values_text values ++ (codes "\n" ++ self.new.rest.now)))) }
+        ensures again { (values : List AnyValue) (rest : List ℕ) → AllByRecursion IsValue values
+            → self.old.rest.now ≡ values_text values ++ (codes "\n" ++ rest)
+            → IfOk result (λ found. found ≡ Some values) }
+    {
+        let Some(values) = self.values(alloc, written)? else {
+            return Ok(None);
+        };
+        if !self.take(b"\n") {
+            return Ok(None);
+        }
+        Ok(Some(values))
+    }
+
+    // Takes rule, node, origin and the window's ends.
     fn due_numbers(&mut self) -> Option<(u64, u64, u64, u64, u64)>
-        ensures told { IfSome result (λ n. AreDueNumbers n.0 n.1 n.2 n.3 n.4) }
+        ensures told { IfSome result (λ n. AreDueNumbers n.0 n.1 n.2 n.3 n.4
+            × (self.old.rest.now ≡ codes "due" ++ (spaced n.0 ++ (spaced n.1 ++ (spaced n.2 ++ (spaced n.3
+            ++ (spaced n.4 ++ self.new.rest.now))))))) }
         ensures again { (rule node origin low high : ℕ) (rest : List ℕ) → AreDueNumbers rule node origin low high
             → IsNoDigit rest
             → self.old.rest.now ≡ codes "due" ++ (spaced rule ++ (spaced node ++ (spaced origin ++ (spaced low
@@ -82,9 +115,10 @@ impl Cursor<'_> {
         Some((rule, node, origin, low, high))
     }
 
-    // A pending instance, where its line stands next.
-    fn due(&mut self, alloc: Global) -> Result<Option<Line>, NoMemory>
-        ensures told { IfOk result (λ found. IfSome found IsLine) }
+    // Takes the line of a pending instance.
+    fn due(&mut self, alloc: Global, written: &mut Vec<u8>) -> Result<Option<Line>, NoMemory>
+        ensures told { IfOk result (λ found. IfSome found
+            (λ line. IsReadLine self.old.rest.now line self.new.rest.now)) }
         ensures again { (rule node origin low high : ℕ) (values : List AnyValue) (rest : List ℕ)
             → IsLine (lines.Due rule node origin low high values)
             → self.old.rest.now ≡ line_text (lines.Due rule node origin low high values) ++ rest
@@ -93,7 +127,7 @@ impl Cursor<'_> {
         let Some((rule, node, origin, low, high)) = self.due_numbers() else {
             return Ok(None);
         };
-        let Some(values) = self.values(alloc)? else {
+        let Some(values) = self.values_line(alloc, written)? else {
             return Ok(None);
         };
         Ok(Some(Line::Due {
@@ -105,28 +139,20 @@ impl Cursor<'_> {
             values,
         }))
     }
-}
 
-// The line that the bytes begin with, whatever stands behind its parts and however its values are spelled.
-fn read_loosely(alloc: Global, bytes: &[u8]) -> Result<Option<Line>, NoMemory>
-    ensures told { IfOk result (λ found. IfSome found IsLine) }
-    ensures again { (line : AnyLine) (rest : List ℕ) → IsLine line → bytes.now ≡ line_text line ++ rest
-        → IfOk result (λ found. found ≡ Some line) }
-{
-    let mut cursor = Cursor { rest: bytes };
-    match bytes.first() {
-        Some(b'c') => Ok(cursor.numbered(b"clock").map(Line::Clock)),
-        Some(b'l') => Ok(cursor.last().map(Line::Last)),
-        Some(b'p') => Ok(cursor.numbered(b"position").map(Line::Position)),
-        Some(b'r') => cursor.row(alloc),
-        Some(b'd') => cursor.due(alloc),
-        Some(b'e') => Ok(Some(Line::End)),
-        _ => Ok(None),
+    // Takes the line of the end.
+    fn end(&mut self) -> Option<Line>
+        ensures told { IfSome result (λ line. IsReadLine self.old.rest.now line self.new.rest.now) }
+        ensures again { (rest : List ℕ) → self.old.rest.now ≡ line_text lines.End ++ rest
+            → result ≡ Some lines.End }
+    {
+        if !self.take(b"end\n") {
+            return None;
+        }
+        Some(Line::End)
     }
-}
 
-impl Cursor<'_> {
-    // Takes the line that stands next. It is read loosely, and taken only where it would be written so.
+    // Takes the line that stands next, where it has the form. The bytes are room for what is printed meanwhile.
     pub fn line(&mut self, alloc: Global, written: &mut Vec<u8>) -> Result<Option<Line>, NoMemory>
         ensures told { IfOk result (λ found. IfSome found
             (λ line. IsReadLine self.old.rest.now line self.new.rest.now)) }
@@ -134,14 +160,14 @@ impl Cursor<'_> {
             → self.old.rest.now ≡ line_text line ++ rest
             → IfOk result (λ found. found ≡ Some line) }
     {
-        let Some(line) = read_loosely(alloc, self.rest)? else {
-            return Ok(None);
-        };
-        written.clear();
-        print_line(&line, written)?;
-        if !self.take(written.as_slice()) {
-            return Ok(None);
+        match self.rest.first() {
+            Some(b'r') => self.row(alloc, written),
+            Some(b'd') => self.due(alloc, written),
+            Some(b'c') => Ok(self.single(b"clock").map(Line::Clock)),
+            Some(b'l') => Ok(self.last().map(Line::Last)),
+            Some(b'p') => Ok(self.single(b"position").map(Line::Position)),
+            Some(b'e') => Ok(self.end()),
+            _ => Ok(None),
         }
-        Ok(Some(line))
     }
 }

@@ -19,7 +19,7 @@ ghost use Rattle.save_codec.specs.Saved.{lines_of};
 use crate::judging::{Judge, Unfit};
 use crate::knowing::{known_in_rules, known_in_windows};
 use crate::limits::MOST_STATE_TIME;
-use crate::parts::{LineParts, parts_of};
+use crate::parts::LineParts;
 use crate::refusals::StateRefusal;
 use crate::snapshots::Snapshot;
 use crate::texts::{StateText, read_text};
@@ -171,8 +171,7 @@ pub fn resume(
     if !is_same(text.signature, signature) || !is_same(text.policy, policy) {
         return Err(StateRefusal::OtherPolicy);
     }
-    let StateText { lines, .. } = text;
+    let StateText { parts, .. } = text;
     let judge = judge_of(alloc, signature, plans, guards)?;
-    let parts = parts_of(alloc, lines)?;
     judge.state(alloc, parts)
 }

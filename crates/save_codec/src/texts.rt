@@ -1,105 +1,111 @@
 //! The lines of a whole text, and the first that has not the form.
-ghost use Rattle.std.specs.Prelude.{◌≡◌, ◌+◌, ◌∷◌, ◌++◌, [], IfErr, IfOk, None, OnOk, length};
-ghost use Rattle.std.specs.Option.{option_copied};
-ghost use Rattle.save_codec.specs.Forms.{AreLines, IsText, follows, is_end, last_line};
+ghost use Rattle.std.specs.Prelude.{◌≡◌, ◌↔◌, ◌+◌, ◌<◌, ◌^◌, [], IfErr, IfOk, IsTrue, length};
+ghost use Rattle.save_codec.specs.Forms.{AreLines, IsText};
+ghost use Rattle.save_codec.specs.LineKinds.{ends, may_follow};
+ghost use Rattle.save_codec.specs.LineParts.{lines_in};
 ghost use Rattle.save_codec.specs.Lines.{lines_text};
 ghost use Rattle.save_codec.specs.Reading.{IsStop, IsSyntax};
 ghost use Rattle.save_codec.specs.declared.refusals.StateRefusal.TheVariants.{Syntax};
 
 use crate::cursor::Cursor;
 use crate::heads::read_head;
-use crate::lines::Line;
+use crate::lines::Kind;
+use crate::parts::LineParts;
 use crate::refusals::StateRefusal;
-use enf_value::NoMemory;
 use std::alloc::Global;
 
-fn last_line(lines: &[Line]) -> Option<&Line>
-    ensures { option_copied result ≡ last_line None lines.now }
+fn is_end(before: Option<Kind>) -> bool
+    ensures { result ≡ ends before }
 {
-    lines.last()
+    matches!(before, Some(Kind::End))
 }
 
-fn is_end(line: Option<&Line>) -> bool
-    ensures { result ≡ is_end (option_copied line.entry) }
+fn follows(before: Option<Kind>, kind: Kind) -> bool
+    ensures { result ≡ may_follow before kind }
 {
-    matches!(line, Some(Line::End))
-}
-
-fn follows(before: Option<&Line>, line: &Line) -> bool
-    ensures { result ≡ follows (option_copied before.entry) line.now }
-{
-    match (before, line) {
-        (None, Line::Clock(_))
-        | (Some(Line::Clock(_)), Line::Last(_))
-        | (Some(Line::Last(_)), Line::Position(_))
-        | (
-            Some(Line::Position(_) | Line::Row { .. }),
-            Line::Row { .. } | Line::Due { .. } | Line::End,
-        )
-        | (Some(Line::Due { .. }), Line::Due { .. } | Line::End) => true,
+    match (before, kind) {
+        (None, Kind::Clock)
+        | (Some(Kind::Clock), Kind::Last)
+        | (Some(Kind::Last), Kind::Position)
+        | (Some(Kind::Position | Kind::Row), Kind::Row | Kind::Due | Kind::End)
+        | (Some(Kind::Due), Kind::Due | Kind::End) => true,
         _ => false,
     }
 }
 
-fn push_line(line: Line, lines: &mut Vec<Line>) -> Result<(), NoMemory>
-    ensures { OnOk result (lines.new.items ≡ lines.old.items ++ line ∷ []) }
+// No line of the form stands behind so many.
+fn stops_behind(count: u64) -> StateRefusal
+    requires { count < 2 ^ 63 }
+    ensures { result ≡ Syntax (count + 1) }
 {
-    lines.push(line)?;
-    Ok(())
+    StateRefusal::Syntax { line: count + 1 }
 }
 
-// No line of the form stands behind these.
-fn stops_behind(lines: &[Line]) -> StateRefusal
-    ensures { result ≡ Syntax (length lines.now + 1) }
+fn is_empty(text: &[u8]) -> bool
+    ensures { IsTrue result ↔ (text.now ≡ []) }
 {
-    StateRefusal::Syntax {
-        line: lines.len() as u64 + 1,
-    }
+    text.is_empty()
 }
 
-// The lines of the text behind the bytes of the signature and of the policy.
-pub(crate) fn read_lines(alloc: Global, text: &[u8]) -> Result<Vec<Line>, StateRefusal>
-    ensures ok { IfOk result (λ lines. AreLines lines.items × (text.now ≡ lines_text lines.items)) }
+// Bytes that stand in memory are fewer than 2^63.
+fn are_few(text: &[u8])
+    ensures { length text.now < 2 ^ 63 }
+{
+    let _count = text.len();
+}
+
+// What the lines of the text say behind the bytes of the signature and of the policy.
+pub(crate) fn read_lines(alloc: Global, text: &[u8]) -> Result<LineParts, StateRefusal>
+    ensures ok { IfOk result (λ parts. AreLines (lines_in parts) × (text.now ≡ lines_text (lines_in parts))) }
+    ensures few { IfOk result (λ parts. length (lines_in parts) < 2 ^ 63) }
     ensures err { IfErr result (IsStop text.now) }
 {
+    are_few(text);
     let mut cursor = Cursor { rest: text };
     let mut written = Vec::new(alloc);
-    let mut lines = Vec::new(alloc);
-    while !is_end(last_line(lines.as_slice())) {
+    let mut parts = LineParts::nothing(alloc);
+    let mut before = None;
+    let mut count = 0;
+    while !is_end(before) {
         let Some(line) = cursor.line(alloc, &mut written)? else {
-            return Err(stops_behind(lines.as_slice()));
+            return Err(stops_behind(count));
         };
-        if !follows(last_line(lines.as_slice()), &line) {
-            return Err(stops_behind(lines.as_slice()));
+        let kind = line.kind();
+        if !follows(before, kind) {
+            return Err(stops_behind(count));
         }
-        push_line(line, &mut lines)?;
+        parts.put(line)?;
+        before = Some(kind);
+        count += 1;
     }
-    if !cursor.rest.is_empty() {
-        return Err(stops_behind(lines.as_slice()));
+    if !is_empty(cursor.rest) {
+        return Err(stops_behind(count));
     }
-    Ok(lines)
+    Ok(parts)
 }
 
-// A text that has the form: the bytes of the signature and of the policy, and the lines.
+// A text that has the form: the bytes of the signature and of the policy, and what the lines say.
 #[derive(Drop)]
 pub(crate) struct StateText<'a> {
     pub signature: &'a [u8],
     pub policy: &'a [u8],
-    pub lines: Vec<Line>,
+    pub parts: LineParts,
 }
 
 // A text by its parts, or the first line that has not the form.
 pub(crate) fn read_text(alloc: Global, bytes: &[u8]) -> Result<StateText<'_>, StateRefusal>
-    ensures ok { IfOk result (λ text. IsText bytes.now text.signature.now text.policy.now text.lines.items) }
+    ensures ok { IfOk result (λ text.
+        IsText bytes.now text.signature.now text.policy.now (lines_in text.parts)) }
+    ensures few { IfOk result (λ text. length (lines_in text.parts) < 2 ^ 63) }
     ensures err { IfErr result (IsSyntax bytes.now) }
 {
     let Some(head) = read_head(bytes) else {
         return Err(StateRefusal::Syntax { line: 0 });
     };
-    let lines = read_lines(alloc, head.text)?;
+    let parts = read_lines(alloc, head.text)?;
     Ok(StateText {
         signature: head.signature,
         policy: head.policy,
-        lines,
+        parts,
     })
 }

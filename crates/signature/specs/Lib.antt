@@ -1,3 +1,5 @@
+pub mod ColumnLaws
+pub mod Columns
 pub mod Grammar
 pub mod Keys
 pub mod Laws

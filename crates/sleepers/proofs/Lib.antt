@@ -8,6 +8,8 @@ pub mod LoopLemmas
 pub mod PairLemmas
 pub mod GroupLemmas
 pub mod NotedLemmas
+pub mod LookLemmas
+pub mod BackLemmas
 pub mod SortedLemmas
 pub mod ChangeLemmas
 pub mod WalkLemmas

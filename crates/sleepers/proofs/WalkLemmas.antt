@@ -1,8 +1,7 @@
 -- A walk over groups.
-use Rattle.std.proofs.Common.{◌≡◌, ℕ, ◌-◌, ◌<◌, ◌≤◌, Bool, true, not, List, [], ◌∷◌, ◌++◌, Option, None, Some, IsNone, ◌⊎◌, inl, inr, ⊎_elim, refl, sym, ap, subst, ◌∙◌, arith, drop, get_or, length}
+use Rattle.std.proofs.Common.{◌≡◌, ℕ, ◌-◌, Bool, true, not, List, [], ◌∷◌, ◌++◌, Option, None, Some, IfSome, IsNone, ◌⊎◌, inl, inr, ⊎_elim, refl, sym, ap, subst, ◌∙◌, arith, drop, length}
 use Rattle.std.specs.Borrow.{Bor}
-use Rattle.std.specs.Option.{MatchOption, is_some, option_copied, option_to_list}
-use Rattle.std.specs.List.{HoldsAt}
+use Rattle.std.specs.Option.{is_some, option_to_list}
 use Rattle.cursor_list.specs.Split.{Split}
 use Rattle.enf_value.specs.Membership.{HasNoRepeats}
 use Rattle.enf_value.specs.declared.events.Event.{Event}
@@ -13,22 +12,6 @@ use Rattle.sleepers.specs.Entries.{HasOneMore, places}
 use Rattle.sleepers.specs.Groups.{AreAwake, AreKept, AreNoted, AreRewound, HasIn, IsWalk, OthersStay, ahead_of, by_place, entries_at, group_at, held}
 use Rattle.sleepers.specs.Noted.{Noted}
 use Rattle.sleepers.specs.declared.entries.Entry.{Entry}
-
-pub front_is : (walk : List ℕ) (number : ℕ) → 0 < length walk → number ≡ get_or walk 0 number → walk ≡ number ∷ drop 1 walk
-front_is [] number some is = absurd (omega (arith, some))
-front_is (n ∷ walk) number some is = ap (λ (m : ℕ). m ∷ walk) (sym is)
-
--- what `front().copied()` tells
-pub front_copied : (r : Option (Bor ℕ)) (walk : List ℕ) (number : ℕ) → option_copied r ≡ Some number
-    → MatchOption r (length walk ≤ 0) (λ x. (0 < length walk) × HoldsAt (λ y. x.now ≡ y) walk 0) → walk ≡ number ∷ drop 1 walk
-front_copied None walk number is front = absurd (none_some number is)
-  where
-    none_some : (n : ℕ) → None ≡ Some n → ⊥
-    none_some n e = cc
-front_copied (Some x) walk number is front = front_is walk number front.0 (sym (same x.now number is) ∙ front.1 number)
-  where
-    same : (m n : ℕ) → Some m ≡ Some n → m ≡ n
-    same m n e = cc
 
 -- what `is_none` tells
 pub none_is : {X : Type 0} (r : Option X) (Q : Type 0) (b : Bool) → is_some r ≡ not b → b ≡ true → (IsNone r → Q) × (Q → IsNone r) → Q
@@ -44,6 +27,31 @@ module _ {T : Type 0} where
     index = noted_same old new noted rewound.entries kept.index;
     walk = begun_walk events time numbers old new awake rewound;
   }
+
+  -- ---- the entry at which a walk stands
+
+  front_nil : (xs ys : List (Entry T)) → xs ++ ys ≡ [] → xs ≡ []
+  front_nil [] ys none = refl
+  front_nil (x ∷ xs) ys none = absurd (omega (arith, ap length none))
+
+  module _ (groups : List (Split (Entry T))) (number : ℕ) (walk : List ℕ) (is : walk ≡ number ∷ drop 1 walk) where
+    all_ahead : ahead_of groups walk ≡ (group_at groups number).after ++ ahead_of groups (drop 1 walk)
+    all_ahead = ap (ahead_of groups) is
+
+    pub peek_none : IsWalk groups walk → (r : Option (Bor (Entry T)))
+        → (IsNone r → (group_at groups number).after ≡ []) × ((group_at groups number).after ≡ [] → IsNone r)
+        → (IsNone r → ahead_of groups walk ≡ []) × (ahead_of groups walk ≡ [] → IsNone r)
+    peek_none on r tells = (
+      (λ none. absurd ((subst (IsWalk groups) is on).some.0 (tells.0 none))),
+      (λ none. tells.1 (front_nil (group_at groups number).after (ahead_of groups (drop 1 walk)) (sym all_ahead ∙ none))),
+    )
+
+    pub peek_some : (r : Option (Bor (Entry T))) → IfSome r (λ entry. (group_at groups number).after ≡ entry.now ∷ drop 1 (group_at groups number).after)
+        → IfSome r (λ entry. ahead_of groups walk ≡ entry.now ∷ drop 1 (ahead_of groups walk))
+    peek_some None tells = tt
+    peek_some (Some entry) tells =
+        let front = all_ahead ∙ ap (λ (l : List (Entry T)). l ++ ahead_of groups (drop 1 walk)) tells in
+        front ∙ ap (λ (l : List (Entry T)). entry.now ∷ l) (sym (ap (λ (l : List (Entry T)). drop 1 l) front))
 
   nil_or : (xs : List (Entry T)) → (xs ≡ []) ⊎ (xs ≡ [] → ⊥)
   nil_or [] = inl refl

@@ -11,6 +11,11 @@ use Rattle.sleepers.specs.Noted.{CanBeFound, Noted}
 use Rattle.sleepers.specs.Order.{place_cmp}
 use Rattle.sleepers.specs.declared.entries.Entry.{Entry}
 
+-- numbers from the last to the first
+abbrev pub from_last : List ℕ → List ℕ
+from_last [] = []
+from_last (n ∷ numbers) = from_last numbers ++ n ∷ []
+
 module _ {T : Type 0} where
   -- a list of entries in the order of their places
   abbrev pub put_by_place : Entry T → List (Entry T) → List (Entry T)
@@ -95,6 +100,13 @@ module _ {T : Type 0} where
     pub awake : AllByRecursion (StandsAwake events time groups) numbers
     pub others : (number : ℕ) (entry : Entry T) → Contains (entries_at groups number) entry
         → Contains numbers number ⊎ IsAsleep events time entry
+
+  -- the entries of the groups that are awake
+  pub record IsOfAwake (events : List Event) (time : ℕ) (groups : List (Split (Entry T))) (entries : List (Entry T))
+      : Type 0 where
+    pub numbers : List ℕ
+    pub awake : AreAwake events time groups numbers
+    pub are : entries ≡ entries_of groups numbers
 
   -- the cursors of these groups stand in front of all entries, which stay
   pub record AreRewound (numbers : List ℕ) (old new : List (Split (Entry T))) : Type 0 where

@@ -1,8 +1,9 @@
 //! The groups of entries that a step wakes, and the group of an entry.
 ghost use Rattle.std.specs.Prelude.{◌≡◌, ℕ, [], Contains, IfOk, IfSome, IsFalse, IsTrue, OnOk, drop, length};
 ghost use Rattle.std.specs.List.Sorted.{IsPermutation, IsSortedByKey};
-ghost use Rattle.sleepers.specs.Groups.{AreAlike, AreAwake, AreNoted, AreRewound, StandsAsleep, StandsAwake};
-ghost use Rattle.sleepers.specs.Groups.{StayGroups, Suits, entries_at, group_at, held};
+ghost use Rattle.sleepers.specs.Entries.{shown};
+ghost use Rattle.sleepers.specs.Groups.{AreAlike, AreAwake, AreNoted, AreRewound, IsOfAwake, StandsAsleep};
+ghost use Rattle.sleepers.specs.Groups.{StandsAwake, StayGroups, Suits, entries_at, from_last, group_at, held};
 ghost use Rattle.sleepers.specs.Noted.{CanBeFound, IsFound, KeepsAll};
 ghost use Rattle.sleepers.specs.declared.entries.Entry.{Entry as AnyEntry};
 ghost use Rattle.sleepers.specs.Order.{place_cmp};
@@ -13,24 +14,24 @@ use crate::index::Index;
 use crate::places::compare;
 use enf_value::{Event, NoMemory};
 use std::alloc::Global;
-use std::collections::VecDeque;
 
 // Up to so many groups a step looks at each of them, and none is noted.
 const FEW: usize = 16;
 
-// The groups whose entries are awake at a step of this time with these events, each once.
+// The groups whose entries are awake at a step of this time with these events, each once. They may take a room.
 pub(crate) fn awake<T: Drop>(
     alloc: Global,
     groups: &Groups<T>,
     index: &Index,
     events: &[Event],
     time: u64,
+    room: Vec<usize>,
 ) -> Result<Vec<usize>, NoMemory>
     requires { AreNoted groups.now index.now }
     ensures { IfOk result (λ numbers. AreAwake events.now time groups.now numbers.items) }
 {
     if !index.is_begun() {
-        return awake_of_all(alloc, groups, events, time);
+        return awake_of_all(groups, events, time, room);
     }
     let mut numbers = index.find(alloc, events, time)?;
     numbers.retain(|number| is_awake(groups, *number, events, time));
@@ -39,15 +40,16 @@ pub(crate) fn awake<T: Drop>(
 
 // The same by a look at each group.
 fn awake_of_all<T: Drop>(
-    alloc: Global,
     groups: &Groups<T>,
     events: &[Event],
     time: u64,
+    room: Vec<usize>,
 ) -> Result<Vec<usize>, NoMemory>
     requires { (number : ℕ) → AreAlike (entries_at groups.now number) }
     ensures { IfOk result (λ numbers. AreAwake events.now time groups.now numbers.items) }
 {
-    let mut numbers = Vec::new(alloc);
+    let mut numbers = room;
+    numbers.clear();
     for number in 0..groups.len() {
         if !is_awake(groups, number, events, time) {
             continue;
@@ -68,6 +70,44 @@ fn is_awake<T: Drop>(groups: &Groups<T>, number: usize, events: &[Event], time: 
         Some(entry) => !entry.is_asleep(events, time),
         None => false,
     }
+}
+
+// The entries that are awake at a step of this time with these events, group by group.
+pub(crate) fn woken<'a, T: Drop>(
+    alloc: Global,
+    groups: &'a Groups<T>,
+    index: &Index,
+    events: &[Event],
+    time: u64,
+) -> Result<Vec<&'a Entry<T>>, NoMemory>
+    requires { AreNoted groups.now index.now }
+    ensures { IfOk result (λ woken. IsOfAwake events.now time groups.now (shown woken.items)) }
+{
+    if index.is_begun() {
+        let numbers = awake(alloc, groups, index, events, time, Vec::new(alloc))?;
+        return groups.entries_of(alloc, numbers.as_slice());
+    }
+    woken_of_all(alloc, groups, events, time)
+}
+
+// The same by a look at each group.
+fn woken_of_all<'a, T: Drop>(
+    alloc: Global,
+    groups: &'a Groups<T>,
+    events: &[Event],
+    time: u64,
+) -> Result<Vec<&'a Entry<T>>, NoMemory>
+    requires { (number : ℕ) → AreAlike (entries_at groups.now number) }
+    ensures { IfOk result (λ woken. IsOfAwake events.now time groups.now (shown woken.items)) }
+{
+    let mut woken = Vec::new(alloc);
+    for number in 0..groups.len() {
+        if !is_awake(groups, number, events, time) {
+            continue;
+        }
+        groups.push_entries(number, &mut woken)?;
+    }
+    Ok(woken)
 }
 
 // Puts the cursors of some groups in front of all their entries.
@@ -229,12 +269,14 @@ pub(crate) fn renew<T: Drop>(alloc: Global, groups: &mut Groups<T>, index: &mut 
 }
 
 // Ends a walk over its first group, if no entry of that is left.
-pub(crate) fn leave<T: Drop>(groups: &Groups<T>, walk: &mut VecDeque<usize>, number: usize)
-    ensures over { (group_at groups.now number).after ≡ [] → walk.new.items ≡ drop 1 walk.old.items }
-    ensures on { ((group_at groups.now number).after ≡ [] → ⊥) → walk.new.items ≡ walk.old.items }
+pub(crate) fn leave<T: Drop>(groups: &Groups<T>, walk: &mut Vec<usize>, number: usize)
+    ensures over { (group_at groups.now number).after ≡ []
+        → from_last walk.new.items ≡ drop 1 (from_last walk.old.items) }
+    ensures on { ((group_at groups.now number).after ≡ [] → ⊥)
+        → from_last walk.new.items ≡ from_last walk.old.items }
 {
     if groups.peek(number).is_none() {
-        walk.pop_front();
+        walk.pop();
     }
 }
 
@@ -243,5 +285,9 @@ pub(crate) fn sort_by_place<T>(entries: &mut Vec<&Entry<T>>)
     ensures same { IsPermutation entries.old.items entries.new.items }
     ensures order { IsSortedByKey (λ entry. entry.now.place) place_cmp entries.new.items }
 {
+    // most steps wake one or none
+    if entries.len() < 2 {
+        return;
+    }
     entries.sort_unstable_by(|x, y| compare(x.place.as_slice(), y.place.as_slice()));
 }

@@ -165,6 +165,20 @@ impl<T: Drop> Groups<T> {
         Ok(all)
     }
 
+    // Puts the entries of a group behind others.
+    pub(crate) fn push_entries<'a>(
+        &'a self,
+        number: usize,
+        into: &mut Vec<&'a Entry<T>>,
+    ) -> Result<(), NoMemory>
+        ensures { OnOk result (shown into.new.items ≡ shown into.old.items ++ entries_at self.now number) }
+    {
+        match self.lists.get(number) {
+            Some(list) => push_all(list, into),
+            None => Ok(()),
+        }
+    }
+
     // The entries of some groups.
     pub(crate) fn entries_of(
         &self,

@@ -92,8 +92,8 @@ impl Pairs {
 
     // The last of the groups under a key.
     pub(crate) fn last(&self, key: u64) -> Option<usize> {
-        // what is put in next ends last mostly
-        if self.pairs.last()?.0 < key {
+        // what is put in next ends last mostly, and what is taken up again ends first
+        if self.pairs.last()?.0 < key || key < self.pairs.first()?.0 {
             return None;
         }
         let pair = self.pairs.range((key, 0)..=(key, usize::MAX)).next_back()?;

@@ -6,13 +6,13 @@ ghost use Rattle.std.specs.Option.{option_to_list};
 ghost use Rattle.sleepers.specs.Entries.{AllBut, HasOneMore, IsAllBut, IsAsleep, IsFree, shown};
 
 use crate::entries::Entry;
-use crate::finding::{awake, group_for, leave, release, renew, rewind_each, sort_by_place};
+use crate::finding::{awake, group_for, leave, release, renew, rewind_each, sort_by_place, woken};
 use crate::groups::Groups;
 use crate::index::Index;
 use enf_value::{Event, NoMemory};
 use std::alloc::Global;
-use std::collections::VecDeque;
 use std::marker::Model;
+use std::mem::replace;
 
 /// Entries of which each has a place of its own, seen as the list of them in the order of their places; with those that
 /// a walk over what is awake has in front of it.
@@ -22,20 +22,25 @@ pub struct Sleepers<T> {
     groups: Groups<T>,
     index: Index,
     count: usize,
-    // The groups that the walk has in front of it, in the first of them up to its cursor.
-    walk: VecDeque<usize>,
+    // The groups that the walk has in front of it, the next one last, in that up to its cursor.
+    walk: Vec<usize>,
+    // The room of the walk before.
+    spare: Vec<usize>,
     alloc: Global,
 }
 
 impl<T> Model for Sleepers<T> {
-    ghost use Rattle.sleepers.specs.Groups.{AreKept, ahead_of, by_place, held};
+    ghost use Rattle.sleepers.specs.Groups.{AreKept, ahead_of, by_place, from_last, held};
     ghost use Rattle.sleepers.specs.Sleeping.{Sleeping};
 
     ghost Value = { Sleeping T };
 
-    ghost view = { λ s. record { entries = by_place (held s.groups); ahead = ahead_of s.groups s.walk.items } };
+    ghost view = { λ s. record {
+      entries = by_place (held s.groups);
+      ahead = ahead_of s.groups (from_last s.walk.items);
+    } };
 
-    ghost invariant = { λ s. AreKept s.groups s.index s.count s.walk.items };
+    ghost invariant = { λ s. AreKept s.groups s.index s.count (from_last s.walk.items) };
 }
 
 impl<T: Drop> Sleepers<T> {
@@ -48,7 +53,8 @@ impl<T: Drop> Sleepers<T> {
             groups: Groups::new(alloc),
             index: Index::new(alloc),
             count: 0,
-            walk: VecDeque::new(alloc),
+            walk: Vec::new(alloc),
+            spare: Vec::new(alloc),
             alloc,
         }
     }
@@ -78,8 +84,7 @@ impl<T: Drop> Sleepers<T> {
     ) -> Result<Vec<&Entry<T>>, NoMemory>
         ensures { IfOk result (λ woken. AllBut (IsAsleep events.now time) self.now.entries (shown woken.items)) }
     {
-        let numbers = awake(alloc, &self.groups, &self.index, events, time)?;
-        let mut woken = self.groups.entries_of(alloc, numbers.as_slice())?;
+        let mut woken = woken(alloc, &self.groups, &self.index, events, time)?;
         sort_by_place(&mut woken);
         Ok(woken)
     }
@@ -114,9 +119,10 @@ impl<T: Drop> Sleepers<T> {
         ensures err { OnErr result (self.new.ahead ≡ self.old.ahead) }
         ensures entries { self.new.entries ≡ self.old.entries }
     {
-        let numbers = awake(alloc, &self.groups, &self.index, events, time)?;
+        let room = replace(&mut self.spare, Vec::new(self.alloc));
+        let numbers = awake(alloc, &self.groups, &self.index, events, time, room)?;
         rewind_each(&mut self.groups, numbers.as_slice());
-        self.walk = VecDeque::from(numbers);
+        self.spare = replace(&mut self.walk, numbers);
         Ok(())
     }
 
@@ -125,7 +131,7 @@ impl<T: Drop> Sleepers<T> {
         ensures none { IsNone result ↔ (self.now.ahead ≡ []) }
         ensures some { IfSome result (λ entry. self.now.ahead ≡ entry.now ∷ drop 1 self.now.ahead) }
     {
-        let number = self.walk.front().copied()?;
+        let number = self.walk.last().copied()?;
         self.groups.peek(number)
     }
 
@@ -134,7 +140,7 @@ impl<T: Drop> Sleepers<T> {
         ensures entries { self.new.entries ≡ self.old.entries }
         ensures ahead { self.new.ahead ≡ drop 1 self.old.ahead }
     {
-        let Some(number) = self.walk.front().copied() else {
+        let Some(number) = self.walk.last().copied() else {
             return;
         };
         self.groups.pass(number);
@@ -147,7 +153,7 @@ impl<T: Drop> Sleepers<T> {
         ensures some { IfSome result (λ entry. HasOneMore entry self.new.entries self.old.entries) }
         ensures none { IfNone result ((self.old.ahead ≡ []) × (self.new.entries ≡ self.old.entries)) }
     {
-        let number = self.walk.front().copied()?;
+        let number = self.walk.last().copied()?;
         let entry = self.groups.take(number)?;
         self.count -= 1;
         leave(&self.groups, &mut self.walk, number);

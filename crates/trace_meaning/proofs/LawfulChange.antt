@@ -1,17 +1,14 @@
 -- Lawful change, one list of records behind another.
-use Rattle.std.proofs.Common.{◌≡◌, ℕ, zero, suc, ◌≤◌, Bool, List, [], ◌∷◌, ◌++◌, map, refl, sym, ap, subst, ◌∙◌, arith}
+use Rattle.std.proofs.Common.{ℕ, zero, suc, ◌≤◌, List, [], ◌∷◌, ◌++◌, map, arith}
 use Rattle.std.specs.List.{All}
 use Rattle.std.proofs.lemmas.List.Elements.{All-append, All-head, All-tail, All-weaker}
 use Rattle.enf_value.specs.Membership.{HasNoRepeats}
-use Rattle.enf_value.specs.declared.events.NameId.{NameId}
-use Rattle.enf_value.specs.declared.steps.Step.{Step}
 use Rattle.trace_meaning.specs.Laws.{OrderOfAny, WithinJoins, LawfulJoins}
-use Rattle.trace_meaning.specs.Lawful.{AreChangedTo, AreInOrder, IsInsertedLawfully, IsLaterThan}
-use Rattle.trace_meaning.specs.OutSteps.{OutStep, IsUntil, event_of, onto_system, system_steps}
-use Rattle.trace_meaning.specs.Records.{recorded}
+use Rattle.trace_meaning.specs.Lawful.{AreInOrder, IsInsertedLawfully, IsLaterThan}
+use Rattle.trace_meaning.specs.OutSteps.{OutStep, IsUntil, event_of}
+use Rattle.trace_meaning.specs.RecordLaws.{records_changed_join}
 use Rattle.trace_meaning.specs.declared.kinds.StepKind.{StepKind}
 use Rattle.trace_meaning.specs.declared.kinds.StepKind.TheVariants.{System, Inserted}
-use Rattle.trace_meaning.proofs.Records.{recorded_join}
 
 pub order_of_any : OrderOfAny
 order_of_any [] i j d e h order below = absurd (omega arith)
@@ -33,20 +30,6 @@ in_order_join c (o ∷ out) more until from a b = (
   in_order_join c out more (All-tail (λ o. IsUntil c o.kind o.step.time) o out until) from a.1 b,
 )
 
-changed_join : (causable suppressible : NameId → Bool) (xs ys : List Step) (os ps : List OutStep) → AreChangedTo causable suppressible xs os → AreChangedTo causable suppressible ys ps → AreChangedTo causable suppressible (xs ++ ys) (os ++ ps)
-changed_join causable suppressible [] ys [] ps a b = b
-changed_join causable suppressible [] ys (o ∷ os) ps a b = absurd a
-changed_join causable suppressible (x ∷ xs) ys [] ps a b = absurd a
-changed_join causable suppressible (x ∷ xs) ys (o ∷ os) ps a b = (a.0, changed_join causable suppressible xs ys os ps a.1 b)
-
-onto_join : (k : StepKind) (o : OutStep) (xs ys : List OutStep) → onto_system k o (xs ++ ys) ≡ onto_system k o xs ++ ys
-onto_join System o xs ys = refl
-onto_join Inserted o xs ys = refl
-
-system_join : (xs ys : List OutStep) → system_steps (xs ++ ys) ≡ system_steps xs ++ system_steps ys
-system_join [] ys = refl
-system_join (o ∷ xs) ys = ap (onto_system o.kind o) (system_join xs ys) ∙ onto_join o.kind o (system_steps xs) (system_steps ys)
-
 until_weaker : (k : StepKind) (c d t : ℕ) → c ≤ d → IsUntil c k t → IsUntil d k t
 until_weaker System c d t le h = omega arith
 until_weaker Inserted c d t le h = omega arith
@@ -59,9 +42,7 @@ within_joins a b c out more ab bc first then = record {
 
 pub lawful_joins : LawfulJoins
 lawful_joins causable suppressible a b c records records' out out' first then before after = record {
-  changed = subst (λ ss. AreChangedTo causable suppressible ss (system_steps (out ++ out'))) (sym (recorded_join records records'))
-      (subst (AreChangedTo causable suppressible (recorded records ++ recorded records')) (sym (system_join out out'))
-      (changed_join causable suppressible (recorded records) (recorded records') (system_steps out) (system_steps out') before.changed after.changed));
+  changed = records_changed_join causable suppressible records records' out out' before.changed after.changed;
   inserted = All-append (λ o. IsInsertedLawfully causable suppressible o o.kind) out out' before.inserted after.inserted;
   once = All-append (λ (o : OutStep). HasNoRepeats (map event_of o.changes)) out out' before.once after.once;
   in_order = in_order_join b out out' first.until then.from before.in_order after.in_order;

@@ -1,7 +1,7 @@
 -- Records, one list behind another.
-use Rattle.std.proofs.Common.{◌≡◌, List, [], ◌∷◌, ◌++◌, refl, ap, arith}
+use Rattle.std.proofs.Common.{[], ◌∷◌, refl, arith}
 use Rattle.trace_meaning.specs.Laws.{RecordsJoin, ClockJoins, ClockRises}
-use Rattle.trace_meaning.specs.Records.{Record, StepRecord, Tick, recorded, time_of}
+use Rattle.trace_meaning.specs.Records.{time_of}
 
 pub records_join : RecordsJoin
 records_join clock [] more first then = then
@@ -14,8 +14,3 @@ clock_joins clock (next ∷ records) more = clock_joins (time_of next) records m
 pub clock_rises : ClockRises
 clock_rises clock [] fall = omega arith
 clock_rises clock (next ∷ records) fall = omega (arith, clock_rises (time_of next) records fall.1, fall.0)
-
-pub recorded_join : (records more : List Record) → recorded (records ++ more) ≡ recorded records ++ recorded more
-recorded_join [] more = refl
-recorded_join (StepRecord step ∷ records) more = ap (λ steps. step ∷ steps) (recorded_join records more)
-recorded_join (Tick time ∷ records) more = recorded_join records more

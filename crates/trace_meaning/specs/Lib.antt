@@ -8,6 +8,7 @@ pub mod Good
 pub mod Laws
 pub mod Lawful
 pub mod OutSteps
+pub mod RecordLaws
 pub mod Records
 pub mod Satisfies
 pub mod Start

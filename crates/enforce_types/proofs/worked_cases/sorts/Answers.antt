@@ -6,12 +6,11 @@ use Rattle.enf_value.specs.ListLaws.{first_or_later, here, none_in_nil}
 use Rattle.enf_value.specs.declared.terms.VarId.{VarId}
 use Rattle.enf_value.specs.declared.values.Value.TheVariants.{Num}
 use Rattle.enf_formula.specs.Cases.{name_p}
+use Rattle.signature.specs.Columns.{FillColumns, FitsSignature, columns}
 use Rattle.signature.specs.declared.entries.NameEntry.{NameEntry}
 use Rattle.signature.specs.declared.entries.Sort.{Sort}
 use Rattle.signature.specs.declared.entries.Sort.TheVariants.{Int, Text}
-use Rattle.formula_reader.specs.Points.{columns}
 use Rattle.enforce_types.specs.Cases.{a, int_and_text, one_p}
-use Rattle.enforce_types.specs.Sorting.{FillColumns, FitsSignature}
 use Rattle.enforce_types.proofs.worked_cases.sorts.Goals as goal
 
 int_is_no_text : Int ≡ Text → ⊥

@@ -2,7 +2,8 @@ use Rattle.std.proofs.Common.{◌≡◌, ◌+◌, ◌<◌, inl, inr, ⊎_elim, L
 use Rattle.std.proofs.lemmas.Bool.{false≢true}
 use Rattle.std.proofs.lemmas.List.{take_all}
 use Rattle.enf_formula.specs.Formulas.{Atom, Equal, Exists, Historically, tree_of}
-use Rattle.enf_value.specs.Valuations.{Valuation}
+use Rattle.enf_value.specs.RisingLaws.{rising_distinct}
+use Rattle.enf_value.specs.Valuations.{Valuation, variable_cmp_total}
 use Rattle.enf_value.specs.declared.values.Value.{Value}
 use Rattle.enf_value.specs.declared.terms.Term.TheVariants.{Var}
 use Rattle.monitorable_guard.specs.Answers.{AddsRows, AreInScope, IsAnswer, IsBoundBy, IsEquated, IsFromRow, IsMatchAmong, CanAsk}
@@ -12,7 +13,7 @@ use Rattle.monitorable_guard.specs.Safety.{FreeWithin}
 use Rattle.valuations.specs.Columns.{none_in_nil}
 use Rattle.valuations.specs.Scopes.{bound_in, filled}
 use Rattle.monitorable_guard.proofs.AskLemmas.{ask_not, ask_and_left, ask_and_right, ask_or_left, ask_or_right, ask_implies_left, ask_implies_right, ask_exists, ask_none, ask_range, ask_nested, and_anywhere, or_anywhere, binds_itself}
-use Rattle.monitorable_guard.proofs.CycleLemmas.{closed_where_none, none_where_closed, rising_distinct, open_scope, added_fit, ok_answers, ok_open, some_answer, fit_places, closed_scope, adds_test, one_side, ok_decides, ok_either, ok_forall, ok_nested, ok_each, ok_map, ok_both, ok_second, ok_where, not_decides, none_equal, fits_from, fit_place, fit_first, each_more}
+use Rattle.monitorable_guard.proofs.CycleLemmas.{closed_where_none, none_where_closed, open_scope, added_fit, ok_answers, ok_open, some_answer, fit_places, closed_scope, adds_test, one_side, ok_decides, ok_either, ok_forall, ok_nested, ok_each, ok_map, ok_both, ok_second, ok_where, not_decides, none_equal, fits_from, fit_place, fit_first, each_more}
 use Rattle.monitorable_guard.proofs.EvaluationLemmas.{atom_to, atom_from, equal_to, equal_from, exists_to, exists_from, exists_decided, none_decided, past_to, past_from}
 use Rattle.monitorable_guard.proofs.KindLemmas.{closed_kind, below_kind}
 use Rattle.monitorable_guard.proofs.PastLemmas.{told_fit, told_holds, given_columns}
@@ -146,7 +147,7 @@ rows_over-gather_known-requires g t c =
 
 pub rows_over-from_rows-requires-clause-distinct : goal.rows_over-from_rows-requires-clause-distinct
 rows_over-from_rows-requires-clause-distinct g t c =
-    rising_distinct c.args.columns c.requires.open.rising
+    rising_distinct variable_cmp_total c.args.columns c.requires.open.rising
 
 pub rows_over-from_rows-requires-clause-fits : goal.rows_over-from_rows-requires-clause-fits
 rows_over-from_rows-requires-clause-fits g t c =

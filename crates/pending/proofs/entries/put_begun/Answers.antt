@@ -1,7 +1,8 @@
-use Rattle.std.proofs.Common.{◌≡◌, ◌++◌, ◌∷◌, [], ap, sym, ◌∙◌, arith, append_assoc, length, length-append, map}
+use Rattle.std.proofs.Common.{◌≡◌, ◌++◌, ◌∷◌, [], ap, sym, ◌∙◌, arith, append_assoc, length, length-append, append-nil, map}
 use Rattle.plan_terms.specs.Plans.{plan_of}
 use Rattle.pending.specs.Entries.{entries_from}
-use Rattle.pending.proofs.EntryLemmas.{entries_more}
+use Rattle.std.proofs.lemmas.Bool.{eqb-true}
+use Rattle.pending.proofs.EntryLemmas.{entries_more, none_from}
 use Rattle.pending.proofs.entries.put_begun.Goals as goal
 
 pub loop-instance-preserved : goal.loop-instance-preserved
@@ -21,3 +22,10 @@ loop-instance-preserved c =
           ∙ append_assoc c.args.into.now.items (entries_from plans place c.args.number 0 yielded) _
           ∙ ap (λ l. c.args.into.now.items ++ l) (sym (entries_more plans place c.args.number 0 yielded x c.loop-instance.among (omega (arith, count)))),
     )
+
+pub returns-then-is_empty : goal.returns-then-is_empty
+returns-then-is_empty c =
+    let instances = c.args.instances in
+    let none = eqb-true instances.len 0 (sym c.is_empty.ensures ∙ c.if-is_empty.true) in
+    sym (ap (λ l. c.args.into.now.items ++ l) (none_from (map plan_of c.args.plans.now) c.args.place.now c.args.number 0 instances.items (omega (arith, none, instances.ok.0)))
+    ∙ append-nil c.args.into.now.items)

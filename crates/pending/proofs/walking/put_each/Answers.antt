@@ -1,9 +1,10 @@
-use Rattle.std.proofs.Common.{◌++◌, ◌∷◌, [], ap, subst, sym, ◌∙◌, append_assoc}
+use Rattle.std.proofs.Common.{◌++◌, ◌∷◌, [], ap, subst, sym, ◌∙◌, append_assoc, arith}
 use Rattle.std.specs.List.{AllByRecursion}
 use Rattle.enf_value.specs.ListLaws.{AllByRecursion-of_append}
+use Rattle.std.proofs.lemmas.Bool.{eqb-true}
 use Rattle.sleepers.specs.Steps.{CanPutIn}
 use Rattle.pending.specs.Entries.{AreKept, FitsStep}
-use Rattle.pending.proofs.EntryLemmas.{more_kept, puts_more}
+use Rattle.pending.proofs.EntryLemmas.{more_kept, puts_more, puts_none}
 use Rattle.pending.proofs.walking.put_each.Goals as goal
 
 pub loop-entry-preserved : goal.loop-entry-preserved
@@ -38,3 +39,8 @@ returns-clause-kept c =
     let loop = c.loop-entry.invariant in
     let all = sym c.into_iter-entry-iterator.ensures.into_iter_gives.0 ∙ loop.0 in
     loop.3 steps kept (AllByRecursion-of_append (FitsStep steps) c.loop-entry.yielded c.loop-entry.entry-iterator.rest.items (subst (AllByRecursion (FitsStep steps)) all fits)).0
+
+pub returns-then-is_empty-clause-puts : goal.returns-then-is_empty-clause-puts
+returns-then-is_empty-clause-puts c =
+    let none = eqb-true c.args.more.len 0 (sym c.is_empty.ensures ∙ c.if-is_empty.true) in
+    puts_none c.args.more.items c.args.sleepers.now.entries (omega (arith, none, c.args.more.ok.0))

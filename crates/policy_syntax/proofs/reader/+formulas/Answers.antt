@@ -62,11 +62,8 @@ pub infix-returns-clause-read : goal.infix-returns-clause-read
 infix-returns-clause-read n c =
     let taken = taken_is _ _ (Infix c.in-Infix.operator) _ _ (sym c.lexeme.ensures ∙ ap lexeme_of c.in-Infix.is) c.in_ok-place.ensures.taken in
     let P : Formula → Type 0 = λ f. InfixRead c.args.depth.level c.args.depth.scope c.args.parts.now.cursor.rest c.unary-2.new.parts.cursor.rest f in
-    let Q : SyntaxFormula → SyntaxFormula → Type 0 = λ f g. P (infix_tree c.in-Infix.operator c.in_ok-place.place c.in_ok-interval.interval (formula_of f) (formula_of g)) in
-    subst P (sym c.with_infix.ensures)
-    (subst (λ (f : SyntaxFormula). Q f c.in_ok-right-2.right.value) (sym c.in_ok-left-2.ensures)
-    (subst (λ (g : SyntaxFormula). Q c.in_ok-left.left g) (sym c.in_ok-right-2.ensures)
-    (phrases.between _ _ _ _ _ _ _ _ _ _ _ _ c.interval.new.self.cursor c.requires.scope c.deeper.ensures c.in_ok-left.ensures.read taken c.in_ok-interval.ensures.read c.in_ok-right.ensures.read)))
+    subst P (sym c.in_ok-formula.ensures)
+    (phrases.between _ _ _ _ _ _ _ _ _ _ _ _ c.interval.new.self.cursor c.requires.scope c.deeper.ensures c.in_ok-left.ensures.read taken c.in_ok-interval.ensures.read c.in_ok-right.ensures.read)
 
 pub negation-returns-clause-read : goal.negation-returns-clause-read
 negation-returns-clause-read n c =
@@ -253,13 +250,9 @@ infix-returns-in_err-right-clause-follows n c =
     let f4 = subst (λ (d : Depth). Continues (infix_on c.args.depth.level c.args.depth.scope []) (item Operand d.level d.scope ∷ []) c.args.parts.now c.interval.new.self) (sym c.deeper.ensures) f3 in
     follows_err _ _ _ _ _ _ c.from_residual-in_err-right.ensures.1 (refused_after _ _ _ _ _ f4 c.in_err-right.ensures.follows)
 
-pub infix-returns-in_err-left-2-clause-follows : goal.infix-returns-in_err-left-2-clause-follows
-infix-returns-in_err-left-2-clause-follows n c =
-    follows_no_memory _ _ _ _ _ c.from_residual-in_err-left-2.ensures.1
-
-pub infix-returns-in_err-right-2-clause-follows : goal.infix-returns-in_err-right-2-clause-follows
-infix-returns-in_err-right-2-clause-follows n c =
-    follows_no_memory _ _ _ _ _ c.from_residual-in_err-right-2.ensures.1
+pub infix-returns-in_err-formula-clause-follows : goal.infix-returns-in_err-formula-clause-follows
+infix-returns-in_err-formula-clause-follows n c =
+    follows_no_memory _ _ _ _ _ c.from_residual-in_err-formula.ensures.1
 
 pub infix-returns-clause-follows : goal.infix-returns-clause-follows
 infix-returns-clause-follows n c =

@@ -1,17 +1,17 @@
 use Rattle.std.proofs.Common.{◌≡◌, List, map, sym, subst, ◌∙◌}
 use Rattle.enf_value.specs.Membership.{HasNoRepeats}
-use Rattle.enf_value.specs.Valuations.{Valuation}
+use Rattle.enf_value.specs.RisingLaws.{rising_distinct}
+use Rattle.enf_value.specs.Valuations.{Valuation, variable_cmp_total}
 use Rattle.enf_value.specs.declared.terms.Term.{Term}
 use Rattle.enf_value.specs.declared.terms.Term.TheVariants.{Var}
 use Rattle.enf_formula.specs.Formulas.{tree_of}
 use Rattle.valuations.specs.Tables.{Relation}
 use Rattle.monitorable_guard.specs.Evaluation.{HasKnownValues, HoldsFor}
-use Rattle.monitorable_guard.proofs.CycleLemmas.{rising_distinct}
 use Rattle.monitorable_guard.proofs.StandingLemmas.{some_is, told_hold, told_known, told_rows}
 use Rattle.monitorable_guard.proofs.guard.Guard.told_by.Goals as goal
 
 pub told-requires : goal.told-requires
-told-requires c = subst HasNoRepeats (sym c.as_slice-columns.ensures) (rising_distinct c.columns.result.now c.columns.ensures.rising)
+told-requires c = subst HasNoRepeats (sym c.as_slice-columns.ensures) (rising_distinct variable_cmp_total c.columns.result.now c.columns.ensures.rising)
 
 pub returns-then-are_variables-clause-rows : goal.returns-then-are_variables-clause-rows
 returns-then-are_variables-clause-rows c =

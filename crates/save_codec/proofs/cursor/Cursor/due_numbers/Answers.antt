@@ -1,5 +1,5 @@
 -- One number behind the other.
-use Rattle.std.proofs.Common.{◌≡◌, ◌++◌, Some, arith}
+use Rattle.std.proofs.Common.{◌≡◌, ◌++◌, Some, ap, codes, arith, ◌∙◌}
 use Rattle.save_codec.specs.Lines.{spaced}
 use Rattle.save_codec.proofs.cursor.Cursor.due_numbers.Goals as goal
 
@@ -32,6 +32,19 @@ returns-in_err-high-clause-again c = λ rule node origin low high rest small end
     let r3 = c.spaced-3.ensures.again low (spaced high ++ rest) small.3 (λ first last. omega arith) r2.1 in
     let r4 = c.spaced-4.ensures.again high rest small.4 ends r3.1 in
     absurd (cc (r4.0, c.in_err-high.was))
+
+pub returns-clause-told : goal.returns-clause-told
+returns-clause-told c =
+    let r0 = rw c.in_ok-rule.was at c.numbered.ensures.told in
+    let r1 = rw c.in_ok-node.was at c.spaced.ensures.told in
+    let r2 = rw c.in_ok-origin.was at c.spaced-2.ensures.told in
+    let r3 = rw c.in_ok-low.was at c.spaced-3.ensures.told in
+    let r4 = rw c.in_ok-high.was at c.spaced-4.ensures.told in (
+      (r0.0, r1.0, r2.0, r3.0, r4.0),
+      r0.1
+          ∙ ap (λ l. codes "due" ++ (spaced c.in_ok-rule.rule ++ l)) (r1.1 ∙ ap (λ l. spaced c.in_ok-node.node ++ l) (r2.1
+          ∙ ap (λ l. spaced c.in_ok-origin.origin ++ l) (r3.1 ∙ ap (λ l. spaced c.in_ok-low.low ++ l) r4.1))),
+    )
 
 pub returns-clause-again : goal.returns-clause-again
 returns-clause-again c = λ rule node origin low high rest small ends e.

@@ -1,12 +1,14 @@
-use Rattle.std.proofs.Common.{length}
+use Rattle.std.proofs.Common.{◌≡◌, ◌++◌, length}
 use Rattle.std.specs.List.{AllByRecursion}
 use Rattle.enf_value.specs.ValueTokens.{IsValue}
+use Rattle.save_codec.specs.Lines.{values_text}
 use Rattle.save_codec.proofs.ValueLists.{AreLeft}
 use Rattle.save_codec.proofs.cursor.Cursor.values.Given as goal
 
 abbrev pub invariant-loop-alloc : goal.invariant-loop-alloc
 invariant-loop-alloc l = record {
   are_values : AllByRecursion IsValue l.row;
+  read : l.fn.self.rest.now ≡ values_text l.row ++ l.self.rest.now;
   left : AreLeft l.fn.self.rest.now l.row l.self.rest.now;
 }
 

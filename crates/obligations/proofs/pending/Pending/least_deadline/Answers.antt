@@ -1,6 +1,0 @@
-use Rattle.std.proofs.Common.{subst}
-use Rattle.obligations.specs.Waiting.{IsLeastOf, PendingList}
-use Rattle.obligations.proofs.pending.Pending.least_deadline.Goals as goal
-
-pub returns : goal.returns
-returns c = subst (λ (p : PendingList). IsLeastOf p.deadlines c.least.result) c.self.view_is c.least.ensures

@@ -1,0 +1,165 @@
+-- What was read of the lines of a text, and why none goes on.
+use Rattle.std.proofs.Common.{◌≡◌, ◌++◌, ◌∷◌, ◌+◌, ◌<◌, ◌≤◌, ◌^◌, [], ℕ, List, Option, Some, None, true, length, refl, sym, ap, subst, ◌∙◌, arith, length-append}
+use Rattle.std.specs.List.{flat_map}
+use Rattle.std.proofs.lemmas.List.{append-nil}
+use Rattle.std.specs.Option.{option_map}
+use Rattle.save_codec.specs.Forms.{AreLines, Follow, follows, is_end, last_line}
+use Rattle.save_codec.specs.LineKinds.{ends, kind_of, may_follow}
+use Rattle.save_codec.specs.LineParts.{clock_after, clock_from, due_in, last_after, last_from, lines_in, position_after, position_from, row_in}
+use Rattle.save_codec.specs.Lines.{IsLine, line_text, lines_text}
+use Rattle.save_codec.specs.Parts.{IsReadLine}
+use Rattle.save_codec.specs.Reading.{IsStop}
+use Rattle.save_codec.specs.declared.lines.Kind.{Kind}
+use Rattle.save_codec.specs.declared.lines.Line.{Line}
+use Rattle.save_codec.specs.declared.lines.Line.TheVariants.{Clock, Last, Position, Row, Due, End}
+use Rattle.save_codec.specs.declared.parts.LineParts.{LineParts}
+use Rattle.save_codec.specs.declared.refusals.StateRefusal.TheVariants.{Syntax}
+use Rattle.save_codec.proofs.FormLemmas.{follow_on, last_line_behind, text_on}
+use Rattle.save_codec.proofs.PartLemmas.{all_of_them, clock_step, items_step, last_step, position_step}
+
+follows_by_kind : (before : Option Line) (line : Line) → follows before line ≡ may_follow (option_map kind_of before) (kind_of line)
+follows_by_kind None (Clock t') = refl
+follows_by_kind None (Last l') = refl
+follows_by_kind None (Position p') = refl
+follows_by_kind None (Row w' t' v') = refl
+follows_by_kind None (Due r' n' o' l' h' v') = refl
+follows_by_kind None End = refl
+follows_by_kind (Some (Clock t)) (Clock t') = refl
+follows_by_kind (Some (Clock t)) (Last l') = refl
+follows_by_kind (Some (Clock t)) (Position p') = refl
+follows_by_kind (Some (Clock t)) (Row w' t' v') = refl
+follows_by_kind (Some (Clock t)) (Due r' n' o' l' h' v') = refl
+follows_by_kind (Some (Clock t)) End = refl
+follows_by_kind (Some (Last l)) (Clock t') = refl
+follows_by_kind (Some (Last l)) (Last l') = refl
+follows_by_kind (Some (Last l)) (Position p') = refl
+follows_by_kind (Some (Last l)) (Row w' t' v') = refl
+follows_by_kind (Some (Last l)) (Due r' n' o' l' h' v') = refl
+follows_by_kind (Some (Last l)) End = refl
+follows_by_kind (Some (Position p)) (Clock t') = refl
+follows_by_kind (Some (Position p)) (Last l') = refl
+follows_by_kind (Some (Position p)) (Position p') = refl
+follows_by_kind (Some (Position p)) (Row w' t' v') = refl
+follows_by_kind (Some (Position p)) (Due r' n' o' l' h' v') = refl
+follows_by_kind (Some (Position p)) End = refl
+follows_by_kind (Some (Row w t v)) (Clock t') = refl
+follows_by_kind (Some (Row w t v)) (Last l') = refl
+follows_by_kind (Some (Row w t v)) (Position p') = refl
+follows_by_kind (Some (Row w t v)) (Row w' t' v') = refl
+follows_by_kind (Some (Row w t v)) (Due r' n' o' l' h' v') = refl
+follows_by_kind (Some (Row w t v)) End = refl
+follows_by_kind (Some (Due r n o l h v)) (Clock t') = refl
+follows_by_kind (Some (Due r n o l h v)) (Last l') = refl
+follows_by_kind (Some (Due r n o l h v)) (Position p') = refl
+follows_by_kind (Some (Due r n o l h v)) (Row w' t' v') = refl
+follows_by_kind (Some (Due r n o l h v)) (Due r' n' o' l' h' v') = refl
+follows_by_kind (Some (Due r n o l h v)) End = refl
+follows_by_kind (Some End) (Clock t') = refl
+follows_by_kind (Some End) (Last l') = refl
+follows_by_kind (Some End) (Position p') = refl
+follows_by_kind (Some End) (Row w' t' v') = refl
+follows_by_kind (Some End) (Due r' n' o' l' h' v') = refl
+follows_by_kind (Some End) End = refl
+
+ends_by_kind : (before : Option Line) → is_end before ≡ ends (option_map kind_of before)
+ends_by_kind None = refl
+ends_by_kind (Some (Clock t)) = refl
+ends_by_kind (Some (Last l)) = refl
+ends_by_kind (Some (Position p)) = refl
+ends_by_kind (Some (Row w t v)) = refl
+ends_by_kind (Some (Due r n o l h v)) = refl
+ends_by_kind (Some End) = refl
+
+-- some lines were read
+pub record IsReadSoFar (text rest : List ℕ) (before : Option Kind) (count : ℕ) (parts : LineParts) : Type 0 where
+  pub front : List Line
+  pub form : Follow None front
+  pub begins : text ≡ lines_text front ++ rest
+  pub kind : before ≡ option_map kind_of (last_line None front)
+  pub counted : count ≡ length front
+  pub room : count + length rest ≤ length text
+  pub clock : parts.clock ≡ clock_from 0 front
+  pub last : parts.last ≡ last_from None front
+  pub position : parts.position ≡ position_from 0 front
+  pub rows : parts.rows.items ≡ flat_map row_in front
+  pub dues : parts.dues.items ≡ flat_map due_in front
+
+pub nothing_read : (text : List ℕ) (parts : LineParts) → (parts.clock ≡ 0) × (parts.last ≡ None) × (parts.position ≡ 0) → (parts.rows.items ≡ []) × (parts.dues.items ≡ []) → IsReadSoFar text text None 0 parts
+nothing_read text parts numbers items = record {
+  front = [];
+  form = tt;
+  begins = refl;
+  kind = refl;
+  counted = refl;
+  room = omega arith;
+  clock = numbers.0;
+  last = numbers.1;
+  position = numbers.2;
+  rows = items.0;
+  dues = items.1;
+}
+
+-- what one more line says
+pub record HasPut (line : Line) (before after : LineParts) : Type 0 where
+  pub clock : after.clock ≡ clock_after before.clock line
+  pub last : after.last ≡ last_after before.last line
+  pub position : after.position ≡ position_after before.position line
+  pub rows : after.rows.items ≡ before.rows.items ++ row_in line
+  pub dues : after.dues.items ≡ before.dues.items ++ due_in line
+
+line_is_long : (line : Line) → 0 < length (line_text line)
+line_is_long (Clock t) = omega arith
+line_is_long (Last l) = omega arith
+line_is_long (Position p) = omega arith
+line_is_long (Row w t v) = omega arith
+line_is_long (Due r n o l h v) = omega arith
+line_is_long End = omega arith
+
+pub read_on : (text rest after : List ℕ) (before : Option Kind) (count : ℕ) (parts more : LineParts) (line : Line) (kind : Kind) → IsReadSoFar text rest before count parts → IsReadLine rest line after
+    → may_follow before kind ≡ true → kind ≡ kind_of line → HasPut line parts more → IsReadSoFar text after (Some kind) (count + 1) more
+read_on text rest after before count parts more line kind so read next is put =
+    let following : follows (last_line None so.front) line ≡ true =
+    follows_by_kind (last_line None so.front) line ∙ (λ i. may_follow (sym so.kind i) (sym is i)) ∙ next
+    in
+    record {
+      front = so.front ++ line ∷ [];
+      form = follow_on None so.front line so.form following read.0;
+      begins = text_on text rest after so.front line so.begins read.1;
+      kind = ap Some is ∙ ap (option_map kind_of) (sym (last_line_behind None so.front line));
+      counted = omega (arith, so.counted, length-append so.front (line ∷ []));
+      room = omega (arith, so.room, ap length read.1, length-append (line_text line) after, line_is_long line);
+      clock = put.clock ∙ clock_step so.front line line parts.clock refl so.clock;
+      last = put.last ∙ last_step so.front line line parts.last refl so.last;
+      position = put.position ∙ position_step so.front line line parts.position refl so.position;
+      rows = items_step row_in so.front line line parts.rows.items more.rows.items refl so.rows put.rows;
+      dues = items_step due_in so.front line line parts.dues.items more.dues.items refl so.dues put.dues;
+    }
+
+-- none goes on
+pub stops : (text rest : List ℕ) (before : Option Kind) (count : ℕ) (parts : LineParts) → IsReadSoFar text rest before count parts → (ends before ≡ true → rest ≡ [] → ⊥)
+    → ((line : Line) (more : List ℕ) → IsLine line → may_follow before (kind_of line) ≡ true → rest ≡ line_text line ++ more → ⊥) → IsStop text (Syntax (count + 1))
+stops text rest before count parts so unfinished stuck = (
+  count,
+  (
+    so.front,
+    record {
+      rest = rest;
+      begins = so.begins;
+      form = so.form;
+      unfinished = λ end. unfinished (ap ends so.kind ∙ sym (ends_by_kind (last_line None so.front)) ∙ end);
+      stuck = λ line more is next. stuck line more is (ap (λ (o : Option Kind). may_follow o (kind_of line)) so.kind ∙ sym (follows_by_kind (last_line None so.front) line) ∙ next);
+    },
+    sym so.counted,
+  ),
+  refl,
+)
+
+-- they are all
+pub all_read : (text rest : List ℕ) (before : Option Kind) (count : ℕ) (parts : LineParts) → IsReadSoFar text rest before count parts → ends before ≡ true → rest ≡ [] → length text < 2 ^ 63
+    → AreLines (lines_in parts) × (text ≡ lines_text (lines_in parts)) × (length (lines_in parts) < 2 ^ 63)
+all_read text rest before count parts so end none small =
+    let are : AreLines so.front = (so.form, ends_by_kind (last_line None so.front) ∙ ap ends (sym so.kind) ∙ end) in
+    let same : so.front ≡ lines_in parts = all_of_them so.front so.front parts.clock parts.last parts.position parts.rows.items parts.dues.items are refl so.clock so.last so.position so.rows so.dues in
+    let whole : text ≡ lines_text so.front = so.begins ∙ ap (λ l. lines_text so.front ++ l) none ∙ append-nil (lines_text so.front) in
+    let few : length so.front < 2 ^ 63 = omega (arith, so.counted, so.room, small) in
+    (subst AreLines same are, whole ∙ ap lines_text same, subst (λ (l : List Line). length l < 2 ^ 63) same few)

@@ -1,0 +1,7 @@
+use Rattle.std.proofs.Common.{List, ap, sym, ◌∙◌}
+use Rattle.plan_terms.specs.Plans.{Plan}
+use Rattle.obligations.specs.Scopes.{future_in}
+use Rattle.save_codec.proofs.judging.Judge.named.Goals as goal
+
+pub returns-clause-named : goal.returns-clause-named
+returns-clause-named c = λ s is. c.in_ok-found.ensures ∙ ap (λ (plans : List Plan). future_in plans c.args.rule c.args.node) (sym is.plans)
