@@ -4,10 +4,11 @@ use Rattle.std.proofs.Common.{◌≡◌, ℕ, false, List, [], ◌∷◌, map, O
 use Rattle.std.specs.Borrow.{Bor}
 use Rattle.std.specs.Cmp.{IsTotalOrder, nat_cmp_total, on_total, then_total}
 use Rattle.std.specs.FinMap.{IsAntisymmetric, nat_cmp-IsAntisymmetric}
-use Rattle.std.specs.List.Sorted.{IsSortedByKey, IsSearchInRange, IsBinarySearchResult}
+use Rattle.std.specs.List.Sorted.{IsPermutation, IsSortedByKey, IsSearchInRange, IsBinarySearchResult}
 use Rattle.std.specs.Ordering.{nat_cmp, ordering_then, is_lt}
 use Rattle.std.specs.declared.cmp.Ordering.{Ordering}
 use Rattle.std.specs.declared.cmp.Ordering.TheVariants.{Less, Equal, Greater}
+use Rattle.std.proofs.lemmas.List.Sorted.{IsPermutation-map, IsPermutation-sym, Contains-permutation}
 use Rattle.std.proofs.lemmas.Option.{same_Some, none-some}
 use Rattle.enf_value.specs.Valuations.{Valuation, value_of, values_of, onto_values}
 use Rattle.enf_value.specs.declared.events.Event.{Event}
@@ -18,7 +19,7 @@ use Rattle.enf_formula.specs.Satisfaction.{IsAmong}
 use Rattle.valuations.specs.Cells.{key_cmp}
 use Rattle.valuations.specs.KeyLaws.{row_cmp_total, key_cmp_total, key_cmp_exact, same_order}
 use Rattle.valuations.specs.SearchLaws.{found_tells, Contains-map, Contains-from_map}
-use Rattle.monitorable_guard.specs.Events.{name_of, key_of, event_cmp, IsByName}
+use Rattle.monitorable_guard.specs.Events.{name_of, key_of, event_cmp, shown, IsByName}
 
 pub same_name : (m n : NameId) → m.0 ≡ n.0 → m ≡ n
 same_name m n e = λ i. record { 0 = e i }
@@ -102,3 +103,16 @@ module _ (events : List Event) (listed : List (Bor Event)) (v : Valuation) (name
         λ ok. let found = told.0 ok in found_to found.0 found.1 found.2,
         λ among. told.1 (found_from (values_of v terms) refl among),
       )
+
+-- a sorted list of the events is they by their names
+pub sorted_by_name : (events : List Event) (given sorted : List (Bor Event)) → shown given ≡ events → IsPermutation given sorted
+    → IsSortedByKey key_of event_cmp sorted → IsByName events sorted
+sorted_by_name events given sorted all permuted order =
+    let moved : IsPermutation (shown given) (shown sorted) = IsPermutation-map (λ event. event.now) given sorted permuted in
+    record {
+      order = order;
+      same = λ event. (
+        λ there. subst (λ l. Contains l event) all (Contains-permutation (shown sorted) (shown given) event (IsPermutation-sym (shown given) (shown sorted) moved) there),
+        λ there. Contains-permutation (shown given) (shown sorted) event moved (subst (λ l. Contains l event) (sym all) there),
+      );
+    }

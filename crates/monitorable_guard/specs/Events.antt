@@ -1,5 +1,5 @@
 -- The events of a step in the order of their names, and of their arguments.
-use Rattle.std.specs.Prelude.{◌↔◌, ℕ, List, map, Contains}
+use Rattle.std.specs.Prelude.{◌↔◌, ◌≤◌, ℕ, List, ⊤, map, take, Contains}
 use Rattle.std.specs.Borrow.{Bor}
 use Rattle.std.specs.List.Sorted.{IsSortedByKey}
 use Rattle.std.specs.Ordering.{nat_cmp, ordering_then}
@@ -7,6 +7,8 @@ use Rattle.std.specs.declared.cmp.Ordering.{Ordering}
 use Rattle.enf_value.specs.Order.{row_cmp}
 use Rattle.enf_value.specs.declared.events.Event.{Event}
 use Rattle.enf_value.specs.declared.values.Value.{Value}
+use Rattle.monitorable_guard.specs.declared.events.ByName.{ByName}
+use Rattle.monitorable_guard.specs.declared.events.ByName.TheVariants.{Few, Many}
 
 -- the number of the event's name
 abbrev pub name_of : Bor Event → ℕ
@@ -28,3 +30,13 @@ shown events = map (λ event. event.now) events
 pub record IsByName (events : List Event) (listed : List (Bor Event)) : Type 0 where
   pub order : IsSortedByKey key_of event_cmp listed
   pub same : (event : Event) → Contains (shown listed) event ↔ Contains events event
+
+-- so many of a few places, or all of many
+abbrev pub listed : ByName → List (Bor Event)
+listed (Few few) = take few.count few.places
+listed (Many order) = order.items
+
+-- they are no more than the few places
+abbrev pub HasItsEvents : ByName → Type 0
+HasItsEvents (Few few) = few.count ≤ 4
+HasItsEvents (Many order) = ⊤

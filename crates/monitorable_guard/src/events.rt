@@ -1,12 +1,12 @@
 //! The events of a step, by their names.
-ghost use Rattle.std.specs.Prelude.{◌≡◌, ◌↔◌, IfOk, IsTrue, Contains, Some, map};
+ghost use Rattle.std.specs.Prelude.{◌≡◌, ◌↔◌, ◌≤◌, IfOk, IsTrue, Contains, Some, length, map, take};
 ghost use Rattle.std.specs.List.Sorted.{IsSortedByKey};
 ghost use Rattle.std.specs.Ordering.{nat_cmp, ordering_then};
 ghost use Rattle.enf_formula.specs.Satisfaction.{IsAmong};
 ghost use Rattle.enf_value.specs.Order.{row_cmp};
 ghost use Rattle.enf_value.specs.Valuations.{value_of, values_of};
 ghost use Rattle.enf_value.specs.declared.events.Event.{Event as AnyEvent};
-ghost use Rattle.monitorable_guard.specs.Events.{IsByName, name_of, shown};
+ghost use Rattle.monitorable_guard.specs.Events.{HasItsEvents, IsByName, listed, name_of, shown};
 ghost use Rattle.valuations.specs.Cells.{key_cmp};
 
 use enf_value::event_sets::EventSet;
@@ -23,19 +23,36 @@ use valuations::arguments::compare_to_terms;
 #[derive(Drop)]
 pub struct StepEvents<'a> {
     events: &'a EventSet,
-    by_name: Vec<&'a Event>,
+    by_name: ByName<'a>,
+}
+
+// How many events are put in order in places of their own.
+const MOST_IN_PLACE: usize = 4;
+
+// The events of a step in the order of their names and arguments: a few, which take no memory, or more.
+#[derive(Drop)]
+pub(crate) enum ByName<'a> {
+    Few(FewEvents<'a>),
+    Many(Vec<&'a Event>),
+}
+
+// So many of the places; those that are left have any event.
+#[derive(Drop)]
+pub(crate) struct FewEvents<'a> {
+    places: [&'a Event; MOST_IN_PLACE],
+    count: usize,
 }
 
 impl<'a> Model for StepEvents<'a> {
     ghost use Rattle.std.specs.Prelude.{List};
     ghost use Rattle.enf_value.specs.declared.events.Event.{Event};
-    ghost use Rattle.monitorable_guard.specs.Events.{IsByName};
+    ghost use Rattle.monitorable_guard.specs.Events.{HasItsEvents, IsByName, listed};
 
     ghost Value = { List Event };
 
     ghost view = { λ step. step.events.now };
 
-    ghost invariant = { λ step. IsByName step.events.now step.by_name.items };
+    ghost invariant = { λ step. HasItsEvents step.by_name × IsByName step.events.now (listed step.by_name) };
 }
 
 impl<'a> StepEvents<'a> {
@@ -59,7 +76,7 @@ impl<'a> StepEvents<'a> {
         ensures { (event : AnyEvent) → Contains (shown result.now) event
             ↔ (Contains self.now event × (event.name ≡ name)) }
     {
-        of_name(self.by_name.as_slice(), name)
+        of_name(order_of(&self.by_name), name)
     }
 
     /// Whether the terms are the arguments of an event of the name; it takes no memory.
@@ -67,14 +84,55 @@ impl<'a> StepEvents<'a> {
         ensures { IsTrue result
             ↔ IsAmong self.now name (values_of (V.valuation v.now) terms.now) }
     {
-        self.by_name
+        order_of(&self.by_name)
             .binary_search_by(|event| compare_to_event(event, name, terms, v))
             .is_ok()
     }
 }
 
+// The events in their order.
+fn order_of<'s, 'a>(by_name: &'s ByName<'a>) -> &'s [&'a Event]
+    requires { HasItsEvents by_name.now }
+    ensures { result.now ≡ listed by_name.now }
+{
+    match by_name {
+        ByName::Few(few) => &few.places[..few.count],
+        ByName::Many(order) => order.as_slice(),
+    }
+}
+
 // The events in the order of their names and arguments.
-fn in_order<'a>(alloc: Global, events: &'a [Event]) -> Result<Vec<&'a Event>, NoMemory>
+fn in_order<'a>(alloc: Global, events: &'a [Event]) -> Result<ByName<'a>, NoMemory>
+    ensures has { IfOk result HasItsEvents }
+    ensures order { IfOk result (λ order. IsByName events.now (listed order)) }
+{
+    match events.first() {
+        Some(first) if events.len() <= MOST_IN_PLACE => {
+            Ok(ByName::Few(few_in_order(first, events)))
+        }
+        _ => Ok(ByName::Many(many_in_order(alloc, events)?)),
+    }
+}
+
+// The same of a few, in places that any event fills.
+fn few_in_order<'a>(any: &'a Event, events: &'a [Event]) -> FewEvents<'a>
+    requires { length events.now ≤ 4 }
+    ensures few { result.count ≤ 4 }
+    ensures order { IsByName events.now (take result.count result.places) }
+{
+    let mut places = [any; MOST_IN_PLACE];
+    for place in 0..events.len() {
+        places[place] = &events[place];
+    }
+    places[..events.len()].sort_unstable_by(|a, b| compare_events(a, b));
+    FewEvents {
+        places,
+        count: events.len(),
+    }
+}
+
+// The same of many.
+fn many_in_order<'a>(alloc: Global, events: &'a [Event]) -> Result<Vec<&'a Event>, NoMemory>
     ensures { IfOk result (λ order. IsByName events.now order.items) }
 {
     let mut order = Vec::with_capacity(alloc, events.len())?;

@@ -1,0 +1,14 @@
+use Rattle.std.proofs.Common.{rules, ◌∙◌}
+use Rattle.std.specs.Ordering.{is_lt}
+use Rattle.std.proofs.lemmas.Fn.{always_returns_same}
+use Rattle.std.proofs.lemmas.List.{take_all}
+use Rattle.std.proofs.lemmas.List.Sorted.{ranks_by}
+use Rattle.monitorable_guard.specs.Events.{key_of, event_cmp}
+use Rattle.monitorable_guard.proofs.EventLemmas.{event_cmp_total, sorted_by_name}
+use Rattle.monitorable_guard.proofs.events.many_in_order.Goals as goal
+
+pub returns : goal.returns
+returns c = sorted_by_name c.args.events.now c.loop-event.order.items _
+    (c.loop-event.invariant ∙ take_all c.loop-event.event-index c.args.events.now c.loop-event-test.false)
+    c.sort_unstable_by.ensures.permutation
+    (c.sort_unstable_by.ensures.sorted (λ x y. is_lt (event_cmp (key_of x) (key_of y))) (ranks_by event_cmp_total key_of) (always_returns_same _ _ _ (λ a r q k. search rules)))
