@@ -1,11 +1,14 @@
 -- The tokens at the front of bytes: a quote begins a text and no number, and tokens stand at a place as they stand at the front of what follows it.
-use Rattle.std.proofs.Common.{◌≡◌, ◌≢◌, ℕ, ◌+◌, ◌-◌, ℤ, inl, inr, List, [], ◌∷◌, ◌++◌, length, slice_index, take, drop, refl, sym, ap, subst, ◌∙◌, arith, append_assoc, length-append, length-drop, Option, Some, None, MatchOption, IfNone}
+use Rattle.std.proofs.Common.{◌≡◌, ◌≢◌, ℕ, ◌+◌, ◌-◌, ℤ, inl, inr, List, [], ◌∷◌, ◌++◌, length, slice_index, take, drop, refl, sym, ap, subst, ◌∙◌, arith, append_assoc, length-append, length-drop, Option, Some, None, MatchOption, IfNone, Result, Ok, Err, IfOk, ◌≤◌, length-take}
 use Rattle.std.specs.Option.{IsSomeAnd}
+use Rattle.std.specs.Str.{IsAscii}
 use Rattle.std.proofs.lemmas.Bool.Decides.{nat_tests}
 use Rattle.std.proofs.lemmas.List.{take_all}
+use Rattle.std.proofs.lemmas.Str.{IsUtf8-from_ascii}
 use Rattle.enf_value.proofs.Escapes.{one_written}
 use Rattle.enf_value.specs.Text.{IsText}
 use Rattle.enf_value.specs.ValueTokens.{IsNumberToken, IsTextToken, TokenAt, WrittenAt}
+use Rattle.enf_value.specs.declared.limits.TheConstants.{MOST_TEXT_BYTES}
 use Rattle.enf_value.specs.declared.values.Value.{Value}
 use Rattle.enf_value.specs.declared.values.Value.TheVariants.{Num, Text}
 
@@ -93,6 +96,19 @@ pub none_through : {A B : Type 0} (P R : Type 0) (Q : A → B → Type 0) (r : O
 none_through P R Q None s is p f = subst (λ t. IfNone t R) (sym is) (f p)
 none_through P R Q (Some x) None is p f = absurd is
 none_through P R Q (Some x) (Some y) is p f = tt
+
+-- what is said of nothing read says what follows from it
+pub none_onward : {A E : Type 0} (P R : Type 0) (r : Result (Option A) E) → IfOk r (λ found. IfNone found P) → (P → R) → IfOk r (λ found. IfNone found R)
+none_onward P R (Ok None) p f = f p
+none_onward P R (Ok (Some x)) p f = tt
+none_onward P R (Err e) p f = tt
+
+-- few bytes that are ASCII are a text
+pub text_from_ascii : (bytes : List ℕ) (quote : ℕ) → quote ≤ MOST_TEXT_BYTES → IsAscii (take quote bytes) → IsText (take quote bytes)
+text_from_ascii bytes quote short ascii = record {
+  utf8 = IsUtf8-from_ascii (take quote bytes) ascii;
+  short = omega (arith, length-take quote bytes, short);
+}
 
 -- there is no token where the text that is written there is refused
 pub none_from_refused : (bytes text : List ℕ) (quote : ℕ) → WrittenAt (drop 1 bytes) quote text → (IsText text → ⊥) → (other : List ℕ) (end : ℕ) → TokenAt bytes 0 end (Text other) → ⊥

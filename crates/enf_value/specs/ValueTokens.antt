@@ -86,6 +86,12 @@ pub record TokenAt (bytes : List ℕ) (at end : ℕ) (value : Value) : Type 0 wh
   pub whole : EndsBefore value rest
   pub fits : IsValue value
 
+-- the value of the token that begins at a place and ends at another goes last
+pub record PutsToken (bytes : List ℕ) (at end : ℕ) (before after : List Value) : Type 0 where
+  pub value : Value
+  pub token : TokenAt bytes at end value
+  pub last : after ≡ before ++ value ∷ []
+
 -- what is printed for a value is a token of it, before all bytes that do not go on with it
 abbrev pub PrintedIsToken : Type 0
 PrintedIsToken =

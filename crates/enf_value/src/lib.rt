@@ -35,7 +35,7 @@ pub use memory::NoMemory;
 pub use names::{ByteKind, is_reserved, name_text};
 pub use places::Place;
 pub use printing::{print_byte, print_bytes, print_number, print_value};
-pub use reading::{read_digits, read_value};
+pub use reading::{put_value, read_digits, read_value};
 pub use rows::Row;
 pub use steps::Step;
 pub use terms::{Term, Terms, VarId, Vars};

@@ -2,16 +2,19 @@
 ghost use Rattle.std.specs.Prelude.{◌≡◌, ◌≢◌, ◌<◌, ◌≤◌, ◌+◌, ◌==◌};
 ghost use Rattle.std.specs.Prelude.{◌^◌, ℕ, ℤ, pos};
 ghost use Rattle.std.specs.Prelude.{List, length, take, drop, slice_index};
-ghost use Rattle.std.specs.Prelude.{IfOk, IfSome, IfNone, if◌then◌else◌};
+ghost use Rattle.std.specs.Prelude.{IfOk, IfSome, IfNone, IsTrue, OnErr, if◌then◌else◌};
 ghost use Rattle.std.specs.Char.{is_ascii_digit};
 ghost use Rattle.std.specs.List.{prefix_len};
+ghost use Rattle.std.specs.Str.{IsAscii};
 ghost use Rattle.enf_value.specs.Text.{IsText};
-ghost use Rattle.enf_value.specs.ValueTokens.{TokenAt, WrittenAt, meaning};
+ghost use Rattle.enf_value.specs.ValueTokens.{PutsToken, TokenAt, WrittenAt, meaning};
 ghost use Rattle.enf_value.specs.declared.values.Value.{Value as AnyValue};
 ghost use Rattle.enf_value.specs.declared.values.Value.TheVariants.{Num, Text};
 
+use crate::limits::MOST_TEXT_BYTES;
 use crate::memory::NoMemory;
 use crate::names::ByteKind;
+use crate::rows::Row;
 use crate::texts::{TextRefusal, TextValue};
 use crate::values::Value;
 use std::alloc::Global;
@@ -35,6 +38,96 @@ pub fn read_value(
         return Ok(None);
     };
     Ok(Some((value, at + length)))
+}
+
+/// Puts the value of the token that begins at a place last in a row, and gives the place behind the token; none where
+/// `read_value` gives none, and then the row stays.
+#[inline(always)]
+pub fn put_value(
+    alloc: Global,
+    bytes: &[u8],
+    at: usize,
+    row: &mut Row,
+) -> Result<Option<usize>, NoMemory>
+    requires { at ≤ length bytes.now }
+    ensures some { IfOk result (λ found. IfSome found (λ end. PutsToken bytes.now at end row.old row.new)) }
+    ensures within { IfOk result (λ found. IfSome found (λ end. (at < end) × (end ≤ length bytes.now))) }
+    ensures none { IfOk result
+        (λ found. IfNone found ((value : AnyValue) (end : ℕ) → TokenAt bytes.now at end value → ⊥)) }
+    ensures kept { IfOk result (λ found. IfNone found (row.new ≡ row.old)) }
+    ensures err { OnErr result (row.new ≡ row.old) }
+{
+    let Some(length) = put_front(alloc, &bytes[at..], row)? else {
+        return Ok(None);
+    };
+    Ok(Some(at + length))
+}
+
+#[inline(always)]
+fn put_front(alloc: Global, bytes: &[u8], row: &mut Row) -> Result<Option<usize>, NoMemory>
+    ensures some { IfOk result (λ found. IfSome found (λ end. PutsToken bytes.now 0 end row.old row.new)) }
+    ensures none { IfOk result
+        (λ found. IfNone found ((value : AnyValue) (end : ℕ) → TokenAt bytes.now 0 end value → ⊥)) }
+    ensures kept { IfOk result (λ found. IfNone found (row.new ≡ row.old)) }
+    ensures err { OnErr result (row.new ≡ row.old) }
+{
+    if begins_text(bytes) {
+        put_text(alloc, bytes, row)
+    } else {
+        put_number(bytes, row)
+    }
+}
+
+#[inline(always)]
+fn put_number(bytes: &[u8], row: &mut Row) -> Result<Option<usize>, NoMemory>
+    ensures some { IfOk result (λ found. IfSome found (λ end. PutsToken bytes.now 0 end row.old row.new)) }
+    ensures none { IfOk result
+        (λ found. IfNone found ((number : ℤ) (end : ℕ) → TokenAt bytes.now 0 end (Num number) → ⊥)) }
+    ensures kept { IfOk result (λ found. IfNone found (row.new ≡ row.old)) }
+    ensures err { OnErr result (row.new ≡ row.old) }
+{
+    let Some((number, end)) = read_number(bytes) else {
+        return Ok(None);
+    };
+    row.put(Value::Num(number))?;
+    Ok(Some(end))
+}
+
+// Most texts are short, all ASCII and have no escape: such a one is copied to where it stays, and moved no more.
+#[inline(always)]
+fn put_text(alloc: Global, bytes: &[u8], row: &mut Row) -> Result<Option<usize>, NoMemory>
+    requires { slice_index bytes.now 0 ≡ 34 }
+    ensures some { IfOk result (λ found. IfSome found (λ end. PutsToken bytes.now 0 end row.old row.new)) }
+    ensures none { IfOk result
+        (λ found. IfNone found ((text : List ℕ) (end : ℕ) → TokenAt bytes.now 0 end (Text text) → ⊥)) }
+    ensures kept { IfOk result (λ found. IfNone found (row.new ≡ row.old)) }
+    ensures err { OnErr result (row.new ≡ row.old) }
+{
+    let behind = &bytes[1..];
+    if let Some((quote, true)) = plain_end(behind) {
+        if quote <= MOST_TEXT_BYTES {
+            let text = TextValue::copied(alloc, &behind[..quote])?;
+            row.put(Value::Text(text))?;
+            return Ok(Some(quote + 2));
+        }
+    }
+    put_any_text(alloc, bytes, row)
+}
+
+#[inline(never)]
+fn put_any_text(alloc: Global, bytes: &[u8], row: &mut Row) -> Result<Option<usize>, NoMemory>
+    requires { slice_index bytes.now 0 ≡ 34 }
+    ensures some { IfOk result (λ found. IfSome found (λ end. PutsToken bytes.now 0 end row.old row.new)) }
+    ensures none { IfOk result
+        (λ found. IfNone found ((text : List ℕ) (end : ℕ) → TokenAt bytes.now 0 end (Text text) → ⊥)) }
+    ensures kept { IfOk result (λ found. IfNone found (row.new ≡ row.old)) }
+    ensures err { OnErr result (row.new ≡ row.old) }
+{
+    let Some((text, end)) = read_text(alloc, bytes)? else {
+        return Ok(None);
+    };
+    row.put(Value::Text(text))?;
+    Ok(Some(end))
 }
 
 #[inline(always)]
@@ -116,7 +209,7 @@ fn read_text(alloc: Global, bytes: &[u8]) -> Result<Option<(TextValue, usize)>, 
         (λ found. IfNone found ((text : List ℕ) (end : ℕ) → TokenAt bytes.now 0 end (Text text) → ⊥)) }
 {
     let behind = &bytes[1..];
-    if let Some(quote) = plain_end(behind) {
+    if let Some((quote, _)) = plain_end(behind) {
         return text_token(alloc, &behind[..quote], quote);
     }
     let Some((written, quote)) = read_written(alloc, behind)? else {
@@ -125,17 +218,24 @@ fn read_text(alloc: Global, bytes: &[u8]) -> Result<Option<(TextValue, usize)>, 
     text_token(alloc, written.as_slice(), quote)
 }
 
-// Where the last quote of a text stands that has no escape, in the bytes behind its first.
+// Where the last quote of a text stands that has no escape, in the bytes behind its first, and whether all bytes up to
+// it are ASCII.
 #[inline(always)]
-fn plain_end(bytes: &[u8]) -> Option<usize>
-    ensures written { IfSome result (λ quote. WrittenAt bytes.now quote (take quote bytes.now)) }
-    ensures within { IfSome result (λ quote. quote < length bytes.now) }
+fn plain_end(bytes: &[u8]) -> Option<(usize, bool)>
+    ensures written { IfSome result (λ found. WrittenAt bytes.now found.0 (take found.0 bytes.now)) }
+    ensures within { IfSome result (λ found. found.0 < length bytes.now) }
+    ensures ascii { IfSome result (λ found. IsTrue found.1 → IsAscii (take found.0 bytes.now)) }
 {
+    let mut ascii = true;
     for (place, byte) in bytes.iter().enumerate() {
         match *byte {
-            b'"' => return Some(place),
+            b'"' => return Some((place, ascii)),
             b'\\' => return None,
-            _ => {}
+            byte => {
+                if byte >= 128 {
+                    ascii = false;
+                }
+            }
         }
     }
     None

@@ -58,6 +58,7 @@ impl Row {
     }
 
     /// Puts a value last; for want of memory nothing changes.
+    #[inline(always)]
     pub fn put(&mut self, value: Value) -> Result<(), NoMemory>
         ensures ok { OnOk result (self.new ≡ self.old ++ value ∷ []) }
         ensures err { OnErr result (self.new ≡ self.old) }

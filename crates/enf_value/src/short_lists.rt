@@ -54,6 +54,7 @@ impl<T: Default + Drop> ShortList<T> {
     }
 
     /// Puts an item last; for want of memory nothing changes.
+    #[inline(always)]
     pub fn put(&mut self, item: T) -> Result<(), NoMemory>
         ensures ok { OnOk result (self.new ≡ self.old ++ item ∷ []) }
         ensures err { OnErr result (self.new ≡ self.old) }

@@ -79,6 +79,15 @@ impl TextValue {
         if !is_utf8(bytes) {
             return Err(TextRefusal::NotUtf8);
         }
+        Ok(TextValue::copied(alloc, bytes)?)
+    }
+
+    // The text of bytes that are one.
+    #[inline(always)]
+    pub(crate) fn copied(alloc: Global, bytes: &[u8]) -> Result<TextValue, AllocError>
+        requires { IsText bytes.now }
+        ensures { IfOk result (λ text. text ≡ bytes.now) }
+    {
         Ok(TextValue {
             text: SmallVec::from_slice(alloc, bytes)?,
         })
@@ -95,9 +104,7 @@ impl TextValue {
 
 impl Duplicate for TextValue {
     fn duplicate(&self, alloc: Global) -> Result<TextValue, NoMemory> {
-        Ok(TextValue {
-            text: SmallVec::from_slice(alloc, self.text.as_slice())?,
-        })
+        Ok(TextValue::copied(alloc, self.bytes())?)
     }
 }
 

@@ -1,6 +1,9 @@
-use Rattle.std.proofs.Common.{◌≡◌, ◌≢◌, ℕ, ◌<◌, slice_index}
+use Rattle.std.proofs.Common.{◌≢◌, ℕ, ◌<◌, IsTrue, slice_index, take}
+use Rattle.std.specs.Str.{IsAscii}
 use Rattle.enf_value.proofs.reading.plain_end.Given as goal
 
 abbrev pub invariant-loop-place : goal.invariant-loop-place
-invariant-loop-place l =
-    (k : ℕ) → k < l.place → (slice_index l.bytes k ≢ 34) × (slice_index l.bytes k ≢ 92)
+invariant-loop-place l = record {
+  apart : (k : ℕ) → k < l.place → (slice_index l.bytes k ≢ 34) × (slice_index l.bytes k ≢ 92);
+  low : IsTrue l.ascii → IsAscii (take l.place l.bytes);
+}
