@@ -5,10 +5,14 @@ ghost use Rattle.std.specs.Fmt.{signed_decimal};
 ghost use Rattle.std.specs.List.{flat_map};
 ghost use Rattle.enf_value.specs.Spelling.{spelled, escaped, quoted, AppendsPart};
 
+use crate::digits::put_number;
 use crate::memory::NoMemory;
 use crate::names::ByteKind;
 use crate::values::Value;
 use itoa::Buffer;
+
+// How many digits the greatest number has.
+const MOST_DIGITS: usize = 20;
 
 /// Appends bytes; for want of memory nothing is appended.
 #[inline(always)]
@@ -35,8 +39,9 @@ pub fn print_number(number: u64, out: &mut Vec<u8>) -> Result<(), NoMemory>
     ensures ok { OnOk result (out.new.items ≡ out.old.items ++ decimal number) }
     ensures err { OnErr result (out.new.items ≡ out.old.items) }
 {
-    let mut buffer = Buffer::new();
-    print_bytes(buffer.format(number).as_bytes(), out)
+    out.reserve(MOST_DIGITS)?;
+    put_number(number, out);
+    Ok(())
 }
 
 fn print_signed(number: i64, out: &mut Vec<u8>) -> Result<(), NoMemory>
@@ -52,13 +57,15 @@ fn print_text(bytes: &[u8], out: &mut Vec<u8>) -> Result<(), NoMemory>
     ensures ok { OnOk result (out.new.items ≡ out.old.items ++ quoted bytes.now) }
     ensures err { OnErr result (AppendsPart (quoted bytes.now) out.old.items out.new.items) }
 {
-    print_byte(b'"', out)?;
-    if is_plain(bytes) {
-        print_bytes(bytes, out)?;
-    } else {
+    out.reserve(bytes.len() + 2)?;
+    out.push_reserved(b'"');
+    if !is_plain(bytes) {
         print_escaped(bytes, out)?;
+        return print_byte(b'"', out);
     }
-    print_byte(b'"', out)
+    out.extend_from_slice(bytes)?;
+    out.push_reserved(b'"');
+    Ok(())
 }
 
 // Whether each byte stands for itself.
