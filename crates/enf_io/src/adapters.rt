@@ -42,6 +42,7 @@ impl<O: WriteOnce> StdSink<O> {
 impl<O: WriteOnce> Sink for StdSink<O> {
     ghost seen = { λ s. untold_stream 0 s.write_faults };
 
+    #[inline(always)]
     fn write(&mut self, bytes: &[u8]) -> Result<usize, IoRefusal>
         ensures once { IsOneCall (λ answer. O.write_gives self.old.writer bytes.now answer self.new.writer)
             (adapted_write bytes.now) result }
@@ -101,6 +102,7 @@ impl<I: ReadOnce, O: WriteOnce> Gate for StdGate<I, O> {
 impl<I: ReadOnce, O: WriteOnce> Sink for StdGate<I, O> {
     ghost seen = { λ g. untold_stream g.read_faults g.output.write_faults };
 
+    #[inline(always)]
     fn write(&mut self, bytes: &[u8]) -> Result<usize, IoRefusal>
         ensures once { IsOneCall
             (λ answer. O.write_gives self.old.output.writer bytes.now answer self.new.output.writer)
@@ -202,6 +204,7 @@ fn write_whole<F: FilesOnce>(files: &mut F, name: &str, bytes: &[u8]) -> io::Res
 }
 
 // A writer that takes nothing of a piece has failed.
+#[inline(always)]
 fn some_of(bytes: &[u8], answer: io::Result<usize>) -> io::Result<usize>
     ensures adapted { adapted result ≡ adapted_write bytes.now answer }
     ensures some { IfOk result (λ count. 0 < length bytes.now → 0 < count) }
@@ -214,6 +217,7 @@ fn some_of(bytes: &[u8], answer: io::Result<usize>) -> io::Result<usize>
 }
 
 // Counts an error of the outside, which want of memory is not.
+#[inline(always)]
 fn counted<T>(answer: io::Result<T>, faults: &mut u64) -> Result<T, IoRefusal>
     ensures adapted { result ≡ adapted answer }
     ensures counted { faults.new ≡ faults_after result faults.old }

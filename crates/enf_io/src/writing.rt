@@ -12,6 +12,7 @@ pub enum WriteRefusal {
 }
 
 /// Gives all the bytes, in as many turns as the sink or gate needs.
+#[inline(always)]
 pub fn write_all<S: Sink>(sink: &mut S, bytes: &[u8]) -> Result<(), WriteRefusal>
     ensures { WritesAll bytes.now result (S.seen sink.old) (S.seen sink.new) }
 {
