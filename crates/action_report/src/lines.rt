@@ -17,6 +17,7 @@ use signature::Signature;
 
 /// Appends the line of an action; for want of memory a front of it is appended. Of a name or a rule that is not there
 /// nothing is printed.
+#[inline(always)]
 pub fn write_action(
     signature: &Signature,
     policy: &Policy,

@@ -30,6 +30,7 @@ pub struct Names<'a> {
 
 /// Gives the line of each step to the gate, as one piece, and behind it those of its actions to the report, each as one
 /// piece. They are made in `line`.
+#[inline(always)]
 pub fn write_steps<G: Sink, R: Sink>(
     names: &Names<'_>,
     steps: &[OutStep],
@@ -51,6 +52,7 @@ pub fn write_steps<G: Sink, R: Sink>(
     Ok(())
 }
 
+#[inline(always)]
 fn write_line<G: Sink>(
     signature: &Signature,
     step: &OutStep,
@@ -66,6 +68,7 @@ fn write_line<G: Sink>(
     Ok(())
 }
 
+#[inline(always)]
 fn write_actions<R: Sink>(
     names: &Names<'_>,
     actions: &[Action],
@@ -82,6 +85,7 @@ fn write_actions<R: Sink>(
     Ok(())
 }
 
+#[inline(always)]
 fn write_report_line<R: Sink>(
     names: &Names<'_>,
     action: &Action,

@@ -14,6 +14,7 @@ use trace_meaning::StepKind;
 
 /// Appends the step's line; for want of memory a front of it is appended. Of a name that the signature lacks
 /// nothing is printed.
+#[inline(always)]
 pub fn write_step(
     signature: &Signature,
     kind: StepKind,
