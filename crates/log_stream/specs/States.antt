@@ -6,6 +6,7 @@ use Rattle.std.specs.Prelude.{Err, Ok, Result, if◌then◌else◌}
 use Rattle.std.specs.List.{flat_map}
 use Rattle.std.specs.Option.{option_and_then}
 use Rattle.enf_value.specs.declared.events.Event.{Event}
+use Rattle.enf_value.specs.declared.events.NameId.{NameId}
 use Rattle.enf_value.specs.declared.values.Value.{Value}
 use Rattle.signature.specs.Columns.{has_sort}
 use Rattle.signature.specs.declared.entries.NameEntry.{NameEntry}
@@ -106,6 +107,12 @@ abbrev pub clash_at : Option Sort → Value → ℕ → Option ℕ
 clash_at None value place = None
 clash_at (Some sort) value place = if has_sort sort value then None else Some place
 
+-- the value that stands at a place goes last in a row, and the next token is at another
+pub record PutsArgument (bytes : List ℕ) (at next : ℕ) (before after : List Value) : Type 0 where
+  pub value : Value
+  pub leads : Leads bytes at (Argument at value ∷ []) next
+  pub last : after ≡ before ++ value ∷ []
+
 -- the arguments that are read behind `(`, with the first clash among them
 pub record ReadsRow (sorts : List Sort) (bytes : List ℕ) (from : ℕ) (row : List Value) (clashes : Option ℕ)
     (to : ℕ) : Type 0 where
@@ -163,6 +170,11 @@ abbrev pub JudgesEvent : Option (ℕ × NameEntry) → List Value → Option ℕ
 JudgesEvent None row clashes place event = event ≡ Err (UnknownName place)
 JudgesEvent (Some found) row clashes place event =
     event ≡ (if length row == length found.1.sorts then sorted_event found.0 row clashes else Err (Arity place))
+
+-- the event of a name with its arguments, or its refusal
+abbrev pub event_with : List Value → Result NameId LogRefusal → Result Event LogRefusal
+event_with row (Ok name) = Ok (record { name = name; args = row })
+event_with row (Err refusal) = Err refusal
 
 -- what comes of events, or of the first refusal among them, by an event more
 abbrev pub PutsEvent : Result (List Event) LogRefusal → Result Event LogRefusal → Result (List Event) LogRefusal

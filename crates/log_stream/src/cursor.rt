@@ -6,9 +6,10 @@ ghost use Rattle.enf_value.specs.Kinds.{has};
 ghost use Rattle.enf_value.specs.Tokens.{is_blank};
 ghost use Rattle.enf_value.specs.declared.names.ByteKind.TheVariants.{Word};
 ghost use Rattle.enf_value.specs.declared.values.Value.{Value as AnyValue};
+ghost use Rattle.log_stream.specs.States.{PutsArgument};
 ghost use Rattle.log_stream.specs.Tokens.{Argument, IsGap, Leads, Mark, Name, StandsAt, Time};
 
-use enf_value::{ByteKind, NoMemory, Value, read_digits, read_value};
+use enf_value::{ByteKind, NoMemory, Row, put_value, read_digits};
 use std::alloc::Global;
 
 fn is_blank(byte: u8) -> bool
@@ -94,21 +95,22 @@ pub(crate) fn name_at(bytes: &[u8], at: usize) -> Option<(&[u8], usize)>
     Some((name, skip_blanks(bytes, at + name.len())))
 }
 
-// The value that stands here, and the place of the next token.
-pub(crate) fn value_at(
+// Puts the value that stands here last in a row, and gives the place of the next token.
+#[inline(always)]
+pub(crate) fn put_value_at(
     alloc: Global,
     bytes: &[u8],
     at: usize,
-) -> Result<Option<(Value, usize)>, NoMemory>
+    row: &mut Row,
+) -> Result<Option<usize>, NoMemory>
     requires { at ≤ length bytes.now }
-    ensures some { IfOk result
-        (λ found. IfSome found (λ read. Leads bytes.now at (Argument at read.0 ∷ []) read.1)) }
-    ensures within { IfOk result (λ found. IfSome found (λ read. (at < read.1) × (read.1 ≤ length bytes.now))) }
+    ensures some { IfOk result (λ found. IfSome found (λ next. PutsArgument bytes.now at next row.old row.new)) }
+    ensures within { IfOk result (λ found. IfSome found (λ next. (at < next) × (next ≤ length bytes.now))) }
     ensures none { IfOk result (λ found. IfNone found ((place end : ℕ) (value : AnyValue)
         → StandsAt bytes.now at end (Argument place value) → ⊥)) }
 {
-    match read_value(alloc, bytes, at)? {
-        Some((value, end)) => Ok(Some((value, skip_blanks(bytes, end)))),
+    match put_value(alloc, bytes, at, row)? {
+        Some(end) => Ok(Some(skip_blanks(bytes, end))),
         None => Ok(None),
     }
 }

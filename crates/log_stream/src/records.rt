@@ -1,5 +1,5 @@
 //! One record, read from its bytes.
-ghost use Rattle.std.specs.Prelude.{◌≡◌, ◌↔◌, ◌<◌, ◌≤◌, ◌+◌, ◌∷◌, [], ℕ, List, IfErr};
+ghost use Rattle.std.specs.Prelude.{◌≡◌, ◌↔◌, ◌<◌, ◌≤◌, ◌+◌, ◌++◌, ◌∷◌, [], ℕ, List, IfErr};
 ghost use Rattle.std.specs.Prelude.{IfOk, IfSome, IsTrue, None};
 ghost use Rattle.std.specs.Prelude.{OnOk, Result, Some, length, slice_get};
 ghost use Rattle.std.specs.Option.{option_map, option_or};
@@ -11,13 +11,14 @@ ghost use Rattle.log_stream.specs.declared.items.LogMode.{LogMode as AnyMode};
 ghost use Rattle.log_stream.specs.Judgement.{entry_with};
 ghost use Rattle.trace_meaning.specs.Records.{most_time};
 ghost use Rattle.enf_value.specs.declared.events.Event.{Event as AnyEvent};
+ghost use Rattle.enf_value.specs.declared.values.Value.{Value as AnyValue};
 ghost use Rattle.log_stream.specs.declared.items.LogRefusal.{LogRefusal as AnyRefusal};
 ghost use Rattle.log_stream.specs.States.{Events, Fails, JudgesEvent, Opened, PutsEvent, ReadsEvent, ReadsFront};
-ghost use Rattle.log_stream.specs.States.{ReadsRow, ReadsUpTo, clash_at, so_far};
+ghost use Rattle.log_stream.specs.States.{ReadsRow, ReadsUpTo, clash_at, event_with, so_far};
 ghost use Rattle.log_stream.specs.Tokens.{Leads, Mark, StandsAt};
 ghost use Rattle.log_stream.specs.Written.{IsRead, WrittenEvent, mark_of};
 
-use crate::cursor::{behind_mark, name_at, time_at, value_at};
+use crate::cursor::{behind_mark, name_at, put_value_at, time_at};
 use crate::items::{LogItem, LogMode, LogRefusal};
 use crate::limits::{MOST_EVENTS, MOST_RECORD_BYTES};
 use enf_value::{Event, EventSet, NameId, NoMemory, Place, Row, Value};
@@ -65,12 +66,15 @@ fn clash_at(sorts: &[Sort], column: usize, value: &Value, place: Place) -> Optio
     }
 }
 
-// Keeps the place of the first value of another sort.
-fn note_clash(clash: &mut Option<Place>, sorts: &[Sort], column: usize, value: &Value, place: Place)
-    ensures { clash.new ≡ option_or clash.old (clash_at (slice_get sorts.now column) value.now place) }
+// Keeps the place of the last value of a row where it is the first of another sort.
+fn note_clash(clash: &mut Option<Place>, sorts: &[Sort], row: &Row, place: Place)
+    ensures { (before : List AnyValue) (last : AnyValue) → row.now ≡ before ++ last ∷ []
+        → clash.new ≡ option_or clash.old (clash_at (slice_get sorts.now (length before)) last place) }
 {
     if clash.is_none() {
-        *clash = clash_at(sorts, column, value, place);
+        if let Some((last, before)) = row.as_slice().split_last() {
+            *clash = clash_at(sorts, before.len(), last, place);
+        }
     }
 }
 
@@ -98,11 +102,10 @@ fn read_row(
     }
     let mut place = from;
     loop {
-        let Some((value, next)) = value_at(alloc, bytes, place)? else {
+        let Some(next) = put_value_at(alloc, bytes, place, row)? else {
             return Err(bad_at(place));
         };
-        note_clash(clash, sorts, row.len(), &value, place as Place);
-        row.put(value)?;
+        note_clash(clash, sorts, row, place as Place);
         if let Some(next) = behind_mark(bytes, next, b')') {
             return Ok(next);
         }
@@ -123,38 +126,43 @@ fn declared<'a>(signature: &'a Signature, name: &[u8]) -> Option<(NameId, &'a Na
     Some((number, entry))
 }
 
-// The event of a name and its arguments, or its refusal.
+// The name of an event with so many arguments, or its refusal.
 fn judged(
     declared: Option<(NameId, &NameEntry)>,
-    row: Row,
+    count: usize,
     clash: Option<Place>,
     place: Place,
-) -> Result<Event, LogRefusal>
-    ensures { JudgesEvent (option_map (λ found. (found.0.0, found.1.now)) declared.entry) row clash place result }
+) -> Result<NameId, LogRefusal>
+    ensures { (row : List AnyValue) → length row ≡ count
+        → JudgesEvent (option_map (λ found. (found.0.0, found.1.now)) declared.entry) row clash place
+        (event_with row result) }
 {
     let Some((name, entry)) = declared else {
         return Err(LogRefusal::UnknownName { place });
     };
-    if row.len() != entry.sorts.len() {
+    if count != entry.sorts.len() {
         return Err(LogRefusal::Arity { place });
     }
     match clash {
         Some(place) => Err(LogRefusal::SortClash { place }),
-        None => Ok(Event { name, args: row }),
+        None => Ok(name),
     }
 }
 
 // Puts an event last, or keeps the first refusal.
 fn put_event(
-    event: Result<Event, LogRefusal>,
+    name: Result<NameId, LogRefusal>,
+    row: Row,
     events: &mut Vec<Event>,
     refused: &mut Option<LogRefusal>,
 ) -> Result<(), NoMemory>
-    ensures { OnOk result (PutsEvent (so_far events.old.items refused.old) event
+    ensures { OnOk result (PutsEvent (so_far events.old.items refused.old) (event_with row name)
         (so_far events.new.items refused.new)) }
 {
-    match event {
-        Ok(event) => events.push(event).map_err(|_failed| NoMemory),
+    match name {
+        Ok(name) => events
+            .push(Event { name, args: row })
+            .map_err(|_failed| NoMemory),
         Err(refusal) => {
             if refused.is_none() {
                 *refused = Some(refusal);
@@ -197,7 +205,8 @@ fn read_event(
     let mut row = Row::new(alloc);
     let mut clash = None;
     let next = read_row(alloc, sorts, bytes, inside, &mut row, &mut clash)?;
-    put_event(judged(declared, row, clash, from as Place), events, refused)?;
+    let name = judged(declared, row.len(), clash, from as Place);
+    put_event(name, row, events, refused)?;
     Ok(next)
 }
 

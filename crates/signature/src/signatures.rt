@@ -48,9 +48,28 @@ fn index_of(entries: &IndexMap<Vec<u8>, NameEntry>, text: &[u8]) -> Option<usize
         (keys_of entries.now.entries) }
 {
     if entries.len() > MOST_SEARCHED {
-        return entries.get_index_of(text);
+        return hashed(entries, text);
     }
     searched(entries, text)
+}
+
+// The same by its hash.
+#[inline(never)]
+fn hashed(entries: &IndexMap<Vec<u8>, NameEntry>, text: &[u8]) -> Option<usize>
+    ensures { result ≡ position (λ (name : AnyVec ℕ AnyGlobal). bytes_eq text.now name.items)
+        (keys_of entries.now.entries) }
+{
+    entries.get_index_of(text)
+}
+
+// Whether two texts are the same. Most are of other lengths, which takes no call.
+fn is_same(a: &[u8], b: &[u8]) -> bool
+    ensures { result ≡ bytes_eq a.now b.now }
+{
+    if a.len() != b.len() {
+        return false;
+    }
+    a == b
 }
 
 // The same by a search, which takes no hash.
@@ -58,7 +77,9 @@ fn searched(entries: &IndexMap<Vec<u8>, NameEntry>, text: &[u8]) -> Option<usize
     ensures { result ≡ position (λ (name : AnyVec ℕ AnyGlobal). bytes_eq text.now name.items)
         (keys_of entries.now.entries) }
 {
-    entries.keys().position(|name| text == name.as_slice())
+    entries
+        .keys()
+        .position(|name| is_same(text, name.as_slice()))
 }
 
 impl Signature {

@@ -1,10 +1,10 @@
-use Rattle.std.proofs.Common.{ap, ◌∙◌, List}
+use Rattle.std.proofs.Common.{ap, sym, ◌∙◌, List}
 use Rattle.std.specs.Borrow.{Bor}
 use Rattle.signature.specs.declared.entries.Sort.{Sort}
 use Rattle.std.proofs.lemmas.Result.{err_from_is_err_and}
 use Rattle.signature.specs.Grammar.{number_of}
 use Rattle.log_stream.specs.Judgement.{entry_with}
-use Rattle.log_stream.specs.States.{Events}
+use Rattle.log_stream.specs.States.{Events, event_with}
 use Rattle.log_stream.proofs.Parts.{AreSortsOf, entry_found, event_read, event_with_bad_row, event_without_name, event_without_open, fails_bad, found_of, sorts_known}
 use Rattle.log_stream.proofs.records.read_event.Goals as goal
 use Rattle.log_stream.proofs.records.read_event.Goals.{in-Some-declared, in-None}
@@ -34,9 +34,11 @@ returns-clause-ok c =
       | in-Some-declared w ↦ rw w.in-Some-declared.is (ap (λ (s : Bor (List Sort)). s.now) w.sorts-is ∙ w.as_slice-sorts.ensures)
       | in-None w ↦ rw w.in-None.is tt
     ] in
-    let read = event_read c.args.signature.now c.args.bytes.now c.args.from c.in-Some.next c.in-Some-behind_mark.inside c.in_ok-next.next c.in-Some.name.now (found_of found) c.match-declared.sorts.now c.read_row.new.row c.read_row.new.clash c.judged.result
+    let row = c.read_row.new.row in
+    let event = event_with row c.judged-name.result in
+    let read = event_read c.args.signature.now c.args.bytes.now c.args.from c.in-Some.next c.in-Some-behind_mark.inside c.in_ok-next.next c.in-Some.name.now (found_of found) c.match-declared.sorts.now row c.read_row.new.clash event
     c.in-Some.ensures.some c.in-Some-behind_mark.ensures.some c.in_ok-next.ensures.ok
     (entry_found found (entry_with c.args.signature.now c.in-Some.name.now) c.declared-declared.ensures.entry)
     (sorts_known found c.match-declared.sorts.now (number_of c.args.signature.now c.in-Some.name.now) c.declared-declared.ensures.number are)
-    c.judged.ensures in
-    (c.judged.result, read, c.in_ok-put_event.ensures)
+    (c.judged-name.ensures row (sym c.len.ensures)) in
+    (event, read, c.in_ok-put_event.ensures)
