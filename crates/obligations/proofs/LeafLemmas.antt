@@ -1,7 +1,8 @@
 -- Events that leaves speak of: a row and the values of terms.
-use Rattle.std.proofs.Common.{◌≡◌, ℕ, true, List, [], ◌∷◌, map, drop, get_or, Contains, Option, None, Some, refl, sym, ap, subst, inl, ◌∙◌}
+use Rattle.std.proofs.Common.{◌≡◌, ℕ, true, List, [], ◌∷◌, map, drop, get_or, Contains, ◌++◌, Option, None, Some, refl, sym, ap, subst, inl, inr, ◌∙◌}
 use Rattle.std.specs.Prelude.{IsSome}
 use Rattle.std.specs.Cmp.{Equal-is}
+use Rattle.std.specs.Option.{option_to_list}
 use Rattle.std.specs.Ordering.{is_eq, ordering_reverse}
 use Rattle.std.specs.declared.cmp.Ordering.{Ordering}
 use Rattle.std.specs.declared.cmp.Ordering.TheVariants.{Less, Equal, Greater}
@@ -19,6 +20,7 @@ use Rattle.enf_value.specs.declared.values.Value.{Value}
 use Rattle.valuations.specs.Cells.{key_cmp}
 use Rattle.valuations.specs.KeyLaws.{key_cmp_exact, key_cmp_total}
 use Rattle.obligations.specs.Missing.{LiteralUnless, OfEvent, suppress}
+use Rattle.obligations.specs.declared.literals.Literal.{Literal}
 
 -- the values of terms are a list where each is one of its values
 listed_values : (v : Valuation) (terms : List Term) (args : List Value) → map Some args ≡ map (value_of v) terms → values_of v terms ≡ Some args
@@ -84,3 +86,11 @@ nothing_suppressed v terms bound events name node absent =
     let has = bound_values v terms bound in
     subst (λ o. OfEvent name o (λ e. LiteralUnless (Contains events e → ⊥) (suppress e node) [])) (sym has.1)
     (inl (subst (λ o. IsAmong events name o → ⊥) has.1 absent, refl))
+
+-- the literal that was put last is what the leaf misses, where the event is not as it wants
+pub one_pushed : (P : Event → Type 0) (l : Event → Literal) (name : NameId) (before after : List Literal) (o : Option (List Value))
+    → ((args : List Value) → o ≡ Some args → P (record { name = name; args = args }) → ⊥)
+    → OfEvent name o (λ e. after ≡ before ++ l e ∷ [])
+    → (found : Option Literal) × OfEvent name o (λ e. LiteralUnless (P e) (l e) (option_to_list found)) × (after ≡ before ++ option_to_list found)
+one_pushed P l name before after None apart grown = absurd grown
+one_pushed P l name before after (Some args) apart grown = (Some (l (record { name = name; args = args })), inr (apart args refl, refl), grown)

@@ -1,5 +1,5 @@
 //! What leaves of plans miss.
-ghost use Rattle.std.specs.Prelude.{◌≡◌, ◌↔◌, IfOk, IsSome, IsTrue, Some, Contains};
+ghost use Rattle.std.specs.Prelude.{◌≡◌, ◌↔◌, ◌++◌, ◌∷◌, [], IfOk, IsSome, IsTrue, OnOk, Option, Some, Contains};
 ghost use Rattle.std.specs.Option.{option_to_list};
 ghost use Rattle.enf_formula.specs.Satisfaction.{IsAmong};
 ghost use Rattle.enf_value.specs.Valuations.{value_at, values_of};
@@ -7,6 +7,7 @@ ghost use Rattle.enf_value.specs.declared.terms.Term.TheVariants.{Var as Variabl
 ghost use Rattle.enf_value.specs.declared.terms.VarId.{VarId as AnyVariable};
 ghost use Rattle.valuations.specs.Scopes.{bound_in};
 ghost use Rattle.obligations.specs.Missing.{LiteralUnless, OfEvent, cause, suppress};
+ghost use Rattle.obligations.specs.declared.literals.Literal.{Literal as AnyLiteral};
 
 use crate::literals::{Literal, LiteralKind};
 use enf_value::Event;
@@ -48,6 +49,22 @@ pub fn is_there(
     if events.len() <= MOST_LOOKED_OVER {
         return Ok(is_among(events.as_slice(), name, terms.as_slice(), v));
     }
+    is_in_set(alloc, name, terms, v, events)
+}
+
+// The same of many events, by a look into their table.
+fn is_in_set(
+    alloc: Global,
+    name: NameId,
+    terms: &Terms,
+    v: &Frame<'_>,
+    events: &EventSet,
+) -> Result<bool, NoMemory>
+    requires { (x : AnyVariable) → Contains terms.now (Variable x)
+        → IsSome (value_at (bound_in v.now) x) }
+    ensures { IfOk result (λ there. IsTrue there
+        ↔ IsAmong events.now name (values_of (bound_in v.now) terms.now)) }
+{
     let event = event_of(alloc, name, terms, v)?;
     Ok(events.contains(&event))
 }
@@ -121,4 +138,69 @@ pub fn suppress_missing(
         event,
         leaf: node,
     }))
+}
+
+// Puts what a leaf misses last that wants an event to be there.
+pub fn push_cause(
+    alloc: Global,
+    node: u32,
+    name: NameId,
+    terms: &Terms,
+    v: &Frame<'_>,
+    events: &EventSet,
+    out: &mut Vec<Literal>,
+) -> Result<(), NoMemory>
+    requires { (x : AnyVariable) → Contains terms.now (Variable x)
+        → IsSome (value_at (bound_in v.now) x) }
+    ensures { OnOk result ((found : Option AnyLiteral) × OfEvent name (values_of (bound_in v.now) terms.now)
+        (λ event. LiteralUnless (Contains events.now event) (cause event node) (option_to_list found))
+        × (out.new.items ≡ out.old.items ++ option_to_list found)) }
+{
+    if is_there(alloc, name, terms, v, events)? {
+        return Ok(());
+    }
+    push_literal(alloc, LiteralKind::Cause, node, name, terms, v, out)
+}
+
+// Puts what a leaf misses last that wants an event not to be there.
+pub fn push_suppress(
+    alloc: Global,
+    node: u32,
+    name: NameId,
+    terms: &Terms,
+    v: &Frame<'_>,
+    events: &EventSet,
+    out: &mut Vec<Literal>,
+) -> Result<(), NoMemory>
+    requires { (x : AnyVariable) → Contains terms.now (Variable x)
+        → IsSome (value_at (bound_in v.now) x) }
+    ensures { OnOk result ((found : Option AnyLiteral) × OfEvent name (values_of (bound_in v.now) terms.now)
+        (λ event. LiteralUnless (Contains events.now event → ⊥) (suppress event node) (option_to_list found))
+        × (out.new.items ≡ out.old.items ++ option_to_list found)) }
+{
+    if !is_there(alloc, name, terms, v, events)? {
+        return Ok(());
+    }
+    push_literal(alloc, LiteralKind::Suppress, node, name, terms, v, out)
+}
+
+// Puts the literal last of the event that a leaf speaks of.
+fn push_literal(
+    alloc: Global,
+    kind: LiteralKind,
+    leaf: u32,
+    name: NameId,
+    terms: &Terms,
+    v: &Frame<'_>,
+    out: &mut Vec<Literal>,
+) -> Result<(), NoMemory>
+    requires { (x : AnyVariable) → Contains terms.now (Variable x)
+        → IsSome (value_at (bound_in v.now) x) }
+    ensures { OnOk result (OfEvent name (values_of (bound_in v.now) terms.now)
+        (λ event. out.new.items ≡ out.old.items ++ record { kind = kind; event = event; leaf = leaf } ∷ [])) }
+{
+    let args = arguments_in(alloc, terms.as_slice(), v)?;
+    let event = Event { name, args };
+    out.push(Literal { kind, event, leaf })?;
+    Ok(())
 }

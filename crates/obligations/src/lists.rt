@@ -1,6 +1,5 @@
 //! The literals that plans miss at a step, one after another.
-ghost use Rattle.std.specs.Prelude.{◌≡◌, ◌++◌, OnOk, List, Contains};
-ghost use Rattle.std.specs.Option.{option_to_list};
+ghost use Rattle.std.specs.Prelude.{OnOk, List, Contains};
 ghost use Rattle.enf_value.specs.declared.values.Value.{Value as AnyValue};
 ghost use Rattle.plan_terms.specs.Plans.{plan_of};
 ghost use Rattle.valuations.specs.Scopes.{bound_in, filled};
@@ -11,7 +10,7 @@ ghost use Rattle.obligations.specs.Rows.{Gathers};
 ghost use Rattle.obligations.specs.Waiting.{IsWantedUnder};
 
 use crate::finding::misses_nothing;
-use crate::leaves::{cause_missing, suppress_missing};
+use crate::leaves::{push_cause, push_suppress};
 use crate::literals::Literal;
 use crate::now::Now;
 use enf_value::memory::NoMemory;
@@ -41,19 +40,13 @@ pub fn push_missing<'a>(
             name,
             terms,
             ..
-        } => push_found(
-            cause_missing(alloc, *node, *name, terms, &*v, now.events)?,
-            out,
-        ),
+        } => push_cause(alloc, *node, *name, terms, &*v, now.events, out),
         Plan::Suppress {
             node,
             name,
             terms,
             ..
-        } => push_found(
-            suppress_missing(alloc, *node, *name, terms, &*v, now.events)?,
-            out,
-        ),
+        } => push_suppress(alloc, *node, *name, terms, &*v, now.events, out),
         Plan::Both { left, right, .. } => {
             push_missing(alloc, left, &*v, now, out)?;
             push_missing(alloc, right, &*v, now, out)
@@ -115,15 +108,6 @@ fn push_under<'a>(
     for place in 0..rows.len() {
         let inner = Frame::Row(&*v, rows.columns(), rows.row(place));
         push_missing(alloc, body, &inner, now, out)?;
-    }
-    Ok(())
-}
-
-fn push_found(found: Option<Literal>, out: &mut Vec<Literal>) -> Result<(), NoMemory>
-    ensures { OnOk result (out.new.items ≡ out.old.items ++ option_to_list found) }
-{
-    if let Some(literal) = found {
-        out.push(literal)?;
     }
     Ok(())
 }

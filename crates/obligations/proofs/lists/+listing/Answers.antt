@@ -75,19 +75,19 @@ push_missing-returns-then-branch-3-clause-listed t c =
     (until_nothing c.args.now.now (bound_in c.args.v.now) c.in-Until.node c.in-Until.place c.in-Until.low c.in-Until.high (plan_of c.in-Until.left.value) (plan_of c.in-Until.right.value) c.args.out.now.items (omega (arith, c.if-low-eq0.true))
     (subst (λ p. TellsNothing c.args.now.now (plan_of p) (bound_in c.args.v.now) true) c.deref-then-low-eq0.ensures (subst (λ b. TellsNothing c.args.now.now (plan_of c.deref-then-low-eq0.result.now) (bound_in c.args.v.now) b) c.if-branch-3.true c.in_ok-misses_nothing-in-Until.ensures)))
 
-pub push_missing-returns-in_ok-cause_missing-in-Cause-clause-listed : goal.push_missing-returns-in_ok-cause_missing-in-Cause-clause-listed
-push_missing-returns-in_ok-cause_missing-in-Cause-clause-listed t c =
-    on_ok_weaker c.push_found.result (λ grown.
-    subst (λ p. Adds c.args.now.now (λ trace. Missing trace (plan_of p) (bound_in c.args.v.now)) c.args.out.now.items c.push_found.new.out.items) (sym c.in-Cause.is)
-    (cause_listed c.args.now.now (bound_in c.args.v.now) c.in-Cause.node c.in-Cause.place c.in-Cause.name c.in-Cause.terms c.in_ok-cause_missing-in-Cause.field-0 c.args.out.now.items c.push_found.new.out.items c.in_ok-cause_missing-in-Cause.ensures grown))
-    c.push_found.ensures
+pub push_missing-returns-in-Cause-clause-listed : goal.push_missing-returns-in-Cause-clause-listed
+push_missing-returns-in-Cause-clause-listed t c =
+    on_ok_weaker c.push_cause.result (λ found.
+    subst (λ p. Adds c.args.now.now (λ trace. Missing trace (plan_of p) (bound_in c.args.v.now)) c.args.out.now.items c.push_cause.new.out.items) (sym c.in-Cause.is)
+    (cause_listed c.args.now.now (bound_in c.args.v.now) c.in-Cause.node c.in-Cause.place c.in-Cause.name c.in-Cause.terms found.0 c.args.out.now.items c.push_cause.new.out.items found.1 found.2))
+    c.push_cause.ensures
 
-pub push_missing-returns-in_ok-suppress_missing-in-Suppress-clause-listed : goal.push_missing-returns-in_ok-suppress_missing-in-Suppress-clause-listed
-push_missing-returns-in_ok-suppress_missing-in-Suppress-clause-listed t c =
-    on_ok_weaker c.push_found-in-Suppress.result (λ grown.
-    subst (λ p. Adds c.args.now.now (λ trace. Missing trace (plan_of p) (bound_in c.args.v.now)) c.args.out.now.items c.push_found-in-Suppress.new.out.items) (sym c.in-Suppress.is)
-    (suppress_listed c.args.now.now (bound_in c.args.v.now) c.in-Suppress.node c.in-Suppress.place c.in-Suppress.name c.in-Suppress.terms c.in_ok-suppress_missing-in-Suppress.field-0 c.args.out.now.items c.push_found-in-Suppress.new.out.items c.in_ok-suppress_missing-in-Suppress.ensures grown))
-    c.push_found-in-Suppress.ensures
+pub push_missing-returns-in-Suppress-clause-listed : goal.push_missing-returns-in-Suppress-clause-listed
+push_missing-returns-in-Suppress-clause-listed t c =
+    on_ok_weaker c.push_suppress.result (λ found.
+    subst (λ p. Adds c.args.now.now (λ trace. Missing trace (plan_of p) (bound_in c.args.v.now)) c.args.out.now.items c.push_suppress.new.out.items) (sym c.in-Suppress.is)
+    (suppress_listed c.args.now.now (bound_in c.args.v.now) c.in-Suppress.node c.in-Suppress.place c.in-Suppress.name c.in-Suppress.terms found.0 c.args.out.now.items c.push_suppress.new.out.items found.1 found.2))
+    c.push_suppress.ensures
 
 pub push_missing-returns-else-branch-clause-listed : goal.push_missing-returns-else-branch-clause-listed
 push_missing-returns-else-branch-clause-listed t c =
@@ -159,19 +159,19 @@ push_under-returns-clause-listed t c =
     subst (λ (l : List (List Value)). Adds c.args.now.now (λ trace. Gathers (λ r. Missing trace (plan_of c.args.body.now) (filled (bound_in c.args.v.now) c.args.rows.now.columns r)) l) c.args.out.now.items c.loop-place.out.items)
     (take_all c.loop-place.place c.args.rows.now.rows (subst (λ n. n ≤ c.loop-place.place) long c.loop-place-test.false)) c.loop-place.invariant.0
 
-pub push_missing-returns-in_ok-cause_missing-in-Cause-clause-wanted : goal.push_missing-returns-in_ok-cause_missing-in-Cause-clause-wanted
-push_missing-returns-in_ok-cause_missing-in-Cause-clause-wanted t c =
-    on_ok_weaker c.push_found.result (λ grown.
-    subst (λ p. AddsOf (IsWanted c.args.now.now (plan_of p) (bound_in c.args.v.now)) c.args.out.now.items c.push_found.new.out.items) (sym c.in-Cause.is)
-    (adds_found (IsWanted c.args.now.now (Cause c.in-Cause.node c.in-Cause.place c.in-Cause.name c.in-Cause.terms) (bound_in c.args.v.now)) c.in_ok-cause_missing-in-Cause.field-0 c.args.out.now.items c.push_found.new.out.items grown (cause_wanted c.args.now.now (bound_in c.args.v.now) c.in-Cause.node c.in-Cause.place c.in-Cause.name c.in-Cause.terms c.in_ok-cause_missing-in-Cause.field-0 c.in_ok-cause_missing-in-Cause.ensures)))
-    c.push_found.ensures
+pub push_missing-returns-in-Cause-clause-wanted : goal.push_missing-returns-in-Cause-clause-wanted
+push_missing-returns-in-Cause-clause-wanted t c =
+    on_ok_weaker c.push_cause.result (λ found.
+    subst (λ p. AddsOf (IsWanted c.args.now.now (plan_of p) (bound_in c.args.v.now)) c.args.out.now.items c.push_cause.new.out.items) (sym c.in-Cause.is)
+    (adds_found (IsWanted c.args.now.now (Cause c.in-Cause.node c.in-Cause.place c.in-Cause.name c.in-Cause.terms) (bound_in c.args.v.now)) found.0 c.args.out.now.items c.push_cause.new.out.items found.2 (cause_wanted c.args.now.now (bound_in c.args.v.now) c.in-Cause.node c.in-Cause.place c.in-Cause.name c.in-Cause.terms found.0 found.1)))
+    c.push_cause.ensures
 
-pub push_missing-returns-in_ok-suppress_missing-in-Suppress-clause-wanted : goal.push_missing-returns-in_ok-suppress_missing-in-Suppress-clause-wanted
-push_missing-returns-in_ok-suppress_missing-in-Suppress-clause-wanted t c =
-    on_ok_weaker c.push_found-in-Suppress.result (λ grown.
-    subst (λ p. AddsOf (IsWanted c.args.now.now (plan_of p) (bound_in c.args.v.now)) c.args.out.now.items c.push_found-in-Suppress.new.out.items) (sym c.in-Suppress.is)
-    (adds_found (IsWanted c.args.now.now (Suppress c.in-Suppress.node c.in-Suppress.place c.in-Suppress.name c.in-Suppress.terms) (bound_in c.args.v.now)) c.in_ok-suppress_missing-in-Suppress.field-0 c.args.out.now.items c.push_found-in-Suppress.new.out.items grown (suppress_wanted c.args.now.now (bound_in c.args.v.now) c.in-Suppress.node c.in-Suppress.place c.in-Suppress.name c.in-Suppress.terms c.in_ok-suppress_missing-in-Suppress.field-0 c.in_ok-suppress_missing-in-Suppress.ensures)))
-    c.push_found-in-Suppress.ensures
+pub push_missing-returns-in-Suppress-clause-wanted : goal.push_missing-returns-in-Suppress-clause-wanted
+push_missing-returns-in-Suppress-clause-wanted t c =
+    on_ok_weaker c.push_suppress.result (λ found.
+    subst (λ p. AddsOf (IsWanted c.args.now.now (plan_of p) (bound_in c.args.v.now)) c.args.out.now.items c.push_suppress.new.out.items) (sym c.in-Suppress.is)
+    (adds_found (IsWanted c.args.now.now (Suppress c.in-Suppress.node c.in-Suppress.place c.in-Suppress.name c.in-Suppress.terms) (bound_in c.args.v.now)) found.0 c.args.out.now.items c.push_suppress.new.out.items found.2 (suppress_wanted c.args.now.now (bound_in c.args.v.now) c.in-Suppress.node c.in-Suppress.place c.in-Suppress.name c.in-Suppress.terms found.0 found.1)))
+    c.push_suppress.ensures
 
 pub push_missing-returns-else-branch-clause-wanted : goal.push_missing-returns-else-branch-clause-wanted
 push_missing-returns-else-branch-clause-wanted t c =
