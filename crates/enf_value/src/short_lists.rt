@@ -75,6 +75,9 @@ impl<T: Default + Drop> ShortList<T> {
 
 impl<T: Duplicate + Default + Drop> Duplicate for ShortList<T> {
     fn duplicate(&self, alloc: Global) -> Result<ShortList<T>, NoMemory> {
+        if self.as_slice().is_empty() {
+            return Ok(ShortList::new(alloc));
+        }
         let mut copy = SmallVec::with_capacity(alloc, self.items.len())?;
         for item in self.as_slice() {
             copy.push(item.duplicate(alloc)?)?;
