@@ -1,8 +1,9 @@
 //! Sets of events, in the order in which the events came.
 ghost use Rattle.std.specs.Prelude.{◌≡◌, ◌↔◌, ◌<◌, ◌≤◌, ◌+◌, ◌++◌, ◌∷◌, IsTrue};
 ghost use Rattle.std.specs.Prelude.{List, [], Some, Contains, length};
-ghost use Rattle.std.specs.Prelude.{IfOk, IfErr, IfNone, IfSome, OnErr, slice_get};
+ghost use Rattle.std.specs.Prelude.{IfOk, IfErr, IfNone, IfSome, OnErr, OnOk, slice_get};
 ghost use Rattle.std.specs.Option.{option_copied};
+ghost use Rattle.std.specs.Vec.{vec_capacity, vec_len};
 ghost use Rattle.indexmap.specs.IndexSet.{spare};
 ghost use Rattle.enf_value.specs.Membership.{HasNoRepeats, Inserts, KeepsFirsts, Removes};
 
@@ -10,7 +11,7 @@ use crate::events::Event;
 use crate::items::Duplicate;
 use crate::memory::NoMemory;
 use indexmap::IndexSet;
-use std::alloc::Global;
+use std::alloc::{AllocError, Global};
 use std::marker::Model;
 use std::mem;
 
@@ -213,14 +214,22 @@ fn insert_searched(few: &mut Vec<Event>, event: Event) -> Result<bool, Event>
     if is_among(few.as_slice(), &event) {
         return Ok(false);
     }
-    // an event that is caused often stays alone
-    let exact = if few.is_empty() { 1 } else { 0 };
-    if few.reserve_exact(exact).is_err() {
+    if make_room(few).is_err() {
         return Err(event);
     }
-    match few.push(event) {
-        Ok(()) => Ok(true),
-        Err(failed) => Err(failed.value),
+    few.push_reserved(event);
+    Ok(true)
+}
+
+// Makes room for one event more. One that is caused often stays alone.
+fn make_room(few: &mut Vec<Event>) -> Result<(), AllocError>
+    ensures items { few.new.items ≡ few.old.items }
+    ensures room { OnOk result (vec_len few.new < vec_capacity few.new) }
+{
+    if few.is_empty() {
+        few.reserve_exact(1)
+    } else {
+        few.reserve(1)
     }
 }
 
