@@ -86,7 +86,15 @@ fn is_event(event: &Event, name: NameId, terms: &[Term], v: &Frame<'_>) -> bool
     ensures { IsTrue result ↔ ((event.now.name ≡ name)
         × (values_of (bound_in v.now) terms.now ≡ Some event.now.args)) }
 {
-    event.name == name && compare_to_terms(event.args.as_slice(), terms, v).is_eq()
+    event.name == name && has_arguments(event, terms, v)
+}
+
+// Whether its arguments are the values of the terms. It stands apart, as most events differ in their names.
+#[inline(never)]
+fn has_arguments(event: &Event, terms: &[Term], v: &Frame<'_>) -> bool
+    ensures { IsTrue result ↔ (values_of (bound_in v.now) terms.now ≡ Some event.now.args) }
+{
+    compare_to_terms(event.args.as_slice(), terms, v).is_eq()
 }
 
 // What a leaf misses that wants an event to be there.
