@@ -19,6 +19,7 @@ use std::alloc::Global;
 
 // Does the action for what was found, and then those for what the same root misses behind it. It answers the place to
 // go on from, or none where a guard looks for a name that was acted on.
+#[inline(always)]
 pub fn act_for(
     alloc: Global,
     plans: &[Plan],
@@ -130,6 +131,7 @@ fn is_wanted(literal: &Literal, events: &EventSet) -> bool
 }
 
 // Puts an action last. Most steps have one at most, which takes the memory of one.
+#[inline(always)]
 fn push(alloc: Global, actions: &mut Actions, action: Action) -> Result<(), NoMemory>
     ensures { OnOk result (actions.new ≡ actions.old ++ action ∷ []) }
 {

@@ -248,6 +248,7 @@ fn action_of(
 }
 
 // The action for the root of a rule that misses a literal.
+#[inline(always)]
 pub fn action_of_root(
     alloc: Global,
     rule: u32,
@@ -273,6 +274,7 @@ pub fn action_of_root(
 }
 
 // Adds the event of an action to the step, or takes it out.
+#[inline(always)]
 pub fn act(alloc: Global, events: &mut EventSet, action: &Action) -> Result<(), NoMemory>
     requires { Changes action.now.kind action.now.event events.old }
     ensures { OnOk result (Applies action.now.kind action.now.event events.old events.new) }
