@@ -16,11 +16,12 @@ pub(crate) fn put_number(number: u64, out: &mut Vec<u8>)
 {
     if number < 10_000 {
         put_short(number, out);
+    } else if number < 100_000_000 {
+        put_short(number / 10_000, out);
+        put_four(number % 10_000, out);
     } else {
-        let last = number % 10_000;
         put_number(number / 10_000, out);
-        put_pair(last / 100, out);
-        put_pair(last % 100, out);
+        put_four(number % 10_000, out);
     }
 }
 
@@ -55,6 +56,20 @@ fn put_first(number: u64, out: &mut Vec<u8>)
     } else {
         put_pair(number, out);
     }
+}
+
+// Appends four digits, zeros among them where the number has fewer.
+#[inline(always)]
+fn put_four(four: u64, out: &mut Vec<u8>)
+    requires small { four < 10000 }
+    requires room { vec_len out.old + 4 ≤ vec_capacity out.old }
+    ensures items { out.new.items ≡ out.old.items ++ (48 + four / 100 / 10) ∷ (48 + four / 100 % 10)
+        ∷ (48 + four % 100 / 10) ∷ (48 + four % 100 % 10) ∷ [] }
+    ensures len { vec_len out.new ≡ vec_len out.old + 4 }
+    ensures capacity { vec_capacity out.new ≡ vec_capacity out.old }
+{
+    put_pair(four / 100, out);
+    put_pair(four % 100, out);
 }
 
 // Appends two digits, a 0 among them where the number has but one.
