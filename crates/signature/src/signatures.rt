@@ -62,24 +62,22 @@ fn hashed(entries: &IndexMap<Vec<u8>, NameEntry>, text: &[u8]) -> Option<usize>
     entries.get_index_of(text)
 }
 
-// Whether two texts are the same. Most are of other lengths, which takes no call.
-fn is_same(a: &[u8], b: &[u8]) -> bool
-    ensures { result ≡ bytes_eq a.now b.now }
-{
-    if a.len() != b.len() {
-        return false;
-    }
-    a == b
-}
-
 // The same by a search, which takes no hash.
 fn searched(entries: &IndexMap<Vec<u8>, NameEntry>, text: &[u8]) -> Option<usize>
     ensures { result ≡ position (λ (name : AnyVec ℕ AnyGlobal). bytes_eq text.now name.items)
         (keys_of entries.now.entries) }
 {
-    entries
-        .keys()
-        .position(|name| is_same(text, name.as_slice()))
+    // most names are of other lengths, which takes no call
+    entries.keys().position(
+        |name: &Vec<u8>| -> bool
+            ensures { result ≡ bytes_eq text.entry.now name.now.items }
+        {
+            if name.len() != text.len() {
+                return false;
+            }
+            text == name.as_slice()
+        },
+    )
 }
 
 impl Signature {
