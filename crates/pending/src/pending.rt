@@ -113,6 +113,9 @@ impl Pending {
         ensures { IfOk result (λ woken. (plans : List AnyPlan) → IsKeptFor plans self.now
             → AllBut (SleepsAt plans events.now time) self.now.instances (shown woken.items)) }
     {
+        if self.len() == 0 {
+            return Ok(Vec::new(alloc));
+        }
         let entries = self.sleepers.woken(alloc, events, time)?;
         items_in(alloc, entries.as_slice())
     }
