@@ -1,5 +1,6 @@
 //! What leaves of plans miss.
-ghost use Rattle.std.specs.Prelude.{◌≡◌, ◌↔◌, ◌++◌, ◌∷◌, [], IfOk, IsSome, IsTrue, OnOk, Option, Some, Contains};
+ghost use Rattle.std.specs.Prelude.{◌≡◌, ◌↔◌, ◌++◌, ◌∷◌, [], IfOk, IsSome, IsTrue};
+ghost use Rattle.std.specs.Prelude.{OnOk, Option, Some, Contains};
 ghost use Rattle.std.specs.Option.{option_to_list};
 ghost use Rattle.enf_formula.specs.Satisfaction.{IsAmong};
 ghost use Rattle.enf_value.specs.Valuations.{value_at, values_of};
