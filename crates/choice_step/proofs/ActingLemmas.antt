@@ -372,6 +372,17 @@ module _ (plans : List Plan) (pending : List Instance) (past : Past) (inserted :
         missing = l.missing;
       }
 
+  -- the first is none any more behind its action
+  pub left_but_first : (before after : List Event) (rule : ℕ) (plan : Plan) (literal : Literal) (all rest : List Literal) (action : Action)
+      → HasNoRepeats before → action ≡ action_at time position (Root rule plan) literal → all ≡ literal ∷ rest
+      → Applies action.kind action.event before after
+      → WillBeLeft plans pending past inserted time position after rule all
+      → WillBeLeft plans pending past inserted time position after rule rest
+  left_but_first before after rule plan literal all rest action distinct is split applies left =
+      pass after rule literal rest
+      (gone literal.kind literal.event before after distinct (subst (λ a. Applies a.kind a.event before after) is applies))
+      (subst (WillBeLeft plans pending past inserted time position after rule) split left)
+
   -- where none is left, the root misses nothing
   pub met_behind : (waiting : List Instance) (earlier events : List Event) (rule : ℕ) (from : Place)
       → WillBeLeft plans pending past inserted time position events rule []

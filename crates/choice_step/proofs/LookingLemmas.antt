@@ -1,10 +1,12 @@
 -- The first of some that are asked at a step, and the action for it.
-use Rattle.std.proofs.Common.{◌≡◌, ℕ, zero, suc, ◌+◌, ◌≤◌, Bool, List, [], ◌∷◌, ◌++◌, Option, None, Some, length, map, Contains, drop, get_or, take, refl, sym, subst, ap, ◌∙◌, ⊎_elim, inl, inr, arith}
-use Rattle.std.specs.Prelude.{IfSome, slice_get}
+use Rattle.std.proofs.Common.{◌≡◌, ℕ, zero, suc, ◌+◌, ◌<◌, ◌≤◌, Bool, false, List, [], ◌∷◌, ◌++◌, Option, None, Some, length, map, Contains, drop, get_or, take, refl, sym, subst, ap, ◌∙◌, ⊎_elim, inl, inr, arith, true≢false}
+use Rattle.std.specs.Prelude.{IfSome, slice_get, slice_index_or}
 use Rattle.std.specs.Borrow.{Bor}
 use Rattle.std.specs.FinMap.{get-empty}
-use Rattle.std.specs.List.{AllByRecursion, find, flat_map}
+use Rattle.std.specs.List.{AllByRecursion, find, flat_map, remove}
+use Rattle.std.specs.Option.{is_some}
 use Rattle.std.proofs.lemmas.List.Elements.{Contains-append_left, Contains-append_right}
+use Rattle.std.proofs.lemmas.Bool.{cases_lt}
 use Rattle.std.proofs.lemmas.Option.{none-some, same_Some}
 use Rattle.enf_value.specs.ListLaws.{AllByRecursion-append, AllByRecursion-find, AllByRecursion-from_contains, Contains-append, first_or_later, here, later, none_in_nil, there_from_get}
 use Rattle.enf_value.specs.Valuations.{Valuation, no_values, variable_cmp}
@@ -24,7 +26,7 @@ use Rattle.obligations.specs.declared.literals.Literal.{Literal}
 use Rattle.obligations.specs.declared.now.Now.{Now}
 use Rattle.sleepers.specs.Entries.{shown}
 use Rattle.choice_step.specs.Choice.{Candidate, IsFirst, Misses, MissesNothing, Root, Waiting, action_at, action_for, is_forced, roots_from}
-use Rattle.choice_step.specs.Looking.{Covers, IsActionFor, IsKnownFor, IsLiteralAt, IsWantedAt}
+use Rattle.choice_step.specs.Looking.{Covers, IsActionFor, IsKnownFor, IsLiteralAt, IsWantedAt, action_by, first_of, literals_by}
 use Rattle.choice_step.proofs.FiniteLemmas.{Contains-flat_map}
 
 -- where something else holds of those of which it held
@@ -371,3 +373,36 @@ first_of_all P (l ∷ ls) is = (ls, is)
 pub if_some : {X : Type 0} (o : Option X) (P Q : X → Type 0) → ((x : X) → P x → Q x) → IfSome o P → IfSome o Q
 if_some None P Q turn is = tt
 if_some (Some x) P Q turn is = turn x is
+
+-- ---- the first of some literals
+
+pub above : (n : ℕ) → (n ≡ 0 → ⊥) → 0 < n
+above n some = ⊎_elim (λ lt. lt) (λ le. absurd (some (omega (arith, le)))) (cases_lt 0 n)
+
+pub none_first : (literals : List Literal) → length literals ≡ 0 → slice_get literals 0 ≡ None
+none_first [] none = refl
+none_first (l ∷ ls) none = absurd (omega (arith, none))
+
+pub some_first : (literals : List Literal) → (length literals ≡ 0 → ⊥) → slice_get literals 0 ≡ Some (first_of literals)
+some_first [] some = absurd (some refl)
+some_first (l ∷ ls) some = refl
+
+-- what was taken out first, and the rest
+pub first_is : (literals : List Literal) (literal : Literal) → 0 < length literals → literal ≡ slice_index_or literals 0 literal
+    → literal ≡ first_of literals
+first_is [] literal some is = absurd (omega (arith, some))
+first_is (l ∷ ls) literal some is = is
+
+pub rest_is : (literals : List Literal) → 0 < length literals → literals ≡ first_of literals ∷ remove literals 0
+rest_is [] some = absurd (omega (arith, some))
+rest_is (l ∷ ls) some = refl
+
+-- where no pending instance was found, the literals and the action are a root's
+pub of_root : (instance : Option (Bor Instance)) → (is_some instance ≡ false) → (literals : List Literal) → literals_by instance literals ≡ literals
+of_root None none literals = refl
+of_root (Some i) none literals = absurd (true≢false none)
+
+pub by_root : (time position : ℕ) (instance : Option (Bor Instance)) → (is_some instance ≡ false) → (rule : ℕ) (plan : Plan) (literal : Literal)
+    → action_by time position instance rule literal ≡ action_at time position (Root rule plan) literal
+by_root time position None none rule plan literal = refl
+by_root time position (Some i) none rule plan literal = absurd (true≢false none)

@@ -17,7 +17,7 @@ use Rattle.obligations.specs.declared.instances.Instance.{Instance}
 use Rattle.choice_step.specs.Acting.{ActsFor, AreSparedBehind, GoesFrom, StaysMet}
 use Rattle.choice_step.specs.Situations.{CanDecide, Finds, IsFound, IsMetBefore, Leads, NoneIsWoken, plans_of}
 use Rattle.choice_step.specs.Choice.{Waiting, roots_from, with_step}
-use Rattle.choice_step.specs.Looking.{RootsAreMet}
+use Rattle.choice_step.specs.Looking.{RootsAreMet, action_found, root_literals}
 use Rattle.choice_step.specs.Waking.{HasNoneOf}
 use Rattle.choice_step.specs.declared.situation.Situation.{Situation}
 use Rattle.choice_step.specs.declared.looking.Found.{Found}
@@ -51,24 +51,24 @@ module _ (situation : Situation) (waiting : List Instance) (given : List Event) 
 module _ (situation : Situation) (waiting : List Instance) (can : CanDecide situation) (given : List Event) where
   abbrev Acted : Found → List Event → List Action → List Event → List Action → Type 0
   Acted f events actions after all =
-      ActsFor (plans_of situation) situation.past.now situation.time situation.position f.action f.rule f.literals.items events actions after all
+      ActsFor (plans_of situation) situation.past.now situation.time situation.position (action_found situation.time situation.position f) f.rule (root_literals f) events actions after all
 
   pub led_on : (start : List Action) (f : Found) (events : List Event) (actions : List Action) (after : List Event) (all : List Action)
       → IsOn situation waiting given start f events actions → Acted f events actions after all → Leads situation given given start after all
   led_on start f events actions after all on acted =
-      let more = acted situation.pending.now.instances situation.inserted given can.roles can.all on.found in (
-        on.led.0 ++ f.action ∷ more.0,
-        more.1 ∙ (ap (λ l. l ++ f.action ∷ more.0) on.led.1 ∙ append_assoc start on.led.0 (f.action ∷ more.0)),
+      let more = acted situation.pending.now.instances situation.inserted given can.roles can.all on.found.1 in (
+        on.led.0 ++ (action_found situation.time situation.position f) ∷ more.0,
+        more.1 ∙ (ap (λ l. l ++ (action_found situation.time situation.position f) ∷ more.0) on.led.1 ∙ append_assoc start on.led.0 ((action_found situation.time situation.position f) ∷ more.0)),
         goes_behind (plans_of situation) situation.pending.now.instances situation.past.now situation.inserted situation.time situation.position given given on.led.0 events
-            (f.action ∷ more.0) after on.led.2 more.2,
+            ((action_found situation.time situation.position f) ∷ more.0) after on.led.2 more.2,
       )
 
   pub more_on : (start : List Action) (f : Found) (events : List Event) (actions : List Action) (after : List Event) (all : List Action)
       → IsOn situation waiting given start f events actions → Acted f events actions after all → length actions < length all
   more_on start f events actions after all on acted =
-      let more = acted situation.pending.now.instances situation.inserted given can.roles can.all on.found in
-      let grown : length all ≡ length (actions ++ f.action ∷ more.0) = ap length more.1 in
-      omega (arith, grown, length-append actions (f.action ∷ more.0))
+      let more = acted situation.pending.now.instances situation.inserted given can.roles can.all on.found.1 in
+      let grown : length all ≡ length (actions ++ (action_found situation.time situation.position f) ∷ more.0) = ap length more.1 in
+      omega (arith, grown, length-append actions ((action_found situation.time situation.position f) ∷ more.0))
 
   pub longer : (start : List Action) (events : List Event) (actions : List Action) → Leads situation given given start events actions
       → length start ≤ length actions
@@ -96,21 +96,21 @@ module _ (situation : Situation) (waiting : List Instance) (can : CanDecide situ
       → HaveSameOf (guard_names situation.past.now.guards) given after
   same_on start f events actions after all on acted spared event named =
       let names = guard_names situation.past.now.guards in
-      let more = acted situation.pending.now.instances situation.inserted given can.roles can.all on.found in
+      let more = acted situation.pending.now.instances situation.inserted given can.roles can.all on.found.1 in
       let first = on.same event named in
       let next =
-      names_stay (plans_of situation) situation.pending.now.instances situation.past.now situation.inserted situation.time situation.position given events (f.action ∷ more.0) after names more.2
-      (spared_those names actions (f.action ∷ more.0) all spared more.1) event named
+      names_stay (plans_of situation) situation.pending.now.instances situation.past.now situation.inserted situation.time situation.position given events ((action_found situation.time situation.position f) ∷ more.0) after names more.2
+      (spared_those names actions ((action_found situation.time situation.position f) ∷ more.0) all spared more.1) event named
       in
       (λ there. next.0 (first.0 there), λ there. first.1 (next.1 there))
 
   -- and all before the place to go on from is met
   pub place_on : (start : List Action) (f : Found) (events : List Event) (actions : List Action) (after : List Event) (place : Place)
       → IsOn situation waiting given start f events actions
-      → StaysMet (plans_of situation) situation.past.now situation.time situation.position f.action f.rule f.literals.items f.place events after place
+      → StaysMet (plans_of situation) situation.past.now situation.time situation.position (action_found situation.time situation.position f) f.rule (root_literals f) f.place events after place
       → IsMetBefore situation waiting after place
   place_on start f events actions after place on stays =
-      stays situation.pending.now.instances waiting situation.inserted given can.roles can.all on.found on.place
+      stays situation.pending.now.instances waiting situation.inserted given can.roles can.all on.found.1 on.place
 
   -- where the place is behind the pending instances and a rule behind which none is woken, nothing is missing
   pub none_behind : TriggersAreMet → (after : List Event) (rule : ℕ) (place : Place)

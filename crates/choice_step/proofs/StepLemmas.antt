@@ -1,7 +1,7 @@
 -- A step that is looked at behind a trace for which a past state stands.
 use Rattle.std.specs.Prelude.{IfNone, IfSome}
 use Rattle.std.specs.Option.{option_map}
-use Rattle.std.proofs.Common.{◌≡◌, ◌↔◌, ℕ, ◌≤◌, Bool, List, [], ◌∷◌, ◌++◌, Contains, Option, None, Some, length, refl, sym, subst, ap, ◌∙◌, ⊎_elim, inl, inr, arith, length-append}
+use Rattle.std.proofs.Common.{◌≡◌, ◌↔◌, ℕ, ◌<◌, ◌≤◌, Bool, List, [], ◌∷◌, ◌++◌, Contains, Option, None, Some, length, refl, sym, subst, ap, ◌∙◌, ⊎_elim, inl, inr, arith, length-append}
 use Rattle.enf_value.specs.declared.events.Event.{Event}
 use Rattle.enf_value.specs.declared.events.NameId.{NameId}
 use Rattle.enf_value.specs.declared.steps.Step.{Step}
@@ -23,7 +23,7 @@ use Rattle.obligations.specs.declared.instances.Instance.{Instance}
 use Rattle.choice_step.specs.Choice.{with_step}
 use Rattle.obligations.specs.declared.literals.Literal.{Literal}
 use Rattle.choice_step.specs.Acting.{IsFoundFrom}
-use Rattle.choice_step.specs.Looking.{IsKnownBehind, IsKnownFor, IsLiteralAt, IsLiteralBehind, IsWantedAt, IsWantedFrom, WillFind, WillHaveFound}
+use Rattle.choice_step.specs.Looking.{IsKnownBehind, IsKnownFor, IsLiteralAt, IsLiteralBehind, IsWantedAt, IsWantedFrom, WillFind, WillHaveFound, action_found, root_literals}
 use Rattle.choice_step.specs.declared.looking.Found.{Found}
 use Rattle.choice_step.proofs.ActingLemmas.{at_each}
 use Rattle.choice_step.proofs.ChoiceLemmas.{last_step}
@@ -108,7 +108,7 @@ literal_behind plans pending past time events tables literal are known at = reco
 
 module _ (plans : List Plan) (inserted : Bool) (pending : List Instance) (past : Past) (time position : ℕ) (events : List Event) where
   pub if_none : (found : Option Found)
-      → WillFind plans pending past inserted time position events (option_map (λ f. f.action) found)
+      → WillFind plans pending past inserted time position events (option_map (action_found time position) found)
       → IfNone found (WillFind plans pending past inserted time position events None)
   if_none None finds = finds
   if_none (Some f) finds = tt
@@ -116,15 +116,19 @@ module _ (plans : List Plan) (inserted : Bool) (pending : List Instance) (past :
 -- what was found at a step behind a past state
 pub found_behind_past : (plans : List Plan) (pending : List Instance) (past : Past) (inserted : Bool) (time position : ℕ)
     (given events : List Event) (tables : PastTables) (found : Option Found) → AreOf past time given tables → AreKnown past given tables
-    → WillFind plans pending past inserted time position events (option_map (λ f. f.action) found)
-    → IfSome found (λ f. WillHaveFound plans pending past inserted time position events f.rule f.literals.items)
-    → IfSome found (λ f. IsWantedAt plans pending events given tables f.action)
-    → IfSome found (λ f. (literal : Literal) → Contains f.literals.items literal → IsLiteralAt plans pending given tables literal)
-    → IfSome found (λ f. IsFoundFrom plans pending past inserted time position given events f.action f.rule f.literals.items)
-found_behind_past plans pending past inserted time position given events tables None are known finds rest wanted literals = tt
-found_behind_past plans pending past inserted time position given events tables (Some f) are known finds rest wanted literals = record {
-  finds = finds;
-  rest = rest;
-  wanted = wanted_from_at plans pending past time given events tables f.action are known wanted;
-  literals_are = λ literal there. literal_behind plans pending past time given tables literal are known (literals literal there);
-}
+    → WillFind plans pending past inserted time position events (option_map (action_found time position) found)
+    → IfSome found (λ f. 0 < length f.literals.items)
+    → IfSome found (λ f. WillHaveFound plans pending past inserted time position events f.rule (root_literals f))
+    → IfSome found (λ f. IsWantedAt plans pending events given tables (action_found time position f))
+    → IfSome found (λ f. (literal : Literal) → Contains (root_literals f) literal → IsLiteralAt plans pending given tables literal)
+    → IfSome found (λ f. (0 < length f.literals.items) × IsFoundFrom plans pending past inserted time position given events (action_found time position f) f.rule (root_literals f))
+found_behind_past plans pending past inserted time position given events tables None are known finds some rest wanted literals = tt
+found_behind_past plans pending past inserted time position given events tables (Some f) are known finds some rest wanted literals = (
+  some,
+  record {
+    finds = finds;
+    rest = rest;
+    wanted = wanted_from_at plans pending past time given events tables (action_found time position f) are known wanted;
+    literals_are = λ literal there. literal_behind plans pending past time given tables literal are known (literals literal there);
+  },
+)

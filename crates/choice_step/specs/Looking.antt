@@ -2,6 +2,7 @@
 use Rattle.std.specs.Prelude.{◌≡◌, ◌⊎◌, ℕ, ◌<◌, ◌≤◌, Bool, List, [], ◌∷◌, Option, None}
 use Rattle.std.specs.Prelude.{Some, Contains, length, map}
 use Rattle.std.specs.Prelude.{drop, slice_get, take}
+use Rattle.std.specs.Borrow.{Bor}
 use Rattle.std.specs.List.{AllByRecursion, flat_map}
 use Rattle.enf_value.specs.Valuations.{no_values}
 use Rattle.enf_value.specs.declared.events.Event.{Event}
@@ -14,7 +15,7 @@ use Rattle.monitorable_guard.specs.Sources.{IsArgument}
 use Rattle.past_state.specs.Known.{IsConstantOf, IsKeptValue}
 use Rattle.past_state.specs.Past.{Past, PastStands, PastTables, formulas}
 use Rattle.plan_terms.specs.Nodes.{nodes}
-use Rattle.plan_terms.specs.Plans.{Plan}
+use Rattle.plan_terms.specs.Plans.{Cause, Plan}
 use Rattle.obligations.specs.Asked.{Changes, IsBound, IsLeaf, terms_of}
 use Rattle.obligations.specs.Missing.{Missing}
 use Rattle.obligations.specs.Pending.{node_of}
@@ -24,9 +25,39 @@ use Rattle.obligations.specs.Waiting.{HasPart}
 use Rattle.obligations.specs.declared.actions.Action.{Action}
 use Rattle.obligations.specs.declared.instances.Instance.{Instance}
 use Rattle.obligations.specs.declared.literals.Literal.{Literal}
-use Rattle.choice_step.specs.Choice.{Applies, Candidate, IsFirst, MissesNothing, Waiting, action_for, all_asked}
-use Rattle.choice_step.specs.Choice.{roots_from, with_step}
+use Rattle.obligations.specs.declared.literals.LiteralKind.TheVariants as kind
+use Rattle.choice_step.specs.Choice.{Applies, Candidate, IsFirst, MissesNothing, Root, Waiting, action_at, action_for}
+use Rattle.choice_step.specs.Choice.{all_asked, roots_from, with_step}
+use Rattle.choice_step.specs.declared.looking.Found.{Found}
 use Rattle.choice_step.specs.declared.looking.Place.{Place}
+
+-- ---- what was found
+
+-- of no literals one that is never asked for
+abbrev pub first_of : List Literal → Literal
+first_of [] = record { kind = kind.Cause; event = record { name = record { 0 = 0 }; args = [] }; leaf = 0 }
+first_of (literal ∷ literals) = literal
+
+-- the action for a literal that a pending instance misses, or where there is none the root of a rule
+abbrev pub action_by : (time position : ℕ) → Option (Bor Instance) → (rule : ℕ) → Literal → Action
+action_by time position None rule literal =
+    action_at time position (Root rule (Cause 0 0 literal.event.name [])) literal
+action_by time position (Some instance) rule literal = action_at time position (Waiting instance.now) literal
+
+-- that for what was found
+abbrev pub action_found : (time position : ℕ) → Found → Action
+action_found time position found =
+    action_by time position found.instance found.rule (first_of found.literals.items)
+
+-- the literals, where they are those of a root
+abbrev pub literals_by : Option (Bor Instance) → List Literal → List Literal
+literals_by None literals = literals
+literals_by (Some instance) literals = []
+
+abbrev pub root_literals : Found → List Literal
+root_literals found = literals_by found.instance found.literals.items
+
+-- ---- what is said of it
 
 -- the action for the first of those that are asked at the last position of a trace, and none where none misses anything
 abbrev pub IsActionFor : List Plan → (inserted : Bool) → List Step → List Candidate → Option Action → Type 0

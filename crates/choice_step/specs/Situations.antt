@@ -11,7 +11,7 @@ use Rattle.obligations.specs.declared.actions.Action.{Action}
 use Rattle.obligations.specs.declared.instances.Instance.{Instance}
 use Rattle.pending.specs.Listed.{IsKeptFor}
 use Rattle.choice_step.specs.Acting.{AllCanBeAsked, GoesFrom, IsFoundFrom}
-use Rattle.choice_step.specs.Looking.{WillBeMetBefore, WillFind}
+use Rattle.choice_step.specs.Looking.{WillBeMetBefore, WillFind, action_found, root_literals}
 use Rattle.choice_step.specs.Waking.{HasNoneOf}
 use Rattle.choice_step.specs.declared.situation.Situation.{Situation}
 use Rattle.choice_step.specs.declared.looking.Found.{Found}
@@ -44,9 +44,10 @@ Leads situation given before actions after all = GoesFrom (plans_of situation) s
 
 -- where it has those events, with values that were known where it had the given ones
 abbrev pub IsFound : Situation → (given events : List Event) → Found → Type 0
-IsFound situation given events found = IsFoundFrom (plans_of situation) situation.pending.now.instances
-    situation.past.now situation.inserted situation.time situation.position given events found.action found.rule
-    found.literals.items
+IsFound situation given events found = (0 < length found.literals.items)
+    × IsFoundFrom (plans_of situation) situation.pending.now.instances situation.past.now situation.inserted
+    situation.time situation.position given events (action_found situation.time situation.position found) found.rule
+    (root_literals found)
 
 abbrev pub IsMetBefore : Situation → (waiting : List Instance) → List Event → Place → Type 0
 IsMetBefore situation waiting events place = WillBeMetBefore (plans_of situation) situation.pending.now.instances

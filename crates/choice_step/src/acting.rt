@@ -1,13 +1,15 @@
 //! What is done at a step for what was found there.
-ghost use Rattle.std.specs.Prelude.{◌≡◌, ◌↔◌, ◌++◌, ◌∷◌, [], IfOk, IfSome, IsTrue, OnOk, map};
+ghost use Rattle.std.specs.Prelude.{◌≡◌, ◌↔◌, ◌<◌, ◌++◌, ◌∷◌, [], IfOk, IfSome, IsTrue, OnOk};
+ghost use Rattle.std.specs.Prelude.{length, map};
 ghost use Rattle.choice_step.specs.Acting.{ActsFor, ActsOn, AreSparedBehind, HasNoChoices, LeavesNothing, StaysMet};
+ghost use Rattle.choice_step.specs.Looking.{action_found, root_literals};
 ghost use Rattle.enf_value.specs.Membership.{HasNoRepeats};
 ghost use Rattle.obligations.specs.Asked.{Changes};
 ghost use Rattle.past_state.specs.Past.{guard_names};
 ghost use Rattle.plan_terms.specs.Plans.{plan_of};
 
 use crate::actions::{Action, Actions};
-use crate::looking::{Found, Place, act, action_of_root};
+use crate::looking::{Found, Place, act, action_of, action_of_root};
 use enf_value::event_sets::EventSet;
 use enf_value::memory::NoMemory;
 use obligations::laws::unread_stays_met;
@@ -26,32 +28,40 @@ pub fn act_for(
     past: &PastState,
     time: u64,
     position: u64,
-    found: Found,
+    found: Found<'_>,
     events: &mut EventSet,
     actions: &mut Actions,
 ) -> Result<Option<Place>, NoMemory>
-    requires changes { Changes found.action.kind found.action.event events.old }
-    ensures acts { OnOk result (ActsFor (map plan_of plans.now) past.now time position found.action found.rule
-        found.literals.items events.old actions.old events.new actions.new) }
+    requires some { 0 < length found.literals.items }
+    requires changes { Changes (action_found time position found).kind (action_found time position found).event
+        events.old }
+    ensures acts { OnOk result (ActsFor (map plan_of plans.now) past.now time position
+        (action_found time position found.entry) found.entry.rule (root_literals found.entry) events.old actions.old
+        events.new actions.new) }
     ensures spared { IfOk result (λ next. IfSome next
         (λ _. AreSparedBehind (guard_names past.now.guards) actions.old actions.new)) }
     ensures met { IfOk result (λ next. IfSome next (λ place. StaysMet (map plan_of plans.now) past.now time position
-        found.action found.rule found.literals.items found.place events.old events.new place)) }
+        (action_found time position found.entry) found.entry.rule (root_literals found.entry) found.entry.place
+        events.old events.new place)) }
 {
     unread_stays_met();
     let Found {
-        action,
+        instance,
         rule,
-        literals,
+        mut literals,
         place,
     } = found;
+    // Its clause says that no event stands twice.
+    let _given = events.as_slice();
+    let first = literals.remove(0);
+    let action = action_of(alloc, instance, rule, first, time, position)?;
     let name = action.event.name;
     act(alloc, events, &action)?;
     push(alloc, actions, action)?;
     if past.looks_for(name) {
         return Ok(None);
     }
-    if literals.is_empty() || !has_no_choices(plans, rule) {
+    if instance.is_some() || !has_no_choices(plans, rule) {
         return Ok(Some(place));
     }
     let spared = act_on(
@@ -136,7 +146,9 @@ fn push(alloc: Global, actions: &mut Actions, action: Action) -> Result<(), NoMe
     ensures { OnOk result (actions.new ≡ actions.old ++ action ∷ []) }
 {
     if actions.is_empty() {
-        *actions = Actions::from_vec(vec![in alloc; action]?);
+        let mut one = Vec::with_capacity(alloc, 1)?;
+        one.push(action)?;
+        *actions = Actions::from_vec(one);
         return Ok(());
     }
     match actions.push(action) {

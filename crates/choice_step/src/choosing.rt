@@ -59,8 +59,8 @@ struct Round {
 // What the first look of a round shows: who is the first that misses something, the tables of the past, and whether
 // that is the root of a rule without choices behind which no rule is woken.
 #[derive(Drop)]
-struct Seen {
-    found: Option<Found>,
+struct Seen<'a> {
+    found: Option<Found<'a>>,
     tables: Tables,
     last: bool,
 }
@@ -215,12 +215,12 @@ fn go_round(
 }
 
 // The first look of a round.
-fn look(
+fn look<'a>(
     alloc: Global,
     situation: &Situation<'_>,
-    waiting: &[&Instance],
+    waiting: &[&'a Instance],
     events: &EventSet,
-) -> Result<Seen, NoMemory>
+) -> Result<Seen<'a>, NoMemory>
     requires can { CanDecide situation.now }
     requires among { AreAmong situation.now (shown waiting.now) }
     requires start { IsMetBefore situation.now (shown waiting.now) events.now (record { instances = 0; rules = 0 }) }
@@ -251,11 +251,11 @@ fn look(
 }
 
 // Whether what was found is the root of a rule without choices, and the step wakes no rule behind it.
-fn is_last(situation: &Situation<'_>, found: &Found, ordered: &StepEvents<'_>) -> bool
+fn is_last(situation: &Situation<'_>, found: &Found<'_>, ordered: &StepEvents<'_>) -> bool
     ensures { IsTrue result → NoneIsWoken situation.now ordered.now found.now.rule }
 {
     let all = ordered.set().as_slice();
-    !found.literals.is_empty()
+    found.instance.is_none()
         && has_no_choices(situation.plans, found.rule)
         && situation
             .wakes
@@ -264,7 +264,11 @@ fn is_last(situation: &Situation<'_>, found: &Found, ordered: &StepEvents<'_>) -
 }
 
 // The same of what was found, if anything was.
-fn ends_round(situation: &Situation<'_>, found: &Option<Found>, ordered: &StepEvents<'_>) -> bool
+fn ends_round(
+    situation: &Situation<'_>,
+    found: &Option<Found<'_>>,
+    ordered: &StepEvents<'_>,
+) -> bool
     ensures { IfSome found.now (λ f. IsTrue result → NoneIsWoken situation.now ordered.now f.rule) }
 {
     match found {
@@ -279,7 +283,7 @@ fn act_last(
     alloc: Global,
     situation: &Situation<'_>,
     waiting: &[&Instance],
-    found: Found,
+    found: Found<'_>,
     events: &mut EventSet,
     actions: &mut Actions,
 ) -> Result<bool, NoMemory>
@@ -318,12 +322,12 @@ fn act_last(
 // Acts for what was found first. Where others may miss something behind it, it goes on with the tables, and with the
 // order of the events that there were. It answers whether no guard looks for a name that was acted on, so that nothing
 // is missing.
-fn act_from(
+fn act_from<'a>(
     alloc: Global,
     situation: &Situation<'_>,
-    waiting: &[&Instance],
+    waiting: &[&'a Instance],
     tables: &Tables,
-    found: Found,
+    found: Found<'a>,
     last: bool,
     events: &mut EventSet,
     actions: &mut Actions,
@@ -355,13 +359,13 @@ fn act_from(
 // Acts for what was found, and goes on from its place, until something looks for a name that was acted on; it answers
 // whether nothing did, so that nothing is missing.
 #[inline(never)]
-fn go_on(
+fn go_on<'a>(
     alloc: Global,
     situation: &Situation<'_>,
-    waiting: &[&Instance],
+    waiting: &[&'a Instance],
     ordered: &StepEvents<'_>,
     tables: &Tables,
-    found: Found,
+    found: Found<'a>,
     events: &mut EventSet,
     actions: &mut Actions,
 ) -> Result<bool, NoMemory>
@@ -406,15 +410,15 @@ fn go_on(
 
 // The first that misses something at a step, from a place on, with the order and the tables that there were before its
 // events changed in names that no guard looks for.
-fn next_from(
+fn next_from<'a>(
     alloc: Global,
     situation: &Situation<'_>,
-    waiting: &[&Instance],
+    waiting: &[&'a Instance],
     events: &EventSet,
     ordered: &StepEvents<'_>,
     tables: &Tables,
     from: Place,
-) -> Result<Option<Found>, NoMemory>
+) -> Result<Option<Found<'a>>, NoMemory>
     requires can { CanDecide situation.now }
     requires among { AreAmong situation.now (shown waiting.now) }
     requires are { AreOf situation.now.past.now situation.now.time ordered.now tables.now }

@@ -1,5 +1,5 @@
 //! Who is the first at a step that misses something, and the action for that one.
-ghost use Rattle.std.specs.Prelude.{◌≡◌, ◌≤◌, ◌^◌, List, [], IfOk, IfSome, OnOk};
+ghost use Rattle.std.specs.Prelude.{◌≡◌, ◌<◌, ◌≤◌, ◌^◌, List, [], IfOk, IfSome, OnOk};
 ghost use Rattle.std.specs.Prelude.{Some, Contains, length, map};
 ghost use Rattle.std.specs.Prelude.{slice_get};
 ghost use Rattle.std.specs.Option.{option_map};
@@ -7,7 +7,7 @@ ghost use Rattle.std.specs.List.{AllByRecursion};
 ghost use Rattle.choice_step.specs.Choice.{Root, Waiting, action_at, all_asked, is_forced, roots_from};
 ghost use Rattle.choice_step.specs.Choice.{Applies, MissesNothing};
 ghost use Rattle.choice_step.specs.Looking.{IsActionFor, IsLiteralAt, IsWantedAt, RootsAreMet, NothingBefore};
-ghost use Rattle.choice_step.specs.Looking.{RootMisses, WasFound};
+ghost use Rattle.choice_step.specs.Looking.{RootMisses, WasFound, action_by, action_found, root_literals};
 ghost use Rattle.enf_formula.specs.Names.{HaveSameOf};
 ghost use Rattle.enf_value.specs.Valuations.{no_values};
 ghost use Rattle.enf_value.specs.declared.steps.Step.{Step};
@@ -42,11 +42,11 @@ pub struct Place {
     pub rules: usize,
 }
 
-// The action for the first that misses something at a step, and its place; where that is the root of a rule, what it
-// misses: all where the plan has no choices, and else the first.
+// The first that misses something at a step, and its place: a pending instance, or where there is none the root of a
+// rule. Of what it misses it has the first, and all where that is the root of a plan without choices.
 #[derive(Drop)]
-pub struct Found {
-    pub action: Action,
+pub struct Found<'a> {
+    pub instance: Option<&'a Instance>,
     pub rule: u32,
     pub literals: Vec<Literal>,
     pub place: Place,
@@ -54,16 +54,16 @@ pub struct Found {
 
 // The first that misses something at the step, from a place on, pending instances before the roots of rules. Of the
 // pending instances those are asked that wait.
-pub fn first_action(
+pub fn first_action<'a>(
     alloc: Global,
     plans: &[Plan],
     wakes: &Wakes,
     pending: &Pending,
-    waiting: &[&Instance],
+    waiting: &[&'a Instance],
     now: &Now<'_>,
     inserted: bool,
     from: Place,
-) -> Result<Option<Found>, NoMemory>
+) -> Result<Option<Found<'a>>, NoMemory>
     requires few { length plans.now ≤ 2 ^ 32 }
     requires wakes { wakes.now ≡ map guard_triggers (map plan_of plans.now) }
     requires ordered { HaveSameOf (guard_names now.now.tables.now.guards) now.now.ordered.now now.now.events.now }
@@ -71,21 +71,23 @@ pub fn first_action(
     requires instances { AllByRecursion (CanAskOf (guards_at now.now.tables.now) (map plan_of plans.now))
         pending.now.instances }
     requires among { AllByRecursion (Contains pending.now.instances) (shown waiting.now) }
+    ensures some { IfOk result (λ found. IfSome found (λ f. 0 < length f.literals.items)) }
     ensures found { IfOk result (λ found. (trace : List Step) → IsNowOf now.now trace
         → NothingBefore (map plan_of plans.now) pending.now.instances (shown waiting.now) inserted trace from
         → IsActionFor (map plan_of plans.now) inserted trace
-        (all_asked (map plan_of plans.now) pending.now.instances) (option_map (λ f. f.action) found)) }
+        (all_asked (map plan_of plans.now) pending.now.instances)
+        (option_map (action_found now.now.time now.now.position) found)) }
     ensures place { IfOk result (λ found. IfSome found (λ f. (trace : List Step) → IsNowOf now.now trace
         → NothingBefore (map plan_of plans.now) pending.now.instances (shown waiting.now) inserted trace from
         → NothingBefore (map plan_of plans.now) pending.now.instances (shown waiting.now) inserted trace f.place)) }
     ensures rest { IfOk result (λ found. IfSome found (λ f. (trace : List Step) → IsNowOf now.now trace
         → NothingBefore (map plan_of plans.now) pending.now.instances (shown waiting.now) inserted trace from
-        → WasFound (map plan_of plans.now) pending.now.instances inserted trace f.rule f.literals.items)) }
+        → WasFound (map plan_of plans.now) pending.now.instances inserted trace f.rule (root_literals f))) }
     ensures wanted { IfOk result (λ found. IfSome found
         (λ f. IsWantedAt (map plan_of plans.now) pending.now.instances now.now.events.now
-        now.now.ordered.now now.now.tables.now f.action)) }
+        now.now.ordered.now now.now.tables.now (action_found now.now.time now.now.position f))) }
     ensures literals { IfOk result (λ found. IfSome found (λ f. (literal : AnyLiteral)
-        → Contains f.literals.items literal → IsLiteralAt (map plan_of plans.now) pending.now.instances
+        → Contains (root_literals f) literal → IsLiteralAt (map plan_of plans.now) pending.now.instances
         now.now.ordered.now now.now.tables.now literal)) }
 {
     match first_waiting(alloc, plans, pending, waiting, now, inserted, from)? {
@@ -97,38 +99,39 @@ pub fn first_action(
 }
 
 // That for the first of the pending instances.
-fn first_waiting(
+fn first_waiting<'a>(
     alloc: Global,
     plans: &[Plan],
     pending: &Pending,
-    waiting: &[&Instance],
+    waiting: &[&'a Instance],
     now: &Now<'_>,
     inserted: bool,
     from: Place,
-) -> Result<Option<Found>, NoMemory>
+) -> Result<Option<Found<'a>>, NoMemory>
     requires instances { AllByRecursion (CanAskOf (guards_at now.now.tables.now) (map plan_of plans.now))
         pending.now.instances }
     requires among { AllByRecursion (Contains pending.now.instances) (shown waiting.now) }
+    ensures some { IfOk result (λ found. IfSome found (λ f. 0 < length f.literals.items)) }
     ensures found { IfOk result (λ found. (trace : List Step) → IsNowOf now.now trace
         → NothingBefore (map plan_of plans.now) pending.now.instances (shown waiting.now) inserted trace from
         → IsActionFor (map plan_of plans.now) inserted trace (map Waiting pending.now.instances)
-        (option_map (λ f. f.action) found)) }
+        (option_map (action_found now.now.time now.now.position) found)) }
     ensures place { IfOk result (λ found. IfSome found (λ f. (trace : List Step) → IsNowOf now.now trace
         → NothingBefore (map plan_of plans.now) pending.now.instances (shown waiting.now) inserted trace from
         → NothingBefore (map plan_of plans.now) pending.now.instances (shown waiting.now) inserted trace f.place)) }
     ensures wanted { IfOk result (λ found. IfSome found
         (λ f. IsWantedAt (map plan_of plans.now) pending.now.instances now.now.events.now now.now.ordered.now
-        now.now.tables.now f.action)) }
-    ensures alone { IfOk result (λ found. IfSome found (λ f. f.literals.items ≡ [])) }
+        now.now.tables.now (action_found now.now.time now.now.position f))) }
+    ensures alone { IfOk result (λ found. IfSome found (λ f. root_literals f ≡ [])) }
 {
     for place in from.instances..waiting.len() {
         let instance = waiting[place];
         let forced = is_forced(instance, now.time, inserted);
         if let Some(literal) = first_missing_of(alloc, instance, plans, now, forced)? {
             return Ok(Some(Found {
-                action: action_of(alloc, instance, literal, now)?,
+                instance: Some(instance),
                 rule: instance.rule,
-                literals: Vec::new(alloc),
+                literals: vec![in alloc; literal]?,
                 place: Place {
                     instances: place,
                     rules: from.rules,
@@ -140,36 +143,37 @@ fn first_waiting(
 }
 
 // That for the first of the rules' roots, where no pending instance misses anything.
-fn first_root(
+fn first_root<'a>(
     alloc: Global,
     plans: &[Plan],
     wakes: &Wakes,
     pending: &Pending,
-    waiting: &[&Instance],
+    waiting: &[&'a Instance],
     now: &Now<'_>,
     inserted: bool,
     from: usize,
-) -> Result<Option<Found>, NoMemory>
+) -> Result<Option<Found<'a>>, NoMemory>
     requires few { length plans.now ≤ 2 ^ 32 }
     requires wakes { wakes.now ≡ map guard_triggers (map plan_of plans.now) }
     requires ordered { HaveSameOf (guard_names now.now.tables.now.guards) now.now.ordered.now now.now.events.now }
     requires roots { CanAskRoots (guards_at now.now.tables.now) (map plan_of plans.now) }
+    ensures some { IfOk result (λ found. IfSome found (λ f. 0 < length f.literals.items)) }
     ensures found { IfOk result (λ found. (trace : List Step) → IsNowOf now.now trace
         → RootsAreMet (map plan_of plans.now) inserted trace from
         → IsActionFor (map plan_of plans.now) inserted trace
-        (roots_from 0 (map plan_of plans.now)) (option_map (λ f. f.action) found)) }
+        (roots_from 0 (map plan_of plans.now)) (option_map (action_found now.now.time now.now.position) found)) }
     ensures place { IfOk result (λ found. IfSome found (λ f. (trace : List Step) → IsNowOf now.now trace
         → RootsAreMet (map plan_of plans.now) inserted trace from
         → AllByRecursion (MissesNothing (map plan_of plans.now) inserted trace) (map Waiting pending.now.instances)
         → NothingBefore (map plan_of plans.now) pending.now.instances (shown waiting.now) inserted trace f.place)) }
     ensures rest { IfOk result (λ found. IfSome found (λ f. (trace : List Step) → IsNowOf now.now trace
         → RootsAreMet (map plan_of plans.now) inserted trace from
-        → RootMisses (map plan_of plans.now) inserted trace f.rule f.literals.items)) }
+        → RootMisses (map plan_of plans.now) inserted trace f.rule (root_literals f))) }
     ensures wanted { IfOk result (λ found. IfSome found
         (λ f. IsWantedAt (map plan_of plans.now) pending.now.instances now.now.events.now now.now.ordered.now
-        now.now.tables.now f.action)) }
+        now.now.tables.now (action_found now.now.time now.now.position f))) }
     ensures literals { IfOk result (λ found. IfSome found
-        (λ f. (literal : AnyLiteral) → Contains f.literals.items literal
+        (λ f. (literal : AnyLiteral) → Contains (root_literals f) literal
         → IsLiteralAt (map plan_of plans.now) pending.now.instances now.now.ordered.now now.now.tables.now literal)) }
 {
     triggers_are_met();
@@ -178,10 +182,9 @@ fn first_root(
     let mut rule = wakes.next_awake(from, all, now.ordered);
     while rule < plans.len() {
         let literals = missing_of_root(alloc, &plans[rule], now)?;
-        if let Some(first) = literals.first() {
-            let action = action_of_root(alloc, rule as u32, first, now.time, now.position)?;
+        if !literals.is_empty() {
             return Ok(Some(Found {
-                action,
+                instance: None,
                 rule: rule as u32,
                 literals,
                 place: Place {
@@ -223,22 +226,27 @@ fn is_forced(instance: &Instance, time: u64, inserted: bool) -> bool
     inserted && time == instance.high
 }
 
-// The action for a pending instance that misses a literal.
-fn action_of(
+// The action for a literal that the pending instance misses, or where there is none the root of the rule.
+#[inline(always)]
+pub fn action_of(
     alloc: Global,
-    instance: &Instance,
+    instance: Option<&Instance>,
+    rule: u32,
     literal: Literal,
-    now: &Now<'_>,
+    time: u64,
+    position: u64,
 ) -> Result<Action, NoMemory>
-    ensures { IfOk result (λ action. action
-        ≡ action_at now.now.time now.now.position (Waiting instance.now) literal) }
+    ensures { IfOk result (λ action. action ≡ action_by time position instance.entry rule literal) }
 {
+    let Some(instance) = instance else {
+        return Ok(root_action(alloc, rule, literal, time, position));
+    };
     let valuation = instance.valuation.duplicate(alloc)?;
     Ok(Action {
         kind: literal.kind,
         event: literal.event,
-        time: now.time,
-        position: now.position,
+        time,
+        position,
         rule: instance.rule,
         node: instance.node,
         leaf: literal.leaf,
@@ -249,6 +257,23 @@ fn action_of(
 
 // The action for the root of a rule that misses a literal.
 #[inline(always)]
+fn root_action(alloc: Global, rule: u32, literal: Literal, time: u64, position: u64) -> Action
+    ensures { (plan : AnyPlan) → result ≡ action_at time position (Root rule plan) literal }
+{
+    Action {
+        kind: literal.kind,
+        event: literal.event,
+        time,
+        position,
+        rule,
+        node: 0,
+        leaf: literal.leaf,
+        origin: position,
+        valuation: Valuation::empty(alloc),
+    }
+}
+
+// The same with a copy of the literal.
 pub fn action_of_root(
     alloc: Global,
     rule: u32,
@@ -260,17 +285,12 @@ pub fn action_of_root(
         (λ action. (plan : AnyPlan) → action ≡ action_at time position (Root rule plan) literal.now) }
 {
     let event = literal.event.duplicate(alloc)?;
-    Ok(Action {
+    let copy = Literal {
         kind: literal.kind,
         event,
-        time,
-        position,
-        rule,
-        node: 0,
         leaf: literal.leaf,
-        origin: position,
-        valuation: Valuation::empty(alloc),
-    })
+    };
+    Ok(root_action(alloc, rule, copy, time, position))
 }
 
 // Adds the event of an action to the step, or takes it out.

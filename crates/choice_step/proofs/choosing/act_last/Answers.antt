@@ -3,13 +3,14 @@ use Rattle.std.specs.Prelude.{IfSome}
 use Rattle.std.proofs.lemmas.List.{length-map}
 use Rattle.past_state.specs.Past.{guard_names}
 use Rattle.choice_step.specs.Acting.{AreSparedBehind, StaysMet}
+use Rattle.choice_step.specs.Looking.{action_found, root_literals}
 use Rattle.choice_step.specs.Situations.{plans_of}
 use Rattle.sleepers.specs.Entries.{shown}
 use Rattle.choice_step.proofs.PlaceLemmas.{led_on, more_on, none_behind, on_first, place_on, same_on}
 use Rattle.choice_step.proofs.choosing.act_last.Goals as goal
 
 pub act_for-requires : goal.act_for-requires
-act_for-requires c = record { changes = c.requires.found.wanted.changes }
+act_for-requires c = record { some = c.requires.found.0; changes = c.requires.found.1.wanted.changes }
 
 pub returns-in_default-clause-acts : goal.returns-in_default-clause-acts
 returns-in_default-clause-acts c = led_on c.args.situation.now (shown c.args.waiting.now) c.requires.can c.args.events.now c.args.actions.now c.args.found c.args.events.now c.args.actions.now c.act_for.new.events c.act_for.new.actions (on_first c.args.situation.now (shown c.args.waiting.now) c.args.events.now c.args.actions.now c.args.found c.args.events.now refl c.requires.found c.requires.place) c.in_ok-reached.ensures.acts
@@ -39,7 +40,7 @@ returns-clause-nothing c _ =
     (subst (λ o. IfSome o (λ place. AreSparedBehind (guard_names c.args.situation.now.past.now.guards) c.args.actions.now c.act_for.new.actions)) c.in-Some.is c.in_ok-reached.ensures.spared)) c.requires.last
     (omega (arith, length-map c.args.waiting.now (λ x. x.now), c.if-place-waiting.false)) c.if-place-rule.false
     (place_on situation (shown c.args.waiting.now) c.requires.can c.args.events.now c.args.actions.now f c.args.events.now c.args.actions.now c.act_for.new.events c.in-Some.place (on_first c.args.situation.now (shown c.args.waiting.now) c.args.events.now c.args.actions.now c.args.found c.args.events.now refl c.requires.found c.requires.place)
-    (subst (λ o. IfSome o (λ place. StaysMet (plans_of situation) situation.past.now situation.time situation.position f.action f.rule f.literals.items f.place c.args.events.now c.act_for.new.events place)) c.in-Some.is c.in_ok-reached.ensures.met))
+    (subst (λ o. IfSome o (λ place. StaysMet (plans_of situation) situation.past.now situation.time situation.position (action_found situation.time situation.position f) f.rule (root_literals f) f.place c.args.events.now c.act_for.new.events place)) c.in-Some.is c.in_ok-reached.ensures.met))
 
 pub returns-clause-same : goal.returns-clause-same
 returns-clause-same c _ =

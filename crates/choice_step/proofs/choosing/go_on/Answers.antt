@@ -3,6 +3,7 @@ use Rattle.std.specs.Prelude.{IfNone, IfSome}
 use Rattle.enf_value.specs.Membership.{HasNoRepeats}
 use Rattle.past_state.specs.Past.{guard_names}
 use Rattle.choice_step.specs.Acting.{AreSparedBehind, StaysMet}
+use Rattle.choice_step.specs.Looking.{action_found, root_literals}
 use Rattle.choice_step.specs.Situations.{Finds, IsFound, IsMetBefore, plans_of}
 use Rattle.sleepers.specs.Entries.{shown}
 use Rattle.choice_step.proofs.PlaceLemmas.{few_on, led_on, longer, more_on, on_first, place_on, same_on}
@@ -13,7 +14,7 @@ loop-reached-init c =
     on_first c.args.situation.now (shown c.args.waiting.now) c.args.ordered.now c.args.actions.now c.args.found c.args.events.now c.requires.same c.requires.found c.requires.place
 
 pub act_for-requires : goal.act_for-requires
-act_for-requires c = record { changes = c.loop-reached.invariant.found.wanted.changes }
+act_for-requires c = record { some = c.loop-reached.invariant.found.0; changes = c.loop-reached.invariant.found.1.wanted.changes }
 
 pub next_from-requires : goal.next_from-requires
 next_from-requires c =
@@ -31,7 +32,7 @@ next_from-requires c =
       same = same_on situation (shown c.args.waiting.now) can given c.args.actions.now f c.loop-reached.events c.loop-reached.actions c.act_for.new.events c.act_for.new.actions
           c.loop-reached.invariant c.in_ok-reached.ensures.acts spared;
       before = place_on situation (shown c.args.waiting.now) can given c.args.actions.now f c.loop-reached.events c.loop-reached.actions c.act_for.new.events c.in-Some.place c.loop-reached.invariant
-          (subst (λ o. IfSome o (λ place. StaysMet (plans_of situation) situation.past.now situation.time situation.position f.action f.rule f.literals.items f.place c.loop-reached.events c.act_for.new.events place)) c.in-Some.is c.in_ok-reached.ensures.met);
+          (subst (λ o. IfSome o (λ place. StaysMet (plans_of situation) situation.past.now situation.time situation.position (action_found situation.time situation.position f) f.rule (root_literals f) f.place c.loop-reached.events c.act_for.new.events place)) c.in-Some.is c.in_ok-reached.ensures.met);
     }
 
 pub returns-in_default-clause-acts : goal.returns-in_default-clause-acts

@@ -6,7 +6,7 @@ use Rattle.obligations.specs.Asked.{placed_guard}
 use Rattle.obligations.specs.Waiting.{CanAskOf, CanAskRoots}
 use Rattle.choice_step.specs.Situations.{plans_of}
 use Rattle.choice_step.specs.Choice.{with_step}
-use Rattle.choice_step.specs.Looking.{WillBeMetBefore, WillHaveFound}
+use Rattle.choice_step.specs.Looking.{WillBeMetBefore, WillHaveFound, root_literals}
 use Rattle.sleepers.specs.Entries.{shown}
 use Rattle.choice_step.proofs.LookingLemmas.{if_some}
 use Rattle.choice_step.proofs.StepLemmas.{found_behind_past, if_none, now_of}
@@ -49,7 +49,8 @@ returns-clause-found c =
     (λ trace stands long later. c.in_ok-found.ensures.found (with_step trace situation.time events)
     (now_of c.dependence.ensures.names past _ trace c.requires.hold same stands long later)
     (c.requires.before trace stands long later))
-    (if_some c.in_ok-found.found _ (λ f. WillHaveFound plans pending past situation.inserted situation.time situation.position events f.rule f.literals.items)
+    c.in_ok-found.ensures.some
+    (if_some c.in_ok-found.found _ (λ f. WillHaveFound plans pending past situation.inserted situation.time situation.position events f.rule (root_literals f))
     (λ f rest trace stands long later. rest (with_step trace situation.time events)
     (now_of c.dependence.ensures.names past _ trace c.requires.hold same stands long later)
     (c.requires.before trace stands long later))

@@ -1,4 +1,4 @@
-use Rattle.std.proofs.Common.{[], ◌≡◌, map, subst, length, arith, ap}
+use Rattle.std.proofs.Common.{[], ◌≡◌, ◌<◌, map, subst, length, arith, ap}
 use Rattle.std.specs.Prelude.{Contains, IfSome, List}
 use Rattle.std.specs.List.{AllByRecursion}
 use Rattle.std.specs.Option.{option_map}
@@ -8,7 +8,7 @@ use Rattle.enf_value.specs.declared.steps.Step.{Step}
 use Rattle.plan_terms.specs.Plans.{plan_of}
 use Rattle.obligations.specs.Asked.{IsNowOf}
 use Rattle.choice_step.specs.Choice.{MissesNothing, Waiting, all_asked, roots_from}
-use Rattle.choice_step.specs.Looking.{IsActionFor, IsWantedAt, NothingBefore, RootMisses, RootsAreMet, WasFound}
+use Rattle.choice_step.specs.Looking.{action_found, root_literals, IsActionFor, IsWantedAt, NothingBefore, RootMisses, RootsAreMet, WasFound}
 use Rattle.sleepers.specs.Entries.{shown}
 use Rattle.choice_step.proofs.LookingLemmas.{found_behind, found_first, if_some}
 use Rattle.choice_step.proofs.looking.first_action.Goals as goal
@@ -17,8 +17,8 @@ pub returns-in-Some-clause-found : goal.returns-in-Some-clause-found
 returns-in-Some-clause-found c trace of before =
     let plans = map plan_of c.args.plans.now in
     let pending = c.args.pending.now.instances in
-    found_first plans c.args.inserted trace (map Waiting pending) (roots_from 0 plans) c.in-Some.found.action
-    (subst (λ o. IsActionFor plans c.args.inserted trace (map Waiting pending) (option_map (λ f. f.action) o)) c.in-Some.is (c.in_ok-found.ensures.found trace of before))
+    found_first plans c.args.inserted trace (map Waiting pending) (roots_from 0 plans) (action_found c.args.now.now.time c.args.now.now.position c.in-Some.found)
+    (subst (λ o. IsActionFor plans c.args.inserted trace (map Waiting pending) (option_map (action_found c.args.now.now.time c.args.now.now.position) o)) c.in-Some.is (c.in_ok-found.ensures.found trace of before))
 
 pub returns-in-Some-clause-place : goal.returns-in-Some-clause-place
 returns-in-Some-clause-place c =
@@ -29,19 +29,23 @@ returns-in-Some-clause-place c =
 
 pub returns-in-Some-clause-rest : goal.returns-in-Some-clause-rest
 returns-in-Some-clause-rest c trace of before some =
-    let none : c.in-Some.found.literals.items ≡ [] = subst (λ o. IfSome o (λ f. f.literals.items ≡ [])) c.in-Some.is c.in_ok-found.ensures.alone in
-    let long : length c.in-Some.found.literals.items ≡ 0 = ap length none in
+    let none : root_literals c.in-Some.found ≡ [] = subst (λ o. IfSome o (λ f. root_literals f ≡ [])) c.in-Some.is c.in_ok-found.ensures.alone in
+    let long : length (root_literals c.in-Some.found) ≡ 0 = ap length none in
     absurd (omega (arith, some, long))
+
+pub returns-in-Some-clause-some : goal.returns-in-Some-clause-some
+returns-in-Some-clause-some c =
+    subst (λ o. IfSome o (λ f. 0 < length f.literals.items)) c.in-Some.is c.in_ok-found.ensures.some
 
 pub returns-in-Some-clause-wanted : goal.returns-in-Some-clause-wanted
 returns-in-Some-clause-wanted c =
     let plans = map plan_of c.args.plans.now in
     let now = c.args.now.now in
-    subst (λ o. IfSome o (λ f. IsWantedAt plans c.args.pending.now.instances now.events.now now.ordered.now now.tables.now f.action)) c.in-Some.is c.in_ok-found.ensures.wanted
+    subst (λ o. IfSome o (λ f. IsWantedAt plans c.args.pending.now.instances now.events.now now.ordered.now now.tables.now (action_found now.time now.position f))) c.in-Some.is c.in_ok-found.ensures.wanted
 
 pub returns-in-Some-clause-literals : goal.returns-in-Some-clause-literals
 returns-in-Some-clause-literals c literal among =
-    let none : c.in-Some.found.literals.items ≡ [] = subst (λ o. IfSome o (λ f. f.literals.items ≡ [])) c.in-Some.is c.in_ok-found.ensures.alone in
+    let none : root_literals c.in-Some.found ≡ [] = subst (λ o. IfSome o (λ f. root_literals f ≡ [])) c.in-Some.is c.in_ok-found.ensures.alone in
     absurd (none_in_nil literal (subst (λ l. Contains l literal) none among))
 
 waiting : (c : goal.After-first_root) → (trace : List Step) → IsNowOf c.args.now.now trace
@@ -49,15 +53,15 @@ waiting : (c : goal.After-first_root) → (trace : List Step) → IsNowOf c.args
     → AllByRecursion (MissesNothing (map plan_of c.args.plans.now) c.args.inserted trace) (map Waiting c.args.pending.now.instances)
 waiting c trace of before =
     let plans = map plan_of c.args.plans.now in
-    subst (λ o. IsActionFor plans c.args.inserted trace (map Waiting c.args.pending.now.instances) (option_map (λ f. f.action) o)) c.in-None.is (c.in_ok-found.ensures.found trace of before)
+    subst (λ o. IsActionFor plans c.args.inserted trace (map Waiting c.args.pending.now.instances) (option_map (action_found c.args.now.now.time c.args.now.now.position) o)) c.in-None.is (c.in_ok-found.ensures.found trace of before)
 
 pub returns-in-None-clause-found : goal.returns-in-None-clause-found
 returns-in-None-clause-found c =
     let plans = map plan_of c.args.plans.now in
     let pending = c.args.pending.now.instances in
     IfOk-weaker c.first_root.result _ (λ found. (trace : List Step) → IsNowOf c.args.now.now trace → NothingBefore plans pending (shown c.args.waiting.now) c.args.inserted trace c.args.from
-    → IsActionFor plans c.args.inserted trace (all_asked plans pending) (option_map (λ f. f.action) found))
-    (λ found behind trace of before. found_behind plans c.args.inserted trace (map Waiting pending) (roots_from 0 plans) (option_map (λ f. f.action) found)
+    → IsActionFor plans c.args.inserted trace (all_asked plans pending) (option_map (action_found c.args.now.now.time c.args.now.now.position) found))
+    (λ found behind trace of before. found_behind plans c.args.inserted trace (map Waiting pending) (roots_from 0 plans) (option_map (action_found c.args.now.now.time c.args.now.now.position) found)
     (waiting c trace of before) (behind trace of before.1))
     c.first_root.ensures.found
 
@@ -81,10 +85,10 @@ returns-in-None-clause-rest c =
     let pending = c.args.pending.now.instances in
     let now = c.args.now.now in
     IfOk-weaker c.first_root.result _ (λ found. IfSome found (λ f. (trace : List Step) → IsNowOf now trace → NothingBefore plans pending (shown c.args.waiting.now) c.args.inserted trace c.args.from
-    → WasFound plans pending c.args.inserted trace f.rule f.literals.items))
+    → WasFound plans pending c.args.inserted trace f.rule (root_literals f)))
     (λ found rest. if_some found (λ f. (trace : List Step) → IsNowOf now trace → RootsAreMet plans c.args.inserted trace c.args.from.rules
-    → RootMisses plans c.args.inserted trace f.rule f.literals.items)
-    (λ f. (trace : List Step) → IsNowOf now trace → NothingBefore plans pending (shown c.args.waiting.now) c.args.inserted trace c.args.from → WasFound plans pending c.args.inserted trace f.rule f.literals.items)
+    → RootMisses plans c.args.inserted trace f.rule (root_literals f))
+    (λ f. (trace : List Step) → IsNowOf now trace → NothingBefore plans pending (shown c.args.waiting.now) c.args.inserted trace c.args.from → WasFound plans pending c.args.inserted trace f.rule (root_literals f))
     (λ f misses trace of before some. (waiting c trace of before, misses trace of before.1))
     rest)
     c.first_root.ensures.rest

@@ -1,7 +1,7 @@
-use Rattle.std.proofs.Common.{◌≡◌, ◌∙◌, ℕ, ◌+◌, ◌<◌, ◌≤◌, Bool, List, Option, Contains, None, Some, length, map, refl, sym, subst, ap, arith}
+use Rattle.std.proofs.Common.{◌≡◌, ◌∙◌, ℕ, ◌+◌, ◌<◌, ◌≤◌, Bool, List, Option, Contains, None, Some, length, map, refl, sym, subst, arith}
 use Rattle.std.specs.Prelude.{slice_get}
 use Rattle.std.specs.List.{AllByRecursion}
-use Rattle.std.specs.Option.{option_copied}
+use Rattle.std.proofs.lemmas.Bool.{eqb-false, eqb-true}
 use Rattle.std.proofs.lemmas.List.{length-map}
 use Rattle.std.proofs.lemmas.Option.{same_Some}
 use Rattle.enf_value.specs.ListLaws.{AllByRecursion-contains, there_from_get}
@@ -18,13 +18,13 @@ use Rattle.obligations.specs.declared.now.Now.{Now}
 use Rattle.obligations.specs.Missing.{Missing}
 use Rattle.obligations.specs.Unread.{IsPlain}
 use Rattle.obligations.specs.Waiting.{CanAskRoot, CanAskRoots}
-use Rattle.choice_step.specs.Choice.{Root}
-use Rattle.choice_step.specs.Looking.{Covers, RootsAreMet}
+use Rattle.choice_step.specs.Choice.{Root, action_at}
+use Rattle.choice_step.specs.Looking.{Covers, RootsAreMet, first_of}
 use Rattle.choice_step.specs.Waking.{HasNoneOf}
 use Rattle.sleepers.specs.Entries.{shown}
 use Rattle.choice_step.proofs.AsleepLemmas.{all_asleep}
 use Rattle.choice_step.proofs.FiniteLemmas.{Contains-map}
-use Rattle.choice_step.proofs.LookingLemmas.{Met, covers_all, drop_end, for_trace, literal_root, misses_root, no_root, one_more_root, root_first, stays_root, wanted_root}
+use Rattle.choice_step.proofs.LookingLemmas.{Met, above, covers_all, drop_end, for_trace, literal_root, misses_root, no_root, none_first, one_more_root, root_first, some_first, stays_root, wanted_root}
 use Rattle.choice_step.proofs.WakingLemmas.{plan_at}
 use Rattle.choice_step.proofs.looking.first_root.Goals as goal
 
@@ -55,32 +55,33 @@ pub loop-rule-preserved : goal.loop-rule-preserved
 loop-rule-preserved c trace of before =
     let plans = map plan_of c.args.plans.now in
     let p = c.index-plans-rule.result in
-    let none : slice_get c.in_ok-literals.literals.items 0 ≡ None =
-    subst (λ l. slice_get l 0 ≡ None) c.deref.ensures.value (sym c.first.ensures.value ∙ ap option_copied c.in_default.is)
-    in
+    let literals = c.in_ok-literals.literals in
+    let empty : literals.len ≡ 0 = eqb-true literals.len 0 (sym c.is_empty.ensures ∙ c.if-not-is_empty.false) in
+    let none : slice_get literals.items 0 ≡ None = none_first literals.items (omega (arith, empty, literals.ok.0)) in
     let more = one_more_root plans c.args.inserted trace plans c.loop-rule.rule (plan_of p) (plan_at c.args.plans.now c.loop-rule.rule p c.loop-rule-test.true c.index-plans-rule.is) (c.loop-rule.invariant trace of before)
     (stays_root plans c.args.inserted trace c.loop-rule.rule (plan_of p) no_values (slice_get c.in_ok-literals.literals.items 0) refl none (c.in_ok-literals.ensures.first trace of)) in
     up_to plans c.args.wakes.now c.args.now.now c.args.inserted c.triggers_are_met.ensures c.requires.roots c.requires.wakes c.requires.ordered
     (c.loop-rule.rule + 1) c.next_awake-rule-in-loop-rule.result c.next_awake-rule-in-loop-rule.ensures.behind c.next_awake-rule-in-loop-rule.ensures.asleep trace of more
 
-pub returns-in-Some-clause-found : goal.returns-in-Some-clause-found
-returns-in-Some-clause-found c trace of before =
+pub returns-then-not-is_empty-clause-found : goal.returns-then-not-is_empty-clause-found
+returns-then-not-is_empty-clause-found c trace of before =
     let plans = map plan_of c.args.plans.now in
     let p = c.index-plans-rule.result in
     let items = c.in_ok-literals.literals.items in
-    let some : slice_get items 0 ≡ Some c.in-Some.first.now =
-    subst (λ l. slice_get l 0 ≡ Some c.in-Some.first.now) c.deref.ensures.value (sym c.first.ensures.value ∙ ap option_copied c.in-Some.is)
+    let some : slice_get items 0 ≡ Some (first_of items) =
+    some_first items (λ none. eqb-false c.in_ok-literals.literals.len 0 (sym c.is_empty.ensures ∙ c.if-not-is_empty.true) (omega (arith, none, c.in_ok-literals.literals.ok.0)))
     in
-    let misses = misses_root plans c.args.inserted trace c.loop-rule.rule (plan_of p) no_values (slice_get items 0) c.in-Some.first.now refl some (c.in_ok-literals.ensures.first trace of) in (
+    let first = first_of items in
+    let misses = misses_root plans c.args.inserted trace c.loop-rule.rule (plan_of p) no_values (slice_get items 0) first refl some (c.in_ok-literals.ensures.first trace of) in (
       Root c.loop-rule.rule (plan_of p),
-      c.in-Some.first.now,
-      root_first plans c.args.inserted trace 0 c.loop-rule.rule plans c.loop-rule.rule (plan_of p) c.in-Some.first.now misses.0 (omega arith)
+      first,
+      root_first plans c.args.inserted trace 0 c.loop-rule.rule plans c.loop-rule.rule (plan_of p) first misses.0 (omega arith)
           (plan_at c.args.plans.now c.loop-rule.rule p c.loop-rule-test.true c.index-plans-rule.is) (c.loop-rule.invariant trace of before) misses.1,
-      for_trace c.args.now.now trace (Root c.loop-rule.rule (plan_of p)) c.in-Some.first.now c.in_ok-action.action of (c.in_ok-action.ensures (plan_of p)),
+      for_trace c.args.now.now trace (Root c.loop-rule.rule (plan_of p)) first (action_at c.args.now.now.time c.args.now.now.position (Root c.loop-rule.rule (plan_of p)) first) of refl,
     )
 
-pub returns-in-Some-clause-place : goal.returns-in-Some-clause-place
-returns-in-Some-clause-place c trace of before waiting =
+pub returns-then-not-is_empty-clause-place : goal.returns-then-not-is_empty-clause-place
+returns-then-not-is_empty-clause-place c trace of before waiting =
     let plans = map plan_of c.args.plans.now in
     let pending = c.args.pending.now.instances in
     let all = shown c.args.waiting.now in
@@ -89,8 +90,8 @@ returns-in-Some-clause-place c trace of before waiting =
       c.loop-rule.invariant trace of before,
     )
 
-pub returns-in-Some-clause-rest : goal.returns-in-Some-clause-rest
-returns-in-Some-clause-rest c trace of before =
+pub returns-then-not-is_empty-clause-rest : goal.returns-then-not-is_empty-clause-rest
+returns-then-not-is_empty-clause-rest c trace of before =
     let plans = map plan_of c.args.plans.now in
     let p = c.index-plans-rule.result in
     let items = c.in_ok-literals.literals.items in (
@@ -101,23 +102,23 @@ returns-in-Some-clause-rest c trace of before =
           (c.in_ok-literals.ensures.all (subst (λ q. AllByRecursion IsPlain (nodes q)) (sym same) plain) trace of),
     )
 
-pub returns-in-Some-clause-wanted : goal.returns-in-Some-clause-wanted
-returns-in-Some-clause-wanted c =
+pub returns-then-not-is_empty-clause-wanted : goal.returns-then-not-is_empty-clause-wanted
+returns-then-not-is_empty-clause-wanted c =
     let plans = map plan_of c.args.plans.now in
     let p = c.index-plans-rule.result in
     let items = c.in_ok-literals.literals.items in
     let there : Contains plans (plan_of p) =
     Contains-map plan_of c.args.plans.now p (c.loop-rule.rule, c.loop-rule-test.true, sym c.index-plans-rule.is)
     in
-    let some : slice_get items 0 ≡ Some c.in-Some.first.now =
-    subst (λ l. slice_get l 0 ≡ Some c.in-Some.first.now) c.deref.ensures.value (sym c.first.ensures.value ∙ ap option_copied c.in-Some.is)
+    let some : slice_get items 0 ≡ Some (first_of items) =
+    some_first items (λ none. eqb-false c.in_ok-literals.literals.len 0 (sym c.is_empty.ensures ∙ c.if-not-is_empty.true) (omega (arith, none, c.in_ok-literals.literals.ok.0)))
     in
-    wanted_root plans c.args.pending.now.instances c.args.now.now c.loop-rule.rule (plan_of p) c.in-Some.first.now c.in_ok-action.action there
-    (c.in_ok-literals.ensures.wanted c.in-Some.first.now (there_from_get items 0 c.in-Some.first.now some))
-    (c.in_ok-action.ensures (plan_of p))
+    let first = first_of items in
+    wanted_root plans c.args.pending.now.instances c.args.now.now c.loop-rule.rule (plan_of p) first (action_at c.args.now.now.time c.args.now.now.position (Root c.loop-rule.rule (plan_of p)) first) there
+    (c.in_ok-literals.ensures.wanted first (there_from_get items 0 first some)) refl
 
-pub returns-in-Some-clause-literals : goal.returns-in-Some-clause-literals
-returns-in-Some-clause-literals c literal among =
+pub returns-then-not-is_empty-clause-literals : goal.returns-then-not-is_empty-clause-literals
+returns-then-not-is_empty-clause-literals c literal among =
     let plans = map plan_of c.args.plans.now in
     let p = c.index-plans-rule.result in
     let there : Contains plans (plan_of p) =
@@ -129,3 +130,8 @@ pub returns-clause-found : goal.returns-clause-found
 returns-clause-found c trace of before =
     let plans = map plan_of c.args.plans.now in
     no_root plans c.args.inserted trace 0 plans c.loop-rule.rule (omega (arith, c.loop-rule-test.false, length-map c.args.plans.now plan_of)) (c.loop-rule.invariant trace of before)
+
+pub returns-then-not-is_empty-clause-some : goal.returns-then-not-is_empty-clause-some
+returns-then-not-is_empty-clause-some c =
+    let literals = c.in_ok-literals.literals in
+    above (length literals.items) (λ none. eqb-false literals.len 0 (sym c.is_empty.ensures ∙ c.if-not-is_empty.true) (omega (arith, none, literals.ok.0)))

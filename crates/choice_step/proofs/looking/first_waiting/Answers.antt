@@ -1,4 +1,4 @@
-use Rattle.std.proofs.Common.{◌+◌, ◌<◌, Contains, arith, drop, length, map, subst, sym}
+use Rattle.std.proofs.Common.{◌+◌, ◌<◌, Contains, ap, arith, drop, length, map, subst, sym}
 use Rattle.std.specs.Prelude.{IfSome}
 use Rattle.std.proofs.lemmas.List.{length-map}
 use Rattle.enf_value.specs.ListLaws.{AllByRecursion-contains}
@@ -6,8 +6,8 @@ use Rattle.plan_terms.specs.Plans.{plan_of}
 use Rattle.sleepers.specs.Entries.{shown}
 use Rattle.obligations.specs.Asked.{guards_at}
 use Rattle.obligations.specs.Waiting.{CanAskOf, IsWantedOf}
-use Rattle.choice_step.specs.Choice.{Waiting}
-use Rattle.choice_step.specs.Looking.{Covers}
+use Rattle.choice_step.specs.Choice.{Waiting, action_at}
+use Rattle.choice_step.specs.Looking.{Covers, first_of}
 use Rattle.choice_step.proofs.ActingLemmas.{drop_at}
 use Rattle.choice_step.proofs.LookingLemmas.{Met, covers_first, covers_none, covers_on, drop_end, for_trace, misses_waiting, shown_at, waits, wanted_waiting}
 use Rattle.choice_step.proofs.looking.first_waiting.Goals as goal
@@ -47,7 +47,8 @@ returns-in-Some-clause-found c trace of before =
       Waiting i,
       c.in-Some.literal,
       covers_first plans c.args.inserted trace c.args.pending.now.instances (drop (place + 1) all) i c.in-Some.literal (subst (Covers (Met plans c.args.inserted trace) c.args.pending.now.instances) rest (c.loop-place.invariant trace of before)) misses,
-      for_trace c.args.now.now trace (Waiting i) c.in-Some.literal c.in_ok-action_of.field-0 of c.in_ok-action_of.ensures,
+      for_trace c.args.now.now trace (Waiting i) c.in-Some.literal (action_at c.args.now.now.time c.args.now.now.position (Waiting i) (first_of c.in_ok-vec.field-0.items)) of
+          (ap (λ ls. action_at c.args.now.now.time c.args.now.now.position (Waiting i) (first_of ls)) c.in_ok-vec.ensures.items),
     )
 
 pub returns-in-Some-clause-place : goal.returns-in-Some-clause-place
@@ -62,13 +63,17 @@ returns-in-Some-clause-wanted c =
     let i = c.index-waiting-place.result.now in
     let within : place < length all = omega (arith, c.loop-place-test.true, length-map c.args.waiting.now (λ x. x.now)) in
     let is = shown_at c.args.waiting.now place c.index-waiting-place.result c.index-waiting-place.is in
-    wanted_waiting plans pending c.args.now.now i c.in-Some.literal c.in_ok-action_of.field-0
+    wanted_waiting plans pending c.args.now.now i c.in-Some.literal (action_at c.args.now.now.time c.args.now.now.position (Waiting i) (first_of c.in_ok-vec.field-0.items))
     (AllByRecursion-contains (Contains pending) all i c.requires.among (place, within, sym is))
     (subst (λ o. IfSome o (IsWantedOf c.args.now.now plans i)) c.in-Some.is c.in_ok-literal.ensures.wanted)
-    c.in_ok-action_of.ensures
+    (ap (λ ls. action_at c.args.now.now.time c.args.now.now.position (Waiting i) (first_of ls)) c.in_ok-vec.ensures.items)
 
 pub returns-clause-found : goal.returns-clause-found
 returns-clause-found c trace of before =
     let all = shown c.args.waiting.now in
     covers_none (map plan_of c.args.plans.now) c.args.inserted trace c.args.pending.now.instances (drop c.loop-place.place all)
     (drop_end all c.loop-place.place (omega (arith, c.loop-place-test.false, length-map c.args.waiting.now (λ x. x.now)))) (c.loop-place.invariant trace of before)
+
+pub returns-in-Some-clause-some : goal.returns-in-Some-clause-some
+returns-in-Some-clause-some c =
+    subst (λ ls. 0 < length ls) (sym c.in_ok-vec.ensures.items) (omega arith)
