@@ -91,7 +91,8 @@ impl Remembered {
                 actions: Actions::new(alloc),
             });
         }
-        self.decide_awake(alloc, wakes, plans, kind, time, events)
+        let step = self.decide_awake(alloc, wakes, plans, kind, time, events)?;
+        Ok(step)
     }
 
     // Whether nothing is pending, nothing past is remembered, and no rule is woken by the events.
@@ -271,10 +272,43 @@ impl Remembered {
             (enforcing_at policy.now self.new time)) }
     {
         step_laws();
+        if self.passed(Some(time)).is_some() {
+            let out = self.let_out_behind(alloc, wakes, policy, clock, time, events)?;
+            return Ok(out);
+        }
         // Their clauses say that the horizon is bounded, and that no event stands twice.
         let _horizon = policy.horizon();
         let _given = events.as_slice();
-        let Passed { steps, .. } = self.pass(alloc, wakes, policy, clock, Some(time))?;
+        let plans = policy.plans();
+        let step = self.decide(alloc, wakes, plans, StepKind::System, time, events)?;
+        Ok(OutSteps::one(step))
+    }
+
+    // The same where a deadline is passed.
+    #[inline(never)]
+    fn let_out_behind(
+        &mut self,
+        alloc: Global,
+        wakes: &Wakes,
+        policy: &TypedPolicy,
+        clock: u64,
+        time: u64,
+        events: EventSet,
+    ) -> Result<OutSteps, NoMemory>
+        requires wakes { wakes.now ≡ map guard_triggers (plans_in policy.now) }
+        requires serves { Serves (enforcing_at policy.now self.old clock) }
+        requires room { self.old.position < most_positions }
+        requires not_over { clock ≤ time }
+        requires in_time { time ≤ most_time System }
+        ensures { IfOk result (λ out. LetsOut (enforcing_at policy.now self.old clock)
+            (StepRecord (record { time = time; events = events })) (acted_steps out)
+            (enforcing_at policy.now self.new time)) }
+    {
+        step_laws();
+        // Their clauses say that the horizon is bounded, and that no event stands twice.
+        let _horizon = policy.horizon();
+        let _given = events.as_slice();
+        let Passed { steps, .. } = self.pass_each(alloc, wakes, policy, clock, Some(time))?;
         let plans = policy.plans();
         let step = self.decide(alloc, wakes, plans, StepKind::System, time, events)?;
         let out = OutSteps::and_last(steps, step)?;

@@ -57,14 +57,21 @@ impl OutSteps {
         }
     }
 
+    // One step alone; it takes no memory.
+    pub(crate) fn one(step: OutStep) -> OutSteps
+        ensures { result ≡ step ∷ [] }
+    {
+        OutSteps {
+            steps: Kept::One(step),
+        }
+    }
+
     // Steps, and one more behind them.
     pub(crate) fn and_last(mut steps: Vec<OutStep>, last: OutStep) -> Result<OutSteps, NoMemory>
         ensures { IfOk result (λ all. all ≡ steps.items ++ last ∷ []) }
     {
         if steps.is_empty() {
-            return Ok(OutSteps {
-                steps: Kept::One(last),
-            });
+            return Ok(OutSteps::one(last));
         }
         steps.push(last)?;
         Ok(OutSteps::from_vec(steps))

@@ -1,28 +1,33 @@
-use Rattle.std.proofs.Common.{ℕ, ◌≤◌, List, map, sym, subst}
+use Rattle.std.proofs.Common.{◌≡◌, ◌∙◌, ℕ, ◌≤◌, Bool, false, List, [], Contains, Option, Some, None, is_some, map, sym, subst, true≢false}
 use Rattle.rank_check.specs.declared.horizon.TheConstants.{MOST_HORIZON}
 use Rattle.trace_meaning.specs.Records.{StepRecord}
 use Rattle.trace_meaning.specs.declared.kinds.StepKind.TheVariants.{System}
 use Rattle.plan_terms.specs.Plans.{plan_of}
 use Rattle.plan_terms.specs.declared.plans.Plan.{Plan as StoredPlan}
 use Rattle.enforce_types.specs.Typed.{WorkTogether, typed_of}
-use Rattle.choice_step.specs.Follows.{ActedStep}
+use Rattle.choice_step.specs.Follows.{IsPassed}
 use Rattle.enforcer_core.specs.Enforcers.{acted_steps}
 use Rattle.enforcer_core.specs.Keeping.{enforcing_at}
-use Rattle.enforcer_core.specs.Passing.{LetsOut}
+use Rattle.enforcer_core.specs.Passing.{IsLeastPassed, LetsOut, NoneIsLeft}
 use Rattle.enforcer_core.specs.Remembering.{CanGoOn, IsDecided}
+use Rattle.enforcer_core.specs.declared.steps.OutStep as made
 use Rattle.enforcer_core.proofs.LetLemmas.{step_out}
-use Rattle.enforcer_core.proofs.PassLemmas.{acted_more}
+use Rattle.enforcer_core.proofs.PassLemmas.{passes_none}
 use Rattle.enforcer_core.proofs.remembered.Remembered.let_out.Goals as goal
+
+-- where none is found, none is passed
+none_passed : (deadlines : List ℕ) (until found : Option ℕ) (any : Bool) → any ≡ is_some found → any ≡ false
+    → IsLeastPassed deadlines until found → (deadline : ℕ) → Contains deadlines deadline → IsPassed until deadline → ⊥
+none_passed deadlines until None any is none least = least
+none_passed deadlines until (Some d) any is none least = absurd (true≢false (sym is ∙ none))
 
 pub decide-requires-clause-can : goal.decide-requires-clause-can
 decide-requires-clause-can c =
-    let passes = c.in_ok-steps.ensures.passes in
-    subst (λ (l : List StoredPlan). CanGoOn (map plan_of l) c.pass.new.self c.args.time) (sym c.plans-plans.ensures.plans)
-    (passes.serves.can c.args.time (passes.within.in_time c.args.time c.requires.not_over (λ deadline passed. passed)))
+    subst (λ (l : List StoredPlan). CanGoOn (map plan_of l) c.args.self.now c.args.time) (sym c.plans-plans.ensures.plans)
+    (c.requires.serves.can c.args.time c.requires.not_over)
 
 pub returns : goal.returns
 returns c =
-    let steps = c.in_ok-steps.field-0.steps.items in
     let before = enforcing_at c.args.policy.now c.args.self.now c.args.clock in
     let after = enforcing_at c.args.policy.now c.decide.new.self c.args.time in
     let together : WorkTogether (typed_of c.args.policy.now) = record {
@@ -33,12 +38,13 @@ returns c =
     } in
     let bounded : (typed_of c.args.policy.now).ranked.horizon ≤ MOST_HORIZON =
     subst (λ (horizon : ℕ). horizon ≤ MOST_HORIZON) c.horizon-horizon.ensures.value c.horizon-horizon.ensures.bounded in
-    let decided = subst (λ (l : List StoredPlan). IsDecided (map plan_of l) c.pass.new.self System c.args.time c.args.events c.in_ok-step.step c.decide.new.self) c.plans-plans.ensures.plans
+    let decided = subst (λ (l : List StoredPlan). IsDecided (map plan_of l) c.args.self.now System c.args.time c.args.events c.in_ok-step.step c.decide.new.self) c.plans-plans.ensures.plans
     c.in_ok-step.ensures.decided in
-    let out = step_out c.step_laws.ensures c.args.policy.now c.args.self.now c.pass.new.self c.args.clock c.in_ok-steps.field-0.clock c.args.time c.requires.not_over
-    (acted_steps c.in_ok-steps.field-0.steps.items) c.in_ok-steps.ensures.passes c.in_ok-steps.ensures.none_left together bounded c.requires.in_time
+    let none_left : NoneIsLeft (Some c.args.time) before =
+    none_passed c.args.self.now.pending.deadlines (Some c.args.time) c.passed.result c.is_some.result c.is_some.ensures c.if-is_some.false c.passed.ensures in
+    let out = step_out c.step_laws.ensures c.args.policy.now c.args.self.now c.args.self.now c.args.clock c.args.clock c.args.time c.requires.not_over
+    [] (passes_none c.args.policy.now c.args.self.now c.args.clock (Some c.args.time) c.requires.serves) none_left together bounded c.requires.in_time
     c.decide.new.self c.args.events c.as_slice-given.ensures.distinct c.in_ok-step.step decided
     (λ time later. subst (λ (l : List StoredPlan). CanGoOn (map plan_of l) c.decide.new.self time) c.plans-plans.ensures.plans (c.in_ok-step.ensures.can time later)) in
-    rw c.in_ok-out.ensures
-    (subst (λ (l : List ActedStep). LetsOut before (StepRecord (record { time = c.args.time; events = c.args.events })) l after)
-    (sym (acted_more c.in_ok-steps.field-0.steps.items c.in_ok-step.step)) out)
+    subst (λ (l : List made.OutStep). LetsOut before (StepRecord (record { time = c.args.time; events = c.args.events })) (acted_steps l) after)
+    (sym c.one.ensures) out
