@@ -85,6 +85,7 @@ pub fn act_for(
 
 // Does the actions for what the root of a rule misses that is still wanted, until a guard looks for a name that was
 // acted on; it answers whether none did, so that the root misses nothing.
+#[inline(always)]
 fn act_on(
     alloc: Global,
     past: &PastState,
@@ -147,7 +148,7 @@ fn push(alloc: Global, actions: &mut Actions, action: Action) -> Result<(), NoMe
 {
     if actions.is_empty() {
         let mut one = Vec::with_capacity(alloc, 1)?;
-        one.push(action)?;
+        one.push_reserved(action);
         *actions = Actions::from_vec(one);
         return Ok(());
     }

@@ -410,6 +410,7 @@ fn go_on<'a>(
 
 // The first that misses something at a step, from a place on, with the order and the tables that there were before its
 // events changed in names that no guard looks for.
+#[inline(always)]
 fn next_from<'a>(
     alloc: Global,
     situation: &Situation<'_>,

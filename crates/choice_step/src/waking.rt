@@ -70,6 +70,7 @@ impl Wakes {
     }
 
     // The first of the rules from one on that the step can wake, or one behind them all; all are its events.
+    #[inline(always)]
     pub(crate) fn next_awake(&self, from: usize, all: &[Event], events: &StepEvents<'_>) -> usize
         requires same { all.now ≡ events.now }
         ensures behind { from ≤ result }

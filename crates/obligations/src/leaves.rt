@@ -35,6 +35,7 @@ fn event_of(alloc: Global, name: NameId, terms: &Terms, v: &Frame<'_>) -> Result
 }
 
 // Whether the event that a leaf speaks of is there. It is made only where it is one of many.
+#[inline(always)]
 pub fn is_there(
     alloc: Global,
     name: NameId,

@@ -249,6 +249,7 @@ impl Tables {
     }
 
     /// The same, where rows that are the arguments of events stay where they are.
+    #[inline(always)]
     pub fn told_under<'t>(
         &'t self,
         alloc: Global,
