@@ -28,8 +28,8 @@ pub struct LogReader {
     scanned: usize,
     scan: Scan,
     refused: Option<LogRefusal>,
-    // memory for the events of a record
-    room: Vec<Event>,
+    // memory for the events of a record, where some was kept
+    room: Option<Vec<Event>>,
 }
 
 impl Model for LogReader {
@@ -81,7 +81,7 @@ fn read_ahead(
     mode: LogMode,
     bytes: &[u8],
     front: usize,
-    room: &mut Vec<Event>,
+    room: &mut Option<Vec<Event>>,
 ) -> Option<(LogItem, usize)>
     requires { front ≤ length bytes.now }
     ensures { IfSome result (λ read. StandsWhole signature.now mode bytes.now front read.0 read.1) }
@@ -107,7 +107,7 @@ impl LogReader {
             scanned: 0,
             scan: Scan::Outside,
             refused: None,
-            room: Vec::new(alloc),
+            room: None,
         }
     }
 
@@ -115,7 +115,7 @@ impl LogReader {
     pub fn keep_room(&mut self, room: Vec<Event>)
         ensures { self.new ≡ self.old }
     {
-        self.room = room;
+        self.room = Some(room);
     }
 
     /// Puts a piece behind what was fed. After a refusal nothing is kept.

@@ -25,7 +25,6 @@ use crate::limits::{MOST_EVENTS, MOST_RECORD_BYTES};
 use enf_value::{Event, EventSet, NameId, NoMemory, Place, Row, Value};
 use signature::{NameEntry, Signature, Sort};
 use std::alloc::Global;
-use std::mem;
 use trace_meaning::StepKind;
 
 // The greatest time of a step.
@@ -251,10 +250,12 @@ fn read_events(
 }
 
 // The memory for events, with none in it.
-fn emptied(alloc: Global, room: &mut Vec<Event>) -> Vec<Event>
+fn emptied(alloc: Global, room: &mut Option<Vec<Event>>) -> Vec<Event>
     ensures { result.items ≡ [] }
 {
-    let mut events = mem::replace(room, Vec::new(alloc));
+    let Some(mut events) = room.take() else {
+        return Vec::new(alloc);
+    };
     if !events.is_empty() {
         events.clear();
     }
@@ -268,7 +269,7 @@ fn read_step(
     kind: StepKind,
     bytes: &[u8],
     from: usize,
-    room: &mut Vec<Event>,
+    room: &mut Option<Vec<Event>>,
 ) -> Result<(LogItem, usize), LogRefusal>
     requires within { from ≤ length bytes.now }
     requires short { length bytes.now ≤ MOST_RECORD_BYTES }
@@ -319,7 +320,7 @@ pub(crate) fn read_record(
     signature: &Signature,
     mode: LogMode,
     bytes: &[u8],
-    room: &mut Vec<Event>,
+    room: &mut Option<Vec<Event>>,
 ) -> Result<(LogItem, usize), LogRefusal>
     requires { length bytes.now ≤ MOST_RECORD_BYTES }
     ensures { ReadsFront signature.now mode bytes.now result }
