@@ -56,7 +56,7 @@ module _ (situation : Situation) (waiting : List Instance) (can : CanDecide situ
   pub led_on : (start : List Action) (f : Found) (events : List Event) (actions : List Action) (after : List Event) (all : List Action)
       → IsOn situation waiting given start f events actions → Acted f events actions after all → Leads situation given given start after all
   led_on start f events actions after all on acted =
-      let more = acted situation.pending.now.instances situation.inserted given can.roles can.all on.found.1 in (
+      let more = acted situation.pending.now.instances situation.inserted given can.roles can.all on.found.2 in (
         on.led.0 ++ (action_found situation.time situation.position f) ∷ more.0,
         more.1 ∙ (ap (λ l. l ++ (action_found situation.time situation.position f) ∷ more.0) on.led.1 ∙ append_assoc start on.led.0 ((action_found situation.time situation.position f) ∷ more.0)),
         goes_behind (plans_of situation) situation.pending.now.instances situation.past.now situation.inserted situation.time situation.position given given on.led.0 events
@@ -66,7 +66,7 @@ module _ (situation : Situation) (waiting : List Instance) (can : CanDecide situ
   pub more_on : (start : List Action) (f : Found) (events : List Event) (actions : List Action) (after : List Event) (all : List Action)
       → IsOn situation waiting given start f events actions → Acted f events actions after all → length actions < length all
   more_on start f events actions after all on acted =
-      let more = acted situation.pending.now.instances situation.inserted given can.roles can.all on.found.1 in
+      let more = acted situation.pending.now.instances situation.inserted given can.roles can.all on.found.2 in
       let grown : length all ≡ length (actions ++ (action_found situation.time situation.position f) ∷ more.0) = ap length more.1 in
       omega (arith, grown, length-append actions ((action_found situation.time situation.position f) ∷ more.0))
 
@@ -96,7 +96,7 @@ module _ (situation : Situation) (waiting : List Instance) (can : CanDecide situ
       → HaveSameOf (guard_names situation.past.now.guards) given after
   same_on start f events actions after all on acted spared event named =
       let names = guard_names situation.past.now.guards in
-      let more = acted situation.pending.now.instances situation.inserted given can.roles can.all on.found.1 in
+      let more = acted situation.pending.now.instances situation.inserted given can.roles can.all on.found.2 in
       let first = on.same event named in
       let next =
       names_stay (plans_of situation) situation.pending.now.instances situation.past.now situation.inserted situation.time situation.position given events ((action_found situation.time situation.position f) ∷ more.0) after names more.2
@@ -110,7 +110,7 @@ module _ (situation : Situation) (waiting : List Instance) (can : CanDecide situ
       → StaysMet (plans_of situation) situation.past.now situation.time situation.position (action_found situation.time situation.position f) f.rule (root_literals f) f.place events after place
       → IsMetBefore situation waiting after place
   place_on start f events actions after place on stays =
-      stays situation.pending.now.instances waiting situation.inserted given can.roles can.all on.found.1 on.place
+      stays situation.pending.now.instances waiting situation.inserted given can.roles can.all on.found.2 on.place
 
   -- where the place is behind the pending instances and a rule behind which none is woken, nothing is missing
   pub none_behind : TriggersAreMet → (after : List Event) (rule : ℕ) (place : Place)

@@ -1,5 +1,5 @@
 -- A step that is looked at behind a trace for which a past state stands.
-use Rattle.std.specs.Prelude.{IfNone, IfSome}
+use Rattle.std.specs.Prelude.{IfNone, IfSome, IsTrue}
 use Rattle.std.specs.Option.{option_map}
 use Rattle.std.proofs.Common.{◌≡◌, ◌↔◌, ℕ, ◌<◌, ◌≤◌, Bool, List, [], ◌∷◌, ◌++◌, Contains, Option, None, Some, length, refl, sym, subst, ap, ◌∙◌, ⊎_elim, inl, inr, arith, length-append}
 use Rattle.enf_value.specs.declared.events.Event.{Event}
@@ -22,7 +22,7 @@ use Rattle.obligations.specs.declared.actions.Action.{Action}
 use Rattle.obligations.specs.declared.instances.Instance.{Instance}
 use Rattle.choice_step.specs.Choice.{with_step}
 use Rattle.obligations.specs.declared.literals.Literal.{Literal}
-use Rattle.choice_step.specs.Acting.{IsFoundFrom}
+use Rattle.choice_step.specs.Acting.{HasNoChoices, IsFoundFrom}
 use Rattle.choice_step.specs.Looking.{IsKnownBehind, IsKnownFor, IsLiteralAt, IsLiteralBehind, IsWantedAt, IsWantedFrom, WillFind, WillHaveFound, action_found, root_literals}
 use Rattle.choice_step.specs.declared.looking.Found.{Found}
 use Rattle.choice_step.proofs.ActingLemmas.{at_each}
@@ -118,13 +118,15 @@ pub found_behind_past : (plans : List Plan) (pending : List Instance) (past : Pa
     (given events : List Event) (tables : PastTables) (found : Option Found) → AreOf past time given tables → AreKnown past given tables
     → WillFind plans pending past inserted time position events (option_map (action_found time position) found)
     → IfSome found (λ f. 0 < length f.literals.items)
+    → IfSome found (λ f. IsTrue f.plain → HasNoChoices plans f.rule)
     → IfSome found (λ f. WillHaveFound plans pending past inserted time position events f.rule (root_literals f))
     → IfSome found (λ f. IsWantedAt plans pending events given tables (action_found time position f))
     → IfSome found (λ f. (literal : Literal) → Contains (root_literals f) literal → IsLiteralAt plans pending given tables literal)
-    → IfSome found (λ f. (0 < length f.literals.items) × IsFoundFrom plans pending past inserted time position given events (action_found time position f) f.rule (root_literals f))
-found_behind_past plans pending past inserted time position given events tables None are known finds some rest wanted literals = tt
-found_behind_past plans pending past inserted time position given events tables (Some f) are known finds some rest wanted literals = (
+    → IfSome found (λ f. (0 < length f.literals.items) × (IsTrue f.plain → HasNoChoices plans f.rule) × IsFoundFrom plans pending past inserted time position given events (action_found time position f) f.rule (root_literals f))
+found_behind_past plans pending past inserted time position given events tables None are known finds some plain rest wanted literals = tt
+found_behind_past plans pending past inserted time position given events tables (Some f) are known finds some plain rest wanted literals = (
   some,
+  plain,
   record {
     finds = finds;
     rest = rest;

@@ -1,6 +1,6 @@
 -- What is said of a step at which it is asked who misses something.
 use Rattle.std.specs.Prelude.{◌≡◌, ℕ, ◌<◌, ◌≤◌, ◌^◌, List, Option}
-use Rattle.std.specs.Prelude.{Contains, length, map, slice_get}
+use Rattle.std.specs.Prelude.{Contains, IsTrue, length, map, slice_get}
 use Rattle.std.specs.List.{AllByRecursion}
 use Rattle.enf_value.specs.declared.events.Event.{Event}
 use Rattle.past_state.specs.Runs.{AreUpToTimeOf}
@@ -10,7 +10,7 @@ use Rattle.plan_terms.specs.Triggers.{guard_triggers}
 use Rattle.obligations.specs.declared.actions.Action.{Action}
 use Rattle.obligations.specs.declared.instances.Instance.{Instance}
 use Rattle.pending.specs.Listed.{IsKeptFor}
-use Rattle.choice_step.specs.Acting.{AllCanBeAsked, GoesFrom, IsFoundFrom}
+use Rattle.choice_step.specs.Acting.{AllCanBeAsked, GoesFrom, HasNoChoices, IsFoundFrom}
 use Rattle.choice_step.specs.Looking.{WillBeMetBefore, WillFind, action_found, root_literals}
 use Rattle.choice_step.specs.Waking.{HasNoneOf}
 use Rattle.choice_step.specs.declared.situation.Situation.{Situation}
@@ -45,6 +45,7 @@ Leads situation given before actions after all = GoesFrom (plans_of situation) s
 -- where it has those events, with values that were known where it had the given ones
 abbrev pub IsFound : Situation → (given events : List Event) → Found → Type 0
 IsFound situation given events found = (0 < length found.literals.items)
+    × (IsTrue found.plain → HasNoChoices (plans_of situation) found.rule)
     × IsFoundFrom (plans_of situation) situation.pending.now.instances situation.past.now situation.inserted
     situation.time situation.position given events (action_found situation.time situation.position found) found.rule
     (root_literals found)

@@ -13,7 +13,6 @@ use crate::looking::{Found, Place, act, action_of, action_of_root};
 use enf_value::event_sets::EventSet;
 use enf_value::memory::NoMemory;
 use obligations::laws::unread_stays_met;
-use obligations::unread::is_plain;
 use obligations::{Literal, LiteralKind};
 use past_state::PastState;
 use plan_terms::Plan;
@@ -33,6 +32,7 @@ pub fn act_for(
     actions: &mut Actions,
 ) -> Result<Option<Place>, NoMemory>
     requires some { 0 < length found.literals.items }
+    requires plain { IsTrue found.plain → HasNoChoices (map plan_of plans.now) found.rule }
     requires changes { Changes (action_found time position found).kind (action_found time position found).event
         events.old }
     ensures acts { OnOk result (ActsFor (map plan_of plans.now) past.now time position
@@ -49,6 +49,7 @@ pub fn act_for(
         instance,
         rule,
         mut literals,
+        plain,
         place,
     } = found;
     // Its clause says that no event stands twice.
@@ -61,7 +62,7 @@ pub fn act_for(
     if past.looks_for(name) {
         return Ok(None);
     }
-    if instance.is_some() || !has_no_choices(plans, rule) {
+    if instance.is_some() || !plain {
         return Ok(Some(place));
     }
     let spared = act_on(
@@ -116,16 +117,6 @@ fn act_on(
         }
     }
     Ok(true)
-}
-
-// Whether the plan of a rule has no choices.
-pub fn has_no_choices(plans: &[Plan], rule: u32) -> bool
-    ensures { IsTrue result → HasNoChoices (map plan_of plans.now) rule }
-{
-    match plans.get(rule as usize) {
-        Some(plan) => is_plain(plan),
-        None => false,
-    }
 }
 
 // Whether an event that is to be caused is absent, or one that is to be suppressed there.

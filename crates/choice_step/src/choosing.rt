@@ -17,7 +17,7 @@ ghost use Rattle.plan_terms.specs.Triggers.{guard_triggers};
 ghost use Rattle.pending.specs.Listed.{IsKeptFor};
 ghost use Rattle.sleepers.specs.Entries.{shown};
 
-use crate::acting::{act_for, has_no_choices};
+use crate::acting::act_for;
 use crate::actions::Actions;
 use crate::laws::actions_are_justified;
 use crate::looking::{Found, Place, first_action};
@@ -256,7 +256,7 @@ fn is_last(situation: &Situation<'_>, found: &Found<'_>, ordered: &StepEvents<'_
 {
     let all = ordered.set().as_slice();
     found.instance.is_none()
-        && has_no_choices(situation.plans, found.rule)
+        && found.plain
         && situation
             .wakes
             .next_awake(found.rule as usize + 1, all, ordered)

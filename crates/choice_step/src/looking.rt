@@ -1,5 +1,5 @@
 //! Who is the first at a step that misses something, and the action for that one.
-ghost use Rattle.std.specs.Prelude.{◌≡◌, ◌<◌, ◌≤◌, ◌^◌, List, [], IfOk, IfSome, OnOk};
+ghost use Rattle.std.specs.Prelude.{◌≡◌, ◌↔◌, ◌<◌, ◌≤◌, ◌^◌, List, [], IfOk, IfSome, IsTrue, OnOk};
 ghost use Rattle.std.specs.Prelude.{Some, Contains, length, map};
 ghost use Rattle.std.specs.Prelude.{slice_get};
 ghost use Rattle.std.specs.Option.{option_map};
@@ -7,6 +7,7 @@ ghost use Rattle.std.specs.List.{AllByRecursion};
 ghost use Rattle.choice_step.specs.Choice.{Root, Waiting, action_at, all_asked, is_forced, roots_from};
 ghost use Rattle.choice_step.specs.Choice.{Applies, MissesNothing};
 ghost use Rattle.choice_step.specs.Looking.{IsActionFor, IsLiteralAt, IsWantedAt, RootsAreMet, NothingBefore};
+ghost use Rattle.choice_step.specs.Acting.{HasNoChoices};
 ghost use Rattle.choice_step.specs.Looking.{RootMisses, WasFound, action_by, action_found, root_literals};
 ghost use Rattle.enf_formula.specs.Names.{HaveSameOf};
 ghost use Rattle.enf_value.specs.Valuations.{no_values};
@@ -43,12 +44,13 @@ pub struct Place {
 }
 
 // The first that misses something at a step, and its place: a pending instance, or where there is none the root of a
-// rule. Of what it misses it has the first, and all where that is the root of a plan without choices.
+// rule. Of what it misses it has the first, and all where it is plain: the root of a plan without choices.
 #[derive(Drop)]
 pub struct Found<'a> {
     pub instance: Option<&'a Instance>,
     pub rule: u32,
     pub literals: Vec<Literal>,
+    pub plain: bool,
     pub place: Place,
 }
 
@@ -72,6 +74,8 @@ pub fn first_action<'a>(
         pending.now.instances }
     requires among { AllByRecursion (Contains pending.now.instances) (shown waiting.now) }
     ensures some { IfOk result (λ found. IfSome found (λ f. 0 < length f.literals.items)) }
+    ensures plain { IfOk result (λ found. IfSome found
+        (λ f. IsTrue f.plain → HasNoChoices (map plan_of plans.now) f.rule)) }
     ensures found { IfOk result (λ found. (trace : List Step) → IsNowOf now.now trace
         → NothingBefore (map plan_of plans.now) pending.now.instances (shown waiting.now) inserted trace from
         → IsActionFor (map plan_of plans.now) inserted trace
@@ -112,6 +116,8 @@ fn first_waiting<'a>(
         pending.now.instances }
     requires among { AllByRecursion (Contains pending.now.instances) (shown waiting.now) }
     ensures some { IfOk result (λ found. IfSome found (λ f. 0 < length f.literals.items)) }
+    ensures plain { IfOk result (λ found. IfSome found
+        (λ f. IsTrue f.plain → HasNoChoices (map plan_of plans.now) f.rule)) }
     ensures found { IfOk result (λ found. (trace : List Step) → IsNowOf now.now trace
         → NothingBefore (map plan_of plans.now) pending.now.instances (shown waiting.now) inserted trace from
         → IsActionFor (map plan_of plans.now) inserted trace (map Waiting pending.now.instances)
@@ -132,6 +138,7 @@ fn first_waiting<'a>(
                 instance: Some(instance),
                 rule: instance.rule,
                 literals: vec![in alloc; literal]?,
+                plain: false,
                 place: Place {
                     instances: place,
                     rules: from.rules,
@@ -158,6 +165,8 @@ fn first_root<'a>(
     requires ordered { HaveSameOf (guard_names now.now.tables.now.guards) now.now.ordered.now now.now.events.now }
     requires roots { CanAskRoots (guards_at now.now.tables.now) (map plan_of plans.now) }
     ensures some { IfOk result (λ found. IfSome found (λ f. 0 < length f.literals.items)) }
+    ensures plain { IfOk result (λ found. IfSome found
+        (λ f. IsTrue f.plain → HasNoChoices (map plan_of plans.now) f.rule)) }
     ensures found { IfOk result (λ found. (trace : List Step) → IsNowOf now.now trace
         → RootsAreMet (map plan_of plans.now) inserted trace from
         → IsActionFor (map plan_of plans.now) inserted trace
@@ -181,12 +190,15 @@ fn first_root<'a>(
     // where no event wakes a rule, its root misses nothing
     let mut rule = wakes.next_awake(from, all, now.ordered);
     while rule < plans.len() {
-        let literals = missing_of_root(alloc, &plans[rule], now)?;
+        let plan = &plans[rule];
+        let plain = is_plain(plan);
+        let literals = missing_of_root(alloc, plan, plain, now)?;
         if !literals.is_empty() {
             return Ok(Some(Found {
                 instance: None,
                 rule: rule as u32,
                 literals,
+                plain,
                 place: Place {
                     instances: waiting.len(),
                     rules: rule,
@@ -199,7 +211,13 @@ fn first_root<'a>(
 }
 
 // What the root of a rule misses, where the plan has no choices, and else the first.
-fn missing_of_root(alloc: Global, plan: &Plan, now: &Now<'_>) -> Result<Vec<Literal>, NoMemory>
+fn missing_of_root(
+    alloc: Global,
+    plan: &Plan,
+    plain: bool,
+    now: &Now<'_>,
+) -> Result<Vec<Literal>, NoMemory>
+    requires plain { IsTrue plain ↔ AllByRecursion IsPlain (nodes (plan_of plan.now)) }
     requires root { CanAskRoot (guards_at now.now.tables.now) (plan_of plan.now) }
     ensures first { IfOk result (λ literals. (trace : List Step) → IsNowOf now.now trace
         → FirstMissing trace (plan_of plan.now) no_values (slice_get literals.items 0)) }
@@ -209,7 +227,7 @@ fn missing_of_root(alloc: Global, plan: &Plan, now: &Now<'_>) -> Result<Vec<Lite
         → IsWanted now.now (plan_of plan.now) no_values literal) }
 {
     let nothing = Valuation::empty(alloc);
-    if is_plain(plan) {
+    if plain {
         return lack(alloc, plan, &nothing, now);
     }
     let mut literals = Vec::new(alloc);

@@ -89,7 +89,7 @@ returns-then-not-spared-clause-acts c pending inserted given nothing can found =
     nothing given c.args.events.now c.act.new.events c.args.found.rule action (root_literals c.args.found)
     (subst (λ ls. 0 < length ls) (sym (of_root c.args.found.instance root c.args.found.literals.items)) c.requires.some) applies
     (λ there. true≢false (sym (c.looks_for.ensures.1 (subst (λ a. Contains (guard_names past.guards) a.event.name) (sym is) there)) ∙ c.if-looks_for.false))
-    (c.has_no_choices.ensures c.if-not-has_no_choices.false) found)
+    (c.requires.plain c.if-not-plain.false) found)
     in
     let are = others plans past c.args.time c.args.position c.args.found c.remove-first.new.self.items c.requires.some c.remove-first.ensures.items root pending given found.literals_are in
     let acts = subst (λ ls. ActsOn past c.args.time c.args.position c.args.found.rule ls c.act.new.events c.push.new.actions c.act_on.new.events c.act_on.new.actions) c.as_slice.ensures.value c.in_ok-spared.ensures.acts in
@@ -112,7 +112,7 @@ returns-clause-acts c pending inserted given nothing can found =
     nothing given c.args.events.now c.act.new.events c.args.found.rule action (root_literals c.args.found)
     (subst (λ ls. 0 < length ls) (sym (of_root c.args.found.instance root c.args.found.literals.items)) c.requires.some) applies
     (λ there. true≢false (sym (c.looks_for.ensures.1 (subst (λ a. Contains (guard_names past.guards) a.event.name) (sym is) there)) ∙ c.if-looks_for.false))
-    (c.has_no_choices.ensures c.if-not-has_no_choices.false) found)
+    (c.requires.plain c.if-not-plain.false) found)
     in
     let are = others plans past c.args.time c.args.position c.args.found c.remove-first.new.self.items c.requires.some c.remove-first.ensures.items root pending given found.literals_are in
     let acts = subst (λ ls. ActsOn past c.args.time c.args.position c.args.found.rule ls c.act.new.events c.push.new.actions c.act_on.new.events c.act_on.new.actions) c.as_slice.ensures.value c.in_ok-spared.ensures.acts in
@@ -143,7 +143,7 @@ returns-clause-met c pending waiting inserted given nothing can found before =
     nothing given c.args.events.now c.act.new.events c.args.found.rule action (root_literals c.args.found)
     (subst (λ ls. 0 < length ls) (sym (of_root c.args.found.instance root c.args.found.literals.items)) c.requires.some) applies
     (λ there. true≢false (sym (c.looks_for.ensures.1 (subst (λ a. Contains (guard_names past.guards) a.event.name) (sym is) there)) ∙ c.if-looks_for.false))
-    (c.has_no_choices.ensures c.if-not-has_no_choices.false) found)
+    (c.requires.plain c.if-not-plain.false) found)
     in
     let are = others plans past c.args.time c.args.position c.args.found c.remove-first.new.self.items c.requires.some c.remove-first.ensures.items root pending given found.literals_are in
     met_behind plans pending past inserted c.args.time c.args.position waiting c.args.events.now c.act_on.new.events c.args.found.rule c.args.found.place

@@ -10,7 +10,7 @@ use Rattle.choice_step.proofs.PlaceLemmas.{led_on, more_on, none_behind, on_firs
 use Rattle.choice_step.proofs.choosing.act_last.Goals as goal
 
 pub act_for-requires : goal.act_for-requires
-act_for-requires c = record { some = c.requires.found.0; changes = c.requires.found.1.wanted.changes }
+act_for-requires c = record { some = c.requires.found.0; plain = c.requires.found.1; changes = c.requires.found.2.wanted.changes }
 
 pub returns-in_default-clause-acts : goal.returns-in_default-clause-acts
 returns-in_default-clause-acts c = led_on c.args.situation.now (shown c.args.waiting.now) c.requires.can c.args.events.now c.args.actions.now c.args.found c.args.events.now c.args.actions.now c.act_for.new.events c.act_for.new.actions (on_first c.args.situation.now (shown c.args.waiting.now) c.args.events.now c.args.actions.now c.args.found c.args.events.now refl c.requires.found c.requires.place) c.in_ok-reached.ensures.acts

@@ -14,7 +14,7 @@ loop-reached-init c =
     on_first c.args.situation.now (shown c.args.waiting.now) c.args.ordered.now c.args.actions.now c.args.found c.args.events.now c.requires.same c.requires.found c.requires.place
 
 pub act_for-requires : goal.act_for-requires
-act_for-requires c = record { some = c.loop-reached.invariant.found.0; changes = c.loop-reached.invariant.found.1.wanted.changes }
+act_for-requires c = record { some = c.loop-reached.invariant.found.0; plain = c.loop-reached.invariant.found.1; changes = c.loop-reached.invariant.found.2.wanted.changes }
 
 pub next_from-requires : goal.next_from-requires
 next_from-requires c =

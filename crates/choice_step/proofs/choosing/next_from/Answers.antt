@@ -50,6 +50,7 @@ returns-clause-found c =
     (now_of c.dependence.ensures.names past _ trace c.requires.hold same stands long later)
     (c.requires.before trace stands long later))
     c.in_ok-found.ensures.some
+    c.in_ok-found.ensures.plain
     (if_some c.in_ok-found.found _ (λ f. WillHaveFound plans pending past situation.inserted situation.time situation.position events f.rule (root_literals f))
     (λ f rest trace stands long later. rest (with_step trace situation.time events)
     (now_of c.dependence.ensures.names past _ trace c.requires.hold same stands long later)

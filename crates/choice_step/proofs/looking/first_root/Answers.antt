@@ -35,7 +35,10 @@ missing_of_root-requires c =
     let there : Contains (map plan_of c.args.plans.now) (plan_of p) =
     Contains-map plan_of c.args.plans.now p (c.loop-rule.rule, c.loop-rule-test.true, sym c.index-plans-rule.is)
     in
-    record { root = AllByRecursion-contains (CanAskRoot guards) (map plan_of c.args.plans.now) (plan_of p) c.requires.roots there }
+    record {
+      root = AllByRecursion-contains (CanAskRoot guards) (map plan_of c.args.plans.now) (plan_of p) c.requires.roots there;
+      plain = c.is_plain-plain.ensures;
+    }
 
 -- where the rules up to the next that is woken sleep, their roots miss nothing
 up_to : (plans : List Plan) (wakes : List (Option (List NameId))) (now : Now) (inserted : Bool) → TriggersAreMet → CanAskRoots (guards_at now.tables.now) plans
@@ -135,3 +138,12 @@ pub returns-then-not-is_empty-clause-some : goal.returns-then-not-is_empty-claus
 returns-then-not-is_empty-clause-some c =
     let literals = c.in_ok-literals.literals in
     above (length literals.items) (λ none. eqb-false literals.len 0 (sym c.is_empty.ensures ∙ c.if-not-is_empty.true) (omega (arith, none, literals.ok.0)))
+
+pub returns-then-not-is_empty-clause-plain : goal.returns-then-not-is_empty-clause-plain
+returns-then-not-is_empty-clause-plain c is =
+    let p = c.index-plans-rule.result in
+    record {
+      plan = plan_of p;
+      there = plan_at c.args.plans.now c.loop-rule.rule p c.loop-rule-test.true c.index-plans-rule.is;
+      plain = c.is_plain-plain.ensures.0 is;
+    }

@@ -14,8 +14,8 @@ pub first_missing-requires : goal.first_missing-requires
 first_missing-requires c =
     subst (CanAsk (guards_at c.args.now.now.tables.now) (plan_of c.args.plan.now)) (sym c.empty-nothing.ensures) c.requires.root.0
 
-pub returns-then-is_plain-clause-first : goal.returns-then-is_plain-clause-first
-returns-then-is_plain-clause-first c =
+pub returns-then-plain-clause-first : goal.returns-then-plain-clause-first
+returns-then-plain-clause-first c =
     IfOk-weaker c.lack.result _ (λ literals. (trace : List Step) → IsNowOf c.args.now.now trace → FirstMissing trace (plan_of c.args.plan.now) no_values (slice_get literals.items 0))
     (λ literals missing trace of. first_of_all (Missing trace (plan_of c.args.plan.now) no_values) literals.items
     (subst (λ v. Missing trace (plan_of c.args.plan.now) v literals.items) c.empty-nothing.ensures (missing trace of)))
