@@ -1,5 +1,6 @@
 //! The decimal text of a number, put from its first digit on where there is room for it.
-ghost use Rattle.std.specs.Prelude.{◌≡◌, ◌+◌, ◌/◌, ◌%◌, ◌<◌, ◌≤◌, ◌∷◌, ◌++◌, [], decimal, length};
+ghost use Rattle.std.specs.Prelude.{◌≡◌, ◌+◌, ◌/◌, ◌%◌, ◌<◌, ◌≤◌, ◌∷◌, ◌++◌, []};
+ghost use Rattle.std.specs.Prelude.{decimal, length};
 ghost use Rattle.std.specs.Vec.{vec_capacity, vec_len};
 
 // The two digits of each number below 100.
