@@ -11,11 +11,6 @@ use Rattle.sleepers.specs.Noted.{CanBeFound, Noted}
 use Rattle.sleepers.specs.Order.{place_cmp}
 use Rattle.sleepers.specs.declared.entries.Entry.{Entry}
 
--- numbers from the last to the first
-abbrev pub from_last : List ℕ → List ℕ
-from_last [] = []
-from_last (n ∷ numbers) = from_last numbers ++ n ∷ []
-
 module _ {T : Type 0} where
   -- a list of entries in the order of their places
   abbrev pub put_by_place : Entry T → List (Entry T) → List (Entry T)

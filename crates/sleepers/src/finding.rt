@@ -1,9 +1,10 @@
 //! The groups of entries that a step wakes, and the group of an entry.
-ghost use Rattle.std.specs.Prelude.{◌≡◌, ℕ, [], Contains, IfOk, IfSome, IsFalse, IsTrue, OnOk, drop, length};
+ghost use Rattle.std.specs.Prelude.{◌≡◌, ℕ, [], Contains, IfOk, IfSome, IsFalse, IsTrue, OnOk};
+ghost use Rattle.std.specs.Prelude.{drop, length, reverse};
 ghost use Rattle.std.specs.List.Sorted.{IsPermutation, IsSortedByKey};
 ghost use Rattle.sleepers.specs.Entries.{shown};
 ghost use Rattle.sleepers.specs.Groups.{AreAlike, AreAwake, AreNoted, AreRewound, IsOfAwake, StandsAsleep};
-ghost use Rattle.sleepers.specs.Groups.{StandsAwake, StayGroups, Suits, entries_at, from_last, group_at, held};
+ghost use Rattle.sleepers.specs.Groups.{StandsAwake, StayGroups, Suits, entries_at, group_at, held};
 ghost use Rattle.sleepers.specs.Noted.{CanBeFound, IsFound, KeepsAll};
 ghost use Rattle.sleepers.specs.declared.entries.Entry.{Entry as AnyEntry};
 ghost use Rattle.sleepers.specs.Order.{place_cmp};
@@ -271,9 +272,9 @@ pub(crate) fn renew<T: Drop>(alloc: Global, groups: &mut Groups<T>, index: &mut 
 // Ends a walk over its first group, if no entry of that is left.
 pub(crate) fn leave<T: Drop>(groups: &Groups<T>, walk: &mut Vec<usize>, number: usize)
     ensures over { (group_at groups.now number).after ≡ []
-        → from_last walk.new.items ≡ drop 1 (from_last walk.old.items) }
+        → reverse walk.new.items ≡ drop 1 (reverse walk.old.items) }
     ensures on { ((group_at groups.now number).after ≡ [] → ⊥)
-        → from_last walk.new.items ≡ from_last walk.old.items }
+        → reverse walk.new.items ≡ reverse walk.old.items }
 {
     if groups.peek(number).is_none() {
         walk.pop();

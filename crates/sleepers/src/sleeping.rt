@@ -30,17 +30,18 @@ pub struct Sleepers<T> {
 }
 
 impl<T> Model for Sleepers<T> {
-    ghost use Rattle.sleepers.specs.Groups.{AreKept, ahead_of, by_place, from_last, held};
+    ghost use Rattle.std.specs.Prelude.{reverse};
+    ghost use Rattle.sleepers.specs.Groups.{AreKept, ahead_of, by_place, held};
     ghost use Rattle.sleepers.specs.Sleeping.{Sleeping};
 
     ghost Value = { Sleeping T };
 
     ghost view = { λ s. record {
       entries = by_place (held s.groups);
-      ahead = ahead_of s.groups (from_last s.walk.items);
+      ahead = ahead_of s.groups (reverse s.walk.items);
     } };
 
-    ghost invariant = { λ s. AreKept s.groups s.index s.count (from_last s.walk.items) };
+    ghost invariant = { λ s. AreKept s.groups s.index s.count (reverse s.walk.items) };
 }
 
 impl<T: Drop> Sleepers<T> {

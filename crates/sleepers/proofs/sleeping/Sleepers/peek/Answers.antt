@@ -1,13 +1,12 @@
-use Rattle.std.proofs.Common.{◌≡◌, [], ◌∷◌, IfSome, IsNone, drop, sym, subst, ◌∙◌}
+use Rattle.std.proofs.Common.{◌≡◌, [], ◌∷◌, IfSome, IsNone, drop, reverse, sym, subst, ◌∙◌}
 use Rattle.sleepers.proofs.BackLemmas.{last_front}
 use Rattle.sleepers.proofs.WalkLemmas.{peek_none, peek_some}
-use Rattle.sleepers.specs.Groups.{from_last}
 use Rattle.sleepers.proofs.sleeping.Sleepers.peek.Goals as goal
 
 pub returns-clause-none : goal.returns-clause-none
 returns-clause-none g c =
     let number = c.in_ok-number.number in
-    let walk = from_last c.self.inside.walk.items in
+    let walk = reverse c.self.inside.walk.items in
     let is = last_front c.deref.result.now c.self.inside.walk.items number c.deref.ensures.value (sym c.last.ensures.value ∙ sym c.copied.ensures ∙ c.in_ok-number.was) in
     subst (λ s. (IsNone c.peek.result → s.ahead ≡ []) × (s.ahead ≡ [] → IsNone c.peek.result)) c.self.view_is
     (peek_none c.self.inside.groups number walk is c.self.invariant.walk c.peek.result c.peek.ensures.none)
@@ -15,7 +14,7 @@ returns-clause-none g c =
 pub returns-clause-some : goal.returns-clause-some
 returns-clause-some g c =
     let number = c.in_ok-number.number in
-    let walk = from_last c.self.inside.walk.items in
+    let walk = reverse c.self.inside.walk.items in
     let is = last_front c.deref.result.now c.self.inside.walk.items number c.deref.ensures.value (sym c.last.ensures.value ∙ sym c.copied.ensures ∙ c.in_ok-number.was) in
     subst (λ s. IfSome c.peek.result (λ entry. s.ahead ≡ entry.now ∷ drop 1 s.ahead)) c.self.view_is
     (peek_some c.self.inside.groups number walk is c.peek.result c.peek.ensures.some)

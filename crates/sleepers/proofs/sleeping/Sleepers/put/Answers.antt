@@ -1,8 +1,8 @@
-use Rattle.std.proofs.Common.{◌≡◌, ◌+◌, ap, arith, sym, subst, subst₂, ◌∙◌}
+use Rattle.std.proofs.Common.{◌≡◌, ◌+◌, ap, arith, reverse, sym, subst, subst₂, ◌∙◌}
 use Rattle.sleepers.proofs.NotedLemmas.{kept_put, kept_stay}
 use Rattle.sleepers.proofs.PlacedLemmas.{by_place_more}
 use Rattle.sleepers.specs.Entries.{HasOneMore, IsFree}
-use Rattle.sleepers.specs.Groups.{AreKept, by_place, from_last, held}
+use Rattle.sleepers.specs.Groups.{AreKept, by_place, held}
 use Rattle.sleepers.proofs.sleeping.Sleepers.put.Goals as goal
 
 pub invariant_of-self-in-Ok : goal.invariant_of-self-in-Ok
@@ -13,11 +13,11 @@ invariant_of-self-in-Ok g c =
     let noted = c.group_for.new.index in
     let count = c.self.inside.count in
     let entry = c.args.entry in
-    let kept = kept_stay first old c.self.inside.index noted count (from_last c.self.inside.walk.items) c.group_for.ensures.stay c.group_for.ensures.noted c.self.invariant in
+    let kept = kept_stay first old c.self.inside.index noted count (reverse c.self.inside.walk.items) c.group_for.ensures.stay c.group_for.ensures.noted c.self.invariant in
     let free : IsFree entry.place (by_place (held old)) =
     subst (λ l. IsFree entry.place (by_place l)) (sym c.group_for.ensures.stay.all) (subst (λ s. IsFree entry.place s.entries) (sym c.self.view_is) c.requires) in
     let more : count + 1 ≡ c.in-Some.more = omega (arith, c.in-Some.ensures) in
-    subst₂ (AreKept new noted) more (sym (ap from_last c.clear.ensures.items))
+    subst₂ (AreKept new noted) more (sym (ap reverse c.clear.ensures.items))
     (kept_put old new noted count c.in_ok-number.number _ entry c.in_ok-number.ensures.ok c.put.ensures.others c.in-Ok.ensures.group c.in-Ok.ensures.ok free kept)
 
 pub returns-in-Ok-clause-ok : goal.returns-in-Ok-clause-ok
