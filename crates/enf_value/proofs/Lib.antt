@@ -1,6 +1,5 @@
 pub mod Cut
 pub mod CutOnce
-pub mod Decimals
 pub mod Distinct
 pub mod Equality
 pub mod Escapes

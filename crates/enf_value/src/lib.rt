@@ -4,7 +4,6 @@
 //! `indexmap`, and values that are numbers are printed by the kit's `itoa`.
 #![tactic(auto)]
 
-mod digits;
 pub mod event_sets;
 pub mod events;
 pub mod intervals;

@@ -5,11 +5,10 @@ ghost use Rattle.std.specs.Fmt.{signed_decimal};
 ghost use Rattle.std.specs.List.{flat_map};
 ghost use Rattle.enf_value.specs.Spelling.{spelled, escaped, quoted, AppendsPart};
 
-use crate::digits::put_number;
 use crate::memory::NoMemory;
 use crate::names::ByteKind;
 use crate::values::Value;
-use itoa::Buffer;
+use itoa::{Buffer, write_digits};
 
 // How many digits the greatest number has.
 const MOST_DIGITS: usize = 20;
@@ -35,12 +34,17 @@ pub fn print_byte(byte: u8, out: &mut Vec<u8>) -> Result<(), NoMemory>
 }
 
 /// Appends a number's decimal text; for want of memory nothing is appended.
+#[inline(always)]
 pub fn print_number(number: u64, out: &mut Vec<u8>) -> Result<(), NoMemory>
     ensures ok { OnOk result (out.new.items ≡ out.old.items ++ decimal number) }
     ensures err { OnErr result (out.new.items ≡ out.old.items) }
 {
-    out.reserve(MOST_DIGITS)?;
-    put_number(number, out);
+    // Behind the digits there are as many bytes more, so that each copy has the same length.
+    let mut digits = [0; 2 * MOST_DIGITS];
+    let start = write_digits(number, &mut digits, MOST_DIGITS);
+    let end = out.len() + (MOST_DIGITS - start);
+    print_bytes(&digits[start..start + MOST_DIGITS], out)?;
+    out.truncate(end);
     Ok(())
 }
 
