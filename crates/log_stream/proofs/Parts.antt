@@ -1,15 +1,13 @@
 -- The parts of a record as its reader puts them together.
-use Rattle.std.proofs.Common.{◌≡◌, ℕ, ◌+◌, ◌<◌, ◌≤◌, ◌==◌, nat_lt, Bool, true, false, List, [], ◌∷◌, ◌++◌, length, Option, None, Some, Result, Ok, Err, Contains, if◌then◌else◌, refl, sym, ap, subst, ◌∙◌, arith, append_assoc, slice_get, length-append, unwrap_or, IsTrue, ◌↔◌, true≢false}
+use Rattle.std.proofs.Common.{◌≡◌, ℕ, ◌+◌, ◌<◌, ◌≤◌, nat_lt, Bool, true, false, List, [], ◌∷◌, ◌++◌, length, Option, None, Some, Result, Ok, Err, Contains, if◌then◌else◌, refl, sym, ap, subst, ◌∙◌, arith, append_assoc, slice_get, length-append, unwrap_or, IsTrue, ◌↔◌, true≢false}
 use Rattle.std.specs.List.{flat_map}
 use Rattle.std.specs.Bool.{Decides}
-use Rattle.std.specs.Option.{option_map, option_and_then, option_or}
+use Rattle.std.specs.Option.{option_and_then, option_or}
 use Rattle.std.proofs.lemmas.Bool.Decides.{nat_tests}
 use Rattle.std.proofs.lemmas.List.{append-nil, length-map, map-append}
 use Rattle.std.proofs.lemmas.List.Concat.{flat_map-append}
 use Rattle.enf_value.specs.Decided.{has_event, has_event-Decides}
 use Rattle.enf_value.specs.Membership.{Inserts, KeepsFirsts}
-use Rattle.std.specs.Borrow.{Bor}
-use Rattle.std.specs.Option.{IfSome}
 use Rattle.enf_value.specs.declared.events.Event.{Event}
 use Rattle.enf_value.specs.declared.events.NameId.{NameId}
 use Rattle.enf_value.specs.declared.values.Value.{Value}
@@ -21,10 +19,10 @@ use Rattle.log_stream.specs.declared.items.LogMode.{LogMode}
 use Rattle.log_stream.specs.declared.items.LogRefusal.{LogRefusal}
 use Rattle.log_stream.specs.declared.items.LogRefusal.TheVariants.{BadRecord, UnknownName, Arity, SortClash, TooLong, TimeTooLarge, Truncated, NoMemory}
 use Rattle.log_stream.specs.Judgement.{clash, entry_with, event_of, event_refusal, event_refusal_by, first_refusal, put, put_all, values_of}
-use Rattle.log_stream.specs.States.{State, Start, Events, Named, Opened, Valued, Comma, IsBadFrom, Fails, GivesAnswer, Judges, JudgesAll, JudgesEvent, PutsEvent, ReadsEvent, ReadsRow, ReadsUpTo, argument_at, clash_at, event_at, next, run, so_far, sorted_event}
+use Rattle.log_stream.specs.States.{State, Start, Events, Named, Opened, Valued, Comma, IsBadFrom, Fails, GivesAnswer, Judges, JudgesAll, PutsEvent, ReadsEvent, ReadsRow, ReadsUpTo, argument_at, clash_at, event_at, next, run, row_refusal, so_far}
 use Rattle.log_stream.specs.Tokens.{Mark, Name, Argument, StandsAt, Leads}
 use Rattle.log_stream.specs.Written.{WrittenArgument, WrittenEvent, event_tokens, row_tokens}
-use Rattle.log_stream.proofs.Machine.{row_push, run_events, run_onto, run_values, some_is}
+use Rattle.log_stream.proofs.Machine.{row_push, run_events, run_onto, run_values}
 use Rattle.log_stream.proofs.Reading.{bad_behind, bad_here, clash_push, fails_behind, is_bad, leads-append, stuck_comma, stuck_events, stuck_named, stuck_opened, stuck_valued}
 use Rattle.log_stream.specs.declared.limits.TheConstants.{MOST_EVENTS}
 
@@ -145,44 +143,58 @@ event_with_bad_row mode bytes from next inside name kind time events refusal few
     (leads-append bytes from next inside (Name from name ∷ []) (Mark 40 ∷ []) l paren)
     (run_onto mode (Events kind time events) (Named kind time events from name) (Name from name ∷ []) (Mark 40 ∷ []) (run_name mode kind time events from name few)) fails
 
+-- an event, unless it is refused
+abbrev pub event_unless : Option LogRefusal → Event → Result Event LogRefusal
+event_unless None event = Ok event
+event_unless (Some refusal) event = Err refusal
+
 -- the event that is judged is the one that is written
-judges : (entries : List NameEntry) (written : WrittenEvent) (found : Option (ℕ × NameEntry)) (sorts : List Sort) (row : List Value) (clashes : Option ℕ) (event : Result Event LogRefusal) →
-    option_map (λ (f : ℕ × NameEntry). f.1) found ≡ entry_with entries written.name → ((n : ℕ) (entry : NameEntry) → found ≡ Some (n, entry) → (number_of entries written.name ≡ Some n) × (sorts ≡ entry.sorts)) →
-    row ≡ values_of written.args → clashes ≡ clash sorts written.args → JudgesEvent found row clashes written.place event → Judges entries written event
-judges entries written None sorts row clashes event entry known values first is =
-    subst (Judges entries written) (sym is) (ap (λ e. event_refusal_by e written) (sym entry))
-judges entries written (Some (n, found)) sorts row clashes event entry known values first is =
-    subst (Judges entries written) (sym is) (by (length row == length found.sorts) refl)
+judges : (entries : List NameEntry) (written : WrittenEvent) (number : ℕ) (entry : NameEntry) (row : List Value) (clashes : Option ℕ) →
+    Some entry ≡ entry_with entries written.name → number_of entries written.name ≡ Some number → row ≡ values_of written.args → clashes ≡ clash entry.sorts written.args →
+    Judges entries written (event_unless (row_refusal entry.sorts (length row) clashes written.place) (record { name = record { 0 = number }; args = row }))
+judges entries written number entry row clashes is numbered values first = by (row_refusal entry.sorts (length row) clashes written.place) refusal_is
   where
-    k : (number_of entries written.name ≡ Some n) × (sorts ≡ found.sorts)
-    k = known n found refl
-
-    refusal_is : event_refusal entries written ≡ (if length written.args == length found.sorts then option_map SortClash (clash found.sorts written.args) else Some (Arity written.place))
-    refusal_is = ap (λ e. event_refusal_by e written) (sym entry)
-
     lengths : length row ≡ length written.args
     lengths = ap length values ∙ length-map written.args (λ (a : WrittenArgument). a.value)
 
-    event_is : record { name = record { 0 = n }; args = row } ≡ event_of entries written
-    event_is = λ j. record { name = record { 0 = unwrap_or (sym k.0 j) 0 }; args = values j }
+    refusal_is : event_refusal entries written ≡ row_refusal entry.sorts (length row) clashes written.place
+    refusal_is =
+        ap (λ e. event_refusal_by e written) (sym is)
+        ∙ ap (λ n. row_refusal entry.sorts n (clash entry.sorts written.args) written.place) (sym lengths)
+        ∙ ap (λ c. row_refusal entry.sorts (length row) c written.place) (sym first)
 
-    sorted : (c : Option ℕ) → c ≡ clash found.sorts written.args → event_refusal entries written ≡ option_map SortClash (clash found.sorts written.args) → Judges entries written (sorted_event n row c)
-    sorted None e r = (r ∙ ap (option_map SortClash) (sym e), event_is)
-    sorted (Some place) e r = r ∙ ap (option_map SortClash) (sym e)
+    event_is : record { name = record { 0 = number }; args = row } ≡ event_of entries written
+    event_is = λ j. record { name = record { 0 = unwrap_or (sym numbered j) 0 }; args = values j }
 
-    by : (b : Bool) → (length row == length found.sorts) ≡ b → Judges entries written (if b then sorted_event n row clashes else Err (Arity written.place))
-    by true e = sorted clashes (first ∙ ap (λ s. clash s written.args) k.1) (refusal_is ∙ ap (λ b. if b then option_map SortClash (clash found.sorts written.args) else Some (Arity written.place)) (ap (λ m. m == length found.sorts) (sym lengths) ∙ e))
-    by false e = refusal_is ∙ ap (λ b. if b then option_map SortClash (clash found.sorts written.args) else Some (Arity written.place)) (ap (λ m. m == length found.sorts) (sym lengths) ∙ e)
+    by : (refusal : Option LogRefusal) → event_refusal entries written ≡ refusal → Judges entries written (event_unless refusal (record { name = record { 0 = number }; args = row }))
+    by None e = (e, event_is)
+    by (Some refusal) e = e
 
-pub event_read : (entries : List NameEntry) (bytes : List ℕ) (from next inside to : ℕ) (name : List ℕ) (found : Option (ℕ × NameEntry)) (sorts : List Sort) (row : List Value) (clashes : Option ℕ) (event : Result Event LogRefusal) →
-    Leads bytes from (Name from name ∷ []) next → Leads bytes next (Mark 40 ∷ []) inside → ReadsRow sorts bytes inside row clashes to →
-    option_map (λ (f : ℕ × NameEntry). f.1) found ≡ entry_with entries name → ((n : ℕ) (entry : NameEntry) → found ≡ Some (n, entry) → (number_of entries name ≡ Some n) × (sorts ≡ entry.sorts)) →
-    JudgesEvent found row clashes from event → ReadsEvent entries bytes from event to
-event_read entries bytes from next inside to name found sorts row clashes event l paren reads entry known is =
+-- the tokens of an event
+event_leads : (bytes : List ℕ) (from next inside to : ℕ) (name : List ℕ) (args : List WrittenArgument) → Leads bytes from (Name from name ∷ []) next → Leads bytes next (Mark 40 ∷ []) inside → Leads bytes inside (row_tokens args ++ Mark 41 ∷ []) to → Leads bytes from (event_tokens (event_at from name args)) to
+event_leads bytes from next inside to name args l paren row =
+    leads-append bytes from next to (Name from name ∷ []) (Mark 40 ∷ row_tokens args ++ Mark 41 ∷ []) l (leads-append bytes next inside to (Mark 40 ∷ []) (row_tokens args ++ Mark 41 ∷ []) paren row)
+
+event_read : (entries : List NameEntry) (bytes : List ℕ) (from next inside to : ℕ) (name : List ℕ) (number : ℕ) (entry : NameEntry) (row : List Value) (clashes : Option ℕ) →
+    Leads bytes from (Name from name ∷ []) next → Leads bytes next (Mark 40 ∷ []) inside → ReadsRow entry.sorts bytes inside row clashes to →
+    Some entry ≡ entry_with entries name → number_of entries name ≡ Some number →
+    ReadsEvent entries bytes from (event_unless (row_refusal entry.sorts (length row) clashes from) (record { name = record { 0 = number }; args = row })) to
+event_read entries bytes from next inside to name number entry row clashes l paren reads is numbered =
     let written = event_at from name reads.args in (
       written,
-      leads-append bytes from next to (Name from name ∷ []) (Mark 40 ∷ row_tokens reads.args ++ Mark 41 ∷ []) l (leads-append bytes next inside to (Mark 40 ∷ []) (row_tokens reads.args ++ Mark 41 ∷ []) paren reads.leads),
-      judges entries written found sorts row clashes event entry known reads.values reads.first is,
+      event_leads bytes from next inside to name reads.args l paren reads.leads,
+      judges entries written number entry row clashes is numbered reads.values reads.first,
+    )
+
+-- an event whose name has no entry
+unknown_read : (entries : List NameEntry) (bytes : List ℕ) (from next inside to : ℕ) (name : List ℕ) (sorts : List Sort) (row : List Value) (clashes : Option ℕ) →
+    Leads bytes from (Name from name ∷ []) next → Leads bytes next (Mark 40 ∷ []) inside → ReadsRow sorts bytes inside row clashes to →
+    None ≡ entry_with entries name → ReadsEvent entries bytes from (Err (UnknownName from)) to
+unknown_read entries bytes from next inside to name sorts row clashes l paren reads none =
+    let written = event_at from name reads.args in (
+      written,
+      event_leads bytes from next inside to name reads.args l paren reads.leads,
+      ap (λ e. event_refusal_by e written) (sym none),
     )
 
 -- what an insertion leaves
@@ -215,12 +227,13 @@ pub record AreEventsSoFar (entries : List NameEntry) (bytes : List ℕ) (from : 
   pub judged : JudgesAll entries written events
   pub within : place ≤ length bytes
 
+-- a refusal stays where no other comes
+pub still_refused : (refused : Option LogRefusal) → refused ≡ option_or refused None
+still_refused None = refl
+still_refused (Some refusal) = refl
+
 first_refusal-push : (entries : List NameEntry) (events : List WrittenEvent) (event : WrittenEvent) → first_refusal entries (events ++ event ∷ []) ≡ option_or (first_refusal entries events) (event_refusal entries event)
-first_refusal-push entries [] event = by (event_refusal entries event)
-  where
-    by : (o : Option LogRefusal) → option_or o None ≡ o
-    by None = refl
-    by (Some r) = refl
+first_refusal-push entries [] event = sym (still_refused (event_refusal entries event))
 first_refusal-push entries (x ∷ events) event = by (event_refusal entries x) (first_refusal-push entries events event)
   where
     by : (o : Option LogRefusal) → first_refusal entries (events ++ event ∷ []) ≡ option_or (first_refusal entries events) (event_refusal entries event) → option_or o (first_refusal entries (events ++ event ∷ [])) ≡ option_or (option_or o (first_refusal entries events)) (event_refusal entries event)
@@ -277,32 +290,42 @@ events_too_many entries mode bytes from events place kind time so none =
         let t : nat_lt (length so.written) MOST_EVENTS ≡ false = grind (arith, nat_tests) in
         ap (λ b. if b then Some (Named kind time so.written p name) else None) t
 
--- the columns of a name that was looked up
-abbrev pub AreSortsOf : Option (NameId × Bor NameEntry) → List Sort → Type 0
-AreSortsOf None sorts = Unit {0}
-AreSortsOf (Some found) sorts = sorts ≡ found.1.now.sorts
-
-abbrev pub found_of : Option (NameId × Bor NameEntry) → Option (ℕ × NameEntry)
-found_of found = option_map (λ (f : NameId × Bor NameEntry). (f.0.0, f.1.now)) found
-
-pub entry_found : (found : Option (NameId × Bor NameEntry)) (entry : Option NameEntry) → option_map (λ (f : NameId × Bor NameEntry). f.1.now) found ≡ entry → option_map (λ (f : ℕ × NameEntry). f.1) (found_of found) ≡ entry
-entry_found None entry e = e
-entry_found (Some f) entry e = e
-
-pub sorts_known : (found : Option (NameId × Bor NameEntry)) (sorts : List Sort) (number : Option ℕ) → IfSome found (λ f. number ≡ Some f.0.0) → AreSortsOf found sorts → (n : ℕ) (entry : NameEntry) → found_of found ≡ Some (n, entry) → (number ≡ Some n) × (sorts ≡ entry.sorts)
-sorts_known None sorts number known are n entry e = cc
-sorts_known (Some f) sorts number known are n entry e =
-    let same : (f.0.0, f.1.now) ≡ (n, entry) = some_is (f.0.0, f.1.now) (n, entry) e in
-    (known ∙ ap (λ (p : ℕ × NameEntry). Some p.0) same, are ∙ ap (λ (p : ℕ × NameEntry). p.1.sorts) same)
-
 -- an event or its refusal is put behind those before it
-pub puts_event : (events after : List Event) (event : Event) (refused : Option LogRefusal) → after ≡ events ++ event ∷ [] → PutsEvent (so_far events refused) (Ok event) (so_far after refused)
-puts_event events after event None is = ap Ok is
-puts_event events after event (Some refusal) is = refl
+puts_event : (events after : List Event) (event : Event) (refusal refused later : Option LogRefusal) → after ≡ events ++ event ∷ [] → later ≡ option_or refused refusal → PutsEvent (so_far events refused) (event_unless refusal event) (so_far after later)
+puts_event events after event None None later is first = ap (so_far after) first ∙ ap Ok is
+puts_event events after event (Some refusal) None later is first = ap (so_far after) first
+puts_event events after event refusal (Some earlier) later is first = ap (so_far after) first
 
-pub puts_refusal : (events : List Event) (refusal : LogRefusal) (refused after : Option LogRefusal) → after ≡ option_or refused (Some refusal) → PutsEvent (so_far events refused) (Err refusal) (so_far events after)
-puts_refusal events refusal None after is = ap (so_far events) is
-puts_refusal events refusal (Some first) after is = ap (so_far events) is
+-- behind a refusal nothing counts
+puts_refusal : (events after : List Event) (refusal : LogRefusal) (second refused later : Option LogRefusal) → later ≡ option_or (option_or refused (Some refusal)) second → PutsEvent (so_far events refused) (Err refusal) (so_far after later)
+puts_refusal events after refusal second None later first = ap (so_far after) first
+puts_refusal events after refusal second (Some earlier) later first = ap (so_far after) first
+
+-- what an event that stands last makes of those before it and their first refusal
+abbrev pub IsPlaced : List NameEntry → List ℕ → (from to : ℕ) → (events : List Event) → (refused : Option LogRefusal) → (after : List Event) → (later : Option LogRefusal) → Type 0
+IsPlaced entries bytes from to events refused after later =
+    (event : Result Event LogRefusal) × ReadsEvent entries bytes from event to × PutsEvent (so_far events refused) event (so_far after later)
+
+module _ (entries : List NameEntry) (bytes : List ℕ) (from next inside to : ℕ) (name : List ℕ) (sorts : List Sort) (row : List Value) (clashes : Option ℕ)
+    (l : Leads bytes from (Name from name ∷ []) next) (paren : Leads bytes next (Mark 40 ∷ []) inside) (reads : ReadsRow sorts bytes inside row clashes to)
+    (events after : List Event) (refused noted refusal later : Option LogRefusal) (first : later ≡ option_or noted refusal) where
+  pub event_placed : (number : NameId) (entry : NameEntry) → Some entry ≡ entry_with entries name → number_of entries name ≡ Some number.0 → sorts ≡ entry.sorts →
+      after ≡ events ++ record { name = number; args = row } ∷ [] → noted ≡ refused → (count : ℕ) → count ≡ length row → refusal ≡ row_refusal sorts count clashes from → IsPlaced entries bytes from to events refused after later
+  event_placed number entry is numbered same last none count counted why =
+      let event : Event = record { name = number; args = row } in
+      let refused_by : refusal ≡ row_refusal entry.sorts (length row) clashes from = why ∙ (λ j. row_refusal (same j) (counted j) clashes from) in (
+        event_unless refusal event,
+        subst (λ r. ReadsEvent entries bytes from (event_unless r event) to) (sym refused_by)
+            (event_read entries bytes from next inside to name number.0 entry row clashes l paren (subst (λ s. ReadsRow s bytes inside row clashes to) same reads) is numbered),
+        puts_event events after event refusal refused later last (first ∙ ap (λ r. option_or r refusal) none),
+      )
+
+  pub unknown_placed : None ≡ entry_with entries name → noted ≡ option_or refused (Some (UnknownName from)) → IsPlaced entries bytes from to events refused after later
+  unknown_placed none unknown = (
+    Err (UnknownName from),
+    unknown_read entries bytes from next inside to name sorts row clashes l paren reads none,
+    puts_refusal events after (UnknownName from) refusal refused later (first ∙ ap (λ r. option_or r refusal) unknown),
+  )
 
 -- no semicolon stands where none was found
 pub none_ends : (found : Bool) (bytes : List ℕ) (at : ℕ) → IsTrue found ↔ StandsAt bytes at (at + 1) (Mark 59) → found ≡ false → (end : ℕ) → StandsAt bytes at end (Mark 59) → ⊥

@@ -4,9 +4,8 @@ use Rattle.std.specs.Prelude.{length, map, take}
 use Rattle.std.specs.Prelude.{Option, None, Some}
 use Rattle.std.specs.Prelude.{Err, Ok, Result, if◌then◌else◌}
 use Rattle.std.specs.List.{flat_map}
-use Rattle.std.specs.Option.{option_and_then}
+use Rattle.std.specs.Option.{option_and_then, option_map}
 use Rattle.enf_value.specs.declared.events.Event.{Event}
-use Rattle.enf_value.specs.declared.events.NameId.{NameId}
 use Rattle.enf_value.specs.declared.values.Value.{Value}
 use Rattle.signature.specs.Columns.{has_sort}
 use Rattle.signature.specs.declared.entries.NameEntry.{NameEntry}
@@ -17,7 +16,7 @@ use Rattle.log_stream.specs.declared.items.LogItem.{LogItem}
 use Rattle.log_stream.specs.declared.items.LogMode.{LogMode}
 use Rattle.log_stream.specs.declared.items.LogMode.TheVariants.{Input, TraceLog}
 use Rattle.log_stream.specs.declared.items.LogRefusal.{LogRefusal}
-use Rattle.log_stream.specs.declared.items.LogRefusal.TheVariants.{BadRecord, UnknownName, Arity, SortClash, NoMemory}
+use Rattle.log_stream.specs.declared.items.LogRefusal.TheVariants.{BadRecord, Arity, SortClash, NoMemory}
 use Rattle.log_stream.specs.Judgement.{IsAnswer, clash, event_of, event_refusal, first_refusal, values_of}
 use Rattle.log_stream.specs.Logs.{length_to_end}
 use Rattle.log_stream.specs.Tokens.{Token, Mark, Time, Name, Argument, StandsAt, Leads}
@@ -160,21 +159,10 @@ abbrev pub GivesAnswer : List NameEntry → LogMode → List ℕ → Result LogI
 GivesAnswer entries mode bytes (Err NoMemory) = Unit {0}
 GivesAnswer entries mode bytes answer = IsAnswer entries mode bytes answer
 
-abbrev pub sorted_event : ℕ → List Value → Option ℕ → Result Event LogRefusal
-sorted_event number row None = Ok (record { name = record { 0 = number }; args = row })
-sorted_event number row (Some place) = Err (SortClash place)
-
--- the event of a name, by its number and entry, with its arguments, or its refusal at its place
-abbrev pub JudgesEvent : Option (ℕ × NameEntry) → List Value → Option ℕ → ℕ
-    → Result Event LogRefusal → Type 0
-JudgesEvent None row clashes place event = event ≡ Err (UnknownName place)
-JudgesEvent (Some found) row clashes place event =
-    event ≡ (if length row == length found.1.sorts then sorted_event found.0 row clashes else Err (Arity place))
-
--- the event of a name with its arguments, or its refusal
-abbrev pub event_with : List Value → Result NameId LogRefusal → Result Event LogRefusal
-event_with row (Ok name) = Ok (record { name = name; args = row })
-event_with row (Err refusal) = Err refusal
+-- why a row of so many arguments is refused at its event's place
+abbrev pub row_refusal : List Sort → ℕ → Option ℕ → ℕ → Option LogRefusal
+row_refusal sorts count clashes place =
+    if count == length sorts then option_map SortClash clashes else Some (Arity place)
 
 -- what comes of events, or of the first refusal among them, by an event more
 abbrev pub PutsEvent : Result (List Event) LogRefusal → Result Event LogRefusal → Result (List Event) LogRefusal

@@ -14,8 +14,8 @@ ghost use Rattle.trace_meaning.specs.Records.{most_time};
 ghost use Rattle.enf_value.specs.declared.events.Event.{Event as AnyEvent};
 ghost use Rattle.enf_value.specs.declared.values.Value.{Value as AnyValue};
 ghost use Rattle.log_stream.specs.declared.items.LogRefusal.{LogRefusal as AnyRefusal};
-ghost use Rattle.log_stream.specs.States.{Events, Fails, JudgesEvent, Opened, PutsEvent, ReadsEvent, ReadsFront};
-ghost use Rattle.log_stream.specs.States.{ReadsRow, ReadsUpTo, clash_at, event_with, so_far};
+ghost use Rattle.log_stream.specs.States.{Events, Fails, Opened, PutsEvent, ReadsEvent, ReadsFront};
+ghost use Rattle.log_stream.specs.States.{ReadsRow, ReadsUpTo, clash_at, row_refusal, so_far};
 ghost use Rattle.log_stream.specs.Tokens.{Leads, Mark, StandsAt};
 ghost use Rattle.log_stream.specs.Written.{IsRead, WrittenEvent, mark_of};
 
@@ -126,49 +126,31 @@ fn declared<'a>(signature: &'a Signature, name: &[u8]) -> Option<(NameId, &'a Na
     Some((number, entry))
 }
 
-// The name of an event with so many arguments, or its refusal.
-fn judged(
-    declared: Option<(NameId, &NameEntry)>,
+// Why an event with so many arguments is refused, if it is.
+fn refusal_of(
+    sorts: &[Sort],
     count: usize,
     clash: Option<Place>,
     place: Place,
-) -> Result<NameId, LogRefusal>
-    ensures { (row : List AnyValue) → length row ≡ count
-        → JudgesEvent (option_map (λ found. (found.0.0, found.1.now)) declared.entry) row clash place
-        (event_with row result) }
+) -> Option<LogRefusal>
+    ensures { result ≡ row_refusal sorts.now count clash place }
 {
-    let Some((name, entry)) = declared else {
-        return Err(LogRefusal::UnknownName { place });
-    };
-    if count != entry.sorts.len() {
-        return Err(LogRefusal::Arity { place });
+    if count != sorts.len() {
+        return Some(LogRefusal::Arity { place });
     }
     match clash {
-        Some(place) => Err(LogRefusal::SortClash { place }),
-        None => Ok(name),
+        Some(place) => Some(LogRefusal::SortClash { place }),
+        None => None,
     }
 }
 
-// Puts an event last, or keeps the first refusal.
-fn put_event(
-    name: Result<NameId, LogRefusal>,
-    row: Row,
-    events: &mut Vec<Event>,
-    refused: &mut Option<LogRefusal>,
-) -> Result<(), NoMemory>
-    ensures { OnOk result (PutsEvent (so_far events.old.items refused.old) (event_with row name)
-        (so_far events.new.items refused.new)) }
+// Keeps a refusal where it is the first.
+#[inline(never)]
+fn keep_first(refused: &mut Option<LogRefusal>, refusal: LogRefusal)
+    ensures { refused.new ≡ option_or refused.old (Some refusal) }
 {
-    match name {
-        Ok(name) => events
-            .push(Event { name, args: row })
-            .map_err(|_failed| NoMemory),
-        Err(refusal) => {
-            if refused.is_none() {
-                *refused = Some(refusal);
-            }
-            Ok(())
-        }
+    if refused.is_none() {
+        *refused = Some(refusal);
     }
 }
 
@@ -197,16 +179,30 @@ fn read_event(
     let Some(inside) = behind_mark(bytes, next, b'(') else {
         return Err(bad_at(next));
     };
-    let declared = declared(signature, name);
-    let sorts = match declared {
-        Some((_, entry)) => entry.sorts.as_slice(),
-        None => &[],
+    let (name, sorts): (NameId, &[Sort]) = match declared(signature, name) {
+        Some((number, entry)) => (number, entry.sorts.as_slice()),
+        None => {
+            keep_first(
+                refused,
+                LogRefusal::UnknownName {
+                    place: from as Place,
+                },
+            );
+            // behind a refusal an event counts for nothing, whatever its number
+            (NameId(0), &[])
+        }
     };
-    let mut row = Row::new(alloc);
+    let Ok(event) = events.push_mut(Event {
+        name,
+        args: Row::new(alloc),
+    }) else {
+        return Err(LogRefusal::NoMemory);
+    };
     let mut clash = None;
-    let next = read_row(alloc, sorts, bytes, inside, &mut row, &mut clash)?;
-    let name = judged(declared, row.len(), clash, from as Place);
-    put_event(name, row, events, refused)?;
+    let next = read_row(alloc, sorts, bytes, inside, &mut event.args, &mut clash)?;
+    if let Some(refusal) = refusal_of(sorts, event.args.len(), clash, from as Place) {
+        keep_first(refused, refusal);
+    }
     Ok(next)
 }
 

@@ -1,11 +1,12 @@
-use Rattle.std.proofs.Common.{ap, sym, ◌∙◌, List}
+use Rattle.std.proofs.Common.{ap, refl, sym, subst, ◌∙◌, ◌++◌, ◌∷◌, [], IsOk, List}
 use Rattle.std.specs.Borrow.{Bor}
+use Rattle.std.specs.Option.{option_or}
+use Rattle.enf_value.specs.declared.events.Event.{Event}
+use Rattle.enf_value.specs.declared.events.NameId.{NameId}
 use Rattle.signature.specs.declared.entries.Sort.{Sort}
 use Rattle.std.proofs.lemmas.Result.{err_from_is_err_and}
-use Rattle.signature.specs.Grammar.{number_of}
-use Rattle.log_stream.specs.Judgement.{entry_with}
-use Rattle.log_stream.specs.States.{Events, event_with}
-use Rattle.log_stream.proofs.Parts.{AreSortsOf, entry_found, event_read, event_with_bad_row, event_without_name, event_without_open, fails_bad, found_of, sorts_known}
+use Rattle.log_stream.specs.States.{Events}
+use Rattle.log_stream.proofs.Parts.{event_placed, event_with_bad_row, event_without_name, event_without_open, fails_bad, still_refused, unknown_placed}
 use Rattle.log_stream.proofs.records.read_event.Goals as goal
 use Rattle.log_stream.proofs.records.read_event.Goals.{in-Some-declared, in-None}
 
@@ -27,18 +28,42 @@ returns-in_err-next-clause-err c =
     event_with_bad_row mode c.args.bytes.now c.args.from c.in-Some.next c.in-Some-behind_mark.inside c.in-Some.name.now kind time events c.in_err-next.field-0.0 few c.in-Some.ensures.some c.in-Some-behind_mark.ensures.some
     (c.in_err-next.ensures.err mode kind time events c.args.from c.in-Some.name.now))
 
-pub returns-clause-ok : goal.returns-clause-ok
-returns-clause-ok c =
-    let found = c.declared-declared.result in
-    let are : AreSortsOf found c.match-declared.sorts.now = elim c.match-declared.branch [
-      | in-Some-declared w ↦ rw w.in-Some-declared.is (ap (λ (s : Bor (List Sort)). s.now) w.sorts-is ∙ w.as_slice-sorts.ensures)
-      | in-None w ↦ rw w.in-None.is tt
-    ] in
+pub returns-in-Some-refusal_of-clause-ok : goal.returns-in-Some-refusal_of-clause-ok
+returns-in-Some-refusal_of-clause-ok c =
     let row = c.read_row.new.row in
-    let event = event_with row c.judged-name.result in
-    let read = event_read c.args.signature.now c.args.bytes.now c.args.from c.in-Some.next c.in-Some-behind_mark.inside c.in_ok-next.next c.in-Some.name.now (found_of found) c.match-declared.sorts.now row c.read_row.new.clash event
-    c.in-Some.ensures.some c.in-Some-behind_mark.ensures.some c.in_ok-next.ensures.ok
-    (entry_found found (entry_with c.args.signature.now c.in-Some.name.now) c.declared-declared.ensures.entry)
-    (sorts_known found c.match-declared.sorts.now (number_of c.args.signature.now c.in-Some.name.now) c.declared-declared.ensures.number are)
-    (c.judged-name.ensures row (sym c.len.ensures)) in
-    (event, read, c.in_ok-put_event.ensures)
+    let event : Event = record { name = c.in-Ok.event.now.name; args = row } in
+    let put = (c.push_mut.follows.holds event (subst IsOk (sym c.in-Ok.is) refl)).0 in
+    let later = c.keep_first-in-Some-refusal_of.ensures ∙ ap (option_or c.match-declared.refused) (sym c.in-Some-refusal_of.is) in
+    elim c.match-declared.branch [
+      | in-Some-declared w ↦
+          let name = ap (λ (e : Event). e.name) c.in-Ok.ensures.value ∙ ap (λ (found : NameId × Bor (List Sort)). found.0) w.t-26-is in
+          let sorts = ap (λ (found : NameId × Bor (List Sort)). found.1.now) w.t-26-is ∙ w.as_slice.ensures in
+          event_placed c.args.signature.now c.args.bytes.now c.args.from c.in-Some.next c.in-Some-behind_mark.inside c.in_ok-next.next c.in-Some.name.now _ row c.read_row.new.clash
+          c.in-Some.ensures.some c.in-Some-behind_mark.ensures.some c.in_ok-next.ensures.ok c.args.events.now.items _ c.args.refused.now c.match-declared.refused c.refusal_of.result _ later
+          w.in-Some-declared.number w.in-Some-declared.entry.now w.in-Some-declared.ensures.entry w.in-Some-declared.ensures.number sorts
+          (put ∙ ap (λ n. c.args.events.now.items ++ record { name = n; args = row } ∷ []) name) w.refused-is c.len.result c.len.ensures c.refusal_of.ensures
+      | in-None w ↦
+          unknown_placed c.args.signature.now c.args.bytes.now c.args.from c.in-Some.next c.in-Some-behind_mark.inside c.in_ok-next.next c.in-Some.name.now _ row c.read_row.new.clash
+          c.in-Some.ensures.some c.in-Some-behind_mark.ensures.some c.in_ok-next.ensures.ok c.args.events.now.items _ c.args.refused.now c.match-declared.refused c.refusal_of.result _ later
+          w.in-None.ensures.entry (w.refused-is ∙ w.keep_first.ensures)
+    ]
+
+pub returns-in_default-refusal_of-clause-ok : goal.returns-in_default-refusal_of-clause-ok
+returns-in_default-refusal_of-clause-ok c =
+    let row = c.read_row.new.row in
+    let event : Event = record { name = c.in-Ok.event.now.name; args = row } in
+    let put = (c.push_mut.follows.holds event (subst IsOk (sym c.in-Ok.is) refl)).0 in
+    let later = still_refused c.match-declared.refused ∙ ap (option_or c.match-declared.refused) (sym c.in_default-refusal_of.is) in
+    elim c.match-declared.branch [
+      | in-Some-declared w ↦
+          let name = ap (λ (e : Event). e.name) c.in-Ok.ensures.value ∙ ap (λ (found : NameId × Bor (List Sort)). found.0) w.t-26-is in
+          let sorts = ap (λ (found : NameId × Bor (List Sort)). found.1.now) w.t-26-is ∙ w.as_slice.ensures in
+          event_placed c.args.signature.now c.args.bytes.now c.args.from c.in-Some.next c.in-Some-behind_mark.inside c.in_ok-next.next c.in-Some.name.now _ row c.read_row.new.clash
+          c.in-Some.ensures.some c.in-Some-behind_mark.ensures.some c.in_ok-next.ensures.ok c.args.events.now.items _ c.args.refused.now c.match-declared.refused c.refusal_of.result _ later
+          w.in-Some-declared.number w.in-Some-declared.entry.now w.in-Some-declared.ensures.entry w.in-Some-declared.ensures.number sorts
+          (put ∙ ap (λ n. c.args.events.now.items ++ record { name = n; args = row } ∷ []) name) w.refused-is c.len.result c.len.ensures c.refusal_of.ensures
+      | in-None w ↦
+          unknown_placed c.args.signature.now c.args.bytes.now c.args.from c.in-Some.next c.in-Some-behind_mark.inside c.in_ok-next.next c.in-Some.name.now _ row c.read_row.new.clash
+          c.in-Some.ensures.some c.in-Some-behind_mark.ensures.some c.in_ok-next.ensures.ok c.args.events.now.items _ c.args.refused.now c.match-declared.refused c.refusal_of.result _ later
+          w.in-None.ensures.entry (w.refused-is ∙ w.keep_first.ensures)
+    ]
