@@ -3,7 +3,7 @@ use Rattle.std.proofs.Common.{◌≡◌, ◌++◌, ◌∷◌, ◌+◌, ◌<◌, 
 use Rattle.std.specs.List.{flat_map}
 use Rattle.std.proofs.lemmas.List.{append-nil}
 use Rattle.std.specs.Option.{option_map}
-use Rattle.save_codec.specs.Forms.{AreLines, Follow, follows, is_end, last_line}
+use Rattle.save_codec.specs.Forms.{AreLines, Follow, follows, last_line}
 use Rattle.save_codec.specs.LineKinds.{ends, kind_of, may_follow}
 use Rattle.save_codec.specs.LineParts.{clock_after, clock_from, due_in, last_after, last_from, lines_in, position_after, position_from, row_in}
 use Rattle.save_codec.specs.Lines.{IsLine, line_text, lines_text}
@@ -16,59 +16,6 @@ use Rattle.save_codec.specs.declared.parts.LineParts.{LineParts}
 use Rattle.save_codec.specs.declared.refusals.StateRefusal.TheVariants.{Syntax}
 use Rattle.save_codec.proofs.FormLemmas.{follow_on, last_line_behind, text_on}
 use Rattle.save_codec.proofs.PartLemmas.{all_of_them, clock_step, items_step, last_step, position_step}
-
-follows_by_kind : (before : Option Line) (line : Line) → follows before line ≡ may_follow (option_map kind_of before) (kind_of line)
-follows_by_kind None (Clock t') = refl
-follows_by_kind None (Last l') = refl
-follows_by_kind None (Position p') = refl
-follows_by_kind None (Row w' t' v') = refl
-follows_by_kind None (Due r' n' o' l' h' v') = refl
-follows_by_kind None End = refl
-follows_by_kind (Some (Clock t)) (Clock t') = refl
-follows_by_kind (Some (Clock t)) (Last l') = refl
-follows_by_kind (Some (Clock t)) (Position p') = refl
-follows_by_kind (Some (Clock t)) (Row w' t' v') = refl
-follows_by_kind (Some (Clock t)) (Due r' n' o' l' h' v') = refl
-follows_by_kind (Some (Clock t)) End = refl
-follows_by_kind (Some (Last l)) (Clock t') = refl
-follows_by_kind (Some (Last l)) (Last l') = refl
-follows_by_kind (Some (Last l)) (Position p') = refl
-follows_by_kind (Some (Last l)) (Row w' t' v') = refl
-follows_by_kind (Some (Last l)) (Due r' n' o' l' h' v') = refl
-follows_by_kind (Some (Last l)) End = refl
-follows_by_kind (Some (Position p)) (Clock t') = refl
-follows_by_kind (Some (Position p)) (Last l') = refl
-follows_by_kind (Some (Position p)) (Position p') = refl
-follows_by_kind (Some (Position p)) (Row w' t' v') = refl
-follows_by_kind (Some (Position p)) (Due r' n' o' l' h' v') = refl
-follows_by_kind (Some (Position p)) End = refl
-follows_by_kind (Some (Row w t v)) (Clock t') = refl
-follows_by_kind (Some (Row w t v)) (Last l') = refl
-follows_by_kind (Some (Row w t v)) (Position p') = refl
-follows_by_kind (Some (Row w t v)) (Row w' t' v') = refl
-follows_by_kind (Some (Row w t v)) (Due r' n' o' l' h' v') = refl
-follows_by_kind (Some (Row w t v)) End = refl
-follows_by_kind (Some (Due r n o l h v)) (Clock t') = refl
-follows_by_kind (Some (Due r n o l h v)) (Last l') = refl
-follows_by_kind (Some (Due r n o l h v)) (Position p') = refl
-follows_by_kind (Some (Due r n o l h v)) (Row w' t' v') = refl
-follows_by_kind (Some (Due r n o l h v)) (Due r' n' o' l' h' v') = refl
-follows_by_kind (Some (Due r n o l h v)) End = refl
-follows_by_kind (Some End) (Clock t') = refl
-follows_by_kind (Some End) (Last l') = refl
-follows_by_kind (Some End) (Position p') = refl
-follows_by_kind (Some End) (Row w' t' v') = refl
-follows_by_kind (Some End) (Due r' n' o' l' h' v') = refl
-follows_by_kind (Some End) End = refl
-
-ends_by_kind : (before : Option Line) → is_end before ≡ ends (option_map kind_of before)
-ends_by_kind None = refl
-ends_by_kind (Some (Clock t)) = refl
-ends_by_kind (Some (Last l)) = refl
-ends_by_kind (Some (Position p)) = refl
-ends_by_kind (Some (Row w t v)) = refl
-ends_by_kind (Some (Due r n o l h v)) = refl
-ends_by_kind (Some End) = refl
 
 -- some lines were read
 pub record IsReadSoFar (text rest : List ℕ) (before : Option Kind) (count : ℕ) (parts : LineParts) : Type 0 where
@@ -119,7 +66,7 @@ pub read_on : (text rest after : List ℕ) (before : Option Kind) (count : ℕ) 
     → may_follow before kind ≡ true → kind ≡ kind_of line → HasPut line parts more → IsReadSoFar text after (Some kind) (count + 1) more
 read_on text rest after before count parts more line kind so read next is put =
     let following : follows (last_line None so.front) line ≡ true =
-    follows_by_kind (last_line None so.front) line ∙ (λ i. may_follow (sym so.kind i) (sym is i)) ∙ next
+    (λ i. may_follow (sym so.kind i) (sym is i)) ∙ next
     in
     record {
       front = so.front ++ line ∷ [];
@@ -146,8 +93,8 @@ stops text rest before count parts so unfinished stuck = (
       rest = rest;
       begins = so.begins;
       form = so.form;
-      unfinished = λ end. unfinished (ap ends so.kind ∙ sym (ends_by_kind (last_line None so.front)) ∙ end);
-      stuck = λ line more is next. stuck line more is (ap (λ (o : Option Kind). may_follow o (kind_of line)) so.kind ∙ sym (follows_by_kind (last_line None so.front) line) ∙ next);
+      unfinished = λ end. unfinished (ap ends so.kind ∙ end);
+      stuck = λ line more is next. stuck line more is (ap (λ (o : Option Kind). may_follow o (kind_of line)) so.kind ∙ next);
     },
     sym so.counted,
   ),
@@ -158,7 +105,7 @@ stops text rest before count parts so unfinished stuck = (
 pub all_read : (text rest : List ℕ) (before : Option Kind) (count : ℕ) (parts : LineParts) → IsReadSoFar text rest before count parts → ends before ≡ true → rest ≡ [] → length text < 2 ^ 63
     → AreLines (lines_in parts) × (text ≡ lines_text (lines_in parts)) × (length (lines_in parts) < 2 ^ 63)
 all_read text rest before count parts so end none small =
-    let are : AreLines so.front = (so.form, ends_by_kind (last_line None so.front) ∙ ap ends (sym so.kind) ∙ end) in
+    let are : AreLines so.front = (so.form, ap ends (sym so.kind) ∙ end) in
     let same : so.front ≡ lines_in parts = all_of_them so.front so.front parts.clock parts.last parts.position parts.rows.items parts.dues.items are refl so.clock so.last so.position so.rows so.dues in
     let whole : text ≡ lines_text so.front = so.begins ∙ ap (λ l. lines_text so.front ++ l) none ∙ append-nil (lines_text so.front) in
     let few : length so.front < 2 ^ 63 = omega (arith, so.counted, so.room, small) in

@@ -1,24 +1,14 @@
 -- The grammar of saved texts.
-use Rattle.std.specs.Prelude.{◌≡◌, ℕ, Bool, true, false, List, [], ◌∷◌}
+use Rattle.std.specs.Prelude.{◌≡◌, ℕ, Bool, List, [], ◌∷◌}
 use Rattle.std.specs.Prelude.{◌++◌, Option, None, Some, IsTrue}
+use Rattle.std.specs.Option.{option_map}
+use Rattle.save_codec.specs.LineKinds.{ends, kind_of, may_follow}
 use Rattle.save_codec.specs.Lines.{IsLine, head_text, lines_text}
 use Rattle.save_codec.specs.declared.lines.Line.{Line}
-use Rattle.save_codec.specs.declared.lines.Line.TheVariants.{Clock, Last, Position, Row, Due, End}
 
--- the line of the clock is the first; then come the last time, the position, rows, instances and the end
+-- whether a line may stand behind the one before it, as their kinds do
 abbrev pub follows : (before : Option Line) → Line → Bool
-follows None (Clock time) = true
-follows (Some (Clock time)) (Last last) = true
-follows (Some (Last last)) (Position position) = true
-follows (Some (Position position)) (Row window time values) = true
-follows (Some (Position position)) (Due rule node origin low high values) = true
-follows (Some (Position position)) End = true
-follows (Some (Row window time values)) (Row window' time' values') = true
-follows (Some (Row window time values)) (Due rule node origin low high values') = true
-follows (Some (Row window time values)) End = true
-follows (Some (Due rule node origin low high values)) (Due rule' node' origin' low' high' values') = true
-follows (Some (Due rule node origin low high values)) End = true
-follows before line = false
+follows before line = may_follow (option_map kind_of before) (kind_of line)
 
 -- each of these lines may stand behind the one before it
 abbrev pub Follow : (before : Option Line) → List Line → Type 0
@@ -31,8 +21,7 @@ last_line before [] = before
 last_line before (line ∷ lines) = last_line (Some line) lines
 
 abbrev pub is_end : Option Line → Bool
-is_end (Some End) = true
-is_end before = false
+is_end before = ends (option_map kind_of before)
 
 -- all lines of a text: each may stand where it stands, and the last one is the end
 abbrev pub AreLines : List Line → Type 0

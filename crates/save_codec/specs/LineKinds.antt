@@ -13,6 +13,7 @@ kind_of (Row window time values) = kinds.Row
 kind_of (Due rule node origin low high values) = kinds.Due
 kind_of End = kinds.End
 
+-- the line of the clock is the first; then come the last time, the position, rows, instances and the end
 abbrev pub may_follow : (before : Option Kind) → Kind → Bool
 may_follow None kinds.Clock = true
 may_follow (Some kinds.Clock) kinds.Last = true
