@@ -11,6 +11,7 @@ pub mod Names
 pub mod Order
 pub mod RisingLaws
 pub mod Spelling
+pub mod SpellingLaws
 pub mod Stored
 pub mod Text
 pub mod TokenLaws
