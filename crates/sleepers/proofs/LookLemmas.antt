@@ -4,12 +4,12 @@ use Rattle.std.specs.List.{AllByRecursion}
 use Rattle.std.proofs.lemmas.Grind.{flat_map-append}
 use Rattle.std.proofs.lemmas.List.Elements.{Contains-append_left, Contains-push, Contains-push_cases}
 use Rattle.cursor_list.specs.Split.{Split}
-use Rattle.enf_value.specs.ListLaws.{AllByRecursion-append, first_or_later, none_in_nil}
+use Rattle.enf_value.specs.ListLaws.{AllByRecursion-append, none_in_nil}
 use Rattle.enf_value.specs.Membership.{HasNoRepeats}
+use Rattle.enf_value.specs.MembershipLaws.{HasNoRepeats-push}
 use Rattle.enf_value.specs.declared.events.Event.{Event}
 use Rattle.sleepers.proofs.GroupLemmas.{within_at}
 use Rattle.sleepers.proofs.NotedLemmas.{below_next}
-use Rattle.sleepers.proofs.StepLemmas.{apart_once}
 use Rattle.sleepers.specs.Entries.{IsAsleep}
 use Rattle.sleepers.specs.Groups.{AreAwake, StandsAsleep, StandsAwake, entries_at, entries_of}
 use Rattle.sleepers.specs.declared.entries.Entry.{Entry}
@@ -48,8 +48,7 @@ module _ {T : Type 0} where
       → StandsAwake events time groups number → AreAwakeBelow events time groups number numbers
       → AreAwakeBelow events time groups (number + 1) (numbers ++ number ∷ [])
   below_awake events time groups number numbers awake is = record {
-    once = apart_once numbers (number ∷ []) is.once ((λ there. none_in_nil number there), tt) (λ n front back.
-        ⊎_elim (λ e. let below = is.below n front in omega (arith, below, e)) (λ on. none_in_nil n on) (first_or_later n number [] back));
+    once = HasNoRepeats-push numbers number is.once (λ there. let below = is.below number there in omega (arith, below));
     below = λ n there. ⊎_elim (λ on. let below = is.below n on in omega (arith, below)) (λ e. omega (arith, e))
         (Contains-push_cases numbers number n there);
     awake = AllByRecursion-append (StandsAwake events time groups) numbers (number ∷ []) is.awake (awake, tt);
