@@ -85,6 +85,7 @@ impl EventSet {
 
     /// Puts a new event last and answers true, or answers false where it is there. For want of memory the event
     /// comes back.
+    #[inline(always)]
     pub fn insert(&mut self, event: Event) -> Result<bool, Event>
         ensures inserted { IfOk result (λ new. Inserts event self.old new self.new) }
         ensures value_returned { IfErr result (λ back. back ≡ event) }

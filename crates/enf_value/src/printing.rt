@@ -39,6 +39,9 @@ pub fn print_number(number: u64, out: &mut Vec<u8>) -> Result<(), NoMemory>
     ensures ok { OnOk result (out.new.items ≡ out.old.items ++ decimal number) }
     ensures err { OnErr result (out.new.items ≡ out.old.items) }
 {
+    if number < 10 {
+        return print_byte(b'0' + number as u8, out);
+    }
     // Behind the digits there are as many bytes more, so that each copy has the same length.
     let mut digits = [0; 2 * MOST_DIGITS];
     let start = write_digits(number, &mut digits, MOST_DIGITS);

@@ -1,5 +1,6 @@
-use Rattle.std.proofs.Common.{◌≡◌, ◌∙◌, ◌++◌, ℕ, ◌+◌, ◌-◌, ◌≤◌, List, ap, ap₂, arith, decimal, length, take}
-use Rattle.std.proofs.lemmas.Fmt.{length-decimal-le}
+use Rattle.std.proofs.Common.{◌≡◌, ◌∙◌, ◌++◌, ℕ, ◌+◌, ◌-◌, ◌≤◌, List, ap, ap₂, arith, decimal, length, subst, sym, take}
+use Rattle.std.specs.Prelude.{OnOk}
+use Rattle.std.proofs.lemmas.Fmt.{decimal_digit, length-decimal-le}
 use Rattle.std.proofs.lemmas.List.{take-take}
 use Rattle.std.proofs.Math.Seq.{take-append-add, take-append_seam}
 use Rattle.enf_value.proofs.printing.print_number.Goals as goal
@@ -10,6 +11,11 @@ cut_behind : (xs ys more : List ℕ) (count most : ℕ) → count ≡ length ys 
 cut_behind xs ys more count most is small =
     take-append-add xs (take most (ys ++ more)) count
     ∙ ap (λ l. xs ++ l) (take-take count most (ys ++ more) small ∙ ap (λ n. take n (ys ++ more)) is ∙ take-append_seam ys more)
+
+pub returns-then-number-lt10-clause-ok : goal.returns-then-number-lt10-clause-ok
+returns-then-number-lt10-clause-ok c =
+    subst (λ l. OnOk c.print_byte.result (c.print_byte.new.out.items ≡ c.args.out.now.items ++ l)) (sym (decimal_digit c.args.number c.if-number-lt10.true))
+    c.print_byte.ensures.ok
 
 pub write_digits-start-requires : goal.write_digits-start-requires
 write_digits-start-requires c =
