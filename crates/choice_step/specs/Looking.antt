@@ -38,7 +38,8 @@ abbrev pub first_of : List Literal → Literal
 first_of [] = record { kind = kind.Cause; event = record { name = record { 0 = 0 }; args = [] }; leaf = 0 }
 first_of (literal ∷ literals) = literal
 
--- the action for a literal that a pending instance misses, or where there is none the root of a rule
+-- the action for a literal that a pending instance misses, or where there is none the root of a rule, of whose plan it
+-- takes nothing, so that any plan serves
 abbrev pub action_by : (time position : ℕ) → Option (Bor Instance) → (rule : ℕ) → Literal → Action
 action_by time position None rule literal =
     action_at time position (Root rule (Cause 0 0 literal.event.name [])) literal

@@ -42,7 +42,8 @@ abbrev pub Leads : Situation → (given before : List Event) → List Action →
 Leads situation given before actions after all = GoesFrom (plans_of situation) situation.pending.now.instances
     situation.past.now situation.inserted situation.time situation.position given before actions after all
 
--- where it has those events, with values that were known where it had the given ones
+-- it misses something, what it calls plain has no choices, and it is found where there are those events, with values
+-- that were known where there were the given ones
 abbrev pub IsFound : Situation → (given events : List Event) → Found → Type 0
 IsFound situation given events found = (0 < length found.literals.items)
     × (IsTrue found.plain → HasNoChoices (plans_of situation) found.rule)
