@@ -2,7 +2,7 @@
 use crate::found::Found;
 use enf_value::{
     Duplicate, Event, EventSet, NameId, Row, Term, Terms, TextValue, Value, VarId, print_value,
-    read_value,
+    put_value, read_value,
 };
 use signature::Signature;
 use std::alloc::Global;
@@ -70,7 +70,7 @@ fn what_is_printed_is_read(rt: HostRuntime) -> Result<(), Fail> {
     find_read(rt.alloc(), &Value::Num(-7), &mut found)?;
     let text = TextValue::from_bytes(rt.alloc(), b"a \"quoted\" text")?;
     find_read(rt.alloc(), &Value::Text(text), &mut found)?;
-    assert_eq!(rt; found.text(), b"yes|yes|".as_slice());
+    assert_eq!(rt; found.text(), b"yes|yes|yes|yes|".as_slice());
     Ok(())
 }
 
@@ -81,6 +81,9 @@ fn find_read(alloc: Global, value: &Value, found: &mut Found) -> Result<(), Fail
         Some((read, end)) => found.holds(read == *value && end == text.len()),
         None => found.holds(false),
     }
+    let mut row = Row::new(alloc);
+    let end = put_value(alloc, &text, 0, &mut row)?;
+    found.holds(end == Some(text.len()) && row.as_slice().first() == Some(value));
     Ok(())
 }
 
