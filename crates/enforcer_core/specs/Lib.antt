@@ -16,6 +16,7 @@ pub mod Justifying
 pub mod Keeping
 pub mod Laws
 pub mod Passing
+pub mod PlanFacts
 pub mod Remembering
 pub mod SavedBounds
 pub mod Stands

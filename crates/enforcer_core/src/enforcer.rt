@@ -17,10 +17,10 @@ ghost use Rattle.enforcer_core.specs.Snapshots.{CanBeTakenUp, IsKeptOf, IsTakenU
 ghost use Rattle.enforcer_core.specs.Stands.{KeepsStanding, SatisfiesBehind, Stands};
 ghost use Rattle.enforcer_core.specs.Transparency.{DrainsNothing, LeavesAlone};
 
+use crate::facts::PlanFacts;
 use crate::laws::{all_are_justified, lawful_are_left_alone, step_laws};
 use crate::remembered::{Passed, Remembered};
 use crate::steps::{OutSteps, StepOut, StepRefusal, Untaken};
-use choice_step::Wakes;
 use enf_value::event_sets::EventSet;
 use enf_value::memory::NoMemory;
 use enforce_types::TypedPolicy;
@@ -39,8 +39,7 @@ use std::marker::Model;
 #[derive(Drop)]
 pub struct Enforcer {
     policy: TypedPolicy,
-    // which of its rules a step can wake
-    wakes: Wakes,
+    facts: PlanFacts,
     remembered: Remembered,
     clock: u64,
     // where a call wants memory, it leaves this set
@@ -53,10 +52,9 @@ impl Model for Enforcer {
     ghost use Rattle.enforcer_core.specs.Keeping.{IsEnforcing};
     ghost use Rattle.pending.specs.Listed.{pending_code};
     ghost use Rattle.past_state.specs.PastCodes.{past_code};
-    ghost use Rattle.plan_terms.specs.Triggers.{guard_triggers};
     ghost use Rattle.std.specs.Coded.{codes};
-    ghost use Rattle.std.specs.Prelude.{◌≡◌, map};
     ghost use Rattle.enforcer_core.specs.Enforcers.{plans_in};
+    ghost use Rattle.enforcer_core.specs.PlanFacts.{AreFactsOf};
 
     ghost Value = { Enforcing };
 
@@ -80,7 +78,7 @@ impl Model for Enforcer {
       last = e.remembered.last;
       clock = e.clock;
       stopped = e.stopped;
-    }) × (e.wakes ≡ map guard_triggers (plans_in e.policy)) };
+    }) × AreFactsOf (plans_in e.policy) e.facts };
 }
 
 impl Enforcer {
@@ -93,12 +91,12 @@ impl Enforcer {
         well_formed_can_be_asked();
         // Its clause says that the horizon is bounded.
         let _horizon = policy.horizon();
-        let wakes = Wakes::of(alloc, policy.plans())?;
+        let facts = PlanFacts::of(alloc, policy.plans())?;
         let past = PastState::new(alloc, policy.guards())?;
         let pending = Pending::new(alloc);
         Ok(Enforcer {
             policy,
-            wakes,
+            facts,
             remembered: Remembered {
                 past,
                 pending,
@@ -133,12 +131,12 @@ impl Enforcer {
             kept,
             pending,
         } = snapshot;
-        let wakes = Wakes::of(alloc, policy.plans())?;
+        let facts = PlanFacts::of(alloc, policy.plans())?;
         let past = PastState::from_kept(alloc, policy.guards(), last, kept)?;
         let pending = Pending::from_list(alloc, policy.plans(), pending)?;
         Ok(Enforcer {
             policy,
-            wakes,
+            facts,
             remembered: Remembered {
                 past,
                 pending,
@@ -246,7 +244,7 @@ impl Enforcer {
         self.stopped = true;
         let steps = self
             .remembered
-            .let_out(alloc, &self.wakes, &self.policy, self.clock, time, events)?;
+            .let_out(alloc, &self.facts, &self.policy, self.clock, time, events)?;
         self.clock = time;
         self.stopped = false;
         Ok(StepOut { steps })
@@ -280,7 +278,7 @@ impl Enforcer {
         self.stopped = true;
         let steps = self
             .remembered
-            .let_pass(alloc, &self.wakes, &self.policy, self.clock, time)?;
+            .let_pass(alloc, &self.facts, &self.policy, self.clock, time)?;
         self.clock = time;
         self.stopped = false;
         Ok(StepOut { steps })
@@ -323,7 +321,7 @@ impl Enforcer {
         self.stopped = true;
         let Passed { steps, clock } = self
             .remembered
-            .pass(alloc, &self.wakes, &self.policy, self.clock, None)?;
+            .pass(alloc, &self.facts, &self.policy, self.clock, None)?;
         self.clock = clock;
         self.stopped = false;
         Ok(StepOut {

@@ -6,6 +6,7 @@
 pub mod ending;
 pub mod enforcer;
 pub mod existing;
+mod facts;
 pub mod laws;
 mod remembered;
 pub mod steps;

@@ -3,11 +3,9 @@ ghost use Rattle.std.specs.Prelude.{◌≡◌, ◌+◌, ◌^◌, ◌<◌, ◌≤
 ghost use Rattle.std.specs.Prelude.{IsTrue, OnErr, OnOk, map};
 ghost use Rattle.choice_step.specs.Follows.{is_inserted as is_of_deadline};
 ghost use Rattle.plan_terms.specs.Plans.{plan_of};
-ghost use Rattle.plan_terms.specs.Triggers.{guard_triggers};
 ghost use Rattle.obligations.specs.declared.now.TheConstants.{MOST_TIME};
 ghost use Rattle.obligations.specs.Asked.{placed_guard};
 ghost use Rattle.obligations.specs.Carrying.{LeadsAt};
-ghost use Rattle.obligations.specs.Traces.{LooksAtNow};
 ghost use Rattle.obligations.specs.Waiting.{CanAskOf};
 ghost use Rattle.pending.specs.Listed.{IsKeptFor};
 ghost use Rattle.past_state.specs.Past.{GuardsWillHold};
@@ -17,8 +15,10 @@ ghost use Rattle.trace_meaning.specs.declared.kinds.StepKind.TheVariants.{System
 ghost use Rattle.enforcer_core.specs.Enforcers.{acted_steps, plans_in};
 ghost use Rattle.enforcer_core.specs.Keeping.{Serves, enforcing_at};
 ghost use Rattle.enforcer_core.specs.Passing.{IsLeastPassed, LetsOut, NoneIsLeft, Passes};
+ghost use Rattle.enforcer_core.specs.PlanFacts.{AreFactsOf};
 ghost use Rattle.enforcer_core.specs.Remembering.{CanAskAll, CanGoOn, IsDecided, IsIdle, PendingGoes, most_positions};
 
+use crate::facts::PlanFacts;
 use crate::laws::step_laws;
 use crate::steps::{OutStep, OutSteps};
 use choice_step::idle::asleep_is_idle;
@@ -64,13 +64,13 @@ impl Remembered {
     pub(crate) fn decide(
         &mut self,
         alloc: Global,
-        wakes: &Wakes,
+        facts: &PlanFacts,
         plans: &[Plan],
         kind: StepKind,
         time: u64,
         events: EventSet,
     ) -> Result<OutStep, NoMemory>
-        requires wakes { wakes.now ≡ map guard_triggers (map plan_of plans.now) }
+        requires facts { AreFactsOf (map plan_of plans.now) facts.now }
         requires can { CanGoOn (map plan_of plans.now) self.old time }
         requires room { self.old.position + 1 < 2 ^ 64 }
         requires in_time { time ≤ MOST_TIME }
@@ -81,7 +81,7 @@ impl Remembered {
         traces_grow();
         trace_grows();
         asleep_is_idle();
-        if self.is_idle(wakes, events.as_slice()) {
+        if self.is_idle(&facts.wakes, events.as_slice()) {
             self.position += 1;
             self.last = Some(time);
             return Ok(OutStep {
@@ -91,7 +91,8 @@ impl Remembered {
                 actions: Actions::new(alloc),
             });
         }
-        let step = self.decide_awake(alloc, wakes, plans, kind, time, events)?;
+        // By `?` it has a place of its own, so that the step above is made where it goes.
+        let step = self.decide_awake(alloc, facts, plans, kind, time, events)?;
         Ok(step)
     }
 
@@ -107,13 +108,13 @@ impl Remembered {
     fn decide_awake(
         &mut self,
         alloc: Global,
-        wakes: &Wakes,
+        facts: &PlanFacts,
         plans: &[Plan],
         kind: StepKind,
         time: u64,
         events: EventSet,
     ) -> Result<OutStep, NoMemory>
-        requires wakes { wakes.now ≡ map guard_triggers (map plan_of plans.now) }
+        requires facts { AreFactsOf (map plan_of plans.now) facts.now }
         requires can { CanGoOn (map plan_of plans.now) self.old time }
         requires room { self.old.position + 1 < 2 ^ 64 }
         requires in_time { time ≤ MOST_TIME }
@@ -132,7 +133,7 @@ impl Remembered {
             tables,
         } = choose_with(
             alloc,
-            wakes,
+            &facts.wakes,
             plans,
             &self.pending,
             &self.past,
@@ -143,7 +144,7 @@ impl Remembered {
         )?;
         // Its clause says that no event stands twice.
         let _given = events.as_slice();
-        self.progress(alloc, plans, time, &events, &tables, inserted)?;
+        self.progress(alloc, facts, plans, time, &events, &tables, inserted)?;
         self.past.commit(time, &events, tables)?;
         self.position += 1;
         self.last = Some(time);
@@ -160,12 +161,12 @@ impl Remembered {
     pub(crate) fn pass(
         &mut self,
         alloc: Global,
-        wakes: &Wakes,
+        facts: &PlanFacts,
         policy: &TypedPolicy,
         clock: u64,
         until: Option<u64>,
     ) -> Result<Passed, NoMemory>
-        requires wakes { wakes.now ≡ map guard_triggers (plans_in policy.now) }
+        requires facts { AreFactsOf (plans_in policy.now) facts.now }
         requires serves { Serves (enforcing_at policy.now self.old clock) }
         requires room { self.old.position < most_positions }
         ensures passes { IfOk result (λ passed. Passes until (enforcing_at policy.now self.old clock)
@@ -181,7 +182,7 @@ impl Remembered {
                 clock,
             });
         }
-        self.pass_each(alloc, wakes, policy, clock, until)
+        self.pass_each(alloc, facts, policy, clock, until)
     }
 
     // The same by a look at each.
@@ -189,12 +190,12 @@ impl Remembered {
     fn pass_each(
         &mut self,
         alloc: Global,
-        wakes: &Wakes,
+        facts: &PlanFacts,
         policy: &TypedPolicy,
         clock: u64,
         until: Option<u64>,
     ) -> Result<Passed, NoMemory>
-        requires wakes { wakes.now ≡ map guard_triggers (plans_in policy.now) }
+        requires facts { AreFactsOf (plans_in policy.now) facts.now }
         requires serves { Serves (enforcing_at policy.now self.old clock) }
         requires room { self.old.position < most_positions }
         ensures passes { IfOk result (λ passed. Passes until (enforcing_at policy.now self.old clock)
@@ -209,7 +210,7 @@ impl Remembered {
         let mut behind = clock;
         while let Some(deadline) = self.passed(until) {
             let none = EventSet::new(alloc);
-            let step = self.decide(alloc, wakes, plans, StepKind::Inserted, deadline, none)?;
+            let step = self.decide(alloc, facts, plans, StepKind::Inserted, deadline, none)?;
             steps.push(step)?;
             behind = deadline + 1;
         }
@@ -234,12 +235,12 @@ impl Remembered {
     pub(crate) fn let_pass(
         &mut self,
         alloc: Global,
-        wakes: &Wakes,
+        facts: &PlanFacts,
         policy: &TypedPolicy,
         clock: u64,
         time: u64,
     ) -> Result<OutSteps, NoMemory>
-        requires wakes { wakes.now ≡ map guard_triggers (plans_in policy.now) }
+        requires facts { AreFactsOf (plans_in policy.now) facts.now }
         requires serves { Serves (enforcing_at policy.now self.old clock) }
         requires room { self.old.position < most_positions }
         requires not_over { clock ≤ time }
@@ -248,7 +249,7 @@ impl Remembered {
         ensures memory { OnErr result (NoneIsLeft (Some time) (enforcing_at policy.now self.old clock) → ⊥) }
     {
         step_laws();
-        let Passed { steps, clock: _ } = self.pass(alloc, wakes, policy, clock, Some(time))?;
+        let Passed { steps, clock: _ } = self.pass(alloc, facts, policy, clock, Some(time))?;
         Ok(OutSteps::from_vec(steps))
     }
 
@@ -256,13 +257,13 @@ impl Remembered {
     pub(crate) fn let_out(
         &mut self,
         alloc: Global,
-        wakes: &Wakes,
+        facts: &PlanFacts,
         policy: &TypedPolicy,
         clock: u64,
         time: u64,
         events: EventSet,
     ) -> Result<OutSteps, NoMemory>
-        requires wakes { wakes.now ≡ map guard_triggers (plans_in policy.now) }
+        requires facts { AreFactsOf (plans_in policy.now) facts.now }
         requires serves { Serves (enforcing_at policy.now self.old clock) }
         requires room { self.old.position < most_positions }
         requires not_over { clock ≤ time }
@@ -273,14 +274,14 @@ impl Remembered {
     {
         step_laws();
         if self.passed(Some(time)).is_some() {
-            let out = self.let_out_behind(alloc, wakes, policy, clock, time, events)?;
+            let out = self.let_out_behind(alloc, facts, policy, clock, time, events)?;
             return Ok(out);
         }
         // Their clauses say that the horizon is bounded, and that no event stands twice.
         let _horizon = policy.horizon();
         let _given = events.as_slice();
         let plans = policy.plans();
-        let step = self.decide(alloc, wakes, plans, StepKind::System, time, events)?;
+        let step = self.decide(alloc, facts, plans, StepKind::System, time, events)?;
         Ok(OutSteps::one(step))
     }
 
@@ -289,13 +290,13 @@ impl Remembered {
     fn let_out_behind(
         &mut self,
         alloc: Global,
-        wakes: &Wakes,
+        facts: &PlanFacts,
         policy: &TypedPolicy,
         clock: u64,
         time: u64,
         events: EventSet,
     ) -> Result<OutSteps, NoMemory>
-        requires wakes { wakes.now ≡ map guard_triggers (plans_in policy.now) }
+        requires facts { AreFactsOf (plans_in policy.now) facts.now }
         requires serves { Serves (enforcing_at policy.now self.old clock) }
         requires room { self.old.position < most_positions }
         requires not_over { clock ≤ time }
@@ -308,9 +309,9 @@ impl Remembered {
         // Their clauses say that the horizon is bounded, and that no event stands twice.
         let _horizon = policy.horizon();
         let _given = events.as_slice();
-        let Passed { steps, .. } = self.pass_each(alloc, wakes, policy, clock, Some(time))?;
+        let Passed { steps, .. } = self.pass_each(alloc, facts, policy, clock, Some(time))?;
         let plans = policy.plans();
-        let step = self.decide(alloc, wakes, plans, StepKind::System, time, events)?;
+        let step = self.decide(alloc, facts, plans, StepKind::System, time, events)?;
         let out = OutSteps::and_last(steps, step)?;
         Ok(out)
     }
@@ -319,12 +320,14 @@ impl Remembered {
     fn progress(
         &mut self,
         alloc: Global,
+        facts: &PlanFacts,
         plans: &[Plan],
         time: u64,
         events: &EventSet,
         tables: &Tables,
         inserted: bool,
     ) -> Result<(), NoMemory>
+        requires facts { AreFactsOf (map plan_of plans.now) facts.now }
         requires can { CanAskAll (map plan_of plans.now) self.old }
         requires guards { tables.now.guards ≡ self.old.past.guards }
         requires hold { GuardsWillHold self.old.past time events.now tables.now }
@@ -343,7 +346,7 @@ impl Remembered {
         pending_exists();
         pending_is_enough();
         traces_grow();
-        if self.looks_at_now(plans) {
+        if self.looks_at_now(facts) {
             return Ok(());
         }
         let ordered = StepEvents::of(alloc, events)?;
@@ -351,11 +354,10 @@ impl Remembered {
     }
 
     // Whether nothing is pending and no plan looks ahead.
-    fn looks_at_now(&self, plans: &[Plan]) -> bool
-        ensures { IsTrue result → (self.now.pending.instances ≡ [])
-            × AllByRecursion LooksAtNow (map plan_of plans.now) }
+    fn looks_at_now(&self, facts: &PlanFacts) -> bool
+        ensures { IsTrue result → (self.now.pending.instances ≡ []) × IsTrue facts.now.looks_at_now }
     {
-        self.pending.len() == 0 && none_looks_ahead(plans)
+        self.pending.len() == 0 && facts.looks_at_now
     }
 
     // What is pending becomes what it becomes behind the step, over its events in their order.
@@ -393,18 +395,6 @@ impl Remembered {
         };
         self.pending.progress(alloc, plans, &now, inserted)
     }
-}
-
-// Whether no plan looks ahead.
-fn none_looks_ahead(plans: &[Plan]) -> bool
-    ensures { IsTrue result → AllByRecursion LooksAtNow (map plan_of plans.now) }
-{
-    for plan in plans {
-        if plan.has_future() {
-            return false;
-        }
-    }
-    true
 }
 
 fn is_inserted(kind: StepKind) -> bool

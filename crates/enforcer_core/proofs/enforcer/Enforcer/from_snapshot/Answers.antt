@@ -1,9 +1,8 @@
-use Rattle.std.proofs.Common.{◌∙◌, ℕ, ◌≤◌, List, length, map, refl, sym, ap, subst, arith}
+use Rattle.std.proofs.Common.{ℕ, ◌≤◌, List, length, map, refl, sym, subst, arith}
 use Rattle.std.specs.List.{AllByRecursion}
 use Rattle.monitorable_guard.specs.Guards.{BoundFormula}
 use Rattle.plan_terms.specs.Guards.{guards_of}
 use Rattle.plan_terms.specs.Plans.{plan_of}
-use Rattle.plan_terms.specs.Triggers.{guard_triggers}
 use Rattle.plan_terms.specs.declared.plans.Plan.{Plan as StoredPlan}
 use Rattle.past_state.specs.Guarded.{AreCopies, tree_in}
 use Rattle.past_state.specs.Operators.{all_operators}
@@ -18,6 +17,7 @@ use Rattle.enforcer_core.specs.Ending.{reach_of}
 use Rattle.obligations.specs.Waiting.{CanAskOf, CanAskRoots}
 use Rattle.pending.specs.Listed.{IsKeptFor}
 use Rattle.enforcer_core.specs.Enforcers.{plans_in}
+use Rattle.enforcer_core.specs.PlanFacts.{AreFactsOf}
 use Rattle.enforcer_core.specs.Snapshots.{operators_in}
 use Rattle.enforcer_core.proofs.SnapshotLemmas.{all_asked, from_clock, kept_in_reach, none_over_kept, rows_rise}
 use Rattle.enforcer_core.proofs.enforcer.Enforcer.from_snapshot.Goals as goal
@@ -66,7 +66,7 @@ invariant_of-result c =
               (kept_in_reach (typed_of c.args.policy) together bounded c.args.snapshot.pending c.requires.bounds.due);
         };
       },
-      c.in_ok-wakes.ensures ∙ ap (λ (l : List StoredPlan). map guard_triggers (map plan_of l)) c.plans.ensures.plans,
+      subst (λ (l : List StoredPlan). AreFactsOf (map plan_of l) c.in_ok-facts.facts) c.plans.ensures.plans c.in_ok-facts.ensures,
     )
 
 pub returns-clause-taken_up : goal.returns-clause-taken_up

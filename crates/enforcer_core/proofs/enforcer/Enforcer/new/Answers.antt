@@ -1,10 +1,9 @@
-use Rattle.std.proofs.Common.{◌∙◌, ℕ, ◌≤◌, List, [], length, map, refl, sym, ap, subst, arith}
+use Rattle.std.proofs.Common.{ℕ, ◌≤◌, List, [], length, map, refl, sym, subst, arith}
 use Rattle.std.specs.List.{AllByRecursion}
 use Rattle.std.proofs.lemmas.List.Elements.{All-nil}
 use Rattle.monitorable_guard.specs.Guards.{BoundFormula}
 use Rattle.plan_terms.specs.Guards.{guards_of}
 use Rattle.plan_terms.specs.Plans.{plan_of}
-use Rattle.plan_terms.specs.Triggers.{guard_triggers}
 use Rattle.plan_terms.specs.declared.plans.Plan.{Plan as StoredPlan}
 use Rattle.past_state.specs.Guarded.{AreCopies}
 use Rattle.rank_check.specs.declared.horizon.TheConstants.{MOST_HORIZON}
@@ -16,6 +15,7 @@ use Rattle.obligations.specs.declared.instances.Instance.{Instance}
 use Rattle.obligations.specs.declared.now.TheConstants.{MOST_TIME}
 use Rattle.enforcer_core.specs.Ending.{reach_of}
 use Rattle.enforcer_core.specs.Enforcers.{plans_in}
+use Rattle.enforcer_core.specs.PlanFacts.{AreFactsOf}
 use Rattle.enforcer_core.proofs.enforcer.Enforcer.new.Goals as goal
 
 pub invariant_of-result : goal.invariant_of-result
@@ -54,7 +54,7 @@ invariant_of-result c =
           in_reach = subst (λ (l : List Instance). reach_of (typed_of c.args.policy).ranked.ranks plans l ≤ MOST_TIME) (sym c.new-pending.ensures.instances) (omega arith);
         };
       },
-      c.in_ok-wakes.ensures ∙ ap (λ (l : List StoredPlan). map guard_triggers (map plan_of l)) c.plans.ensures.plans,
+      subst (λ (l : List StoredPlan). AreFactsOf (map plan_of l) c.in_ok-facts.facts) c.plans.ensures.plans c.in_ok-facts.ensures,
     )
 
 pub returns-clause-stands : goal.returns-clause-stands

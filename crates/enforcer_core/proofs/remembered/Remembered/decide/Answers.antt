@@ -23,10 +23,10 @@ pub returns-then-is_idle-clause-decided : goal.returns-then-is_idle-clause-decid
 returns-then-is_idle-clause-decided c =
     let plans = map plan_of c.args.plans.now in
     let before = c.args.self.now in
-    let idle : IsIdle c.args.wakes.now c.args.self.now c.as_slice.result.now = c.is_idle.ensures c.if-is_idle.true in
+    let idle : IsIdle c.args.facts.now.wakes c.args.self.now c.as_slice.result.now = c.is_idle.ensures c.if-is_idle.true in
     let asleep : AllSleep (map guard_triggers (map plan_of c.args.plans.now)) c.args.events =
     subst (λ (l : List Event). AllSleep (map guard_triggers (map plan_of c.args.plans.now)) l) c.as_slice.ensures.events
-    (subst (λ (w : List (Option (List NameId))). AllSleep w c.as_slice.result.now) c.requires.wakes idle.asleep) in
+    (subst (λ (w : List (Option (List NameId))). AllSleep w c.as_slice.result.now) c.requires.facts.wakes idle.asleep) in
     let goes : (trace : List Step) → Goes plans (trace ++ record { time = c.args.time; events = c.args.events } ∷ []) before.pending.instances before.pending.instances = λ trace.
     subst (λ (l : List Instance). Goes (map plan_of c.args.plans.now) (trace ++ record { time = c.args.time; events = c.args.events } ∷ []) l l) (sym idle.pending)
     (c.asleep_is_idle.ensures.goes (map plan_of c.args.plans.now) trace c.args.time c.args.events asleep) in
@@ -63,7 +63,7 @@ returns-then-is_idle-clause-decided c =
 pub returns-then-is_idle-clause-can : goal.returns-then-is_idle-clause-can
 returns-then-is_idle-clause-can c = λ later least.
     let asked = c.requires.can.asked in
-    let idle : IsIdle c.args.wakes.now c.args.self.now c.as_slice.result.now = c.is_idle.ensures c.if-is_idle.true in
+    let idle : IsIdle c.args.facts.now.wakes c.args.self.now c.as_slice.result.now = c.is_idle.ensures c.if-is_idle.true in
     record {
       asked = record {
         few = asked.few;

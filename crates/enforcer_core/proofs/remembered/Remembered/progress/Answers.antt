@@ -18,7 +18,7 @@ returns-then-looks_at_now-clause-goes c = λ trace remembers later served.
     let present = c.looks_at_now.ensures c.if-looks_at_now.true in
     let goes = c.pending_exists.ensures.goes (map placed_guard c.args.self.now.past.guards) plans (trace ++ step ∷ []) before c.requires.can.roots c.requires.can.instances in
     let pend = c.traces_grow.ensures.pending plans trace step before goes.0 remembers.pending goes.1 in
-    let none : goes.0 ≡ [] = c.pending_is_enough.ensures.nothing plans (trace ++ step ∷ []) goes.0 present.1 pend in
+    let none : goes.0 ≡ [] = c.pending_is_enough.ensures.nothing plans (trace ++ step ∷ []) goes.0 (c.requires.facts.present present.1) pend in
     subst (λ (l : List Instance). Goes plans (trace ++ step ∷ []) before l) (none ∙ sym present.0) goes.1
 
 pub returns-then-looks_at_now-clause-leads : goal.returns-then-looks_at_now-clause-leads

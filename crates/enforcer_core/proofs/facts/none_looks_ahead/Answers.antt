@@ -5,7 +5,7 @@ use Rattle.plan_terms.specs.Plans.{plan_of}
 use Rattle.plan_terms.specs.declared.plans.Plan.{Plan as StoredPlan}
 use Rattle.obligations.specs.Traces.{LooksAtNow}
 use Rattle.enforcer_core.proofs.PresentLemmas.{all_one_more, looks_at_now}
-use Rattle.enforcer_core.proofs.remembered.none_looks_ahead.Goals as goal
+use Rattle.enforcer_core.proofs.facts.none_looks_ahead.Goals as goal
 
 pub loop-plan-preserved : goal.loop-plan-preserved
 loop-plan-preserved c =
