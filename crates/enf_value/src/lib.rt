@@ -1,7 +1,7 @@
 //! What logs, signatures and policies speak of: values with their order, events, sets of events, terms and intervals;
 //! how values are printed and read; and how the texts of signatures and policies are cut into tokens.
 //! An event set is a list without repeats, in the order in which its events came. It stands on the kit's
-//! `indexmap`, and values that are numbers are printed by the kit's `itoa`.
+//! `indexmap`, rows and texts on its `smallvec`; its `itoa` prints numbers.
 #![tactic(auto)]
 
 pub mod event_sets;

@@ -93,7 +93,7 @@ fn put_number(bytes: &[u8], row: &mut Row) -> Result<Option<usize>, NoMemory>
     Ok(Some(end))
 }
 
-// Most texts are short, all ASCII and have no escape: such a one is copied to where it stays, and moved no more.
+// Most texts are short, all ASCII and have no escape: such a one is looked at once and copied once.
 #[inline(always)]
 fn put_text(alloc: Global, bytes: &[u8], row: &mut Row) -> Result<Option<usize>, NoMemory>
     requires { slice_index bytes.now 0 ≡ 34 }
