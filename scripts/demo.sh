@@ -1,6 +1,6 @@
 #!/usr/bin/env bash
 # Enforces the logs of examples/, and shows for each what was changed, the report and the status, and what an audit says
-# of what goes out and of the log as it came. One of them is a generated log, which it generates again. It checks two
+# of what is emitted and of the log as it came. One of them is a generated log, which it generates again. It checks two
 # policies, of which one is refused.
 set -u
 cd "$(dirname "$0")/.." || exit 1
@@ -26,7 +26,7 @@ show_file() {
 # show_enforced NAME FILE: what was changed in a log of examples/.
 show_enforced() {
     echo
-    echo "== enf enforce, on examples/$2: '-' came in, '+' goes out in its place (a tick never does)"
+    echo "== enf enforce, on examples/$2: '-' came in, '+' is emitted in its place (a tick never does)"
     show_changes "examples/$2" "$work/$1.output"
     show_end "$1"
 }
@@ -38,7 +38,7 @@ show_checked() {
     show_end "$1"
 }
 
-# show_audited NAME: what goes out satisfies the policy, and the log as it came does not.
+# show_audited NAME: what is emitted satisfies the policy, and the log as it came does not.
 show_audited() {
     echo
     echo "== enf audit, on examples/$1/$1.enforced and on examples/$1/$1.log"

@@ -4,7 +4,7 @@
 policies: whether the policies and logs of docs/POLICIES.md stand among the cases of enf_cases, which the gate runs, with
 the answers that the page has; `policies --print` prints the cases.
 recipes: runs the commands of README.md and docs/USING.md on the files of examples/, by the program bin/enf, and compares
-what they write with what stands behind them."""
+what they write with what stands after them."""
 import os
 import re
 import shutil
@@ -13,6 +13,7 @@ import sys
 import tempfile
 
 SEPARATOR = '\\x01'
+WANTED = ' => '
 LINE_FEED = '\\x0a'
 TOLD = (': ', '= ', '- ', '+ ')
 # What an action looks like in the answer of a case.
@@ -25,7 +26,7 @@ def read(name):
 
 
 def blocks(text):
-    """The fenced blocks of a document: the words behind the fence, and the text."""
+    """The fenced blocks of a document: the words after the fence, and the text."""
     return [(found.group(1).split(), found.group(2)) for found in re.finditer(r'^```(.*)\n((?:.*\n)*?)```$', text, re.M)]
 
 
@@ -52,7 +53,7 @@ def policies(words):
     if words == ['--print']:
         print('\n'.join(case for case, _ in wanted))
         return 0
-    answers = dict(zip(*(read(f'crates/enf_cases/{name}').split('\n') for name in ('stdin', 'stdout'))))
+    answers = dict(line.split(WANTED, 1) for line in read('crates/enf_cases/stdin').split('\n') if WANTED in line)
     wrong = 0
     for case, answer in wanted:
         known = ACTION.sub('', answers.get(case, 'no such case')).strip()
@@ -76,7 +77,7 @@ def run(recipe, wanted, folder):
 
 
 def recipes():
-    """A recipe is a block of `sh`, with the tools that it needs behind that word; what it writes is a `text` behind it."""
+    """A recipe is a block of `sh`, with the tools that it needs after that word; what it writes is a `text` after it."""
     done, wrong, left = 0, 0, 0
     for document in ('README.md', 'docs/USING.md'):
         with tempfile.TemporaryDirectory() as folder:

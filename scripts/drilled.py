@@ -17,7 +17,7 @@ def change(events, event, name):
 
 
 def decide(time, events, inserted):
-    """A step at a time goes out with these events, changed as the rules want."""
+    """A step at a time is emitted with these events, changed as the rules want."""
     COUNTS['inserted' if inserted else 'steps'] += 1
     for owed, user, end in PENDING:
         if inserted and end == time and (owed, user) not in events:

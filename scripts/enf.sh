@@ -64,7 +64,7 @@ run_unproved() {
     (cd crates/enf_cli && rt try "${data[@]}" --cases "$work/runs") > "$work/outputs" 2> "$work/reports"
     for run in "$work"/runs/*.args; do
         run=$(basename "$run" .args)
-        # The outputs stand one behind another, each behind the run's name; a report in front of the line with the status.
+        # The outputs stand one after another, each after the run's name; a report in front of the line with the status.
         awk -v run="== $run" '/^== / { is_it = $0 == run; next } is_it' "$work/outputs" > "$work/$run.output"
         awk -v run="case=$run" '
             $1 == run { printf "%s", report; exit }
@@ -88,7 +88,7 @@ show_lines() {
     fi
 }
 
-# Shows a log beside what went out: '-' came in, '+' goes out in its place, all other lines pass unchanged.
+# Shows a log beside what was emitted: '-' came in, '+' is emitted in its place, all other lines pass unchanged.
 show_changes() {
     if [ ! -s "$1" ] && [ ! -s "$2" ]; then
         echo "  (empty)"

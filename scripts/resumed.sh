@@ -1,7 +1,7 @@
 #!/usr/bin/env bash
-# Stops the enforcement of each log of examples/, and of one under twelve rules, behind each of its records with the state
-# saved, goes on from there, and compares all that goes out and the report with those of the run that was not stopped. Then
-# it stops behind every record of the log, one after the other.
+# Stops the enforcement of each log of examples/, and of one under twelve rules, after each of its records with the state
+# saved, goes on from there, and compares all that is emitted and the report with those of the run that was not stopped. Then
+# it stops after every record of the log, one after the other.
 set -u
 cd "$(dirname "$0")/.." || exit 1
 . scripts/enf.sh
@@ -45,14 +45,14 @@ hold() {
         rm -f "$work/state"
         run first "$work/first.log" "$1" "$2" --save "$work/state"
         if [ "$(cat "$work/first.status")" != 0 ]; then
-            [ ! -e "$work/state" ] && cmp -s "$work/first.output" "$work/whole.output" || fail "$3 refused behind $count"
+            [ ! -e "$work/state" ] && cmp -s "$work/first.output" "$work/whole.output" || fail "$3 refused after record $count"
             continue
         fi
         run second "$work/second.log" "$1" "$2" --resume "$work/state"
-        is_whole "$count" || fail "$3 stopped behind $count is not as it goes on"
+        is_whole "$count" || fail "$3 stopped after record $count is not as it goes on"
     done
     [ "$(cat "$work/whole.status")" != 0 ] || hold_each "$@"
-    echo "$3: as it goes on, stopped behind each of its $records records"
+    echo "$3: as it goes on, stopped after each of its $records records"
 }
 
 # hold_each SIG POLICY LOG: each record in a run of its own.
@@ -66,7 +66,7 @@ hold_each() {
         cat "$work/each.output" >> "$work/all"
     done < "$3"
     run each /dev/null "$1" "$2" --resume "$work/state"
-    cat "$work/all" "$work/each.output" | cmp -s - "$work/whole.output" || fail "$3 stopped behind every record is not as it goes on"
+    cat "$work/all" "$work/each.output" | cmp -s - "$work/whole.output" || fail "$3 stopped after every record is not as it goes on"
 }
 
 for example in access data generated safety; do

@@ -75,7 +75,7 @@ echo
 if [ -n "${3:-}" ]; then
     add_run own "$work/log" enforce signature policy
     make_runs "$work/files"
-    echo "== $3: '-' came in, '+' goes out in its place (a tick never does)"
+    echo "== $3: '-' came in, '+' is emitted in its place (a tick never does)"
     show_changes "$work/log" "$work/own.output"
 else
     add_run own /dev/null check signature policy

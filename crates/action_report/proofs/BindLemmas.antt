@@ -1,25 +1,13 @@
 -- Bindings, as they stand in a line and in a valuation.
-use Rattle.std.proofs.Common.{◌≡◌, ℕ, ◌≤◌, Bool, true, false, cond, Result, Ok, Err, IfOk, List, [], ◌∷◌, ◌++◌, length, map, Option, Some, None, codes, refl, sym, ap, subst, ◌∙◌, arith, append_assoc}
-use Rattle.std.specs.Cmp.{IsTotalOrder}
+use Rattle.action_report.proofs.Vocabulary.{◌≡◌, ℕ, Bool, true, false, cond, Result, Ok, Err, IfOk, List, []}
+use Rattle.action_report.proofs.Vocabulary.{◌∷◌, ◌++◌, map, Some, None, codes, refl, sym, ap, subst}
+use Rattle.action_report.proofs.Vocabulary.{◌∙◌, arith, append_assoc, by_order, find, put, AllByRecursion}
+use Rattle.action_report.proofs.Vocabulary.{IsStrictlySortedBy, is_eq, ordering_reverse, Less, Greater, map-append}
+use Rattle.action_report.proofs.Vocabulary.{sorted_head, sorted_tail, spelled, EndsBefore, IsNoDigit, Valuation}
+use Rattle.action_report.proofs.Vocabulary.{bindings, value_at, variable_cmp, variable_cmp_total, IsValue, VarId, Value}
+use Rattle.action_report.proofs.Vocabulary.{Num, Text, all_at_middle, with_value, variable_text, binding_text}
+use Rattle.action_report.proofs.Vocabulary.{bindings_text, AddsBindings, IsRising}
 use Rattle.std.specs.FinMap as finite
-use Rattle.std.specs.FinMap.Entries.{by_order, find, put}
-use Rattle.std.specs.List.{AllByRecursion, flat_map}
-use Rattle.std.specs.List.Sorted.{IsStrictlySortedBy}
-use Rattle.std.specs.Ordering.{is_eq, ordering_reverse}
-use Rattle.std.specs.declared.cmp.Ordering.{Ordering}
-use Rattle.std.specs.declared.cmp.Ordering.TheVariants.{Less, Greater}
-use Rattle.std.proofs.lemmas.List.{map-append}
-use Rattle.std.proofs.lemmas.Map.Keys.{sorted_head, sorted_tail}
-use Rattle.enf_value.specs.Spelling.{spelled}
-use Rattle.enf_value.specs.Valuations.{Valuation, bindings, no_values, value_at, variable_cmp, variable_cmp_total}
-use Rattle.enf_value.specs.ValueTokens.{EndsBefore, IsNoDigit, IsValue}
-use Rattle.enf_value.specs.declared.terms.VarId.{VarId}
-use Rattle.enf_value.specs.declared.values.Value.{Value}
-use Rattle.enf_value.specs.declared.values.Value.TheVariants.{Num, Text}
-use Rattle.valuations.specs.Bindings.{with_value}
-use Rattle.formula_reader.specs.Canonical.{variable_text}
-use Rattle.action_report.specs.Lines.{binding_text, bindings_text}
-use Rattle.action_report.specs.Loose.{AddsBindings, IsRising}
 
 abbrev pub Binding : Type 0
 Binding = VarId × Value
@@ -27,19 +15,15 @@ Binding = VarId × Value
 abbrev pub keys : List Binding → List VarId
 keys values = map (λ binding. binding.0) values
 
--- the variable stands behind those that are bound
+-- the variable stands after those that are bound
 abbrev pub IsBehind : VarId → List Binding → Type 0
 IsBehind x [] = Unit {0}
 IsBehind x (binding ∷ values) = (variable_cmp x binding.0 ≡ Greater) × IsBehind x values
 
-at_middle : (P : VarId → Type 0) (xs : List VarId) (x : VarId) (ys : List VarId) → AllByRecursion P (xs ++ x ∷ ys) → P x
-at_middle P [] x ys all = all.0
-at_middle P (y ∷ xs) x ys all = at_middle P xs x ys all.1
-
 pub behind_from_rising : (values : List Binding) (x : VarId) (xs : List VarId) → IsRising values (x ∷ xs) → IsBehind x values
 behind_from_rising [] x xs rise = tt
 behind_from_rising (binding ∷ values) x xs rise =
-    let less : variable_cmp binding.0 x ≡ Less = at_middle (λ y. variable_cmp binding.0 y ≡ Less) (keys values) x xs (sorted_head variable_cmp binding.0 (keys values ++ x ∷ xs) rise) in
+    let less : variable_cmp binding.0 x ≡ Less = all_at_middle (λ y. variable_cmp binding.0 y ≡ Less) (keys values) x xs (sorted_head variable_cmp binding.0 (keys values ++ x ∷ xs) rise) in
     (variable_cmp_total.antisymm x binding.0 ∙ ap ordering_reverse less, behind_from_rising values x xs (sorted_tail variable_cmp binding.0 (keys values ++ x ∷ xs) rise))
 
 put_behind : (x : VarId) (value : Value) (values : List Binding) → IsBehind x values → put variable_cmp x value values ≡ values ++ (x, value) ∷ []
@@ -72,7 +56,7 @@ rising_on v w x value scope xs is rise bound =
 abbrev pub AreValues : List Binding → Type 0
 AreValues values = AllByRecursion (λ binding. IsValue binding.1) values
 
--- what stands behind a binding ends its value
+-- what stands after a binding ends its value
 pub ends_binding : (vars : List (List ℕ)) (value : Value) (values : List Binding) (rest : List ℕ) → IsNoDigit rest → EndsBefore value (bindings_text vars values ++ rest)
 ends_binding vars (Num number) [] rest ends = ends
 ends_binding vars (Num number) (next ∷ values) rest ends = λ low high. omega arith
@@ -95,12 +79,7 @@ first_bound scope xs x (binding ∷ others) is same are =
     let rest : keys others ≡ xs = cc e in
     record { value = binding.1; others = others; are = ap (λ y. (y, binding.1) ∷ others) first; is_value = are.0; keys_are = rest; are_values = are.1 }
 
-pub none_are : (scope : List VarId) (values : List Binding) → length scope ≡ 0 → keys values ≡ scope → values ≡ []
-none_are scope [] none same = refl
-none_are [] (binding ∷ values) none same = absurd cc
-none_are (x ∷ scope) (binding ∷ values) none same = absurd (omega (arith, none))
-
--- its text, and what is behind it
+-- its text, and what is after it
 pub binding_front : (vars : List (List ℕ)) (values others : List Binding) (x : VarId) (value : Value) (rest bytes : List ℕ) → values ≡ (x, value) ∷ others → bytes ≡ bindings_text vars values ++ rest
     → bytes ≡ codes " " ++ (variable_text vars x ++ (codes "=" ++ (spelled value ++ (bindings_text vars others ++ rest))))
 binding_front vars values others x value rest bytes are is =
@@ -109,15 +88,17 @@ binding_front vars values others x value rest bytes are is =
     ∙ ap (λ l. codes " " ++ l) (append_assoc (variable_text vars x) (codes "=" ++ spelled value) (bindings_text vars others ++ rest)
     ∙ ap (λ l. variable_text vars x ++ l) (append_assoc (codes "=") (spelled value) (bindings_text vars others ++ rest)))
 
--- ---- one binding, and those behind it
+-- ---- one binding, and those after it
 
-pub bound_join : {E : Type 0} (result : Result Bool E) (before middle after values others : List Binding) (x : VarId) (value : Value) (left rest : List ℕ) → middle ≡ before ++ (x, value) ∷ [] → values ≡ (x, value) ∷ others
+pub bound_join : {E : Type 0} (result : Result Bool E) (before middle after values others : List Binding) (x : VarId) (value : Value) (left rest : List ℕ) → middle
+    ≡ before ++ (x, value) ∷ [] → values ≡ (x, value) ∷ others
     → IfOk result (λ all. (all ≡ true) × (after ≡ middle ++ others) × (left ≡ rest)) → IfOk result (λ all. (all ≡ true) × (after ≡ before ++ values) × (left ≡ rest))
 bound_join (Err e) before middle after values others x value left rest bound are h = tt
 bound_join (Ok all) before middle after values others x value left rest bound are h =
     (h.0, h.1 ∙ ap (λ l. l ++ others) bound ∙ append_assoc before ((x, value) ∷ []) others ∙ ap (λ l. before ++ l) (sym are), h.2)
 
-pub adds_join : {E : Type 0} (result : Result Bool E) (scope xs : List VarId) (before middle after : List Binding) (x : VarId) (value : Value) → scope ≡ x ∷ xs → middle ≡ before ++ (x, value) ∷ [] → IsValue value
+pub adds_join : {E : Type 0} (result : Result Bool E) (scope xs : List VarId) (before middle after : List Binding) (x : VarId) (value : Value) → scope ≡ x ∷ xs → middle
+    ≡ before ++ (x, value) ∷ [] → IsValue value
     → IfOk result (AddsBindings xs middle after) → IfOk result (AddsBindings scope before after)
 adds_join (Err e) scope xs before middle after x value is bound fits h = tt
 adds_join (Ok false) scope xs before middle after x value is bound fits h = tt
@@ -127,10 +108,3 @@ adds_join (Ok true) scope xs before middle after x value is bound fits (others, 
   (fits, are),
   added ∙ ap (λ l. l ++ others) bound ∙ append_assoc before ((x, value) ∷ []) others,
 )
-
-pub nothing_bound : bindings no_values ≡ []
-nothing_bound = by (bindings no_values) (finite.len-entries no_values)
-  where
-    by : (l : List Binding) → finite.len no_values ≡ length l → l ≡ []
-    by [] e = refl
-    by (b ∷ l) e = absurd (omega (arith, sym (finite.len-empty variable_cmp Value) ∙ e))

@@ -1,7 +1,7 @@
+pub mod Vocabulary
 pub mod BindLemmas
-pub mod Fronts
+pub mod ByteFronts
 pub mod NumberLemmas
 pub mod OneAction
-pub mod Parts
 pub mod ReadLemmas
 pub mod RowLemmas

@@ -1,21 +1,12 @@
--- The rule with a name, and what stands behind numbers.
-use Rattle.std.proofs.Common.{◌≡◌, ℕ, zero, suc, Bool, true, false, cond, List, [], ◌∷◌, ◌++◌, map, Option, Some, Contains, IsTrue, slice_get, codes, refl, sym, ap, subst, ◌∙◌, arith, append_assoc}
-use Rattle.std.specs.List.{AllByRecursion, position}
-use Rattle.std.specs.Option.{option_map}
-use Rattle.std.specs.Str.{bytes_eq}
-use Rattle.std.proofs.lemmas.Option.{get_or_from_slice_get, slice_get-map, slice_get_within}
-use Rattle.std.proofs.lemmas.Slice.Eq.{bytes_eq-Decides}
-use Rattle.enf_value.specs.Membership.{HasNoRepeats}
-use Rattle.enf_value.specs.ValueTokens.{IsNoDigit}
-use Rattle.signature.specs.NumberLaws.{position-cons}
-use Rattle.signature.specs.declared.entries.NameEntry.{NameEntry}
-use Rattle.formula_reader.specs.Resolution.{Rule, rule_of}
-use Rattle.formula_reader.specs.WellFormed.{IsWellFormedPolicy, IsWellFormedRule}
+-- The rule with a name, and what stands after numbers.
+use Rattle.action_report.proofs.Vocabulary.{◌≡◌, ℕ, zero, suc, Bool, true, false, cond, List, [], ◌∷◌}
+use Rattle.action_report.proofs.Vocabulary.{◌++◌, map, Some, Contains, slice_get, codes, refl, sym, ap, subst}
+use Rattle.action_report.proofs.Vocabulary.{◌∙◌, arith, append_assoc, AllByRecursion, position, option_map}
+use Rattle.action_report.proofs.Vocabulary.{bytes_eq, get_or_from_slice_get, slice_get-map, slice_get_within}
+use Rattle.action_report.proofs.Vocabulary.{bytes_eq-Decides, HasNoRepeats, IsNoDigit, position-cons, NameEntry, Rule}
+use Rattle.action_report.proofs.Vocabulary.{rule_of, IsWellFormedPolicy, IsWellFormedRule, Action, bindings_text}
+use Rattle.action_report.proofs.Vocabulary.{cause_text, when_text, labelled, IsRuleNamedOnce}
 use Rattle.formula_reader.specs.declared.policies.Rule.{Rule as StoredRule}
-use Rattle.obligations.specs.declared.actions.Action.{Action}
-use Rattle.action_report.specs.Lines.{bindings_text, cause_text, when_text}
-use Rattle.action_report.specs.Loose.{IsNamed}
-use Rattle.action_report.specs.Parts.{labelled}
 use Rattle.action_report.proofs.BindLemmas.{Binding}
 use Rattle.action_report.proofs.RowLemmas.{name_is_word}
 
@@ -45,7 +36,7 @@ abbrev name_of_rule : Rule → List ℕ
 name_of_rule rule = rule.name
 
 -- two rules of one name are one
-pub named : (rules : List Rule) (m n : ℕ) (rule other : Rule) → IsNamed rules m rule → IsNamed rules n other → rule.name ≡ other.name → m ≡ n
+pub named : (rules : List Rule) (m n : ℕ) (rule other : Rule) → IsRuleNamedOnce rules m rule → IsRuleNamedOnce rules n other → rule.name ≡ other.name → m ≡ n
 named rules m n rule other is also same =
     let first = position_named name_of_rule rule.name rules m is.distinct (slice_get-map name_of_rule rules m ∙ ap (option_map name_of_rule) is.found) in
     let second = position_named name_of_rule rule.name rules n is.distinct (slice_get-map name_of_rule rules n ∙ ap (option_map name_of_rule) also.found ∙ ap Some (sym same)) in
@@ -57,25 +48,26 @@ names_same [] = refl
 names_same (rule ∷ rules) = ap (λ l. rule.name ∷ l) (names_same rules)
 
 -- a rule of the program is found by its name
-pub place_named : (rules : List StoredRule) (number : ℕ) (rule : Rule) (name : List ℕ) → IsNamed (map rule_of rules) number rule → name ≡ rule.name → position (λ (other : StoredRule). bytes_eq other.name name) rules ≡ Some number
+pub place_named : (rules : List StoredRule) (number : ℕ) (rule : Rule) (name : List ℕ) → IsRuleNamedOnce (map rule_of rules) number rule → name ≡ rule.name
+    → position (λ (other : StoredRule). bytes_eq other.name name) rules ≡ Some number
 place_named rules number rule name is same =
     position_named (λ (other : StoredRule). other.name) name rules number (subst HasNoRepeats (names_same rules) is.distinct)
     (ap (λ l. slice_get l number) (sym (names_same rules)) ∙ slice_get-map name_of_rule (map rule_of rules) number ∙ ap (option_map name_of_rule) is.found ∙ ap Some (sym same))
 
 -- a rule of a policy
-pub rule_at : (entries : List NameEntry) (rules : List Rule) (number : ℕ) (rule : Rule) → IsWellFormedPolicy entries rules → slice_get rules number ≡ Some rule → IsNamed rules number rule
+pub rule_at : (entries : List NameEntry) (rules : List Rule) (number : ℕ) (rule : Rule) → IsWellFormedPolicy entries rules → slice_get rules number ≡ Some rule → IsRuleNamedOnce rules number rule
 rule_at entries rules number rule policy found = record {
   found = found;
   word = name_is_word rule.name (all_at (IsWellFormedRule entries) rules number rule policy.each found).name.0;
   distinct = policy.distinct;
 }
 
--- what stands behind the last number
+-- what stands after the last number
 pub no_digit_behind : (vars : List (List ℕ)) (values : List Binding) → IsNoDigit (bindings_text vars values ++ codes "\n")
 no_digit_behind vars [] = λ low high. omega arith
 no_digit_behind vars (value ∷ values) = λ low high. omega arith
 
--- ---- the numbers, one behind the other
+-- ---- the numbers, one after the other
 
 pub when_split : (action : Action) (rest : List ℕ) → when_text action ++ rest ≡ labelled (codes " at ") action.time ++ (labelled (codes " step ") action.position ++ rest)
 when_split action rest = append_assoc (labelled (codes " at ") action.time) (labelled (codes " step ") action.position) rest

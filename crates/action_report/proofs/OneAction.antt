@@ -1,47 +1,21 @@
 -- A line is that of one action alone.
-use Rattle.std.proofs.Common.{◌≡◌, ℕ, zero, suc, ◌<◌, ◌^◌, ◌&&◌, Bool, true, false, cond, List, [], ◌∷◌, ◌++◌, length, map, drop, Option, Some, None, Contains, IsTrue, slice_get, slice_index, codes, decimal, refl, sym, ap, subst, ◌∙◌, arith, append_assoc}
-use Rattle.std.specs.FinMap as finite
-use Rattle.std.specs.List.{AllByRecursion, position, take_while}
-use Rattle.std.specs.Option.{option_map}
-use Rattle.std.specs.Char.{is_ascii_digit}
-use Rattle.std.specs.Str.{bytes_eq}
-use Rattle.std.specs.Str.Parse.{digits_value}
-use Rattle.std.proofs.lemmas.Fmt.{decimal_is_IsNumeral}
-use Rattle.std.proofs.lemmas.List.{drop_at}
-use Rattle.enf_value.specs.Membership.{HasNoRepeats}
-use Rattle.enf_value.specs.Names.{is_word, is_word_byte}
-use Rattle.enf_value.specs.Spelling.{spelled}
-use Rattle.enf_value.specs.Valuations.{bindings}
-use Rattle.enf_value.specs.ValueTokens.{EndsBefore, IsNoDigit, IsValue, OneTokenAtPlace, PrintedIsToken}
-use Rattle.enf_value.specs.declared.events.Event.{Event}
-use Rattle.enf_value.specs.declared.terms.VarId.{VarId}
-use Rattle.enf_value.specs.declared.values.Value.{Value}
-use Rattle.signature.specs.Grammar.{IsSignature, names}
-use Rattle.signature.specs.NumberLaws.{number_only, position-cons}
-use Rattle.signature.specs.declared.entries.NameEntry.{NameEntry}
-use Rattle.signature.specs.declared.entries.Sort.{Sort}
-use Rattle.log_stream.specs.Lines.{spelled_event, spelled_row}
-use Rattle.log_stream.specs.RoundTrip.{FitColumns, IsDeclared}
-use Rattle.formula_reader.specs.Canonical.{variable_text}
-use Rattle.formula_reader.specs.Resolution.{Rule}
-use Rattle.formula_reader.specs.WellFormed.{IsWellFormedPolicy, IsWellFormedRule}
-use Rattle.plan_terms.specs.Plans.{Plan}
-use Rattle.plan_terms.specs.Scopes.{scope_at}
-use Rattle.obligations.specs.declared.actions.Action.{Action}
-use Rattle.obligations.specs.declared.literals.LiteralKind.{LiteralKind}
-use Rattle.obligations.specs.declared.literals.LiteralKind.TheVariants.{Cause, Suppress}
-use Rattle.action_report.specs.Lines.{action_line, bindings_text, cause_text, kind_text, rule_name, variables, when_text}
-use Rattle.action_report.specs.Loose.{IsNamed}
-use Rattle.action_report.specs.Parts.{EndsWord, labelled, marked}
-use Rattle.action_report.specs.Reading.{CanBeTold, IsReportLine, OneActionOfLine}
-use Rattle.action_report.specs.Scopes.{StandIn}
+use Rattle.action_report.proofs.Vocabulary.{◌≡◌, ℕ, ◌<◌, ◌^◌, List, [], ◌∷◌, ◌++◌, Some}
+use Rattle.action_report.proofs.Vocabulary.{IsTrue, slice_get, slice_index, codes, decimal, refl, sym, ap, subst}
+use Rattle.action_report.proofs.Vocabulary.{◌∙◌, arith, append_assoc, position, take_while, is_ascii_digit}
+use Rattle.action_report.proofs.Vocabulary.{digits_value, decimal_is_IsNumeral, is_word, is_word_byte, spelled}
+use Rattle.action_report.proofs.Vocabulary.{IsNoDigit, bindings, OneTokenAtPlace, PrintedIsToken, Event, VarId, Value}
+use Rattle.action_report.proofs.Vocabulary.{cancel_front as cancel, one_value, IsSignature, entry_names, number_only}
+use Rattle.action_report.proofs.Vocabulary.{NameEntry, Sort, spelled_event, spelled_row, FitColumns, IsDeclared}
+use Rattle.action_report.proofs.Vocabulary.{variable_text, Rule, Plan, scope_at, Action, LiteralKind, Cause, Suppress}
+use Rattle.action_report.proofs.Vocabulary.{action_line, bindings_text, cause_text, kind_text, rule_name}
+use Rattle.action_report.proofs.Vocabulary.{rule_variable_names, when_text, labelled, EndsWord, marked_values}
+use Rattle.action_report.proofs.Vocabulary.{OneActionOfLine, StandIn}
 use Rattle.action_report.proofs.BindLemmas.{AreValues, Binding, binding_front, ends_binding, keys}
-use Rattle.action_report.proofs.Fronts.{number_front, word_front}
-use Rattle.action_report.proofs.RowLemmas.{commas, ends_value, event_text, first_text, inner_text, marked_next, name_is_word, name_of, others_text, paren_ends, paren_ends_word}
+use Rattle.action_report.proofs.ByteFronts.{number_front, word_front}
+use Rattle.action_report.proofs.RowLemmas.{commas, ends_value, event_text, first_text, inner_text, name_of, others_text}
+use Rattle.action_report.proofs.RowLemmas.{paren_ends, paren_ends_word}
 use Rattle.action_report.proofs.NumberLemmas.{cause_split, named, no_digit_behind, rule_at, when_split}
-
-pub cancel : (front a b : List ℕ) → front ++ a ≡ front ++ b → a ≡ b
-cancel front a b e = sym (drop_at front a (length front) refl) ∙ ap (drop (length front)) e ∙ drop_at front b (length front) refl
+use Rattle.std.specs.FinMap as finite
 
 one_word : (v w a b : List ℕ) → IsTrue (is_word v) → IsTrue (is_word w) → EndsWord a → EndsWord b → v ++ a ≡ w ++ b → (v ≡ w) × (a ≡ b)
 one_word v w a b is also ends too e =
@@ -57,13 +31,8 @@ one_labelled : (word : List ℕ) (m n : ℕ) (a b : List ℕ) → m < 2 ^ 64 →
 one_labelled word m n a b small also ends too e =
     one_number m n a b small also ends too (cancel word (decimal m ++ a) (decimal n ++ b) (sym (append_assoc word (decimal m) a) ∙ e ∙ append_assoc word (decimal n) b))
 
-one_value : PrintedIsToken → OneTokenAtPlace → (v w : Value) (a b : List ℕ) → IsValue v → IsValue w → EndsBefore v a → EndsBefore w b → spelled v ++ a ≡ spelled w ++ b → (v ≡ w) × (a ≡ b)
-one_value printed one v w a b fits also ends too e =
-    let same : v ≡ w = (one (spelled v ++ a) 0 _ _ v w (printed (spelled v ++ a) 0 v a fits ends refl) (printed (spelled v ++ a) 0 w b also too e)).0 in
-    (same, cancel (spelled w) a b (ap (λ x. spelled x ++ a) (sym same) ∙ e))
-
 one_row : PrintedIsToken → OneTokenAtPlace → (mark : List ℕ) (sorts : List Sort) (args others : List Value) (a b : List ℕ) → FitColumns sorts args → FitColumns sorts others → IsNoDigit a → IsNoDigit b
-    → marked mark args ++ a ≡ marked mark others ++ b → (args ≡ others) × (a ≡ b)
+    → marked_values mark args ++ a ≡ marked_values mark others ++ b → (args ≡ others) × (a ≡ b)
 one_row printed one mark [] [] [] a b fit also ends too e = (refl, e)
 one_row printed one mark [] [] (w ∷ ws) a b fit also ends too e = absurd also
 one_row printed one mark [] (v ∷ vs) others a b fit also ends too e = absurd fit
@@ -76,17 +45,19 @@ one_row printed one mark (s ∷ sorts) (v ∷ vs) (w ∷ ws) a b fit also ends t
     (λ i. value.0 i ∷ rest.0 i, rest.1)
 
 one_event : PrintedIsToken → OneTokenAtPlace → (entries : List NameEntry) (event other : Event) (a b : List ℕ) → IsSignature entries → IsDeclared entries event → IsDeclared entries other
-    → spelled_event (names entries) event ++ a ≡ spelled_event (names entries) other ++ b → (event ≡ other) × (a ≡ b)
+    → spelled_event (entry_names entries) event ++ a ≡ spelled_event (entry_names entries) other ++ b → (event ≡ other) × (a ≡ b)
 one_event printed one entries event other a b signature d k e =
     let n = name_of entries event signature d in
     let m = name_of entries other signature k in
-    let word = one_word d.entry.text k.entry.text (40 ∷ spelled_row event.args ++ 41 ∷ a) (40 ∷ spelled_row other.args ++ 41 ∷ b) n.word m.word (paren_ends_word (spelled_row event.args ++ 41 ∷ a)) (paren_ends_word (spelled_row other.args ++ 41 ∷ b))
+    let word = one_word d.entry.text k.entry.text (40 ∷ spelled_row event.args ++ 41 ∷ a) (40 ∷ spelled_row other.args ++ 41 ∷ b) n.word m.word
+    (paren_ends_word (spelled_row event.args ++ 41 ∷ a)) (paren_ends_word (spelled_row other.args ++ 41 ∷ b))
     (sym (event_text entries event d.entry a _ n refl) ∙ e ∙ event_text entries other k.entry b _ m refl) in
-    let numbers : Some event.name.0 ≡ Some other.name.0 = sym (number_only entries d.entry.text event.name.0 signature.distinct n.found) ∙ number_only entries d.entry.text other.name.0 signature.distinct (m.found ∙ ap Some (sym word.0)) in
+    let numbers : Some event.name.0 ≡ Some other.name.0 = sym (number_only entries d.entry.text event.name.0 signature.distinct n.found) ∙ number_only entries d.entry.text other.name.0
+    signature.distinct (m.found ∙ ap Some (sym word.0)) in
     let number : event.name.0 ≡ other.name.0 = cc numbers in
     let both : Some d.entry ≡ Some k.entry = sym d.found ∙ ap (slice_get entries) number ∙ k.found in
     let entry : d.entry ≡ k.entry = cc both in
-    let inner = cancel (40 ∷ []) (marked [] event.args ++ 41 ∷ a) (marked [] other.args ++ 41 ∷ b) (sym (inner_text a _ event.args refl) ∙ word.1 ∙ inner_text b _ other.args refl) in
+    let inner = cancel (40 ∷ []) (marked_values [] event.args ++ 41 ∷ a) (marked_values [] other.args ++ 41 ∷ b) (sym (inner_text a _ event.args refl) ∙ word.1 ∙ inner_text b _ other.args refl) in
     let row = one_row printed one [] k.entry.sorts event.args other.args (41 ∷ a) (41 ∷ b) (subst (λ x. FitColumns x.sorts event.args) entry d.fit) k.fit (paren_ends a) (paren_ends b) inner in
     (λ i. record { name = record { 0 = number i }; args = row.0 i }, cancel (41 ∷ []) a b row.1)
 
@@ -96,7 +67,8 @@ one_kind Suppress Suppress a b e = (refl, cancel (codes "suppress ") a b e)
 one_kind Cause Suppress a b e = let first : 99 ≡ 115 = ap (λ l. slice_index l 0) e in absurd (omega (arith, first))
 one_kind Suppress Cause a b e = let first : 115 ≡ 99 = ap (λ l. slice_index l 0) e in absurd (omega (arith, first))
 
-one_bindings : PrintedIsToken → OneTokenAtPlace → (vars : List (List ℕ)) (values others : List Binding) (a b : List ℕ) → keys values ≡ keys others → AreValues values → AreValues others → IsNoDigit a → IsNoDigit b
+one_bindings : PrintedIsToken → OneTokenAtPlace → (vars : List (List ℕ)) (values others : List Binding) (a b : List ℕ) → keys values ≡ keys others → AreValues values
+    → AreValues others → IsNoDigit a → IsNoDigit b
     → bindings_text vars values ++ a ≡ bindings_text vars others ++ b → (values ≡ others) × (a ≡ b)
 one_bindings printed one vars [] [] a b same are also ends too e = (refl, e)
 one_bindings printed one vars [] (w ∷ ws) a b same are also ends too e = absurd cc
@@ -117,7 +89,8 @@ one_bindings printed one vars (v ∷ vs) (w ∷ ws) a b same are also ends too e
 
 -- ---- the whole line
 
-pub same_action : (a b : Action) → a.kind ≡ b.kind → a.event ≡ b.event → a.time ≡ b.time → a.position ≡ b.position → a.rule ≡ b.rule → a.node ≡ b.node → a.leaf ≡ b.leaf → a.origin ≡ b.origin → a.valuation ≡ b.valuation → a ≡ b
+pub same_action : (a b : Action) → a.kind ≡ b.kind → a.event ≡ b.event → a.time ≡ b.time → a.position ≡ b.position → a.rule ≡ b.rule → a.node ≡ b.node → a.leaf
+    ≡ b.leaf → a.origin ≡ b.origin → a.valuation ≡ b.valuation → a ≡ b
 same_action a b kind event time position rule node leaf origin valuation = λ i. record {
   kind = kind i;
   event = event i;
@@ -140,11 +113,14 @@ scope_same plans rule node leaf more scope other s o =
 -- a line by its parts, the rule being this one
 abbrev told_text : List NameEntry → Rule → Action → List ℕ
 told_text entries rule action =
-    kind_text action.kind ++ (codes " " ++ (spelled_event (names entries) action.event ++ (when_text action ++ (cause_text rule.name action ++ (bindings_text rule.vars (bindings action.valuation) ++ codes "\n")))))
+    kind_text action.kind ++ (codes " " ++ (spelled_event (entry_names entries) action.event ++
+    (when_text action ++ (cause_text rule.name action ++ (bindings_text rule.vars (bindings action.valuation) ++ codes "\n")))))
 
-pub line_parts : (entries : List NameEntry) (rules : List Rule) (rule : Rule) (action : Action) → slice_get rules action.rule ≡ Some rule → action_line entries rules action ≡ told_text entries rule action
+pub line_parts : (entries : List NameEntry) (rules : List Rule) (rule : Rule) (action : Action) → slice_get rules action.rule ≡ Some rule → action_line entries rules action
+    ≡ told_text entries rule action
 line_parts entries rules rule action found =
-    ap (λ r. kind_text action.kind ++ (codes " " ++ (spelled_event (names entries) action.event ++ (when_text action ++ (cause_text (rule_name r) action ++ (bindings_text (variables r) (bindings action.valuation) ++ codes "\n")))))) found
+    ap (λ r. kind_text action.kind ++ (codes " " ++ (spelled_event (entry_names entries) action.event ++
+    (when_text action ++ (cause_text (rule_name r) action ++ (bindings_text (rule_variable_names r) (bindings action.valuation) ++ codes "\n")))))) found
 
 pub one_action : PrintedIsToken → OneTokenAtPlace → OneActionOfLine
 one_action printed one entries rules plans line a b signature policy small also x y =
@@ -164,7 +140,7 @@ one_action printed one entries rules plans line a b signature policy small also 
     let cause_b = cause_text q.rule.name b ++ end_b in
     let step_a = labelled (codes " step ") a.position ++ cause_a in
     let step_b = labelled (codes " step ") b.position ++ cause_b in
-    let kind = one_kind a.kind b.kind (spelled_event (names entries) a.event ++ (when_text a ++ cause_a)) (spelled_event (names entries) b.event ++ (when_text b ++ cause_b))
+    let kind = one_kind a.kind b.kind (spelled_event (entry_names entries) a.event ++ (when_text a ++ cause_a)) (spelled_event (entry_names entries) b.event ++ (when_text b ++ cause_b))
     (sym (line_parts entries rules p.rule a p.of_rule) ∙ sym x.line_is ∙ y.line_is ∙ line_parts entries rules q.rule b q.of_rule) in
     let event = one_event printed one entries a.event b.event (when_text a ++ cause_a) (when_text b ++ cause_b) signature p.event q.event kind.1 in
     let time = one_labelled (codes " at ") a.time b.time step_a step_b small.time also.time (λ low high. omega arith) (λ low high. omega arith)

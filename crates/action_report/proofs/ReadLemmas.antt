@@ -1,39 +1,29 @@
--- What is read behind the numbers, and the whole.
-use Rattle.std.proofs.Common.{◌≡◌, ℕ, ◌<◌, ◌^◌, Bool, true, List, [], ◌∷◌, ◌++◌, length, map, Option, Some, None, IfNone, slice_get, refl, sym, ap, subst, ◌∙◌, arith, zero, suc}
-use Rattle.std.specs.FinMap as finite
-use Rattle.std.specs.List.{AllByRecursion}
-use Rattle.std.specs.List.Sorted.{IsStrictlySortedBy}
-use Rattle.std.specs.Option.{option_map}
-use Rattle.enf_value.specs.Valuations.{Valuation, bindings, no_values, variable_cmp}
-use Rattle.enf_value.specs.ValueTokens.{IsValue}
-use Rattle.enf_value.specs.declared.terms.VarId.{VarId}
-use Rattle.plan_terms.specs.Plans.{Plan}
-use Rattle.plan_terms.specs.ScopeLaws.{FoundHasRisingScope}
-use Rattle.plan_terms.specs.Scopes.{IsScoped, scoped_at}
-use Rattle.action_report.specs.Loose.{AddsBindings, IsRising}
-use Rattle.action_report.specs.Reading.{BindsJust}
-use Rattle.action_report.specs.Scopes.{StandIn}
-use Rattle.action_report.proofs.BindLemmas.{keys, nothing_bound}
+-- What is read after the numbers, and the whole.
+use Rattle.action_report.proofs.Vocabulary.{◌≡◌, ℕ, ◌<◌, Bool, true, List, [], ◌∷◌, ◌++◌, length}
+use Rattle.action_report.proofs.Vocabulary.{Option, Some, None, IfNone, slice_get, refl, sym, ap, subst, ◌∙◌}
+use Rattle.action_report.proofs.Vocabulary.{arith, zero, suc, AllByRecursion, IsStrictlySortedBy, option_map, Valuation}
+use Rattle.action_report.proofs.Vocabulary.{bindings, no_values, variable_cmp, IsValue, VarId, nothing_rises}
+use Rattle.action_report.proofs.Vocabulary.{nothing_bound, Plan, FoundHasRisingScope, IsScopedPlan, scoped_at}
+use Rattle.action_report.proofs.Vocabulary.{AddsBindings, IsRising, BindsJust, StandIn}
+use Rattle.action_report.proofs.BindLemmas.{keys}
 use Rattle.action_report.proofs.NumberLemmas.{all_at}
+use Rattle.std.specs.FinMap as finite
 
 -- where nothing is found, what is said of that case holds
 pub when_none : {X P : Type 0} (o : Option X) → ((x : X) → o ≡ Some x → ⊥) → IfNone o P → P
 when_none None none p = p
 when_none (Some x) none p = absurd (none x refl)
 
-nothing_rises : IsStrictlySortedBy variable_cmp []
-unfolding IsStrictlySortedBy
-nothing_rises = tt
-
 with_node : (o : Option (Plan × List VarId)) (scope : List VarId) → option_map (λ node. node.1) o ≡ Some scope → (node : Plan) × (o ≡ Some (node, scope))
 with_node None scope found = absurd cc
 with_node (Some found) scope is = let same : found.1 ≡ scope = cc is in (found.0, ap (λ (s : List VarId). Some (found.0, s)) same)
 
 -- the variables in scope at a node rise
-pub scope_rises : FoundHasRisingScope → (plans : List Plan) (rule node leaf : ℕ) (scope : List VarId) → AllByRecursion (λ plan. IsScoped plan []) plans → StandIn plans rule node leaf scope → IsStrictlySortedBy variable_cmp scope
+pub scope_rises : FoundHasRisingScope → (plans : List Plan) (rule node leaf : ℕ) (scope : List VarId) → AllByRecursion (λ plan. IsScopedPlan plan []) plans
+    → StandIn plans rule node leaf scope → IsStrictlySortedBy variable_cmp scope
 scope_rises rises plans rule node leaf scope each stands =
     let found = with_node (scoped_at node stands.plan []) scope stands.in_scope in
-    rises stands.plan found.0 [] scope node found.1 (all_at (λ plan. IsScoped plan []) plans rule stands.plan each stands.planned) nothing_rises
+    rises stands.plan found.0 [] scope node found.1 (all_at (λ plan. IsScopedPlan plan []) plans rule stands.plan each stands.planned) nothing_rises
 
 pub rising_start : (v : Valuation) (list scope : List VarId) → v ≡ no_values → list ≡ scope → IsStrictlySortedBy variable_cmp scope → IsRising (bindings v) list
 rising_start v list scope empty is rise =

@@ -1,57 +1,35 @@
 -- Arguments and names, as they stand in a line.
-use Rattle.std.proofs.Common.{Result, Ok, Err, IfOk, ◌≡◌, ◌≢◌, ℕ, zero, suc, ◌<◌, ◌≤◌, ◌&&◌, ◌==◌, Bool, true, false, cond, List, [], ◌∷◌, ◌++◌, length, map, Option, Some, None, IsTrue, All, Contains, slice_get, slice_index_or, refl, sym, ap, subst, ◌∙◌, arith, append_assoc}
-use Rattle.std.specs.List.{flat_map, position}
-use Rattle.std.specs.Option.{option_map}
-use Rattle.std.specs.Str.{bytes_eq}
-use Rattle.std.proofs.lemmas.Option.{get_or_from_slice_get, slice_get-map, slice_get_within}
-use Rattle.enf_value.specs.Membership.{HasNoRepeats}
-use Rattle.enf_value.specs.Names.{is_name, is_reserved, is_word}
-use Rattle.enf_value.specs.Spelling.{spelled}
-use Rattle.enf_value.specs.ValueTokens.{EndsBefore, IsNoDigit, IsValue}
-use Rattle.enf_value.specs.declared.events.Event.{Event}
-use Rattle.enf_value.specs.declared.events.NameId.{NameId}
-use Rattle.enf_value.specs.declared.values.Value.{Value}
-use Rattle.enf_value.specs.declared.values.Value.TheVariants.{Num, Text}
-use Rattle.signature.specs.Grammar.{IsEntry, IsSignature, names}
-use Rattle.signature.specs.declared.entries.NameEntry.{NameEntry}
-use Rattle.signature.specs.declared.entries.Sort.{Sort}
-use Rattle.log_stream.specs.Lines.{spelled_event, spelled_row}
-use Rattle.log_stream.specs.RoundTrip.{FitColumns, IsDeclared}
-use Rattle.action_report.specs.Parts.{EndsWord, fits, marked}
+use Rattle.action_report.proofs.Vocabulary.{Result, Ok, Err, IfOk, ◌≡◌, ℕ, ◌&&◌, Bool, true, false, List}
+use Rattle.action_report.proofs.Vocabulary.{[], ◌∷◌, ◌++◌, Some, IsTrue, All, slice_get, slice_index_or, refl}
+use Rattle.action_report.proofs.Vocabulary.{sym, ap, subst, ◌∙◌, arith, append_assoc, flat_map, option_map}
+use Rattle.action_report.proofs.Vocabulary.{get_or_from_slice_get, slice_get-map, slice_get_within, is_name, is_word}
+use Rattle.action_report.proofs.Vocabulary.{spelled, EndsBefore, IsNoDigit, Event, NameId, Value, Num, Text}
+use Rattle.action_report.proofs.Vocabulary.{IsNameEntry, IsSignature, entry_names, NameEntry, Sort, spelled_event}
+use Rattle.action_report.proofs.Vocabulary.{spelled_row, FitColumns, IsDeclared, EndsWord, IsColumnValue, marked_values}
 
 abbrev pub commas : List Value → List ℕ
 commas values = flat_map (λ next. 44 ∷ spelled next) values
 
-pub marked_next : (values : List Value) → marked (44 ∷ []) values ≡ commas values
+pub marked_next : (values : List Value) → marked_values (44 ∷ []) values ≡ commas values
 marked_next [] = refl
 marked_next (value ∷ values) = refl
 
-pub row_marked : (values : List Value) → marked [] values ≡ spelled_row values
+pub row_marked : (values : List Value) → marked_values [] values ≡ spelled_row values
 row_marked [] = refl
 row_marked (value ∷ values) = refl
 
--- what stands behind a value ends it
+-- what stands after a value ends it
 pub ends_value : (value : Value) (values : List Value) (rest : List ℕ) → IsNoDigit rest → EndsBefore value (commas values ++ rest)
 ends_value (Num number) [] rest ends = ends
 ends_value (Num number) (next ∷ values) rest ends = λ low high. omega arith
 ends_value (Text text) values rest ends = tt
-
--- without columns there are no arguments
-pub no_arguments : (sorts : List Sort) (args : List Value) → length sorts ≡ 0 → FitColumns sorts args → args ≡ []
-no_arguments [] [] none are = refl
-no_arguments [] (value ∷ args) none are = absurd are
-no_arguments (sort ∷ sorts) args none are = absurd (omega (arith, none))
-
-pub none_fit : (sorts : List Sort) → length sorts ≡ 0 → FitColumns sorts []
-none_fit [] none = tt
-none_fit (sort ∷ sorts) none = absurd (omega (arith, none))
 
 -- a first argument, and the others
 pub record HasFirst (sort : Sort) (others : List Sort) (args : List Value) : Type 0 where
   pub value : Value
   pub values : List Value
   pub args_are : args ≡ value ∷ values
-  pub fit : fits sort value
+  pub fit : IsColumnValue sort value
   pub more : FitColumns others values
 
 pub first_fits : (sorts others : List Sort) (sort : Sort) (args : List Value) → sorts ≡ sort ∷ others → FitColumns sorts args → HasFirst sort others args
@@ -61,20 +39,18 @@ first_fits sorts others sort args is are = by args (subst (λ l. FitColumns l ar
     by [] are = absurd are
     by (value ∷ values) are = record { value = value; values = values; args_are = refl; fit = (are.0, are.1); more = are.2 }
 
-pub fit_onto : (sorts others : List Sort) (sort : Sort) (value : Value) (values : List Value) → sorts ≡ sort ∷ others → fits sort value → FitColumns others values → FitColumns sorts (value ∷ values)
-fit_onto sorts others sort value values is fit more = subst (λ l. FitColumns l (value ∷ values)) (sym is) (fit.0, fit.1, more)
-
--- the text of the first, and what is behind it
-pub first_text : (mark rest bytes : List ℕ) (args values : List Value) (value : Value) → args ≡ value ∷ values → bytes ≡ marked mark args ++ rest → bytes ≡ mark ++ (spelled value ++ (commas values ++ rest))
+-- the text of the first, and what is after it
+pub first_text : (mark rest bytes : List ℕ) (args values : List Value) (value : Value) → args ≡ value ∷ values → bytes ≡ marked_values mark args ++ rest → bytes
+    ≡ mark ++ (spelled value ++ (commas values ++ rest))
 first_text mark rest bytes args values value are is =
-    is ∙ ap (λ l. marked mark l ++ rest) are ∙ append_assoc mark (spelled value ++ commas values) rest
+    is ∙ ap (λ l. marked_values mark l ++ rest) are ∙ append_assoc mark (spelled value ++ commas values) rest
     ∙ ap (λ l. mark ++ l) (append_assoc (spelled value) (commas values) rest)
 
-pub others_text : (rest left : List ℕ) (values : List Value) → left ≡ commas values ++ rest → left ≡ marked (44 ∷ []) values ++ rest
+pub others_text : (rest left : List ℕ) (values : List Value) → left ≡ commas values ++ rest → left ≡ marked_values (44 ∷ []) values ++ rest
 others_text rest left values is = is ∙ ap (λ l. l ++ rest) (sym (marked_next values))
 
 -- the row without its parentheses
-pub inner_text : (rest bytes : List ℕ) (args : List Value) → bytes ≡ 40 ∷ spelled_row args ++ 41 ∷ rest → bytes ≡ 40 ∷ (marked [] args ++ 41 ∷ rest)
+pub inner_text : (rest bytes : List ℕ) (args : List Value) → bytes ≡ 40 ∷ spelled_row args ++ 41 ∷ rest → bytes ≡ 40 ∷ (marked_values [] args ++ 41 ∷ rest)
 inner_text rest bytes args is = is ∙ ap (λ l. 40 ∷ (l ++ 41 ∷ rest)) (sym (row_marked args))
 
 pub paren_ends : (rest : List ℕ) → IsNoDigit (41 ∷ rest)
@@ -82,9 +58,9 @@ paren_ends rest = λ low high. omega arith
 
 -- ---- names
 
-pub name_is : (entries : List NameEntry) (number : ℕ) (entry : NameEntry) → slice_get entries number ≡ Some entry → slice_index_or (names entries) number [] ≡ entry.text
+pub name_is : (entries : List NameEntry) (number : ℕ) (entry : NameEntry) → slice_get entries number ≡ Some entry → slice_index_or (entry_names entries) number [] ≡ entry.text
 name_is entries number entry found =
-    get_or_from_slice_get (names entries) number entry.text [] (slice_get-map (λ (e : NameEntry). e.text) entries number ∙ ap (option_map (λ (e : NameEntry). e.text)) found)
+    get_or_from_slice_get (entry_names entries) number entry.text [] (slice_get-map (λ (e : NameEntry). e.text) entries number ∙ ap (option_map (λ (e : NameEntry). e.text)) found)
 
 first_true : (a b : Bool) → (a && b) ≡ true → a ≡ true
 first_true true b e = refl
@@ -93,13 +69,13 @@ first_true false b e = cc
 pub name_is_word : (name : List ℕ) → IsTrue (is_name name) → IsTrue (is_word name)
 name_is_word name is = first_true (is_word name) _ is
 
-entry_of : (entries : List NameEntry) (number : ℕ) (entry : NameEntry) → All IsEntry entries → slice_get entries number ≡ Some entry → IsEntry entry
+entry_of : (entries : List NameEntry) (number : ℕ) (entry : NameEntry) → All IsNameEntry entries → slice_get entries number ≡ Some entry → IsNameEntry entry
 entry_of entries number entry each found =
-    subst IsEntry (get_or_from_slice_get entries number entry entry found) (each number entry (slice_get_within entries number entry found))
+    subst IsNameEntry (get_or_from_slice_get entries number entry entry found) (each number entry (slice_get_within entries number entry found))
 
 -- the name of an event that is declared: a word, with its number
 pub record IsNameOf (entries : List NameEntry) (event : Event) (entry : NameEntry) : Type 0 where
-  pub text : slice_index_or (names entries) event.name.0 [] ≡ entry.text
+  pub text : slice_index_or (entry_names entries) event.name.0 [] ≡ entry.text
   pub word : IsTrue (is_word entry.text)
   pub found : option_map (λ e. e.text) (slice_get entries event.name.0) ≡ Some entry.text
 
@@ -110,8 +86,8 @@ name_of entries event signature d = record {
   found = ap (option_map (λ e. e.text)) d.found;
 }
 
--- the text of an event, and what is behind it
-pub event_text : (entries : List NameEntry) (event : Event) (entry : NameEntry) (rest bytes : List ℕ) → IsNameOf entries event entry → bytes ≡ spelled_event (names entries) event ++ rest
+-- the text of an event, and what is after it
+pub event_text : (entries : List NameEntry) (event : Event) (entry : NameEntry) (rest bytes : List ℕ) → IsNameOf entries event entry → bytes ≡ spelled_event (entry_names entries) event ++ rest
     → bytes ≡ entry.text ++ (40 ∷ spelled_row event.args ++ 41 ∷ rest)
 event_text entries event entry rest bytes is e =
     e ∙ ap (λ n. (n ++ 40 ∷ spelled_row event.args ++ 41 ∷ []) ++ rest) is.text ∙ simp append_assoc
@@ -122,7 +98,7 @@ paren_ends_word rest = refl
 pub same_event : (event : Event) (name : NameId) (args : List Value) → name ≡ event.name → args ≡ event.args → record { name = name; args = args } ≡ event
 same_event event name args n a = λ j. record { name = n j; args = a j }
 
--- a value, and those behind it
+-- a value, and those after it
 pub rows_join : {E : Type 0} (result : Result Bool E) (before middle after values args : List Value) (value : Value) (left rest : List ℕ) → middle ≡ before ++ value ∷ [] → args ≡ value ∷ values
     → IfOk result (λ all. (all ≡ true) × (after ≡ middle ++ values) × (left ≡ rest)) → IfOk result (λ all. (all ≡ true) × (after ≡ before ++ args) × (left ≡ rest))
 rows_join (Err e) before middle after values args value left rest pushed are h = tt

@@ -1,6 +1,2 @@
-pub mod Cases
-pub mod Lines
-pub mod Loose
-pub mod Parts
-pub mod Reading
-pub mod Scopes
+pub mod meaning
+pub mod machine

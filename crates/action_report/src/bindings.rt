@@ -1,24 +1,24 @@
 //! The bindings that a line tells.
-ghost use Rattle.std.specs.Prelude.{◌≡◌, ◌++◌, [], ℕ, List, IfOk, IfSome, Some};
-ghost use Rattle.std.specs.Prelude.{codes, map, slice_get, true};
+ghost use Rattle.std.specs.Prelude.{◌≡◌, ◌++◌, [], ℕ, List, IfOk, IfSome, Some, codes, map, slice_get};
+ghost use Rattle.std.specs.Prelude.{true};
 ghost use Rattle.std.specs.List.{AllByRecursion};
-ghost use Rattle.enf_value.specs.Valuations.{Valuation as Bound, bindings as bindings_of};
-ghost use Rattle.enf_value.specs.ValueTokens.{IsNoDigit, IsValue};
-ghost use Rattle.enf_value.specs.declared.terms.VarId.{VarId as AnyVariable};
-ghost use Rattle.enf_value.specs.declared.values.Value.{Value as AnyValue};
-ghost use Rattle.formula_reader.specs.Resolution.{rules_of};
-ghost use Rattle.plan_terms.specs.Plans.{plan_of};
-ghost use Rattle.plan_terms.specs.Scopes.{IsScoped};
-ghost use Rattle.action_report.specs.Lines.{bindings_text, variables};
-ghost use Rattle.action_report.specs.Loose.{AddsBindings, IsRising, TellsBindings};
-ghost use Rattle.action_report.specs.Reading.{BindsJust};
-ghost use Rattle.action_report.specs.Scopes.{StandIn};
+ghost use Rattle.enf_data.specs.meaning.Valuations.{Valuation as Bound, bindings as bindings_of};
+ghost use Rattle.enf_value.specs.meaning.Tokens.{IsNoDigit};
+ghost use Rattle.enf_data.specs.meaning.Values.{IsValue};
+ghost use Rattle.enf_data.specs.declared.terms.VarId.{VarId as AnyVariable};
+ghost use Rattle.enf_data.specs.declared.values.Value.{Value as AnyValue};
+ghost use Rattle.formula_reader.specs.machine.StoredRules.{policy_rules_of};
+ghost use Rattle.plan_terms.specs.machine.StoredPlans.{plan_of};
+ghost use Rattle.plan_terms.specs.machine.WellFormed.{IsScopedPlan};
+ghost use Rattle.action_report.specs.meaning.ReportLines.{bindings_text, rule_variable_names};
+ghost use Rattle.action_report.specs.machine.LineParts.{AddsBindings, IsRising, TellsBindings};
+ghost use Rattle.action_report.specs.machine.ReportedActions.{BindsJust, StandIn};
 
 use crate::cursor::Cursor;
 use crate::lines::{variable_name, variables_of};
 use crate::reading::Cause;
 use crate::scopes::scope_of;
-use enf_value::{NoMemory, TextValue, VarId};
+use enf_data::{NoMemory, TextValue, VarId};
 use formula_reader::policies::Policy;
 use plan_terms::Plan;
 use plan_terms::laws::nodes_have_scopes;
@@ -34,7 +34,7 @@ impl Cursor<'_> {
         self.take(b" ") && self.take(name) && self.take(b"=")
     }
 
-    // Takes the binding of each of these variables, and puts them behind those of the valuation. It says whether all
+    // Takes the binding of each of these variables, and puts them after those of the valuation. It says whether all
     // stood there.
     fn bindings(
         &mut self,
@@ -66,7 +66,7 @@ impl Cursor<'_> {
     }
 }
 
-// The valuation that a line tells behind the numbers, where these name nodes of a plan.
+// The valuation that a line tells after the numbers, where these name nodes of a plan.
 pub(crate) fn read_valuation(
     alloc: Global,
     policy: &Policy,
@@ -74,13 +74,14 @@ pub(crate) fn read_valuation(
     cause: Cause,
     cursor: &mut Cursor<'_>,
 ) -> Result<Option<Valuation>, NoMemory>
-    requires { AllByRecursion (λ plan. IsScoped plan []) (map plan_of plans.now) }
+    requires { AllByRecursion (λ plan. IsScopedPlan plan []) (map plan_of plans.now) }
     ensures told { IfOk result (λ found. IfSome found (TellsBindings (map plan_of plans.now) cause)) }
     ensures again { (scope : List AnyVariable) (v : Bound) (rest : List ℕ)
         → StandIn (map plan_of plans.now) cause.rule cause.node cause.leaf scope
         → BindsJust scope v → IsNoDigit rest
         → cursor.old.rest.now
-        ≡ bindings_text (variables (slice_get (rules_of policy.now) cause.rule)) (bindings_of v) ++ rest
+        ≡ bindings_text (rule_variable_names (slice_get (policy_rules_of policy.now) cause.rule)) (bindings_of v) ++
+        rest
         → IfOk result (λ found. found ≡ Some v) }
 {
     nodes_have_scopes();

@@ -1,14 +1,15 @@
 //! What is left of a line, and the parts that are taken from its front.
-ghost use Rattle.std.specs.Prelude.{◌≡◌, ◌++◌, ◌<◌, ◌^◌, ℕ, List, IfOk, IfSome};
-ghost use Rattle.std.specs.Prelude.{IsTrue, Some, decimal, true};
-ghost use Rattle.enf_value.specs.Names.{is_word};
-ghost use Rattle.enf_value.specs.Spelling.{spelled};
-ghost use Rattle.enf_value.specs.ValueTokens.{EndsBefore, IsNoDigit, IsValue};
-ghost use Rattle.enf_value.specs.declared.values.Value.{Value as AnyValue};
-ghost use Rattle.action_report.specs.Parts.{EndsWord, IsRead, labelled};
+ghost use Rattle.std.specs.Prelude.{◌≡◌, ◌++◌, ◌<◌, ◌^◌, ℕ, List, IfOk, IfSome, IsTrue, Some};
+ghost use Rattle.std.specs.Prelude.{decimal, true};
+ghost use Rattle.enf_value.specs.meaning.Tokens.{is_word, spelled, EndsBefore, IsNoDigit};
+ghost use Rattle.enf_data.specs.meaning.Values.{IsValue};
+ghost use Rattle.enf_data.specs.declared.values.Value.{Value as AnyValue};
+ghost use Rattle.action_report.specs.machine.LineParts.{EndsWord, IsFieldRead};
+ghost use Rattle.action_report.specs.meaning.ReportLines.{labelled};
 
+use enf_data::{NoMemory, Value};
 use enf_value::laws::{one_token_at_place, printed_is_token};
-use enf_value::{ByteKind, NoMemory, Value, read_value};
+use enf_value::{ByteKind, read_value};
 use std::alloc::Global;
 
 // What is left of a line.
@@ -46,17 +47,18 @@ impl<'a> Cursor<'a> {
     // Takes the number that stands next, with leading zeros too.
     pub fn number(&mut self) -> Option<u64>
         ensures { (number : ℕ) (rest : List ℕ) → number < 2 ^ 64 → IsNoDigit rest
-            → self.old.rest.now ≡ decimal number ++ rest → IsRead result self.new.rest.now number rest }
+            → self.old.rest.now ≡ decimal number ++ rest → IsFieldRead result self.new.rest.now number rest }
     {
         let digits = ByteKind::Digit.front(self.rest);
         self.rest = &self.rest[digits.len()..];
         str::from_utf8(digits).ok()?.parse().ok()
     }
 
-    // Takes a number behind a word.
+    // Takes a number after a word.
     pub fn labelled(&mut self, word: &[u8]) -> Option<u64>
         ensures { (number : ℕ) (rest : List ℕ) → number < 2 ^ 64 → IsNoDigit rest
-            → self.old.rest.now ≡ labelled word.now number ++ rest → IsRead result self.new.rest.now number rest }
+            → self.old.rest.now ≡ labelled word.now number ++ rest
+            → IsFieldRead result self.new.rest.now number rest }
     {
         if !self.take(word) {
             return None;
@@ -64,10 +66,11 @@ impl<'a> Cursor<'a> {
         self.number()
     }
 
-    // The same for a number of 32 bits.
+    // Takes a number of 32 bits after a word.
     pub fn short_labelled(&mut self, word: &[u8]) -> Option<u32>
         ensures { (number : ℕ) (rest : List ℕ) → number < 2 ^ 32 → IsNoDigit rest
-            → self.old.rest.now ≡ labelled word.now number ++ rest → IsRead result self.new.rest.now number rest }
+            → self.old.rest.now ≡ labelled word.now number ++ rest
+            → IsFieldRead result self.new.rest.now number rest }
     {
         u32::try_from(self.labelled(word)?).ok()
     }
@@ -77,7 +80,7 @@ impl<'a> Cursor<'a> {
         ensures value { IfOk result (λ found. IfSome found IsValue) }
         ensures again { (value : AnyValue) (rest : List ℕ) → IsValue value → EndsBefore value rest
             → self.old.rest.now ≡ spelled value ++ rest
-            → IfOk result (λ found. IsRead found self.new.rest.now value rest) }
+            → IfOk result (λ found. IsFieldRead found self.new.rest.now value rest) }
     {
         printed_is_token();
         one_token_at_place();

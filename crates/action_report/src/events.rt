@@ -1,32 +1,31 @@
 //! Events, taken from the front of a line.
 ghost use Rattle.std.specs.Prelude.{◌≡◌, ◌++◌, ◌∷◌, [], ℕ, List, IfOk, IfSome, IsTrue, Some, true};
-ghost use Rattle.enf_value.specs.Spelling.{spelled};
-ghost use Rattle.enf_value.specs.ValueTokens.{EndsBefore, IsNoDigit};
-ghost use Rattle.enf_value.specs.declared.events.Event.{Event as AnyEvent};
-ghost use Rattle.enf_value.specs.declared.values.Value.{Value as AnyValue};
-ghost use Rattle.log_stream.specs.Lines.{spelled_event, spelled_row};
-ghost use Rattle.log_stream.specs.RoundTrip.{FitColumns, IsDeclared};
-ghost use Rattle.signature.specs.Grammar.{names as names_of};
-ghost use Rattle.action_report.specs.Parts.{AddsFitting, IsRead, fits, marked};
+ghost use Rattle.enf_value.specs.meaning.Tokens.{spelled, EndsBefore, IsNoDigit};
+ghost use Rattle.enf_data.specs.declared.events.Event.{Event as AnyEvent};
+ghost use Rattle.enf_data.specs.declared.values.Value.{Value as AnyValue};
+ghost use Rattle.log_stream.specs.meaning.LogGrammar.{spelled_event, spelled_row};
+ghost use Rattle.log_stream.specs.machine.StepLimits.{FitColumns, IsDeclared};
+ghost use Rattle.signature.specs.meaning.Grammar.{entry_names as names_of};
+ghost use Rattle.action_report.specs.machine.LineParts.{AddsFitting, IsFieldRead, IsColumnValue, marked_values};
 
 use crate::cursor::Cursor;
-use enf_value::{Event, NoMemory, Row, Value};
+use enf_data::{Event, NoMemory, Row, Value};
 use log_stream::has_sort;
 use signature::{Signature, Sort};
 use std::alloc::Global;
 
 impl Cursor<'_> {
-    // Takes an argument of a sort, behind these bytes.
+    // Takes an argument of a sort, after these bytes.
     fn argument(
         &mut self,
         alloc: Global,
         mark: &[u8],
         sort: Sort,
     ) -> Result<Option<Value>, NoMemory>
-        ensures fits { IfOk result (λ found. IfSome found (fits sort)) }
-        ensures again { (value : AnyValue) (rest : List ℕ) → fits sort value → EndsBefore value rest
+        ensures fits { IfOk result (λ found. IfSome found (IsColumnValue sort)) }
+        ensures again { (value : AnyValue) (rest : List ℕ) → IsColumnValue sort value → EndsBefore value rest
             → self.old.rest.now ≡ mark.now ++ (spelled value ++ rest)
-            → IfOk result (λ found. IsRead found self.new.rest.now value rest) }
+            → IfOk result (λ found. IsFieldRead found self.new.rest.now value rest) }
     {
         if !self.take(mark) {
             return Ok(None);
@@ -37,7 +36,7 @@ impl Cursor<'_> {
         }
     }
 
-    // Takes an argument for each column, the first of them behind these bytes and the others behind commas, and puts
+    // Takes an argument for each column, the first of them after these bytes and the others after commas, and puts
     // them into the row. It says whether all stood there.
     fn arguments(
         &mut self,
@@ -48,7 +47,7 @@ impl Cursor<'_> {
     ) -> Result<bool, NoMemory>
         ensures fits { IfOk result (AddsFitting sorts.now row.old row.new) }
         ensures again { (args : List AnyValue) (rest : List ℕ) → FitColumns sorts.now args → IsNoDigit rest
-            → self.old.rest.now ≡ marked mark.now args ++ rest
+            → self.old.rest.now ≡ marked_values mark.now args ++ rest
             → IfOk result (λ all. (all ≡ true) × (row.new ≡ row.old ++ args) × (self.new.rest.now ≡ rest)) }
     {
         let Some((sort, others)) = sorts.split_first() else {
@@ -68,7 +67,7 @@ impl Cursor<'_> {
         ensures fits { IfOk result (λ found. IfSome found (λ row. FitColumns sorts.now row)) }
         ensures again { (args : List AnyValue) (rest : List ℕ) → FitColumns sorts.now args
             → self.old.rest.now ≡ 40 ∷ spelled_row args ++ 41 ∷ rest
-            → IfOk result (λ found. IsRead found self.new.rest.now args rest) }
+            → IfOk result (λ found. IsFieldRead found self.new.rest.now args rest) }
     {
         if !self.take(b"(") {
             return Ok(None);
@@ -88,7 +87,7 @@ impl Cursor<'_> {
         ensures fits { IfOk result (λ found. IfSome found (IsDeclared signature.now)) }
         ensures again { (event : AnyEvent) (rest : List ℕ) → IsDeclared signature.now event
             → self.old.rest.now ≡ spelled_event (names_of signature.now) event ++ rest
-            → IfOk result (λ found. IsRead found self.new.rest.now event rest) }
+            → IfOk result (λ found. IsFieldRead found self.new.rest.now event rest) }
     {
         // that its names are words
         let _names = signature.len();

@@ -1,5 +1,5 @@
 //! Laws of report lines, each the contract of a function.
-ghost use Rattle.action_report.specs.Reading.{OneActionOfLine};
+ghost use Rattle.action_report.specs.machine.Laws.{OneActionOfLine};
 
 use enf_value::laws::{one_token_at_place, printed_is_token};
 

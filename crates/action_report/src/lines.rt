@@ -1,22 +1,21 @@
 //! The lines that say what was done and for what.
 ghost use Rattle.std.specs.Prelude.{◌≡◌, ◌++◌, OnErr, OnOk, slice_get};
-ghost use Rattle.enf_value.specs.Spelling.{AppendsPart};
-ghost use Rattle.formula_reader.specs.Canonical.{variable_text};
-ghost use Rattle.formula_reader.specs.Resolution.{rules_of};
-ghost use Rattle.action_report.specs.Lines.{action_line, binding_text, bindings_text, cause_text, kind_text};
-ghost use Rattle.action_report.specs.Lines.{rule_name, variables, when_text};
-ghost use Rattle.action_report.specs.Parts.{labelled};
+ghost use Rattle.enf_value.specs.machine.ValueCalls.{AppendsPart};
+ghost use Rattle.formula_reader.specs.meaning.Resolution.{variable_text};
+ghost use Rattle.formula_reader.specs.machine.StoredRules.{policy_rules_of};
+ghost use Rattle.action_report.specs.meaning.ReportLines.{action_line, binding_text, bindings_text, cause_text};
+ghost use Rattle.action_report.specs.meaning.ReportLines.{kind_text, rule_name, rule_variable_names, when_text};
+ghost use Rattle.action_report.specs.meaning.ReportLines.{labelled};
 
-use enf_value::{
-    NoMemory, TextValue, Value, VarId, print_byte, print_bytes, print_number, print_value,
-};
+use enf_data::{NoMemory, TextValue, Value, VarId};
+use enf_value::{print_byte, print_bytes, print_number, print_value};
 use formula_reader::policies::Policy;
 use log_stream::print_event;
 use obligations::{Action, LiteralKind};
 use signature::Signature;
 
-/// Appends the line of an action; for want of memory a front of it is appended. Of a name or a rule that is not there
-/// nothing is printed.
+/// Appends the line of an action; where memory runs out, a front of it is appended. Of a name or a rule that is not
+/// there nothing is printed.
 #[inline(always)]
 pub fn write_action(
     signature: &Signature,
@@ -25,8 +24,8 @@ pub fn write_action(
     out: &mut Vec<u8>,
 ) -> Result<(), NoMemory>
     ensures ok { OnOk result (out.new.items
-        ≡ out.old.items ++ action_line signature.now (rules_of policy.now) action.now) }
-    ensures err { OnErr result (AppendsPart (action_line signature.now (rules_of policy.now) action.now)
+        ≡ out.old.items ++ action_line signature.now (policy_rules_of policy.now) action.now) }
+    ensures err { OnErr result (AppendsPart (action_line signature.now (policy_rules_of policy.now) action.now)
         out.old.items out.new.items) }
 {
     print_bytes(kind_word(action.kind), out)?;
@@ -52,7 +51,7 @@ fn kind_word(kind: LiteralKind) -> &'static [u8]
 
 /// The name of the rule with this number; nothing, where there is none.
 pub fn rule_name(policy: &Policy, rule: u32) -> &[u8]
-    ensures { result.now ≡ rule_name (slice_get (rules_of policy.now) rule) }
+    ensures { result.now ≡ rule_name (slice_get (policy_rules_of policy.now) rule) }
 {
     match policy.rules.get(rule as usize) {
         Some(rule) => rule.name.bytes(),
@@ -62,7 +61,7 @@ pub fn rule_name(policy: &Policy, rule: u32) -> &[u8]
 
 // The names of a rule's variables, by their numbers.
 pub(crate) fn variables_of(policy: &Policy, rule: u32) -> &[TextValue]
-    ensures { result.now ≡ variables (slice_get (rules_of policy.now) rule) }
+    ensures { result.now ≡ rule_variable_names (slice_get (policy_rules_of policy.now) rule) }
 {
     match policy.rules.get(rule as usize) {
         Some(rule) => rule.vars.as_slice(),
@@ -115,7 +114,7 @@ fn print_bindings(
     Ok(())
 }
 
-// A variable and its value behind a space.
+// A variable and its value after a space.
 fn print_binding(
     vars: &[TextValue],
     variable: VarId,

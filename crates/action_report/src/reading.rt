@@ -1,27 +1,26 @@
 //! The action that a line tells.
 ghost use Rattle.std.specs.Prelude.{◌≡◌, ◌++◌, ◌<◌, ◌^◌, [], ℕ, List, IfErr, IfOk, IfSome, Some};
-ghost use Rattle.std.specs.Prelude.{codes, length, map};
-ghost use Rattle.std.specs.Prelude.{position};
+ghost use Rattle.std.specs.Prelude.{codes, length, map, position};
 ghost use Rattle.std.specs.List.{AllByRecursion};
 ghost use Rattle.std.specs.Str.{bytes_eq};
-ghost use Rattle.enf_value.specs.ValueTokens.{IsNoDigit};
-ghost use Rattle.formula_reader.specs.Resolution.{Rule as AnyRule, rules_of};
+ghost use Rattle.enf_value.specs.meaning.Tokens.{IsNoDigit};
+ghost use Rattle.formula_reader.specs.meaning.Resolution.{Rule as AnyRule};
+ghost use Rattle.formula_reader.specs.machine.StoredRules.{policy_rules_of};
 ghost use Rattle.formula_reader.specs.declared.policies.Rule.{Rule as StoredRule};
-ghost use Rattle.formula_reader.specs.WellFormed.{IsWellFormedPolicy};
+ghost use Rattle.formula_reader.specs.machine.WellFormedPolicies.{IsWellFormedPolicy};
 ghost use Rattle.obligations.specs.declared.actions.Action.{Action as AnyAction};
 ghost use Rattle.obligations.specs.declared.literals.LiteralKind.{LiteralKind as AnyKind};
-ghost use Rattle.plan_terms.specs.Plans.{plan_of};
-ghost use Rattle.plan_terms.specs.Scopes.{IsScoped};
-ghost use Rattle.action_report.specs.Lines.{cause_text, kind_text, when_text};
-ghost use Rattle.action_report.specs.Loose.{IsNamed, cause_of};
-ghost use Rattle.action_report.specs.Parts.{EndsWord, IsRead};
-ghost use Rattle.action_report.specs.Reading.{CanBeTold, IsReportLine, IsWithinBits, Refuses};
+ghost use Rattle.plan_terms.specs.machine.StoredPlans.{plan_of};
+ghost use Rattle.plan_terms.specs.machine.WellFormed.{IsScopedPlan};
+ghost use Rattle.action_report.specs.meaning.ReportLines.{cause_text, kind_text, when_text};
+ghost use Rattle.action_report.specs.machine.LineParts.{IsRuleNamedOnce, cause_of_action, EndsWord, IsFieldRead};
+ghost use Rattle.action_report.specs.machine.ReportedActions.{CanBeTold, IsReportLine, IsWithinBits, RefusesReportLine};
 
 use crate::bindings::read_valuation;
 use crate::cursor::Cursor;
 use crate::lines::write_action;
 use crate::refusals::ReportRefusal;
-use enf_value::NoMemory;
+use enf_data::NoMemory;
 use formula_reader::policies::{Policy, Rule};
 use obligations::{Action, LiteralKind};
 use plan_terms::Plan;
@@ -58,7 +57,8 @@ fn place_named(rules: &[Rule], name: &[u8]) -> Option<usize>
 // The number of the rule with a name.
 fn rule_named(policy: &Policy, name: &[u8]) -> Option<u32>
     ensures within { IfSome result (λ number. number < length policy.now.rules) }
-    ensures again { (number : ℕ) (rule : AnyRule) → number < 2 ^ 32 → IsNamed (rules_of policy.now) number rule
+    ensures again { (number : ℕ) (rule : AnyRule) → number < 2 ^ 32
+        → IsRuleNamedOnce (policy_rules_of policy.now) number rule
         → name.now ≡ rule.name → result ≡ Some number }
 {
     let number = place_named(policy.rules.as_slice(), name)?;
@@ -68,7 +68,7 @@ fn rule_named(policy: &Policy, name: &[u8]) -> Option<u32>
 impl Cursor<'_> {
     fn kind(&mut self) -> Option<LiteralKind>
         ensures { (kind : AnyKind) (rest : List ℕ) → self.old.rest.now ≡ kind_text kind ++ (codes " " ++ rest)
-            → IsRead result self.new.rest.now kind rest }
+            → IsFieldRead result self.new.rest.now kind rest }
     {
         let kind = kind_of(self.word())?;
         if !self.take(b" ") {
@@ -81,7 +81,7 @@ impl Cursor<'_> {
     fn when(&mut self) -> Option<(u64, u64)>
         ensures { (action : AnyAction) (rest : List ℕ) → IsWithinBits action → IsNoDigit rest
             → self.old.rest.now ≡ when_text action ++ rest
-            → IsRead result self.new.rest.now (action.time, action.position) rest }
+            → IsFieldRead result self.new.rest.now (action.time, action.position) rest }
     {
         let time = self.labelled(b" at ")?;
         let position = self.labelled(b" step ")?;
@@ -91,9 +91,9 @@ impl Cursor<'_> {
     fn rule(&mut self, policy: &Policy) -> Option<u32>
         ensures within { IfSome result (λ number. number < length policy.now.rules) }
         ensures again { (number : ℕ) (rule : AnyRule) (rest : List ℕ) → number < 2 ^ 32
-            → IsNamed (rules_of policy.now) number rule → EndsWord rest
+            → IsRuleNamedOnce (policy_rules_of policy.now) number rule → EndsWord rest
             → self.old.rest.now ≡ codes " rule " ++ (rule.name ++ rest)
-            → IsRead result self.new.rest.now number rest }
+            → IsFieldRead result self.new.rest.now number rest }
     {
         if !self.take(b" rule ") {
             return None;
@@ -104,9 +104,9 @@ impl Cursor<'_> {
     fn cause(&mut self, policy: &Policy) -> Option<Cause>
         ensures within { IfSome result (λ cause. cause.rule < length policy.now.rules) }
         ensures again { (action : AnyAction) (rule : AnyRule) (rest : List ℕ) → IsWithinBits action
-            → IsNamed (rules_of policy.now) action.rule rule → IsNoDigit rest
+            → IsRuleNamedOnce (policy_rules_of policy.now) action.rule rule → IsNoDigit rest
             → self.old.rest.now ≡ cause_text rule.name action ++ rest
-            → IsRead result self.new.rest.now (cause_of action) rest }
+            → IsFieldRead result self.new.rest.now (cause_of_action action) rest }
     {
         let rule = self.rule(policy)?;
         let node = self.short_labelled(b" node ")?;
@@ -121,7 +121,7 @@ impl Cursor<'_> {
     }
 }
 
-// The action that a line tells, whatever stands behind it and however its numbers and texts are spelled.
+// The action that a line tells, whatever stands after it and however its numbers and texts are spelled.
 fn read_loosely(
     alloc: Global,
     signature: &Signature,
@@ -129,12 +129,12 @@ fn read_loosely(
     plans: &[Plan],
     line: &[u8],
 ) -> Result<Option<Action>, NoMemory>
-    requires policy { IsWellFormedPolicy signature.now (rules_of policy.now) }
-    requires plans { AllByRecursion (λ plan. IsScoped plan []) (map plan_of plans.now) }
+    requires policy { IsWellFormedPolicy signature.now (policy_rules_of policy.now) }
+    requires plans { AllByRecursion (λ plan. IsScopedPlan plan []) (map plan_of plans.now) }
     ensures told { IfOk result
-        (λ found. IfSome found (CanBeTold signature.now (rules_of policy.now) (map plan_of plans.now))) }
+        (λ found. IfSome found (CanBeTold signature.now (policy_rules_of policy.now) (map plan_of plans.now))) }
     ensures again { (action : AnyAction) → IsWithinBits action
-        → IsReportLine signature.now (rules_of policy.now) (map plan_of plans.now) line.now action
+        → IsReportLine signature.now (policy_rules_of policy.now) (map plan_of plans.now) line.now action
         → IfOk result (λ found. found ≡ Some action) }
 {
     let mut cursor = Cursor { rest: line };
@@ -176,12 +176,13 @@ pub fn read_action(
     line: &[u8],
 ) -> Result<Action, ReportRefusal>
     // So is each policy that was read under the signature.
-    requires policy { IsWellFormedPolicy signature.now (rules_of policy.now) }
+    requires policy { IsWellFormedPolicy signature.now (policy_rules_of policy.now) }
     // So are the plans of each policy that was typed.
-    requires plans { AllByRecursion (λ plan. IsScoped plan []) (map plan_of plans.now) }
+    requires plans { AllByRecursion (λ plan. IsScopedPlan plan []) (map plan_of plans.now) }
     ensures told { IfOk result
-        (IsReportLine signature.now (rules_of policy.now) (map plan_of plans.now) line.now) }
-    ensures refused { IfErr result (Refuses signature.now (rules_of policy.now) (map plan_of plans.now) line.now) }
+        (IsReportLine signature.now (policy_rules_of policy.now) (map plan_of plans.now) line.now) }
+    ensures refused { IfErr result (RefusesReportLine signature.now (policy_rules_of policy.now)
+        (map plan_of plans.now) line.now) }
 {
     let Some(action) = read_loosely(alloc, signature, policy, plans, line)? else {
         return Err(ReportRefusal::Syntax);

@@ -2,7 +2,7 @@
 ghost use Rattle.std.specs.Prelude.{◌≡◌};
 ghost use Rattle.action_report.specs.declared.refusals.ReportRefusal.TheVariants.{NoMemory as OutOfMemory};
 
-use enf_value::NoMemory;
+use enf_data::NoMemory;
 
 /// Why no action is read.
 #[derive(Clone, Copy, Debug, PartialEq, Eq)]

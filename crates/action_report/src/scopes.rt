@@ -1,10 +1,10 @@
 //! The variables in scope at a node of a plan.
 ghost use Rattle.std.specs.Prelude.{IfOk, IfNone, IfSome, List, map};
-ghost use Rattle.enf_value.specs.declared.terms.VarId.{VarId as AnyVariable};
-ghost use Rattle.plan_terms.specs.Plans.{plan_of};
-ghost use Rattle.action_report.specs.Scopes.{StandIn};
+ghost use Rattle.enf_data.specs.declared.terms.VarId.{VarId as AnyVariable};
+ghost use Rattle.plan_terms.specs.machine.StoredPlans.{plan_of};
+ghost use Rattle.action_report.specs.machine.ReportedActions.{StandIn};
 
-use enf_value::{NoMemory, VarId};
+use enf_data::{NoMemory, VarId};
 use obligations::scopes::find_scope;
 use plan_terms::Plan;
 use std::alloc::Global;

@@ -1,9 +1,6 @@
 -- What the worked cases have in common.
-use Rattle.std.proofs.Common.{◌≡◌, List, [], ◌∷◌, Contains, ap, ⊎_elim, arith}
-use Rattle.enf_value.specs.ListLaws.{first_or_later, none_in_nil}
-use Rattle.enf_value.specs.declared.events.Event.{Event}
-use Rattle.enf_formula.specs.Cases.{event_p, event_q}
-use Rattle.choice_step.specs.Cases.{event_r}
+use Rattle.choice_step.proofs.Vocabulary.{◌≡◌, List, [], ◌∷◌, Contains, ap, ⊎_elim, arith, first_or_later}
+use Rattle.choice_step.proofs.Vocabulary.{none_in_nil, Event, event_p, event_q, event_r}
 
 pub apart : (e f : Event) → (e.name.0 ≡ f.name.0 → ⊥) → e ≡ f → ⊥
 apart e f other same = other (ap (λ (x : Event). x.name.0) same)

@@ -1,80 +1,60 @@
 -- What the choice loop keeps from round to round, and why it ends.
-use Rattle.std.proofs.Common.{◌≡◌, ℕ, ◌≤◌, Bool, List, [], ◌∷◌, ◌++◌, None, Some, length, map, Contains, refl, sym, subst, ap, ◌∙◌, ⊎_elim, arith, append-nil, append_assoc}
-use Rattle.std.specs.List.{flat_map}
-use Rattle.std.proofs.lemmas.List.Elements.{Contains-append_right}
-use Rattle.enf_value.specs.ListLaws.{Contains-append, here, none_in_nil}
-use Rattle.enf_value.specs.Membership.{HasNoRepeats}
-use Rattle.enf_value.specs.declared.events.Event.{Event}
-use Rattle.enf_value.specs.declared.events.NameId.{NameId}
-use Rattle.enf_value.specs.declared.steps.Step.{Step}
-use Rattle.enf_value.specs.declared.values.Value.{Value}
-use Rattle.trace_meaning.specs.Continuation.{last_time}
-use Rattle.past_state.specs.Past.{Past, PastStands}
-use Rattle.plan_terms.specs.Changes.{IsCaused, IsSuppressed, NothingClashes, cause_of, caused_below, suppress_of, suppressed_below}
-use Rattle.plan_terms.specs.Nodes.{nodes}
-use Rattle.plan_terms.specs.Plans.{Plan, Cause, Suppress, Both, Either, TestOr, Guarded, Eventually, Always, Until, Next}
-use Rattle.obligations.specs.Asked.{Changes, IsLeaf}
-use Rattle.obligations.specs.declared.actions.Action.{Action}
-use Rattle.obligations.specs.declared.instances.Instance.{Instance}
-use Rattle.obligations.specs.declared.literals.Literal.{Literal}
-use Rattle.obligations.specs.declared.literals.LiteralKind.{LiteralKind}
+use Rattle.choice_step.proofs.Vocabulary.{◌≡◌, ℕ, ◌≤◌, Bool, List, [], ◌∷◌, ◌++◌, None, Some}
+use Rattle.choice_step.proofs.Vocabulary.{length, map, Contains, refl, sym, subst, ap, ◌∙◌, arith, append-nil}
+use Rattle.choice_step.proofs.Vocabulary.{append_assoc, flat_map, here, none_in_nil, HasNoRepeats, Event, NameId, Step}
+use Rattle.choice_step.proofs.Vocabulary.{Value, from_flat_map, Contains-flat_map, last_time, Past, PastStands}
+use Rattle.choice_step.proofs.Vocabulary.{IsCaused, IsSuppressed, NothingClashes, caused_at, caused_below}
+use Rattle.choice_step.proofs.Vocabulary.{suppressed_at, suppressed_below, nodes, Plan, CausePlan, SuppressPlan, Both}
+use Rattle.choice_step.proofs.Vocabulary.{Either, TestOr, Guarded, EventuallyPlan, AlwaysPlan, UntilPlan, NextPlan}
+use Rattle.choice_step.proofs.Vocabulary.{ChangesEvents, IsLeaf, Action, Instance, Literal, LiteralKind, Applies}
+use Rattle.choice_step.proofs.Vocabulary.{Candidate, Decides, Root, Waiting, action_at, Acts, ActsFrom, HasActionRole}
+use Rattle.choice_step.proofs.Vocabulary.{WillDecide, AreAskedActions, all_events, ActsInTurn, IsWantedFrom, WillFind}
+use Rattle.choice_step.proofs.ActedEventLaws.{IsAmongAll}
+use Rattle.choice_step.proofs.ActionChainLemmas.{once}
+use Rattle.choice_step.proofs.AskedLeafLemmas.{all_more, asked_more, asked_none, leaf_wider}
+use Rattle.choice_step.proofs.FiniteListLemmas.{few_among}
+use Rattle.choice_step.proofs.PossibleEventLemmas.{AreGiven, AreOfValues, ArePossible, is_possible, more_possible}
+use Rattle.choice_step.proofs.PossibleEventLemmas.{more_values, possible_over, still_given}
+use Rattle.choice_step.proofs.KnownValueLemmas.{given_values, in_universe, possible, universe}
 use Rattle.obligations.specs.declared.literals.LiteralKind.TheVariants as kind
-use Rattle.choice_step.specs.Choice.{Applies, Candidate, Decides, Root, Waiting, action_at}
-use Rattle.choice_step.specs.AskedLaws.{IsAmongAll}
-use Rattle.choice_step.specs.Choosing.{Acts, ActsFrom, AreAsked, HasRole, WillDecide, all_events}
-use Rattle.choice_step.specs.Looking.{GoesOn, IsWantedFrom, WillFind}
-use Rattle.choice_step.proofs.ActionLemmas.{once}
-use Rattle.choice_step.proofs.AskedLemmas.{all_more, asked_more, asked_none, leaf_wider}
-use Rattle.choice_step.proofs.FiniteLemmas.{Contains-flat_map, few_among}
-use Rattle.choice_step.proofs.PossibleLemmas.{AreGiven, AreOfValues, ArePossible, is_possible, more_possible, more_values, possible_over, still_given}
-use Rattle.choice_step.proofs.UniverseLemmas.{given_values, in_universe, possible, universe}
 
 -- ---- the role of a leaf
 
-from_flat_map : {X Y : Type 0} (f : X → List Y) (xs : List X) (y : Y) → Contains (flat_map f xs) y
-    → (x : X) × Contains xs x × Contains (f x) y
-from_flat_map f [] y there = absurd (none_in_nil y there)
-from_flat_map f (x ∷ xs) y there =
-    ⊎_elim
-    (λ front. (x, here x xs, front))
-    (λ back. let found = from_flat_map f xs y back in (found.0, Contains-append_right (x ∷ []) xs found.0 found.1, found.2))
-    (Contains-append (f x) (flat_map f xs) y there)
-
 pub caused_by_leaf : (plans : List Plan) (leaf : Plan) (name : NameId) → Contains (flat_map nodes plans) leaf
-    → Contains (cause_of leaf) name → IsCaused plans name
+    → Contains (caused_at leaf) name → IsCaused plans name
 caused_by_leaf plans leaf name there is =
     let plan = from_flat_map nodes plans leaf there in
-    Contains-flat_map caused_below plans plan.0 name plan.1 (Contains-flat_map cause_of (nodes plan.0) leaf name plan.2 is)
+    Contains-flat_map caused_below plans plan.0 name plan.1 (Contains-flat_map caused_at (nodes plan.0) leaf name plan.2 is)
 
 pub suppressed_by_leaf : (plans : List Plan) (leaf : Plan) (name : NameId) → Contains (flat_map nodes plans) leaf
-    → Contains (suppress_of leaf) name → IsSuppressed plans name
+    → Contains (suppressed_at leaf) name → IsSuppressed plans name
 suppressed_by_leaf plans leaf name there is =
     let plan = from_flat_map nodes plans leaf there in
-    Contains-flat_map suppressed_below plans plan.0 name plan.1 (Contains-flat_map suppress_of (nodes plan.0) leaf name plan.2 is)
+    Contains-flat_map suppressed_below plans plan.0 name plan.1 (Contains-flat_map suppressed_at (nodes plan.0) leaf name plan.2 is)
 
 pub role_of_leaf : (plans : List Plan) (leaf : Plan) (k : LiteralKind) (number : ℕ) (event : Event)
-    → Contains (flat_map nodes plans) leaf → IsLeaf leaf k number event → HasRole plans k event.name
-role_of_leaf plans (Cause node place name terms) k number event there is =
+    → Contains (flat_map nodes plans) leaf → IsLeaf leaf k number event → HasActionRole plans k event.name
+role_of_leaf plans (CausePlan node place name terms) k number event there is =
     let caused : IsCaused plans event.name =
-    caused_by_leaf plans (Cause node place name terms) event.name there (subst (λ n. Contains (name ∷ []) n) (sym is.2) (here name []))
+    caused_by_leaf plans (CausePlan node place name terms) event.name there (subst (λ n. Contains (name ∷ []) n) (sym is.2) (here name []))
     in
-    subst (λ l. HasRole plans l event.name) (sym is.0) caused
-role_of_leaf plans (Suppress node place name terms) k number event there is =
+    subst (λ l. HasActionRole plans l event.name) (sym is.0) caused
+role_of_leaf plans (SuppressPlan node place name terms) k number event there is =
     let suppressed : IsSuppressed plans event.name =
-    suppressed_by_leaf plans (Suppress node place name terms) event.name there (subst (λ n. Contains (name ∷ []) n) (sym is.2) (here name []))
+    suppressed_by_leaf plans (SuppressPlan node place name terms) event.name there (subst (λ n. Contains (name ∷ []) n) (sym is.2) (here name []))
     in
-    subst (λ l. HasRole plans l event.name) (sym is.0) suppressed
+    subst (λ l. HasActionRole plans l event.name) (sym is.0) suppressed
 role_of_leaf plans (Both node left right) k number event there is = absurd is
 role_of_leaf plans (Either node left right) k number event there is = absurd is
 role_of_leaf plans (TestOr node guard test body) k number event there is = absurd is
 role_of_leaf plans (Guarded node xs guard test body) k number event there is = absurd is
-role_of_leaf plans (Eventually node place low high body) k number event there is = absurd is
-role_of_leaf plans (Always node place low high body) k number event there is = absurd is
-role_of_leaf plans (Until node place low high left right) k number event there is = absurd is
-role_of_leaf plans (Next node place high body) k number event there is = absurd is
+role_of_leaf plans (EventuallyPlan node place low high body) k number event there is = absurd is
+role_of_leaf plans (AlwaysPlan node place low high body) k number event there is = absurd is
+role_of_leaf plans (UntilPlan node place low high left right) k number event there is = absurd is
+role_of_leaf plans (NextPlan node place high body) k number event there is = absurd is
 
-pub acts_of : (plans : List Plan) (k : LiteralKind) (event : Event) (events after : List Event) → HasRole plans k event.name
-    → Changes k event events → Applies k event events after → Acts plans k event events after
+pub acts_of : (plans : List Plan) (k : LiteralKind) (event : Event) (events after : List Event) → HasActionRole plans k event.name
+    → ChangesEvents k event events → Applies k event events after → Acts plans k event events after
 acts_of plans kind.Cause event events after role changes applies = (role, changes, applies)
 acts_of plans kind.Suppress event events after role changes applies = (role, applies)
 
@@ -119,7 +99,7 @@ module _ (plans : List Plan) (pending : List Instance) (past : Past) where
     pub values : AreOfValues (values_at given) events
     pub suppressed : AreGiven plans given events
     pub possible : ArePossible plans (values_at given) given actions
-    pub asked : AreAsked plans pending given actions
+    pub asked : AreAskedActions plans pending given actions
     pub decides : (trace : List Step) → PastStands trace past → length trace ≡ position → last_time trace ≤ time
         → (more : List Action) (after : List Event) → Decides plans trace pending inserted time events more after
         → Decides plans trace pending inserted time given (actions ++ more) after
@@ -173,7 +153,7 @@ module _ (plans : List Plan) (pending : List Instance) (past : Past) where
   pub keeps_on : NothingClashes plans → (inserted : Bool) (time position : ℕ) (given : List Event) (actions : List Action)
       (base events : List Event) (more : List Action) (after : List Event) → AreOfValues (values_at given) base
       → IsAmongAll base (all_events given actions) → Keeps inserted time position given actions events
-      → GoesOn plans pending past inserted time position base events more after
+      → ActsInTurn plans pending past inserted time position base events more after
       → Keeps inserted time position given (actions ++ more) after
   keeps_on nothing inserted time position given actions base events [] after base_values base_among keeps is =
       subst (λ l. Keeps inserted time position given l after) (sym (append-nil actions))

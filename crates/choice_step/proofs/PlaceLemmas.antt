@@ -1,91 +1,79 @@
 -- What the loop keeps while it goes on from place to place with the order and the tables with which it began.
-use Rattle.std.proofs.Common.{◌≡◌, ℕ, ◌+◌, ◌<◌, ◌≤◌, Bool, List, [], ◌∷◌, ◌++◌, None, drop, length, map, sym, subst, ap, ◌∙◌, ⊎_elim, arith, append-nil, append_assoc, length-append}
-use Rattle.std.specs.Prelude.{slice_get}
-use Rattle.std.proofs.lemmas.Bool.{cases_lt}
-use Rattle.std.proofs.lemmas.List.{length-map}
-use Rattle.std.proofs.lemmas.List.Elements.{Contains-append_left}
-use Rattle.enf_value.specs.Membership.{HasNoRepeats}
-use Rattle.enf_value.specs.declared.events.Event.{Event}
-use Rattle.enf_value.specs.declared.steps.Step.{Step}
-use Rattle.enf_formula.specs.Names.{HaveSameOf}
-use Rattle.past_state.specs.Past.{Past, guard_names}
-use Rattle.plan_terms.specs.Changes.{NothingClashes}
-use Rattle.plan_terms.specs.Plans.{Plan, plan_of}
-use Rattle.plan_terms.specs.Triggers.{TriggersAreMet}
-use Rattle.obligations.specs.declared.actions.Action.{Action}
-use Rattle.obligations.specs.declared.instances.Instance.{Instance}
-use Rattle.choice_step.specs.Acting.{ActsFor, AreSparedBehind, GoesFrom, StaysMet}
-use Rattle.choice_step.specs.Situations.{CanDecide, Finds, IsFound, IsMetBefore, Leads, NoneIsWoken, plans_of}
-use Rattle.choice_step.specs.Choice.{Waiting, roots_from, with_step}
-use Rattle.choice_step.specs.Looking.{RootsAreMet, action_found, root_literals}
-use Rattle.choice_step.specs.Waking.{HasNoneOf}
-use Rattle.choice_step.specs.declared.situation.Situation.{Situation}
-use Rattle.choice_step.specs.declared.looking.Found.{Found}
-use Rattle.choice_step.specs.declared.looking.Place.{Place}
-use Rattle.choice_step.proofs.ActingLemmas.{goes_behind, names_stay, spared_those}
-use Rattle.choice_step.proofs.AsleepLemmas.{all_asleep}
-use Rattle.choice_step.proofs.ChoiceLemmas.{last_step}
-use Rattle.choice_step.proofs.LookingLemmas.{covers_none, drop_end, found_behind, no_root}
-use Rattle.choice_step.specs.AskedLaws.{acted_among}
+use Rattle.choice_step.proofs.Vocabulary.{◌≡◌, ℕ, ◌+◌, ◌<◌, ◌≤◌, Bool, List, [], ◌∷◌}
+use Rattle.choice_step.proofs.Vocabulary.{◌++◌, None, drop, length, map, sym, subst, ap, ◌∙◌, ⊎_elim, arith}
+use Rattle.choice_step.proofs.Vocabulary.{append-nil, append_assoc, length-append, slice_get, cases_lt, length-map}
+use Rattle.choice_step.proofs.Vocabulary.{Contains-append_left, HasNoRepeats, Event, Step, HaveSameEvents, Past}
+use Rattle.choice_step.proofs.Vocabulary.{guard_names, NothingClashes, Plan, plan_of, TriggersAreMet, Action, Instance}
+use Rattle.choice_step.proofs.Vocabulary.{ActsFor, GoesFrom, StaysMet, AreSparedBehind, CanDecideSituation}
+use Rattle.choice_step.proofs.Vocabulary.{SituationFinds, IsFoundInSituation, IsMetBefore, SituationLeads, NoneIsWoken}
+use Rattle.choice_step.proofs.Vocabulary.{situation_plans, Waiting, roots_from, trace_with_step, RootsAreMet}
+use Rattle.choice_step.proofs.Vocabulary.{action_found, root_literals, rule_found, HasNoneOf, Situation, Found, Place}
+use Rattle.choice_step.proofs.LoopActionLemmas.{goes_behind, names_stay, spared_those}
+use Rattle.choice_step.proofs.WokenRuleLemmas.{all_asleep}
+use Rattle.choice_step.proofs.UniquenessLemmas.{last_step}
+use Rattle.choice_step.proofs.FirstActionLemmas.{covers_none, drop_end, found_behind, no_root}
+use Rattle.choice_step.proofs.ActedEventLaws.{acted_among}
 use Rattle.choice_step.proofs.LoopLemmas.{Keeps, few, keeps_first, keeps_on}
-use Rattle.choice_step.proofs.UniverseLemmas.{given_values, possible}
+use Rattle.choice_step.proofs.KnownValueLemmas.{given_values, possible}
 
 module _ (situation : Situation) (waiting : List Instance) (given : List Event) where
   -- what was found is the first, and all before its place is met
   pub record IsOn (start : List Action) (f : Found) (events : List Event) (actions : List Action) : Type 0 where
-    pub led : Leads situation given given start events actions
-    pub same : HaveSameOf (guard_names situation.past.now.guards) given events
-    pub found : IsFound situation given events f
+    pub led : SituationLeads situation given given start events actions
+    pub same : HaveSameEvents (guard_names situation.past.now.guards) given events
+    pub found : IsFoundInSituation situation given events f
     pub place : IsMetBefore situation waiting events f.place
 
   -- so it is at first
-  pub on_first : (start : List Action) (f : Found) (events : List Event) → events ≡ given → IsFound situation given given f
+  pub on_first : (start : List Action) (f : Found) (events : List Event) → events ≡ given → IsFoundInSituation situation given given f
       → IsMetBefore situation waiting given f.place → IsOn start f events start
   on_first start f events is found place = record {
     led = ([], sym (append-nil start), is);
-    same = subst (HaveSameOf (guard_names situation.past.now.guards) given) (sym is) (λ event named. (λ there. there, λ there. there));
-    found = subst (λ l. IsFound situation given l f) (sym is) found;
+    same = subst (HaveSameEvents (guard_names situation.past.now.guards) given) (sym is) (λ event named. (λ there. there, λ there. there));
+    found = subst (λ l. IsFoundInSituation situation given l f) (sym is) found;
     place = subst (λ l. IsMetBefore situation waiting l f.place) (sym is) place;
   }
 
-module _ (situation : Situation) (waiting : List Instance) (can : CanDecide situation) (given : List Event) where
+module _ (situation : Situation) (waiting : List Instance) (can : CanDecideSituation situation) (given : List Event) where
   abbrev Acted : Found → List Event → List Action → List Event → List Action → Type 0
   Acted f events actions after all =
-      ActsFor (plans_of situation) situation.past.now situation.time situation.position (action_found situation.time situation.position f) f.rule (root_literals f) events actions after all
+      ActsFor (situation_plans situation) situation.past.now situation.time situation.position (action_found situation.time situation.position f) (rule_found f) (root_literals f) events actions after all
 
   pub led_on : (start : List Action) (f : Found) (events : List Event) (actions : List Action) (after : List Event) (all : List Action)
-      → IsOn situation waiting given start f events actions → Acted f events actions after all → Leads situation given given start after all
+      → IsOn situation waiting given start f events actions → Acted f events actions after all → SituationLeads situation given given start after all
   led_on start f events actions after all on acted =
-      let more = acted situation.pending.now.instances situation.inserted given can.roles can.all on.found.2 in (
+      let more = acted situation.pending.now.instances situation.inserted given can.step.roles can.step.all on.found.2 in (
         on.led.0 ++ (action_found situation.time situation.position f) ∷ more.0,
         more.1 ∙ (ap (λ l. l ++ (action_found situation.time situation.position f) ∷ more.0) on.led.1 ∙ append_assoc start on.led.0 ((action_found situation.time situation.position f) ∷ more.0)),
-        goes_behind (plans_of situation) situation.pending.now.instances situation.past.now situation.inserted situation.time situation.position given given on.led.0 events
+        goes_behind (situation_plans situation) situation.pending.now.instances situation.past.now situation.inserted situation.time situation.position given given on.led.0 events
             ((action_found situation.time situation.position f) ∷ more.0) after on.led.2 more.2,
       )
 
   pub more_on : (start : List Action) (f : Found) (events : List Event) (actions : List Action) (after : List Event) (all : List Action)
       → IsOn situation waiting given start f events actions → Acted f events actions after all → length actions < length all
   more_on start f events actions after all on acted =
-      let more = acted situation.pending.now.instances situation.inserted given can.roles can.all on.found.2 in
+      let more = acted situation.pending.now.instances situation.inserted given can.step.roles can.step.all on.found.2 in
       let grown : length all ≡ length (actions ++ (action_found situation.time situation.position f) ∷ more.0) = ap length more.1 in
       omega (arith, grown, length-append actions ((action_found situation.time situation.position f) ∷ more.0))
 
-  pub longer : (start : List Action) (events : List Event) (actions : List Action) → Leads situation given given start events actions
+  pub longer : (start : List Action) (events : List Event) (actions : List Action) → SituationLeads situation given given start events actions
       → length start ≤ length actions
   longer start events actions led =
       let grown : length actions ≡ length (start ++ led.0) = ap length led.1 in
       omega (arith, grown, length-append start led.0)
 
   pub few_on : HasNoRepeats given → (start : List Action) (events : List Event) (actions : List Action)
-      → Leads situation given given start events actions
-      → length actions ≤ length (possible (plans_of situation) situation.pending.now.instances situation.past.now given) + length start
+      → SituationLeads situation given given start events actions
+      → length actions ≤ length (possible (situation_plans situation) situation.pending.now.instances situation.past.now given) + length start
   few_on distinct start events actions led =
-      let plans = plans_of situation in
+      let plans = situation_plans situation in
       let pending = situation.pending.now.instances in
       let past = situation.past.now in
       let most : length led.0 ≤ length (possible plans pending past given) =
-      few plans pending past can.roles situation.inserted situation.time situation.position given led.0 events
-      (keeps_on plans pending past can.roles situation.inserted situation.time situation.position given [] given given led.0 events (given_values plans pending past given) (λ event there. Contains-append_left given [] event there)
+      few plans pending past can.step.roles situation.inserted situation.time situation.position given led.0 events
+      (keeps_on plans pending past can.step.roles situation.inserted situation.time situation.position given [] given
+      given led.0 events (given_values plans pending past given)
+      (λ event there. Contains-append_left given [] event there)
       (keeps_first plans pending past situation.inserted situation.time situation.position given distinct) led.2)
       in
       let grown : length actions ≡ length (start ++ led.0) = ap length led.1 in
@@ -93,13 +81,15 @@ module _ (situation : Situation) (waiting : List Instance) (can : CanDecide situ
 
   pub same_on : (start : List Action) (f : Found) (events : List Event) (actions : List Action) (after : List Event) (all : List Action)
       → IsOn situation waiting given start f events actions → Acted f events actions after all → AreSparedBehind (guard_names situation.past.now.guards) actions all
-      → HaveSameOf (guard_names situation.past.now.guards) given after
+      → HaveSameEvents (guard_names situation.past.now.guards) given after
   same_on start f events actions after all on acted spared event named =
       let names = guard_names situation.past.now.guards in
-      let more = acted situation.pending.now.instances situation.inserted given can.roles can.all on.found.2 in
+      let more = acted situation.pending.now.instances situation.inserted given can.step.roles can.step.all on.found.2 in
       let first = on.same event named in
       let next =
-      names_stay (plans_of situation) situation.pending.now.instances situation.past.now situation.inserted situation.time situation.position given events ((action_found situation.time situation.position f) ∷ more.0) after names more.2
+      names_stay (situation_plans situation) situation.pending.now.instances situation.past.now situation.inserted
+      situation.time situation.position given events
+      ((action_found situation.time situation.position f) ∷ more.0) after names more.2
       (spared_those names actions ((action_found situation.time situation.position f) ∷ more.0) all spared more.1) event named
       in
       (λ there. next.0 (first.0 there), λ there. first.1 (next.1 there))
@@ -107,19 +97,19 @@ module _ (situation : Situation) (waiting : List Instance) (can : CanDecide situ
   -- and all before the place to go on from is met
   pub place_on : (start : List Action) (f : Found) (events : List Event) (actions : List Action) (after : List Event) (place : Place)
       → IsOn situation waiting given start f events actions
-      → StaysMet (plans_of situation) situation.past.now situation.time situation.position (action_found situation.time situation.position f) f.rule (root_literals f) f.place events after place
+      → StaysMet (situation_plans situation) situation.past.now situation.time situation.position (action_found situation.time situation.position f) (rule_found f) (root_literals f) f.place events after place
       → IsMetBefore situation waiting after place
   place_on start f events actions after place on stays =
-      stays situation.pending.now.instances waiting situation.inserted given can.roles can.all on.found.2 on.place
+      stays situation.pending.now.instances waiting situation.inserted given can.step.roles can.step.all on.found.2 on.place
 
-  -- where the place is behind the pending instances and a rule behind which none is woken, nothing is missing
+  -- where the place is after the pending instances and a rule after which none is woken, nothing is missing
   pub none_behind : TriggersAreMet → (after : List Event) (rule : ℕ) (place : Place)
-      → HaveSameOf (guard_names situation.past.now.guards) given after → NoneIsWoken situation given rule
+      → HaveSameEvents (guard_names situation.past.now.guards) given after → NoneIsWoken situation given rule
       → length waiting ≤ place.instances → rule < place.rules → IsMetBefore situation waiting after place
-      → Finds situation after None
+      → SituationFinds situation after None
   none_behind met after rule place same none all behind before trace stands long later =
-      let plans = plans_of situation in
-      let now : List Step = with_step trace situation.time after in
+      let plans = situation_plans situation in
+      let now : List Step = trace_with_step trace situation.time after in
       let at = before trace stands long later in
       let many : length plans ≡ length situation.plans.now = length-map situation.plans.now plan_of in
       let roots : (to : ℕ) × (length plans ≤ to) × RootsAreMet plans situation.inserted now to =
@@ -127,7 +117,7 @@ module _ (situation : Situation) (waiting : List Instance) (can : CanDecide situ
       (λ below. (
         length plans,
         omega arith,
-        all_asleep plans situation.inserted now situation.past.now.guards given after met can.all.roots
+        all_asleep plans situation.inserted now situation.past.now.guards given after met can.step.all.roots
             (ap (λ (s : Step). s.events) (last_step trace (record { time = situation.time; events = after }))) same
             place.rules (length plans) (omega (arith, below))
             (λ r low high. subst (λ l. HasNoneOf (slice_get l r) given) can.wakes (none r (omega (arith, low, behind)) (omega (arith, high, many))))

@@ -1,31 +1,16 @@
 -- A round begins with the instances that wait: all others sleep, and miss nothing.
-use Rattle.std.proofs.Common.{◌≡◌, ℕ, ◌==◌, Bool, false, List, [], ◌∷◌, Contains, ⊎_elim, inl, inr, sym, ap, subst, arith}
-use Rattle.std.specs.List.{AllByRecursion}
-use Rattle.std.proofs.lemmas.Bool.{and_right, ne_eqb}
-use Rattle.enf_value.specs.ListLaws.{here, later}
-use Rattle.enf_value.specs.declared.events.Event.{Event}
-use Rattle.enf_value.specs.declared.steps.Step.{Step}
-use Rattle.enf_value.specs.declared.terms.VarId.{VarId}
-use Rattle.enf_formula.specs.Formulas.{Formula}
-use Rattle.plan_terms.specs.Plans.{Plan}
-use Rattle.obligations.specs.Begun.{time_now}
-use Rattle.obligations.specs.Existing.{MissingOfExists}
-use Rattle.obligations.specs.Pending.{MissingOf}
-use Rattle.obligations.specs.Waiting.{CanAskOf}
-use Rattle.obligations.specs.declared.instances.Instance.{Instance}
-use Rattle.sleepers.specs.Entries.{AllBut}
-use Rattle.sleepers.specs.Patterns.{HasNone}
-use Rattle.pending.specs.Listed.{SleepsAt}
-use Rattle.pending.specs.Waking.{SleepersMissNothing}
-use Rattle.choice_step.specs.Choice.{is_forced, with_step}
-use Rattle.choice_step.specs.Looking.{Covers}
-use Rattle.choice_step.proofs.ChoiceLemmas.{last_step}
-use Rattle.choice_step.proofs.LookingLemmas.{Met}
+use Rattle.choice_step.proofs.Vocabulary.{◌≡◌, ℕ, ◌==◌, Bool, false, List, [], ◌∷◌, Contains}
+use Rattle.choice_step.proofs.Vocabulary.{⊎_elim, inl, inr, sym, ap, subst, arith, AllByRecursion, and_right, ne_eqb}
+use Rattle.choice_step.proofs.Vocabulary.{here, later, Event, Step, VarId, Formula, Plan, time_now, MissingOfExists}
+use Rattle.choice_step.proofs.Vocabulary.{MissingOf, CanAskOf, Instance, AllButThose, HasNone, SleepsAt}
+use Rattle.choice_step.proofs.Vocabulary.{SleepersMissNothing, is_forced, trace_with_step, CoversMet}
+use Rattle.choice_step.proofs.UniquenessLemmas.{last_step}
+use Rattle.choice_step.proofs.FirstActionLemmas.{Met}
 
 module _ (exists : MissingOfExists) (sleep : SleepersMissNothing) (guards : List (Formula × List VarId)) (plans : List Plan) (inserted : Bool)
     (trace : List Step) (time : ℕ) (events : List Event) where
   abbrev now : List Step
-  now = with_step trace time events
+  now = trace_with_step trace time events
 
   sleeper_met : (i : Instance) → CanAskOf guards plans i → SleepsAt plans events time i → Met plans inserted now i
   sleeper_met i can sleeps =
@@ -43,14 +28,14 @@ module _ (exists : MissingOfExists) (sleep : SleepersMissNothing) (guards : List
       }) found.0 found.1 in
       subst (λ b. MissingOf plans now i b []) (sym waits) (subst (MissingOf plans now i false) none found.1)
 
-  pub covers_sleep : (all rest : List Instance) → AllByRecursion (CanAskOf guards plans) all → AllBut (SleepsAt plans events time) all rest
-      → Covers (Met plans inserted now) all rest
+  pub covers_sleep : (all rest : List Instance) → AllByRecursion (CanAskOf guards plans) all → AllButThose (SleepsAt plans events time) all rest
+      → CoversMet (Met plans inserted now) all rest
   covers_sleep [] rest can but = but
   covers_sleep (i ∷ all) rest can but =
       ⊎_elim (λ c. inl (c.0, c.3, covers_sleep all c.0 can.1 c.2)) (λ c. inr (sleeper_met i can.0 c.0, covers_sleep all rest can.1 c.1)) but
 
 -- the rest of a list is of it
-pub rest_among : {X : Type 0} (Q : X → Type 0) (all rest : List X) → AllBut Q all rest → (whole : List X) → ((x : X) → Contains all x → Contains whole x)
+pub rest_among : {X : Type 0} (Q : X → Type 0) (all rest : List X) → AllButThose Q all rest → (whole : List X) → ((x : X) → Contains all x → Contains whole x)
     → AllByRecursion (Contains whole) rest
 rest_among Q [] rest but whole inside = subst (AllByRecursion (Contains whole)) (sym but) tt
 rest_among Q (x ∷ all) rest but whole inside =

@@ -1,49 +1,34 @@
--- A step that is looked at behind a trace for which a past state stands.
-use Rattle.std.specs.Prelude.{IfNone, IfSome, IsTrue}
-use Rattle.std.specs.Option.{option_map}
-use Rattle.std.proofs.Common.{◌≡◌, ◌↔◌, ℕ, ◌<◌, ◌≤◌, Bool, List, [], ◌∷◌, ◌++◌, Contains, Option, None, Some, length, refl, sym, subst, ap, ◌∙◌, ⊎_elim, inl, inr, arith, length-append}
-use Rattle.enf_value.specs.declared.events.Event.{Event}
-use Rattle.enf_value.specs.declared.events.NameId.{NameId}
-use Rattle.enf_value.specs.declared.steps.Step.{Step}
-use Rattle.enf_value.specs.declared.values.Value.{Value}
-use Rattle.enf_formula.specs.Laws.{NamesDecide}
-use Rattle.enf_formula.specs.Names.{AreSameOf, HaveSameOf, names_in}
-use Rattle.enf_formula.specs.Satisfaction.{Sat}
-use Rattle.monitorable_guard.specs.Present.{HoldsNow}
-use Rattle.trace_meaning.specs.Continuation.{last_time}
-use Rattle.past_state.specs.Known.{AreKnown, IsConstantOf}
-use Rattle.past_state.specs.GuardLaws.{looks_at}
-use Rattle.past_state.specs.Past.{AreOf, GuardsWillHold, Past, PastStands, PastTables, formula_of, formulas, guard_names, tables_of}
-use Rattle.plan_terms.specs.Plans.{Plan}
-use Rattle.obligations.specs.Asked.{IsNowOf}
-use Rattle.obligations.specs.Rows.{last_position}
-use Rattle.obligations.specs.declared.now.Now.{Now}
-use Rattle.obligations.specs.declared.actions.Action.{Action}
-use Rattle.obligations.specs.declared.instances.Instance.{Instance}
-use Rattle.choice_step.specs.Choice.{with_step}
-use Rattle.obligations.specs.declared.literals.Literal.{Literal}
-use Rattle.choice_step.specs.Acting.{HasNoChoices, IsFoundFrom}
-use Rattle.choice_step.specs.Looking.{IsKnownBehind, IsKnownFor, IsLiteralAt, IsLiteralBehind, IsWantedAt, IsWantedFrom, WillFind, WillHaveFound, action_found, root_literals}
-use Rattle.choice_step.specs.declared.looking.Found.{Found}
-use Rattle.choice_step.proofs.ActingLemmas.{at_each}
-use Rattle.choice_step.proofs.ChoiceLemmas.{last_step}
+-- A step that is looked at after a trace for which a past state stands.
+use Rattle.choice_step.proofs.Vocabulary.{IfNone, IfSome, option_map, ◌≡◌, ◌↔◌, ℕ, ◌<◌, ◌≤◌}
+use Rattle.choice_step.proofs.Vocabulary.{Bool, List, [], ◌∷◌, ◌++◌, Contains, Option, None, Some, length}
+use Rattle.choice_step.proofs.Vocabulary.{refl, sym, subst, ap, ◌∙◌, ⊎_elim, inl, inr, arith, length-append}
+use Rattle.choice_step.proofs.Vocabulary.{Event, NameId, Step, Value, NamesDecide, HaveSameNamedEvents, HaveSameEvents}
+use Rattle.choice_step.proofs.Vocabulary.{names_in_formula, Sat, HoldsNow, last_time, AreKnown, IsConstantOf, looks_at}
+use Rattle.choice_step.proofs.Vocabulary.{AreTablesAtStep, GuardsWillHold, Past, PastStands, PastTables, guard_formula}
+use Rattle.choice_step.proofs.Vocabulary.{formulas_of_guards, guard_names, tables_of, Plan, IsNowOf, last_position, Now}
+use Rattle.choice_step.proofs.Vocabulary.{Action, Instance, trace_with_step, Literal, IsFoundFrom, IsKnownBehind}
+use Rattle.choice_step.proofs.Vocabulary.{IsKnownFor, IsLiteralAt, IsLiteralBehind, IsWantedAt, IsWantedFrom}
+use Rattle.choice_step.proofs.Vocabulary.{IsPlainFound, WillFind, action_found, root_literals, rule_found}
+use Rattle.choice_step.proofs.Vocabulary.{WillHaveFound, Found}
+use Rattle.choice_step.proofs.LoopActionLemmas.{at_each}
+use Rattle.choice_step.proofs.UniquenessLemmas.{last_step}
 
--- steps behind a trace with the same events of some names
-same_behind : (names : List NameId) (trace : List Step) (time : ℕ) (events others : List Event) → HaveSameOf names events others
-    → AreSameOf names (with_step trace time events) (with_step trace time others)
+-- steps after a trace with the same events of some names
+same_behind : (names : List NameId) (trace : List Step) (time : ℕ) (events others : List Event) → HaveSameEvents names events others
+    → HaveSameNamedEvents names (trace_with_step trace time events) (trace_with_step trace time others)
 same_behind names trace time events others same =
     let a : Step = record { time = time; events = events } in
     let b : Step = record { time = time; events = others } in
     record {
       long = length-append trace (a ∷ []) ∙ sym (length-append trace (b ∷ []));
       times = at_each (λ s t. s.time ≡ t.time) (λ s. refl) a b refl trace;
-      events = at_each (λ s t. HaveSameOf names s.events t.events) (λ s event named. (λ there. there, λ there. there)) a b same trace;
+      events = at_each (λ s t. HaveSameEvents names s.events t.events) (λ s event named. (λ there. there, λ there. there)) a b same trace;
     }
 
 -- a step with the order and the tables of one that has the same events of the names that guards look for
 pub now_of : NamesDecide → (past : Past) (now : Now) (trace : List Step) → GuardsWillHold past now.time now.ordered.now now.tables.now
-    → HaveSameOf (guard_names now.tables.now.guards) now.ordered.now now.events.now → PastStands trace past
-    → length trace ≡ now.position → last_time trace ≤ now.time → IsNowOf now (with_step trace now.time now.events.now)
+    → HaveSameEvents (guard_names now.tables.now.guards) now.ordered.now now.events.now → PastStands trace past
+    → length trace ≡ now.position → last_time trace ≤ now.time → IsNowOf now (trace_with_step trace now.time now.events.now)
 now_of decide past now trace hold same stands long later =
     let before : Step = record { time = now.time; events = now.ordered.now } in
     let step : Step = record { time = now.time; events = now.events.now } in
@@ -55,15 +40,15 @@ now_of decide past now trace hold same stands long later =
       events = ap (λ (s : Step). s.events) (last_step trace step);
       guards = λ number g is v binds.
           let told = hold trace before refl refl later stands number g is v binds in
-          let meant = decide (trace ++ before ∷ []) (trace ++ step ∷ []) (length trace) v (formula_of g)
-          (same_behind (names_in (formula_of g)) trace now.time now.ordered.now now.events.now
+          let meant = decide (trace ++ before ∷ []) (trace ++ step ∷ []) (length trace) v (guard_formula g)
+          (same_behind (names_in_formula (guard_formula g)) trace now.time now.ordered.now now.events.now
           (λ event named. same event (looks_at now.tables.now.guards number g event.name is named))) in
-          subst (λ n. HoldsNow now.ordered.now (tables_of g now.tables.now) v (formula_of g) ↔ Sat (trace ++ step ∷ []) n v (formula_of g)) last
+          subst (λ n. HoldsNow now.ordered.now (tables_of g now.tables.now) v (guard_formula g) ↔ Sat (trace ++ step ∷ []) n v (guard_formula g)) last
           (λ holds. meant.0 (told.0 holds), λ sat. told.1 (meant.1 sat));
     }
 
 known_behind : (plans : List Plan) (pending : List Instance) (past : Past) (time : ℕ) (events : List Event) (tables : PastTables)
-    → AreOf past time events tables → AreKnown past events tables → (value : Value)
+    → AreTablesAtStep past time events tables → AreKnown past events tables → (value : Value)
     → IsKnownFor plans pending events tables value → IsKnownBehind plans pending past events value
 known_behind plans pending past time events tables are known value is =
     ⊎_elim
@@ -76,7 +61,7 @@ known_behind plans pending past time events tables are known value is =
     (λ behind. inr (⊎_elim (λ constant. inr (inl constant)) (λ kept. inl kept) behind))
     (known value tabled))
     (λ others. inr (inr (⊎_elim
-    (λ constant. inl (subst (λ gs. IsConstantOf (formulas gs) value) are.2.0 constant))
+    (λ constant. inl (subst (λ gs. IsConstantOf (formulas_of_guards gs) value) are.2.0 constant))
     (λ leaf. inr leaf)
     others)))
     others)
@@ -84,7 +69,7 @@ known_behind plans pending past time events tables are known value is =
     is
 
 wanted_from_at : (plans : List Plan) (pending : List Instance) (past : Past) (time : ℕ) (given events : List Event) (tables : PastTables)
-    (action : Action) → AreOf past time given tables → AreKnown past given tables
+    (action : Action) → AreTablesAtStep past time given tables → AreKnown past given tables
     → IsWantedAt plans pending events given tables action → IsWantedFrom plans pending past given events action
 wanted_from_at plans pending past time given events tables action are known wanted = record {
   leaf = wanted.leaf;
@@ -96,7 +81,7 @@ wanted_from_at plans pending past time given events tables action are known want
 }
 
 literal_behind : (plans : List Plan) (pending : List Instance) (past : Past) (time : ℕ) (events : List Event) (tables : PastTables)
-    (literal : Literal) → AreOf past time events tables → AreKnown past events tables
+    (literal : Literal) → AreTablesAtStep past time events tables → AreKnown past events tables
     → IsLiteralAt plans pending events tables literal → IsLiteralBehind plans pending past events literal
 literal_behind plans pending past time events tables literal are known at = record {
   leaf = at.leaf;
@@ -113,16 +98,18 @@ module _ (plans : List Plan) (inserted : Bool) (pending : List Instance) (past :
   if_none None finds = finds
   if_none (Some f) finds = tt
 
--- what was found at a step behind a past state
+-- what was found at a step after a past state
 pub found_behind_past : (plans : List Plan) (pending : List Instance) (past : Past) (inserted : Bool) (time position : ℕ)
-    (given events : List Event) (tables : PastTables) (found : Option Found) → AreOf past time given tables → AreKnown past given tables
+    (given events : List Event) (tables : PastTables) (found : Option Found) → AreTablesAtStep past time given tables → AreKnown past given tables
     → WillFind plans pending past inserted time position events (option_map (action_found time position) found)
     → IfSome found (λ f. 0 < length f.literals.items)
-    → IfSome found (λ f. IsTrue f.plain → HasNoChoices plans f.rule)
-    → IfSome found (λ f. WillHaveFound plans pending past inserted time position events f.rule (root_literals f))
+    → IfSome found (IsPlainFound plans)
+    → IfSome found (λ f. WillHaveFound plans pending past inserted time position events (rule_found f) (root_literals f))
     → IfSome found (λ f. IsWantedAt plans pending events given tables (action_found time position f))
     → IfSome found (λ f. (literal : Literal) → Contains (root_literals f) literal → IsLiteralAt plans pending given tables literal)
-    → IfSome found (λ f. (0 < length f.literals.items) × (IsTrue f.plain → HasNoChoices plans f.rule) × IsFoundFrom plans pending past inserted time position given events (action_found time position f) f.rule (root_literals f))
+    → IfSome found (λ f. (0 < length f.literals.items) × IsPlainFound plans f
+    × IsFoundFrom plans pending past inserted time position given events (action_found time position f) (rule_found f)
+    (root_literals f))
 found_behind_past plans pending past inserted time position given events tables None are known finds some plain rest wanted literals = tt
 found_behind_past plans pending past inserted time position given events tables (Some f) are known finds some plain rest wanted literals = (
   some,

@@ -1,14 +1,2 @@
-pub mod Choice
-pub mod Follows
-pub mod Idle
-pub mod Justifying
-pub mod Fitting
-pub mod Waking
-pub mod Looking
-pub mod Choosing
-pub mod AskedLaws
-pub mod JoinLaws
-pub mod Acting
-pub mod Situations
-pub mod Laws
-pub mod Cases
+pub mod meaning
+pub mod machine

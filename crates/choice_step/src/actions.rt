@@ -1,5 +1,5 @@
 //! What is done at a step.
-use enf_value::Items;
+use enf_data::Items;
 pub use obligations::Action;
 
 /// A list of actions.

@@ -1,9 +1,9 @@
-//! Laws of what is done at a step and of what goes out, each the contract of a function that does nothing.
-ghost use Rattle.choice_step.specs.Fitting.{DecidedFits, DrainFits, FollowedFits};
-ghost use Rattle.choice_step.specs.Justifying.{DecidedAreJustified, LeastDeadlineIsNeeded};
-ghost use Rattle.choice_step.specs.Laws.{ActionsAreLawful, CausesAlone, EventsAreActedOnOnce};
-ghost use Rattle.choice_step.specs.Laws.{DecidedIsDistinct, DecidedMissesNothing, DecidesIsOne, DrainIsOne};
-ghost use Rattle.choice_step.specs.Laws.{FollowsIsOne, SomeDecision, SomeFollows, SomeInserts};
+//! Laws of what is done at a step and of what is emitted, each the contract of a function that does nothing.
+ghost use Rattle.choice_step.specs.machine.FittingLaws.{DecidedFits, DrainFits, FollowedFits};
+ghost use Rattle.choice_step.specs.machine.JustificationLaws.{DecidedAreJustified, LeastDeadlineIsNeeded};
+ghost use Rattle.choice_step.specs.machine.Laws.{ActionsAreLawful, CausesAlone, EventsAreActedOnOnce};
+ghost use Rattle.choice_step.specs.machine.Laws.{DecidedIsDistinct, DecidedMissesNothing, DecidesIsOne, DrainIsOne};
+ghost use Rattle.choice_step.specs.machine.Laws.{FollowsIsOne, SomeDecision, SomeFollows, SomeInserts};
 
 use obligations::laws::{
     missed_are_own, missed_is_served, missing_exists, missing_is_one, pending_can_be_asked,
@@ -33,7 +33,7 @@ pub fn some_decision()
     missed_are_own();
 }
 
-/// Where serving deadlines ends, something goes out: at a drain, and for the records of each log.
+/// Where serving deadlines ends, something is emitted: at a drain, and for the records of each log.
 pub fn something_goes_out()
     ensures inserts { SomeInserts }
     ensures records { SomeFollows }
@@ -73,7 +73,7 @@ pub fn actions_are_justified()
     well_formed_can_be_asked();
 }
 
-/// Where the events that come in pass a test, and those that plans cause on traces whose events do, all that goes out
+/// Where the events that come in pass a test, and those that plans cause on traces whose events do, all that is emitted
 /// pass it.
 pub fn what_goes_out_fits()
     ensures step { DecidedFits }

@@ -1,18 +1,18 @@
 //! Which events are added and taken out at a step, so that nothing is missing there. It stands on `obligations`,
-//! `past_state`, `plan_terms`, `monitorable_guard`, `valuations`, `trace_meaning`, `enf_formula` and `enf_value`.
+//! `past_state`, `plan_terms`, `monitorable_guard`, `valuations`, `trace_meaning`, `enf_formula` and `enf_data`.
 #![tactic(auto)]
 
-mod acting;
 pub mod actions;
-pub mod choosing;
-pub mod idle;
+mod apply_actions;
+pub mod choice_loop;
+mod first_missing;
+pub mod idle_steps;
 pub mod laws;
-mod looking;
+pub mod rule_triggers;
 mod situation;
-pub mod waking;
-mod woken;
+mod woken_rules;
 pub mod worked_cases;
 
 pub use actions::{Action, Actions};
-pub use choosing::{Choice, choose, choose_with};
-pub use waking::Wakes;
+pub use choice_loop::{Choice, choose, choose_with};
+pub use rule_triggers::Wakes;

@@ -1,5 +1,5 @@
 //! The situation in which a step is decided.
-use crate::waking::Wakes;
+use crate::rule_triggers::Wakes;
 use past_state::PastState;
 use pending::Pending;
 use plan_terms::Plan;

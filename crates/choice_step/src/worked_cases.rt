@@ -1,18 +1,19 @@
 //! Worked cases of the choice loop, each a clause of a function with an empty body.
 ghost use Rattle.std.specs.Prelude.{[], ◌∷◌, true, false};
-ghost use Rattle.enf_formula.specs.Cases.{event_p, event_q};
-ghost use Rattle.obligations.specs.declared.literals.LiteralKind.TheVariants as kind;
-ghost use Rattle.obligations.specs.Cases.{at_once_for, p_of_1, q_of_1, then_for};
-ghost use Rattle.choice_step.specs.Cases.{AreRightAtOnce, AreRightThen, CausesNumbers, acted_at, is_number};
-ghost use Rattle.choice_step.specs.Cases.{Chooses, ChoosesDue, ChoosesDueAndAlways, ChoosesDueAndRoot, ChoosesDueTwice};
-ghost use Rattle.choice_step.specs.Cases.{ChoosesFed, ChoosesSide, ChoosesWoken, GoesForBoth, GoesForNext, p_and_q};
-ghost use Rattle.choice_step.specs.Cases.{p_at_5};
-ghost use Rattle.choice_step.specs.Cases.{Drains, GoesFor, due_at_5, empty_at_0, event_r, for_due, for_leaf, for_root};
-ghost use Rattle.choice_step.specs.Cases.{for_second_at, for_second_root, p_in_time, p_is_there, p_without_q};
-ghost use Rattle.choice_step.specs.Cases.{q_at_3, q_at_7, q_at_15, q_is_not, second_due_at_3, served_at_5, served_at_6};
-ghost use Rattle.choice_step.specs.Follows.{IsLeastDeadline};
-ghost use Rattle.trace_meaning.specs.Records.{StepRecord, Tick};
+ghost use Rattle.enf_formula.specs.machine.Cases.{event_p, event_q};
+ghost use Rattle.obligations.specs.machine.Cases.{at_once_for, p_of_1, q_of_1, then_for};
+ghost use Rattle.choice_step.specs.machine.Cases.{AreRightAtOnce, AreRightThen, CausesNumbers, acted_at, is_number};
+ghost use Rattle.choice_step.specs.machine.Cases.{Chooses, ChoosesDue, ChoosesDueAndAlways, ChoosesDueAndRoot};
+ghost use Rattle.choice_step.specs.machine.Cases.{ChoosesDueTwice, ChoosesFed, ChoosesSide, ChoosesWoken, GoesForBoth};
+ghost use Rattle.choice_step.specs.machine.Cases.{GoesForNext, p_by_5_and_q_by_3, p_at_5, DrainsInTime, GoesFor};
+ghost use Rattle.choice_step.specs.machine.Cases.{due_at_5, empty_at_0, event_r, for_due, for_leaf, for_root};
+ghost use Rattle.choice_step.specs.machine.Cases.{for_second_at, for_second_root, p_by_5, p_is_there, p_where_no_q};
+ghost use Rattle.choice_step.specs.machine.Cases.{q_at_3, q_at_7, q_at_15, q_is_not, second_due_at_3, served_at_5};
+ghost use Rattle.choice_step.specs.machine.Cases.{served_at_6};
+ghost use Rattle.choice_step.specs.meaning.Follows.{IsLeastDeadline};
+ghost use Rattle.trace_meaning.specs.meaning.Traces.{StepRecord, Tick};
 ghost use Rattle.trace_meaning.specs.declared.kinds.StepKind.TheVariants.{Inserted, System};
+ghost use Rattle.obligations.specs.declared.literals.LiteralKind.TheVariants as kind;
 
 use crate::laws::follows_is_one;
 use obligations::laws::pending_is_one;
@@ -43,7 +44,7 @@ pub fn choices_of_events()
         (for_root kind.Suppress event_q 0 ∷ []) (event_r ∷ event_p ∷ []) }
     ensures no_neighbour_is_dropped { Chooses (q_is_not ∷ []) (event_r ∷ event_q ∷ event_p ∷ [])
         (for_root kind.Suppress event_q 0 ∷ []) (event_r ∷ []) → ⊥ }
-    ensures test_falls { Chooses (q_is_not ∷ p_without_q ∷ []) (event_q ∷ [])
+    ensures test_falls { Chooses (q_is_not ∷ p_where_no_q ∷ []) (event_q ∷ [])
         (for_root kind.Suppress event_q 0 ∷ for_leaf kind.Cause event_p 1 1 ∷ []) (event_p ∷ []) }
 {
     follows_is_one();
@@ -97,8 +98,8 @@ pub fn choices_of_pending()
 
 /// Of two deadlines that pass the lesser is served first, whatever the order of the rules.
 pub fn deadlines_in_order()
-    ensures least { IsLeastDeadline p_and_q (due_at_5 ∷ second_due_at_3 ∷ []) 3 }
-    ensures not_the_first_rules { IsLeastDeadline p_and_q (due_at_5 ∷ second_due_at_3 ∷ []) 5 → ⊥ }
+    ensures least { IsLeastDeadline p_by_5_and_q_by_3 (due_at_5 ∷ second_due_at_3 ∷ []) 3 }
+    ensures not_the_first_rules { IsLeastDeadline p_by_5_and_q_by_3 (due_at_5 ∷ second_due_at_3 ∷ []) 5 → ⊥ }
     ensures both { GoesForBoth (StepRecord empty_at_0.step ∷ Tick 6 ∷ [])
         (empty_at_0 ∷ q_at_3 ∷ p_at_5 ∷ []) }
     ensures not_one_alone { GoesForBoth (StepRecord empty_at_0.step ∷ Tick 6 ∷ [])
@@ -132,10 +133,10 @@ pub fn deadlines()
         (empty_at_0 ∷ served_at_5 ∷ q_at_7 ∷ []) }
     ensures not_behind_the_step { GoesFor (StepRecord empty_at_0.step ∷ StepRecord q_at_7.step ∷ [])
         (empty_at_0 ∷ q_at_7 ∷ served_at_5 ∷ []) → ⊥ }
-    ensures drained { Drains (served_at_5 ∷ []) }
-    ensures nothing_left_out { Drains [] → ⊥ }
-    ensures not_a_unit_late { Drains (served_at_6 ∷ []) → ⊥ }
-    ensures not_later { IsLeastDeadline (p_in_time ∷ []) (due_at_5 ∷ []) 6 → ⊥ }
+    ensures drained { DrainsInTime (served_at_5 ∷ []) }
+    ensures nothing_left_out { DrainsInTime [] → ⊥ }
+    ensures not_a_unit_late { DrainsInTime (served_at_6 ∷ []) → ⊥ }
+    ensures not_later { IsLeastDeadline (p_by_5 ∷ []) (due_at_5 ∷ []) 6 → ⊥ }
 {
     follows_is_one();
     pending_is_one();
@@ -150,7 +151,7 @@ pub fn choices_of_sides()
     follows_is_one();
 }
 
-/// What goes out, each action for the rule that it serves, and each inserted step needed.
+/// What is emitted, each action for the rule that it serves, and each inserted step needed.
 pub fn justified_steps()
     ensures for_its_rule { AreRightAtOnce [] (acted_at System 5 (event_p ∷ [])
         (at_once_for kind.Cause event_p 0 0 ∷ []) ∷ []) }

@@ -1,8 +1,6 @@
 -- What stays linked where a node comes or goes between two others.
-use mathlib.Core.Path.{◌≡◌, refl}
-use mathlib.Core.List.{List, [], ◌∷◌, ◌++◌}
-use denote.RawPtr.{Ptr}
-use Rattle.std_collections.specs.LinkedList.Links.{Link, LeadsForward, LeadsBackTo, LeadsBack, IsChained}
+use Rattle.cursor_list.proofs.Vocabulary.{◌≡◌, refl, List, [], ◌∷◌, ◌++◌, Ptr, Link, LeadsForward}
+use Rattle.cursor_list.proofs.Vocabulary.{LeadsBackTo, LeadsBack, IsChained}
 
 -- ---- a node at p comes between l and m
 LeadsForward-between : (h p : Ptr) (ks : List Link) (l m : Link) (ms : List Link) → LeadsForward h (ks ++ l ∷ m ∷ ms)

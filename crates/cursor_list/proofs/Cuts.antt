@@ -1,10 +1,8 @@
 -- A list cut at a place, one further on.
-use mathlib.Core.Path.{◌≡◌, refl, ap}
-use mathlib.Core.List.{List, [], ◌∷◌, ◌++◌, append_assoc}
-use Prim.Native.Nat.{ℕ, zero, suc, ◌+◌, ◌≤◌}
-use native.Mathlib.Omega.{arith}
-use lib.ListN.{length, take, drop, length-append, length-take}
-use Rattle.std_collections.proofs.ListRuns.{cut_at}
+use Rattle.cursor_list.proofs.Vocabulary.{◌≡◌, refl, ap, List, [], ◌∷◌, ◌++◌, append_assoc, ℕ, zero}
+use Rattle.cursor_list.proofs.Vocabulary.{suc, ◌+◌, ◌≤◌, arith, length, take, length-append, length-take}
+use Rattle.cursor_list.proofs.Vocabulary.{cut_at}
+use lib.ListN.{drop}
 
 module _ {X : Type 0} where
   pub take-next : (n : ℕ) (xs : List X) → take (suc n) xs ≡ take n xs ++ take 1 (drop n xs)
@@ -21,4 +19,5 @@ module _ {X : Type 0} where
   pub put_cut : (xs : List X) (x : X) (n : ℕ) → n ≤ length xs
       → (take n xs ++ x ∷ [] ≡ take (n + 1) (take n xs ++ x ∷ drop n xs)) × (drop n xs ≡ drop (n + 1) (take n xs ++ x ∷ drop n xs))
   put_cut xs x n p =
-      cut_at (take n xs ++ x ∷ []) (drop n xs) (take n xs ++ x ∷ drop n xs) (n + 1) (append_assoc (take n xs) (x ∷ []) (drop n xs)) (omega (arith, length-append (take n xs) (x ∷ []), length-take n xs))
+      cut_at (take n xs ++ x ∷ []) (drop n xs) (take n xs ++ x ∷ drop n xs) (n + 1) (append_assoc (take n xs) (x ∷ []) (drop n xs))
+      (omega (arith, length-append (take n xs) (x ∷ []), length-take n xs))

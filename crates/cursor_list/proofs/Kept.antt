@@ -1,12 +1,7 @@
 -- Where nodes still lie once another came or went.
-use mathlib.Core.Path.{◌≡◌, refl, sym, ap, ◌∙◌}
-use mathlib.Core.List.{List, [], ◌∷◌, ◌++◌}
-use Prim.Native.Nat.{ℕ, zero, suc, ◌<◌, ◌≤◌}
-use native.Mathlib.Omega.{arith}
-use lib.ListN.{length}
-use Rattle.std_collections.specs.LinkedList.Links.{Link, links_of, place_of}
-use Rattle.std_collections.proofs.ListMemory.Chained.{link_at, place_of-is}
-use Rattle.cursor_list.specs.Places.{KeepsPlaces}
+use Rattle.cursor_list.proofs.Vocabulary.{◌≡◌, refl, sym, ap, ◌∙◌, List, [], ◌∷◌, ◌++◌, ℕ, zero}
+use Rattle.cursor_list.proofs.Vocabulary.{suc, ◌<◌, ◌≤◌, arith, length, Link, links_of, place_of, link_at}
+use Rattle.cursor_list.proofs.Vocabulary.{place_of-is, KeepsPlaces}
 
 module _ {Z : Type 0} where
   front_at : (ns ms : List (Link × Z)) (i : ℕ) → i < length ns → (link_at (links_of ns) i).0 ≡ (link_at (links_of (ns ++ ms)) i).0
@@ -14,7 +9,7 @@ module _ {Z : Type 0} where
   front_at (n ∷ ns) ms zero p = refl
   front_at (n ∷ ns) ms (suc i) p = front_at ns ms i (omega arith)
 
-  -- those in front stay where those behind them go
+  -- those in front stay where those after them go
   pub keeps_front : (ns ms : List (Link × Z)) (n : ℕ) → n ≤ length ns → KeepsPlaces n (links_of (ns ++ ms)) (links_of ns)
   keeps_front ns ms n p i q = place_of-is (links_of ns) i ∙ front_at ns ms i (omega arith) ∙ sym (place_of-is (links_of (ns ++ ms)) i)
 

@@ -1,3 +1,4 @@
+pub mod Vocabulary
 pub mod Chained
 pub mod Cuts
 pub mod Kept

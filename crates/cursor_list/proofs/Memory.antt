@@ -1,37 +1,18 @@
--- The three words of `Nodes`, by value, behind a `&mut` and behind a `&`, at any element type. Assumes `Logic`.
---     nodes_made, nodes_opens, nodes_closes      the three words by value, and behind a `&mut`
---     append_out      two rows of nodes, where they are one
---     says_both      an `ensures` of two facts
---     nodes_seen      [`head`; `tail`; `len`; the elements; the pointers], behind a `&`
-use mathlib.Core.Path.{◌≡◌, refl, ◌∙◌}
-use Prim.Native.Nat.{ℕ, ◌+◌, ◌^◌}
-use native.Mathlib.Omega.{arith}
-use mathlib.Core.List.{List, [], ◌∷◌, ◌++◌}
-use lib.ListN.{length}
-use seplogic.Ra.Ura.{Ura}
-use base.Fraction.{full_share}
-use base.Stored.{Gv}
-use mir.Syntax.{w64}
-use mir.Val.{Val, vint, vstruct, of_list}
-use base.Fml.{Lft, GName, Share, flft, fobs, fauth, fbor, fobor}
-use base.Logic.{SProp, ent, emp, sep, via}
-use contract.Monad.{fact, fact_i}
-use types.Logic.{Logic, sem}
-use types.Kit.{Item, Goal, Seq, Step, Soaks, step, prop, ‵, raw, ◌⊛◌, ◌$◌, ◌∵◌, !, qed, use0, use1, use2, split, frame, done, move, drop, fsplit, fsplit3, fjoin, fpick, fpack, feq_i, feq_l, flt_i, flt_l, rewrite}
-use types.SemTy.{Body as Borrowed}
-use denote.RattleType.{RattleType, Valss}
-use denote.Builtin.{usize}
-use denote.Memory.{cell_at, mem, hidden_shr}
-use denote.RawPtr.{RawPtr, ptr_val}
-use denote.Opens.{unhide, hide}
-use denote.Steps.{nothing, opens, closes}
-use denote.Struct.Struct.{within}
-use denote.Struct.Owning.{Owning, shape}
-use Rattle.std_alloc.proofs.BoxSteps.Form.{Bx, X, R, P}
-use Rattle.std_collections.specs.LinkedList.Links.{Link, links_of}
-use Rattle.std_collections.specs.LinkedList.Ownership.{elem_places, links_lent, spread_lent}
-use Rattle.std_collections.proofs.ListMemory.Steps.{words, Hd, Held, One, cons_out, cons_in}
-use Rattle.cursor_list.specs.declared.nodes.Nodes.{Nodes}
+-- The three words of `Nodes`, by value, after a `&mut` and after a `&`, at any element type. Assumes `Logic`.
+-- nodes_made, nodes_opens, nodes_closes      the three words by value, and after a `&mut`
+-- append_out      two rows of nodes, where they are one
+-- says_both      an `ensures` of two facts
+-- nodes_seen      [`head`; `tail`; `len`; the elements; the pointers], after a `&`
+use Rattle.cursor_list.proofs.Vocabulary.{◌≡◌, refl, ◌∙◌, ℕ, ◌+◌, ◌^◌, arith, List, [], ◌∷◌}
+use Rattle.cursor_list.proofs.Vocabulary.{◌++◌, length, Ura, full_share, Gv, w64, Val, vint, vstruct, of_list, Lft}
+use Rattle.cursor_list.proofs.Vocabulary.{GName, Share, flft, fobs, fauth, fbor, fobor, SProp, ent, emp, sep, via, fact}
+use Rattle.cursor_list.proofs.Vocabulary.{fact_i, Logic, sem, Item, Goal, Seq, Step, Soaks, step, prop, ‵, raw}
+use Rattle.cursor_list.proofs.Vocabulary.{◌⊛◌, ◌$◌, ◌∵◌, !, qed, use0, use1, use2, split, frame, done}
+use Rattle.cursor_list.proofs.Vocabulary.{move, drop, fsplit, fsplit3, fjoin, fpick, fpack, feq_i, feq_l, flt_i, flt_l}
+use Rattle.cursor_list.proofs.Vocabulary.{rewrite, Body as Borrowed, RattleType, Valss, usize, cell_at, mem, hidden_shr}
+use Rattle.cursor_list.proofs.Vocabulary.{RawPtr, ptr_val, unhide, hide, nothing, opens, closes, within, Owning, shape}
+use Rattle.cursor_list.proofs.Vocabulary.{Bx, X, R, P, Link, links_of, elem_places, links_lent, spread_lent, words, Hd}
+use Rattle.cursor_list.proofs.Vocabulary.{Held, One, cons_out, cons_in, Nodes}
 use Rattle.cursor_list.specs.contracts.nodes.Nodes as N
 
 module _ (E : Bx) where
@@ -57,12 +38,14 @@ module _ (E : Bx) {M : Type 1} {𝓤 : Ura M} {𝓛 : Logic 𝓤} {K : Type 0} {
       nothing t $ flt_i t d.len (2 ^ 64) (omega arith) $ feq_i t (List Val) (vint w64 d.len ∷ []) (vint w64 d.len ∷ []) refl $ fjoin t $ fjoin t $
       feq_i t (List Val) (ptr_val d.tail ∷ []) (ptr_val d.tail ∷ []) refl $ fjoin t $ feq_i t (List Val) (ptr_val d.head ∷ []) (ptr_val d.head ∷ []) refl $ fjoin t $
       feq_i t (List Val) (v ∷ []) (v ∷ []) refl $ fjoin t $
-      fpack t (Valss (shape (owning E)).fields) (within (shape (owning E)) (d.head, (d.tail, (d.len, tt))) (v ∷ [])) (ptr_val d.head ∷ [], (ptr_val d.tail ∷ [], (vint w64 d.len ∷ [], tt))) $ fjoin t $ s)
+      fpack t (Valss (shape (owning E)).fields) (within (shape (owning E)) (d.head, (d.tail, (d.len, tt))) (v ∷ []))
+      (ptr_val d.head ∷ [], (ptr_val d.tail ∷ [], (vint w64 d.len ∷ [], tt))) $ fjoin t $ s)
 
 module _ (E : Bx) {M : Type 1} {𝓤 : Ura M} {𝓛 : Logic 𝓤} {K : Type 0} {Γ : List (Item 𝓤)} {G : Goal 𝓤 𝓛.H} where
   -- [the nodes; the words; the open borrow; obs; auth]
   pub nodes_opens : K → Soaks G → {κ : Lft} {q : Share} {γ : GName} (d : D E) (rb ro : ℕ)
-      → Step K 𝓛 (‵ (Held E d.blocks d.items) ∷ ‵ (cell_at full_share (Nr E).mir (words d.head d.tail d.len ∷ []) rb ro) ∷ ‵ (fobor κ q (Borrowed (mem (Nr E)) rb ro γ)) ∷ ‵ (fobs γ ((Nr E).coded.code d)) ∷ ‵ (fauth γ ((Nr E).coded.code d)) ∷ Γ) G
+      → Step K 𝓛 (‵ (Held E d.blocks d.items) ∷ ‵ (cell_at full_share (Nr E).mir (words d.head d.tail d.len ∷ []) rb ro) ∷ ‵ (fobor κ q (Borrowed (mem (Nr E)) rb ro γ))
+      ∷ ‵ (fobs γ ((Nr E).coded.code d)) ∷ ‵ (fauth γ ((Nr E).coded.code d)) ∷ Γ) G
       (‵ (fobs γ ((Nr E).coded.code d)) ∷ ‵ (fbor κ (Borrowed (mem (Nr E)) rb ro γ)) ∷ ‵ (flft κ q) ∷ Γ) G
   nodes_opens t z d rb ro = step (λ s.
       opens t z (Nr E) {h = d} rb ro (λ vs. move t (1 ∷ []) $ nodes_had E t d vs (λ is. rewrite t 1 (λ (ws : List Val). ‵ (cell_at full_share (Nr E).mir ws rb ro)) is refl $ s)))

@@ -1,3 +1,1 @@
--- Words on lists that are changed at a place.
-pub mod Places
-pub mod Split
+pub mod machine

@@ -1,9 +1,8 @@
 //! A list with a cursor.
-ghost use Rattle.std.specs.Prelude.{◌≡◌, ◌↔◌, ◌+◌, ◌^◌, ◌<◌, ◌++◌, ◌∷◌};
-ghost use Rattle.std.specs.Prelude.{[], drop, take, length};
-ghost use Rattle.std.specs.Prelude.{IfErr, IfSome, IsFalse, IsNone, IsSome, OnErr, OnOk};
+ghost use Rattle.std.specs.Prelude.{◌≡◌, ◌↔◌, ◌+◌, ◌^◌, ◌<◌, ◌++◌, ◌∷◌, [], drop};
+ghost use Rattle.std.specs.Prelude.{take, length, IfErr, IfSome, IsFalse, IsNone, IsSome, OnErr, OnOk};
 ghost use Rattle.std.specs.Option.{option_to_list};
-ghost use Rattle.cursor_list.specs.Split.{items};
+ghost use Rattle.cursor_list.specs.machine.Split.{items};
 
 use crate::nodes::{Node, Nodes, Place};
 use crate::walk::Walk;
@@ -14,7 +13,7 @@ use std_alloc::room::Vacant;
 // One more than the most items that a list holds.
 const LIMIT: usize = 0x8000_0000_0000_0000;
 
-/// A doubly linked list that keeps one place in it, seen as the items in front of that place and those behind it.
+/// A doubly linked list that keeps one place in it, seen as the items in front of that place and those after it.
 pub struct CursorList<T> {
     nodes: Nodes<T, Global>,
     alloc: Global,
@@ -26,8 +25,8 @@ pub struct CursorList<T> {
 impl<T> Model for CursorList<T> {
     ghost use Rattle.std.specs.Prelude.{◌≤◌, drop, take};
     ghost use Rattle.std_collections.specs.LinkedList.Links.{links_of};
-    ghost use Rattle.cursor_list.specs.Places.{IsLastOf};
-    ghost use Rattle.cursor_list.specs.Split.{Split};
+    ghost use Rattle.cursor_list.specs.machine.NodePlaces.{IsLastOf};
+    ghost use Rattle.cursor_list.specs.machine.Split.{Split};
 
     ghost Value = { Split T };
 
@@ -80,7 +79,7 @@ impl<T> CursorList<T> {
         Vacant::take(self.alloc).ok()
     }
 
-    /// Puts an item behind all others. Without memory the list stays, and the item is handed back.
+    /// Puts an item after all others. Without memory the list stays, and the item is handed back.
     pub fn push_back(&mut self, value: T) -> Result<(), T>
         ensures before { self.new.before ≡ self.old.before }
         ensures ok { OnOk result (self.new.after ≡ self.old.after ++ value ∷ []) }
@@ -102,7 +101,7 @@ impl<T> CursorList<T> {
         self.passed = 0;
     }
 
-    /// The item behind the cursor. It takes no memory.
+    /// The item after the cursor. It takes no memory.
     pub fn peek(&self) -> Option<&T>
         ensures none { IsNone result ↔ (self.now.after ≡ []) }
         ensures some { IfSome result (λ item. self.now.after ≡ item.now ∷ drop 1 self.now.after) }
@@ -114,7 +113,7 @@ impl<T> CursorList<T> {
         Some(self.nodes.elem(at, self.passed))
     }
 
-    /// Passes the item behind the cursor, and answers false where there is none. It takes no memory.
+    /// Passes the item after the cursor, and answers false where there is none. It takes no memory.
     pub fn move_next(&mut self) -> bool
         ensures before { self.new.before ≡ self.old.before ++ take 1 self.old.after }
         ensures after { self.new.after ≡ drop 1 self.old.after }
@@ -128,7 +127,7 @@ impl<T> CursorList<T> {
         true
     }
 
-    /// Takes the item behind the cursor out. It takes no memory.
+    /// Takes the item after the cursor out. It takes no memory.
     pub fn remove(&mut self) -> Option<T>
         ensures before { self.new.before ≡ self.old.before }
         ensures after { self.old.after ≡ option_to_list result ++ self.new.after }

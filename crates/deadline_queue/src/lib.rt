@@ -1,4 +1,4 @@
-//! Which deadlines are to be met, and how often each. It stands on `enf_value`.
+//! Which deadlines are to be met, and how often each. It stands on `enf_data`.
 #![tactic(auto)]
 
 pub mod laws;

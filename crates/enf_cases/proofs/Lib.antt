@@ -1,3 +1,2 @@
-pub mod RunningLemmas
-pub mod BeginningLemmas
 pub mod EnforcingLemmas
+pub mod RunningLemmas

@@ -1,25 +1,25 @@
 -- The only guard of a past state, and the steps that a past state stands for.
-use Rattle.std.proofs.Common.{◌≡◌, ℕ, ◌<◌, ◌≤◌, List, [], ◌∷◌, ◌++◌, length, map, Contains, Option, None, Some, sym, subst, arith, length-append}
+use Rattle.std.proofs.Common.{◌≡◌, ℕ, ◌<◌, ◌≤◌, List, [], ◌∷◌, ◌++◌, length, map, Contains}
+use Rattle.std.proofs.Common.{Option, None, Some, sym, subst, arith, length-append}
 use Rattle.std.specs.Prelude.{slice_get}
-use Rattle.enf_value.specs.Membership.{HasNoRepeats}
-use Rattle.enf_value.specs.Valuations.{Valuation}
-use Rattle.enf_value.specs.declared.steps.Step.{Step}
-use Rattle.enf_formula.specs.FreeVariables.{IsFree}
-use Rattle.monitorable_guard.specs.Guards.{BoundFormula}
-use Rattle.past_state.specs.Guarded.{AreCopies, tree_in}
-use Rattle.past_state.specs.GuardLaws.{copies_formulas}
-use Rattle.past_state.specs.Operators.{all_operators}
-use Rattle.past_state.specs.Past.{BindsBound, IsTestOf, Past, PastStands, formula_of}
-use Rattle.past_state.specs.LastTimes.{IsFrom, IsLastTime}
-use Rattle.past_state.specs.Runs.{AreUpToTimeOf}
-use Rattle.past_state.specs.Saved.{AreKeptOf, AreRowsKept}
+use Rattle.enf_data.specs.meaning.Membership.{HasNoRepeats}
+use Rattle.enf_data.specs.meaning.Valuations.{Valuation, BindsColumns}
+use Rattle.enf_data.specs.declared.steps.Step.{Step}
+use Rattle.enf_formula.specs.meaning.Satisfaction.{IsFree}
+use Rattle.monitorable_guard.specs.machine.Guards.{BoundFormula}
+use Rattle.past_state.specs.machine.Guards.{AreCopies, tree_in}
+use Rattle.past_state.proofs.GuardLaws.{copies_formulas}
+use Rattle.past_state.specs.meaning.KeptRows.{all_operators, IsLastTime, AreKeptOf}
+use Rattle.past_state.specs.machine.Past.{BindsBound, IsTestOf, Past, PastStands, guard_formula}
+use Rattle.past_state.specs.meaning.RowBounds.{IsFrom}
+use Rattle.past_state.specs.machine.OperatorRuns.{AreUpToTimeOf}
+use Rattle.past_state.specs.machine.StoredRows.{AreRowsKept}
 use Rattle.past_state.specs.declared.guards.PlacedGuard.{PlacedGuard}
-use Rattle.past_state.specs.declared.kept.KeptRow.{KeptRow}
-use Rattle.trace_meaning.specs.Continuation.{last_time}
-use Rattle.trace_meaning.specs.Laws.{LastIsTheNew, TraceGrows}
-use Rattle.valuations.specs.Columns.{none_in_nil}
-use Rattle.valuations.specs.Just.{Binds}
-use Rattle.enf_cases.specs.Running.{IsClosed, IsOf, StandsUpTo}
+use Rattle.past_state.specs.declared.kept_rows.KeptRow.{KeptRow}
+use Rattle.trace_meaning.specs.meaning.Traces.{last_time}
+use Rattle.trace_meaning.specs.machine.Laws.{LastIsTheNew, TraceGrows}
+use Rattle.enf_data.proofs.Lists.{none_in_nil}
+use Rattle.enf_cases.specs.machine.GuardRuns.{BindsGuardVariables, IsPastOfGuard, StandsUpTo}
 
 first_is : (p q : PlacedGuard) (placed : List PlacedGuard) → slice_get (p ∷ placed) 0 ≡ Some q → p ≡ q
 first_is p q placed is = cc
@@ -30,22 +30,22 @@ one_copy g (p ∷ placed) copies = omega arith
 
 -- what the guard binds, its copy binds
 pub copy_binds : (g : BoundFormula) (placed : List PlacedGuard) (v : Valuation) → AreCopies (g ∷ []) placed
-    → Binds v g.bound → BindsBound placed 0 v
+    → BindsColumns v g.bound → BindsBound placed 0 v
 copy_binds g [] v copies binds = absurd copies
 copy_binds g (p ∷ placed) v copies binds = λ q is.
-    subst (λ h. Binds v h.guard.bound) (first_is p q placed is) (subst (Binds v) (sym copies.1) binds)
+    subst (λ h. BindsColumns v h.guard.bound) (first_is p q placed is) (subst (BindsColumns v) (sym copies.1) binds)
 
 -- what binds nothing has no variable left to bind
-pub nothing_bound : (g : BoundFormula) (v : Valuation) → g.bound ≡ [] → Binds v g.bound
-nothing_bound g v none = subst (Binds v) (sym none) (λ x there. absurd (none_in_nil x there))
+pub nothing_bound : (g : BoundFormula) (v : Valuation) → g.bound ≡ [] → BindsColumns v g.bound
+nothing_bound g v none = subst (BindsColumns v) (sym none) (λ x there. absurd (none_in_nil x there))
 
 -- where all free variables of the guard are bound, so are its copy's
-pub copy_closed : (g : BoundFormula) (placed : List PlacedGuard) → AreCopies (g ∷ []) placed → IsClosed g
+pub copy_closed : (g : BoundFormula) (placed : List PlacedGuard) → AreCopies (g ∷ []) placed → BindsGuardVariables g
     → IsTestOf placed 0
 copy_closed g [] copies closed = absurd copies
 copy_closed g (p ∷ placed) copies closed = λ q is x free.
     let first : p ≡ q = first_is p q placed is in
-    let free_in : IsFree x (tree_in g) = subst (IsFree x) copies.0 (subst (λ h. IsFree x (formula_of h)) (sym first) free) in
+    let free_in : IsFree x (tree_in g) = subst (IsFree x) copies.0 (subst (λ h. IsFree x (guard_formula h)) (sym first) free) in
     subst (λ h. Contains h.guard.bound x) first (subst (λ bound. Contains bound x) (sym copies.1) (closed x free_in))
 
 not_later : (trace : List Step) (last : Option ℕ) (time : ℕ) → IsLastTime trace last → IsFrom last time
@@ -70,7 +70,7 @@ goes_on grows newest last before after step from distinct s up_to stands =
     }
 
 -- what it keeps has to be kept of its trace, for the operators of its only guard
-pub kept_of : (g : BoundFormula) (last : Option ℕ) (past : Past) (rows : List KeptRow) → IsOf g past
+pub kept_of : (g : BoundFormula) (last : Option ℕ) (past : Past) (rows : List KeptRow) → IsPastOfGuard g past
     → (s : StandsUpTo last past) → AreRowsKept past rows
     → AreKeptOf s.trace (all_operators (map tree_in (g ∷ []))) rows
 kept_of g last past rows of s kept =

@@ -1,5 +1,1 @@
-pub mod Beginning
-pub mod Beside
-pub mod Enforcing
-pub mod Running
-pub mod Walking
+pub mod machine

@@ -1,14 +1,13 @@
 //! Logs that are audited: whether they satisfy a policy.
 ghost use Rattle.std.specs.Prelude.{◌<◌, ◌≤◌, ◌^◌, IfOk, length};
-ghost use Rattle.trace_meaning.specs.Continuation.{last_time};
-ghost use Rattle.trace_meaning.specs.Records.{most_time};
+ghost use Rattle.trace_meaning.specs.meaning.Traces.{last_time, most_time};
 ghost use Rattle.trace_meaning.specs.declared.kinds.StepKind.TheVariants.{Inserted};
 
 use crate::case::CaseError;
 use crate::output::Output;
 use crate::parts::{read_signature, three};
 use crate::typing::read_typed;
-use enf_value::{Duplicate, NoMemory, Step};
+use enf_data::{Duplicate, NoMemory, Step};
 use enforce_types::TypedPolicy;
 use log_stream::{Found, LogItem, LogMode, LogReader};
 use signature::Signature;

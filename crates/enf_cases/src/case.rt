@@ -1,5 +1,5 @@
 //! Why a case has no answer.
-use enf_value::NoMemory;
+use enf_data::NoMemory;
 use std::alloc::{AllocError, AllocFailed};
 
 /// Why a case has no answer.

@@ -1,15 +1,16 @@
-//! Policies enforced on logs: what is done at each step, and the step that goes out; or what is pending.
+//! Policies enforced on logs: what is done at each step, and the step that is emitted; or what is pending.
 ghost use Rattle.std.specs.Prelude.{◌≤◌, ◌<◌, ◌^◌, IfOk, OnOk};
-ghost use Rattle.enf_cases.specs.Enforcing.{IsFurther, IsNew, IsResumedFrom, IsStanding, StaysStanding};
+ghost use Rattle.enf_cases.specs.machine.EnforcerProgress.{IsFurtherByRecord, HasTakenNothing, IsResumedFrom};
+ghost use Rattle.enf_cases.specs.machine.EnforcerProgress.{IsStandingEnforcer, StaysStanding};
 
 use crate::case::CaseError;
 use crate::output::Output;
 use crate::parts::{read_signature, three};
 use crate::typing::read_typed;
 use choice_step::Action;
-use enf_value::{Duplicate, Event, EventSet, Value};
+use enf_data::{Duplicate, Event, EventSet, Value};
 use enforce_types::TypedPolicy;
-use enforcer_core::laws::kept_can_be_taken_up;
+use enforcer_core::laws::{kept_can_be_taken_up, takes_are_few};
 use enforcer_core::{Enforcer, OutStep, StepOut, StepRefusal};
 use log_stream::{Found, LogItem, LogMode, LogReader};
 use obligations::{Instance, LiteralKind};
@@ -17,9 +18,9 @@ use signature::Signature;
 use std::alloc::Global;
 use valuations::Valuation;
 
-/// What is told of an enforcer: for each step that goes out what was done at it, as `+` or `-`, the event, `/`, the
-/// number of the leaf and a blank, and the step with a blank; behind each record, and the drain behind the last one,
-/// what is pending; or the steps of one that is made anew of what is kept of it, before the first record and behind
+/// What is told of an enforcer: for each step that is emitted what was done at it, as `+` or `-`, the event, `/`, the
+/// number of the leaf and a blank, and the step with a blank; after each record, and the drain after the last one,
+/// what is pending; or the steps of one that is made anew of what is kept of it, before the first record and after
 /// each.
 #[derive(Clone, Copy)]
 pub enum Told {
@@ -33,7 +34,7 @@ const MOST_RECORDS: u32 = 1_000;
 
 const MOST_TIME: u64 = 1_000_000_000_000_000;
 
-/// What is told of an enforcer over a log, and the drain behind it. Reads a signature, a policy and a log, with a byte
+/// What is told of an enforcer over a log, and the drain after it. Reads a signature, a policy and a log, with a byte
 /// 1 between them.
 pub fn answer(alloc: Global, told: Told, input: &[u8], out: &mut Output) -> Result<(), CaseError> {
     let (signature, policy, log) = three(input)?;
@@ -64,8 +65,8 @@ fn enforce(
     enforcer: Enforcer,
     out: &mut Output,
 ) -> Result<(), CaseError>
-    requires fresh { IsNew enforcer }
-    requires stands { IsStanding enforcer }
+    requires fresh { HasTakenNothing enforcer }
+    requires stands { IsStandingEnforcer enforcer }
 {
     let mut reader = LogReader::new(alloc, names.duplicate(alloc)?, LogMode::Input);
     reader.feed(log)?;
@@ -80,8 +81,8 @@ fn take_records(
     enforcer: Enforcer,
     out: &mut Output,
 ) -> Result<(), CaseError>
-    requires fresh { IsNew enforcer }
-    requires stands { IsStanding enforcer }
+    requires fresh { HasTakenNothing enforcer }
+    requires stands { IsStandingEnforcer enforcer }
 {
     let mut enforcer = enforcer;
     for taken in 0..MOST_RECORDS {
@@ -104,9 +105,9 @@ fn take(
     out: &mut Output,
 ) -> Result<Enforcer, CaseError>
     requires room { enforcer.position < 2 ^ 63 }
-    requires stands { IsStanding enforcer }
-    ensures further { IfOk result (IsFurther enforcer) }
-    ensures stands { IfOk result IsStanding }
+    requires stands { IsStandingEnforcer enforcer }
+    ensures further { IfOk result (IsFurtherByRecord enforcer) }
+    ensures stands { IfOk result IsStandingEnforcer }
 {
     let mut enforcer = enforcer;
     let made = made_of(alloc, item, &mut enforcer)?;
@@ -117,7 +118,7 @@ fn take(
 
 // The enforcer, made anew of what is kept of it where it is to be.
 fn resumed(alloc: Global, told: Told, enforcer: Enforcer) -> Result<Enforcer, CaseError>
-    requires stands { IsStanding enforcer }
+    requires stands { IsStandingEnforcer enforcer }
     requires in_time { enforcer.clock ≤ MOST_TIME }
     ensures { IfOk result (IsResumedFrom enforcer) }
 {
@@ -128,7 +129,7 @@ fn resumed(alloc: Global, told: Told, enforcer: Enforcer) -> Result<Enforcer, Ca
 }
 
 fn made_anew(alloc: Global, enforcer: Enforcer) -> Result<Enforcer, CaseError>
-    requires stands { IsStanding enforcer }
+    requires stands { IsStandingEnforcer enforcer }
     requires in_time { enforcer.clock ≤ MOST_TIME }
     ensures { IfOk result (IsResumedFrom enforcer) }
 {
@@ -138,7 +139,7 @@ fn made_anew(alloc: Global, enforcer: Enforcer) -> Result<Enforcer, CaseError>
     Ok(Enforcer::from_snapshot(alloc, policy, snapshot)?)
 }
 
-// Lets out what is still owed behind the log.
+// Lets out what is still owed after the log.
 fn drain(
     alloc: Global,
     told: Told,
@@ -165,7 +166,7 @@ fn drained(alloc: Global, enforcer: &mut Enforcer) -> Result<StepOut, CaseError>
 
 fn made_of(alloc: Global, item: LogItem, enforcer: &mut Enforcer) -> Result<StepOut, CaseError>
     requires { enforcer.old.position < 2 ^ 63 }
-    ensures further { OnOk result (IsFurther enforcer.old enforcer.new) }
+    ensures further { OnOk result (IsFurtherByRecord enforcer.old enforcer.new) }
     ensures stands { OnOk result (StaysStanding enforcer.old enforcer.new) }
 {
     match item {
@@ -181,12 +182,13 @@ fn take_step(
     enforcer: &mut Enforcer,
 ) -> Result<StepOut, CaseError>
     requires { enforcer.old.position < 2 ^ 63 }
-    ensures further { OnOk result (IsFurther enforcer.old enforcer.new) }
+    ensures further { OnOk result (IsFurtherByRecord enforcer.old enforcer.new) }
     ensures stands { OnOk result (StaysStanding enforcer.old enforcer.new) }
 {
     if time > MOST_TIME {
         return Err(CaseError::Malformed);
     }
+    takes_are_few();
     match enforcer.step(alloc, time, events) {
         Ok(made) => Ok(made),
         Err(refusal) => Err(error_of(refusal)),
@@ -195,12 +197,13 @@ fn take_step(
 
 fn take_tick(alloc: Global, time: u64, enforcer: &mut Enforcer) -> Result<StepOut, CaseError>
     requires { enforcer.old.position < 2 ^ 63 }
-    ensures further { OnOk result (IsFurther enforcer.old enforcer.new) }
+    ensures further { OnOk result (IsFurtherByRecord enforcer.old enforcer.new) }
     ensures stands { OnOk result (StaysStanding enforcer.old enforcer.new) }
 {
     if time > MOST_TIME {
         return Err(CaseError::Malformed);
     }
+    takes_are_few();
     match enforcer.tick(alloc, time) {
         Ok(made) => Ok(made),
         Err(refusal) => Err(error_of(refusal)),
@@ -227,7 +230,7 @@ fn print_made(
     }
 }
 
-/// The instances that are pending, with `;` behind each, and `/` and a blank.
+/// The instances that are pending, with `;` after each, and `/` and a blank.
 pub fn print_pending(pending: &[Instance], out: &mut Output) {
     for instance in pending {
         print_instance(instance, out);

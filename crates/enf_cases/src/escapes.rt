@@ -24,7 +24,7 @@ fn unescape(input: &[u8], bytes: &mut Vec<u8>) -> Result<(), CaseError> {
     }
 }
 
-// The byte that the front stands for, and what is behind it.
+// The byte that the front stands for, and what is after it.
 fn next(input: &[u8]) -> Option<(u8, &[u8])>
     ensures { IfSome result (λ found. length found.1.now < length input.now) }
 {
@@ -34,7 +34,7 @@ fn next(input: &[u8]) -> Option<(u8, &[u8])>
     }
 }
 
-// The same behind a backslash.
+// The byte that the front after a backslash stands for, and what is after it.
 fn escaped(input: &[u8]) -> Option<(u8, &[u8])>
     ensures { IfSome result (λ found. length found.1.now < length input.now) }
 {

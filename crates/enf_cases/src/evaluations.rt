@@ -1,13 +1,13 @@
 //! What guards give at a step.
-ghost use Rattle.enf_formula.specs.Formulas.{tree_of};
-ghost use Rattle.monitorable_guard.specs.Evaluation.{CanEvaluate};
+ghost use Rattle.enf_formula.specs.machine.FormulaViews.{tree_of};
+ghost use Rattle.monitorable_guard.specs.machine.Evaluation.{CanEvaluate};
 
 use crate::case::CaseError;
 use crate::guards::print_refusal;
 use crate::output::Output;
 use crate::parts::{cut, open_log, read_formula, read_variables, three, two};
 use crate::tables::{print_answer, print_table, read_table, read_valuation};
-use enf_value::EventSet;
+use enf_data::EventSet;
 use log_stream::{Found, LogItem};
 use monitorable_guard::{Guard, PastTables, StepEvents, is_test};
 use std::alloc::Global;
@@ -21,9 +21,9 @@ pub enum Asking {
     Frame,
 }
 
-/// The table that a guard gives, or why it gives none. The input has, with a byte 1 behind each but the last, the
+/// The table that a guard gives, or why it gives none. The input has, with a byte 1 after each but the last, the
 /// numbers of the variables that are bound, their values, a signature, the record of the step, the tables of the
-/// outermost operators on the past with `&` behind each, and a policy of one rule: the formula is that of the rule, or
+/// outermost operators on the past with `&` after each, and a policy of one rule: the formula is that of the rule, or
 /// what stands below its first `exists`.
 pub fn answer(
     alloc: Global,
@@ -149,7 +149,7 @@ fn read_events(alloc: Global, signature: &[u8], bytes: &[u8]) -> Result<EventSet
     }
 }
 
-// Tables, each with `&` behind it.
+// Tables, each with `&` after it.
 fn read_tables(alloc: Global, bytes: &[u8]) -> Result<Vec<Table>, CaseError> {
     let mut tables = Vec::new(alloc);
     push_tables(alloc, bytes, &mut tables)?;

@@ -2,8 +2,8 @@
 use crate::case::CaseError;
 use crate::output::Output;
 use crate::parts::{read_formula, read_variables, three};
+use enf_data::Vars;
 use enf_formula::Formula;
-use enf_value::Vars;
 use monitorable_guard::{Guard, GuardRefusal, is_test};
 use std::alloc::Global;
 

@@ -1,8 +1,8 @@
 //! Whether a guard holds, step by step, under valuations that bind all its variables.
 ghost use Rattle.std.specs.Prelude.{IfOk, OnOk, All, IsTrue};
-ghost use Rattle.enf_cases.specs.Running.{IsClosed};
-ghost use Rattle.past_state.specs.Guarded.{IsFreshGuard};
-ghost use Rattle.valuations.specs.Just.{Binds};
+ghost use Rattle.enf_cases.specs.machine.GuardRuns.{BindsGuardVariables};
+ghost use Rattle.past_state.specs.machine.Guards.{IsFreshGuard};
+ghost use Rattle.enf_data.specs.meaning.Valuations.{BindsColumns};
 
 use crate::case::CaseError;
 use crate::output::Output;
@@ -10,14 +10,14 @@ use crate::parts::{cut, read_formula, read_variables, three};
 use crate::past::guard_of;
 use crate::running::{Question, Run, Way, answer_log};
 use crate::tables::read_valuation;
-use enf_value::{VarId, Vars};
+use enf_data::{VarId, Vars};
 use monitorable_guard::{Guard, is_test};
 use std::alloc::Global;
 use valuations::Valuation;
 
-/// For each step of a log, with `/` behind it, `1` for each valuation under which a guard holds and `0` for
-/// each other. The input has, with a byte 1 behind each but the last, the numbers of the guard's variables, the
-/// valuations with `;` behind each, a signature, a policy of one rule, and a log: the guard is the formula of the rule,
+/// For each step of a log, with `/` after it, `1` for each valuation under which a guard holds and `0` for
+/// each other. The input has, with a byte 1 after each but the last, the numbers of the guard's variables, the
+/// valuations with `;` after each, a signature, a policy of one rule, and a log: the guard is the formula of the rule,
 /// or what stands below its first `exists`.
 pub fn answer(alloc: Global, input: &[u8], out: &mut Output) -> Result<(), CaseError> {
     let (bound, values, rest) = three(input)?;
@@ -60,7 +60,7 @@ fn answer_guard(
 
 // Refuses a guard with a free variable that is not bound.
 fn check_test(alloc: Global, guard: &Guard) -> Result<(), CaseError>
-    ensures { OnOk result (IsClosed guard.now) }
+    ensures { OnOk result (BindsGuardVariables guard.now) }
 {
     if is_test(alloc, guard.formula(), guard.bound())? {
         Ok(())
@@ -69,9 +69,9 @@ fn check_test(alloc: Global, guard: &Guard) -> Result<(), CaseError>
     }
 }
 
-// Valuations that bind the variables, each with `;` behind it.
+// Valuations that bind the variables, each with `;` after it.
 fn read_valuations(alloc: Global, bound: &Vars, bytes: &[u8]) -> Result<Vec<Valuation>, CaseError>
-    ensures { IfOk result (λ valuations. All (λ v. Binds v bound.now) valuations.items) }
+    ensures { IfOk result (λ valuations. All (λ v. BindsColumns v bound.now) valuations.items) }
 {
     let mut valuations = Vec::new(alloc);
     let mut rest = bytes;
@@ -83,7 +83,7 @@ fn read_valuations(alloc: Global, bound: &Vars, bytes: &[u8]) -> Result<Vec<Valu
 }
 
 fn read_whole(alloc: Global, bound: &Vars, bytes: &[u8]) -> Result<Valuation, CaseError>
-    ensures { IfOk result (λ v. Binds v bound.now) }
+    ensures { IfOk result (λ v. BindsColumns v bound.now) }
 {
     let v = read_valuation(alloc, bytes)?;
     if binds(&v, bound.as_slice()) {
@@ -95,7 +95,7 @@ fn read_whole(alloc: Global, bound: &Vars, bytes: &[u8]) -> Result<Valuation, Ca
 
 // Whether each of the variables has a value.
 fn binds(v: &Valuation, variables: &[VarId]) -> bool
-    ensures { IsTrue result → Binds v.now variables.now }
+    ensures { IsTrue result → BindsColumns v.now variables.now }
 {
     match variables.split_first() {
         Some((first, rest)) => v.get(*first).is_some() && binds(v, rest),

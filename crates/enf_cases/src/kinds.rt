@@ -6,9 +6,8 @@ use crate::output::Output;
 use crate::parts::find;
 use crate::running::Way;
 use crate::{
-    arguments, audits, beginnings, cursor_lists, enforcing, evaluations, event_sets, guards, holds,
-    intervals, logs, long_runs, past, policies, reports, saved, signatures, tables, typing, values,
-    walked, window_runs,
+    audits, enforcing, evaluations, guards, holds, logs, long_runs, past, policies, reports, saved,
+    signatures, tables, typing, values, window_runs,
 };
 use log_stream::LogMode;
 use std::alloc::Global;
@@ -16,19 +15,12 @@ use std::alloc::Global;
 /// What a case asks for.
 #[derive(Clone, Copy)]
 pub enum Kind {
-    Text,
     Value,
-    Compare,
-    Interval,
-    Events,
-    CursorList,
     Signature,
     Policy,
     Check,
-    Begun,
     Enforced(Told),
     Log(LogMode),
-    Arguments,
     Table,
     Tables,
     Guard,
@@ -40,27 +32,19 @@ pub enum Kind {
     Report,
     Audit,
     Saved,
-    Walked,
     Long,
 }
 
-static KINDS: [(&[u8], Kind); 33] = [
-    (b"text", Kind::Text),
+static KINDS: [(&[u8], Kind); 25] = [
     (b"value", Kind::Value),
-    (b"compare", Kind::Compare),
-    (b"interval", Kind::Interval),
-    (b"events", Kind::Events),
-    (b"list", Kind::CursorList),
     (b"signature", Kind::Signature),
     (b"policy", Kind::Policy),
     (b"check", Kind::Check),
-    (b"begun", Kind::Begun),
     (b"steps", Kind::Enforced(Told::Steps)),
     (b"pending", Kind::Enforced(Told::Pending)),
     (b"resumed", Kind::Enforced(Told::Resumed)),
     (b"log", Kind::Log(LogMode::Input)),
     (b"trace", Kind::Log(LogMode::TraceLog)),
-    (b"arguments", Kind::Arguments),
     (b"table", Kind::Table),
     (b"tables", Kind::Tables),
     (b"guard", Kind::Guard),
@@ -76,7 +60,6 @@ static KINDS: [(&[u8], Kind); 33] = [
     (b"report", Kind::Report),
     (b"audit", Kind::Audit),
     (b"saved", Kind::Saved),
-    (b"walked", Kind::Walked),
     (b"long", Kind::Long),
 ];
 
@@ -93,19 +76,12 @@ pub fn answer_kind(
     out: &mut Output,
 ) -> Result<(), CaseError> {
     match kind {
-        Kind::Text => values::answer_text(alloc, input, out),
         Kind::Value => values::answer_value(alloc, input, out),
-        Kind::Compare => values::answer_compare(alloc, input, out),
-        Kind::Interval => intervals::answer(input, out),
-        Kind::Events => event_sets::answer(alloc, input, out),
-        Kind::CursorList => cursor_lists::answer(alloc, input, out),
         Kind::Signature => signatures::answer(alloc, input, out),
         Kind::Policy => policies::answer(alloc, input, out),
         Kind::Check => typing::answer(alloc, input, out),
-        Kind::Begun => beginnings::answer(alloc, input, out),
         Kind::Enforced(told) => enforcing::answer(alloc, told, input, out),
         Kind::Log(mode) => logs::answer(alloc, mode, input, out),
-        Kind::Arguments => arguments::answer(alloc, input, out),
         Kind::Table => tables::answer(alloc, input, out),
         Kind::Tables => tables::answer_counts(alloc, out),
         Kind::Guard => guards::answer(alloc, input, out),
@@ -117,7 +93,6 @@ pub fn answer_kind(
         Kind::Report => reports::answer(alloc, input, out),
         Kind::Audit => audits::answer(alloc, input, out),
         Kind::Saved => saved::answer(alloc, input, out),
-        Kind::Walked => walked::answer(alloc, input, out),
         Kind::Long => long_runs::answer(alloc, input, out),
     }
 }

@@ -1,11 +1,11 @@
 //! Logs: the records that are read of them, and how they end.
 ghost use Rattle.std.specs.Prelude.{◌≡◌, ◌<◌, None};
-ghost use Rattle.log_stream.specs.Logs.{IsPending};
+ghost use Rattle.log_stream.specs.meaning.LogGrammar.{IsPending};
 
 use crate::case::CaseError;
 use crate::output::Output;
 use crate::parts::read_signature;
-use enf_value::Duplicate;
+use enf_data::Duplicate;
 use log_stream::{Found, LogItem, LogMode, LogReader, LogRefusal};
 use signature::Signature;
 use std::alloc::Global;

@@ -1,15 +1,14 @@
 //! Long runs of a past: at how many steps a guard has rows, and how many rows are kept.
 ghost use Rattle.std.specs.Prelude.{◌≡◌, ◌≤◌, ◌<◌, ℕ, IfOk, OnOk, length};
-ghost use Rattle.enf_value.specs.Valuations.{no_values};
-ghost use Rattle.past_state.specs.Past.{BindsBound};
-ghost use Rattle.past_state.specs.Runs.{AreUpToTimeOf};
+ghost use Rattle.enf_data.specs.meaning.Valuations.{no_values};
+ghost use Rattle.past_state.specs.machine.Past.{BindsBound};
+ghost use Rattle.past_state.specs.machine.OperatorRuns.{AreUpToTimeOf};
 
 use crate::case::CaseError;
-use crate::event_sets::{event_of, insert};
 use crate::output::Output;
 use crate::parts::{read_count, two, word};
 use crate::past::{begun, kept_rows, read_guard};
-use enf_value::EventSet;
+use enf_data::{Event, EventSet, NameId, Row, Value};
 use past_state::{PastState, Tables};
 use std::alloc::Global;
 use valuations::Valuation;
@@ -25,7 +24,7 @@ struct Run {
     every: u32,
 }
 
-// At how many steps the guard has rows, how many rows are kept behind the last step, and the most that were counted.
+// At how many steps the guard has rows, how many rows are kept after the last step, and the most that were counted.
 #[derive(Clone, Copy)]
 struct Counts {
     held: u32,
@@ -33,7 +32,7 @@ struct Counts {
     most: usize,
 }
 
-/// At how many steps of a run a guard has rows, how many rows are kept at its end, and the most behind a step. The
+/// At how many steps of a run a guard has rows, how many rows are kept at its end, and the most after a step. The
 /// input is the numbers of steps and of users and how many steps pass between two counts, a byte 1, and a policy of
 /// one rule: the guard is what stands below its first `exists`. With u being i modulo the users, step i is at time i
 /// and has `p(u)`, `q` of the user as far from the last as u from the first, and `r` of the user half of all further
@@ -179,4 +178,21 @@ fn opposite(user: u32, users: u32) -> u32
     } else {
         user - half
     }
+}
+
+// Puts an event last, where it is not there.
+fn insert(event: Event, set: &mut EventSet) -> Result<bool, CaseError> {
+    match set.insert(event) {
+        Ok(new) => Ok(new),
+        Err(_) => Err(CaseError::NoMemory),
+    }
+}
+
+// The event of a name with a number.
+fn event_of(alloc: Global, name: u32, number: i64) -> Result<Event, CaseError> {
+    let args = Row::from_vec(vec![in alloc; Value::Num(number)]?);
+    Ok(Event {
+        name: NameId(name),
+        args,
+    })
 }

@@ -1,13 +1,14 @@
 //! What is printed for a case.
 use crate::case::CaseError;
-use enf_value::{EventSet, NoMemory, Place, Value, print_bytes, print_number, print_value};
+use enf_data::{EventSet, NoMemory, Place, Value};
+use enf_value::{print_bytes, print_number, print_value};
 use formula_reader::{Rule, print_rule};
 use log_stream::write_step;
 use signature::Signature;
 use std::alloc::Global;
 use trace_meaning::StepKind;
 
-/// What is printed for a case. Want of memory is noted, and told in place of the rest.
+/// What is printed for a case. Running out of memory is noted, and told in place of the rest.
 #[derive(Drop)]
 pub struct Output {
     text: Vec<u8>,

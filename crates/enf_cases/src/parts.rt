@@ -2,8 +2,8 @@
 ghost use Rattle.std.specs.Prelude.{◌<◌, ◌≤◌, IfOk, IfSome, length};
 
 use crate::case::CaseError;
+use enf_data::{Interval, Items, MOST_FILE_BYTES, VarId, Vars};
 use enf_formula::Formula;
-use enf_value::{Interval, Items, MOST_FILE_BYTES, VarId, Vars};
 use formula_reader::{Rule, read_policy};
 use log_stream::{LogMode, LogReader};
 use signature::Signature;
@@ -19,7 +19,7 @@ pub fn find<T: Copy>(table: &[(&[u8], T)], name: &[u8]) -> Option<T> {
     None
 }
 
-/// What stands before the first of these bytes, and what stands behind it.
+/// What stands before the first of these bytes, and what stands after it.
 pub fn cut(bytes: &[u8], mark: u8) -> Option<(&[u8], &[u8])>
     ensures { IfSome result (λ parts. length parts.1.now < length bytes.now) }
 {
@@ -27,7 +27,7 @@ pub fn cut(bytes: &[u8], mark: u8) -> Option<(&[u8], &[u8])>
     Some((&bytes[..end], &bytes[end + 1..]))
 }
 
-/// What stands before the first such byte, and what stands behind it.
+/// What stands before the first such byte, and what stands after it.
 pub fn cut_at(bytes: &[u8], mark: u8) -> Result<(&[u8], &[u8]), CaseError> {
     cut(bytes, mark).ok_or(CaseError::Malformed)
 }
@@ -43,7 +43,7 @@ pub fn three(input: &[u8]) -> Result<(&[u8], &[u8], &[u8]), CaseError> {
     Ok((first, second, third))
 }
 
-/// What stands before the first blank, and what stands behind it.
+/// What stands before the first blank, and what stands after it.
 pub fn word(bytes: &[u8]) -> Result<(&[u8], &[u8]), CaseError> {
     cut_at(bytes, b' ')
 }
@@ -62,7 +62,7 @@ pub fn read_count(bytes: &[u8]) -> Result<u32, CaseError> {
     u32::try_from(number).map_err(|_| CaseError::Malformed)
 }
 
-/// The interval `LOW HIGH` at the front, where HIGH may be `*`, and what stands behind it and a blank.
+/// The interval `LOW HIGH` at the front, where HIGH may be `*`, and what stands after it and a blank.
 pub fn read_interval(bytes: &[u8]) -> Result<(Interval, &[u8]), CaseError> {
     let (low, rest) = word(bytes)?;
     let (high, rest) = word(rest)?;

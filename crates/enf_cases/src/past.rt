@@ -1,24 +1,25 @@
 //! The past of a guard: what its rows are at each step of a log, and that it can be made again of what it keeps.
 ghost use Rattle.std.specs.Prelude.{◌≡◌, [], None, IfOk};
-ghost use Rattle.enf_cases.specs.Running.{IsOf, StandsUpTo};
-ghost use Rattle.past_state.specs.Guarded.{IsFreshGuard};
-ghost use Rattle.past_state.specs.Saved.{AreRowsKept, AreRowsRising};
+ghost use Rattle.enf_cases.specs.machine.GuardRuns.{IsPastOfGuard, StandsUpTo};
+ghost use Rattle.past_state.specs.machine.Guards.{IsFreshGuard};
+ghost use Rattle.past_state.specs.machine.StoredRows.{AreRowsKept};
+ghost use Rattle.past_state.specs.meaning.KeptRows.{AreRowsRising};
 
 use crate::case::CaseError;
 use crate::output::Output;
 use crate::parts::{read_formula, three};
 use crate::running::{Question, Run, Way, answer_log};
+use enf_data::{Items, Vars};
 use enf_formula::Formula;
-use enf_value::{Items, Vars};
 use monitorable_guard::Guard;
 use past_state::laws::kept_can_be_restored;
 use past_state::{KeptRows, PastState};
 use std::alloc::Global;
 use std::slice;
 
-/// The rows of a guard at each step of a log, with `/` behind them. The input has a signature, a policy of one
+/// The rows of a guard at each step of a log, with `/` after them. The input has a signature, a policy of one
 /// rule and a log, with a byte 1 between them: the guard is the formula of the rule, or what stands below its first
-/// `exists`, and none of its variables is bound. Where the way is to tell what is kept, those rows stand behind the
+/// `exists`, and none of its variables is bound. Where the way is to tell what is kept, those rows stand after the
 /// ones of each step and a `|`, each as the number of its window, `:`, its values and its time.
 pub fn answer(alloc: Global, way: Way, input: &[u8], out: &mut Output) -> Result<(), CaseError> {
     let (signature, policy, log) = three(input)?;
@@ -70,7 +71,7 @@ fn fresh(alloc: Global, guard: Guard) -> Result<Guard, CaseError>
 /// The past of a guard, before the first step.
 pub fn begun(alloc: Global, guard: &Guard) -> Result<PastState, CaseError>
     requires { IsFreshGuard guard.now }
-    ensures of { IfOk result (IsOf guard.now) }
+    ensures of { IfOk result (IsPastOfGuard guard.now) }
     ensures stands { IfOk result (StandsUpTo None) }
 {
     Ok(PastState::new(alloc, slice::from_ref(guard))?)
@@ -96,9 +97,9 @@ pub fn restored(
     before: &PastState,
 ) -> Result<PastState, CaseError>
     requires fresh { IsFreshGuard guard.now }
-    requires of { IsOf guard.now before.now }
+    requires of { IsPastOfGuard guard.now before.now }
     requires stands { StandsUpTo last before.now }
-    ensures of { IfOk result (IsOf guard.now) }
+    ensures of { IfOk result (IsPastOfGuard guard.now) }
     ensures stands { IfOk result (StandsUpTo last) }
 {
     kept_can_be_restored();

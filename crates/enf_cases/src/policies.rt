@@ -6,7 +6,7 @@ use formula_reader::{PolicyRefusal, Rule, read_policy};
 use signature::Signature;
 use std::alloc::Global;
 
-/// Reads a signature and, behind a byte 1, a policy under it.
+/// Reads a signature and, after a byte 1, a policy under it.
 pub fn answer(alloc: Global, input: &[u8], out: &mut Output) -> Result<(), CaseError> {
     let (signature, text) = two(input)?;
     let signature = read_signature(alloc, signature)?;

@@ -1,6 +1,6 @@
 //! Report lines, read back.
-ghost use Rattle.formula_reader.specs.Resolution.{rules_of};
-ghost use Rattle.formula_reader.specs.WellFormed.{IsWellFormedPolicy};
+ghost use Rattle.formula_reader.specs.machine.StoredRules.{policy_rules_of};
+ghost use Rattle.formula_reader.specs.machine.WellFormedPolicies.{IsWellFormedPolicy};
 
 use crate::case::CaseError;
 use crate::enforcing::{print_event, print_valuation};
@@ -32,7 +32,7 @@ fn answer_under(
     line: &[u8],
     out: &mut Output,
 ) -> Result<(), CaseError>
-    requires { IsWellFormedPolicy names.now (rules_of policy.now) }
+    requires { IsWellFormedPolicy names.now (policy_rules_of policy.now) }
 {
     let Ok(typed) = TypedPolicy::of(alloc, names, policy) else {
         return Err(CaseError::Malformed);

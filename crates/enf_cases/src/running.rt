@@ -1,17 +1,17 @@
 //! A guard over a log: what is asked of it at each step, and how its past goes on.
 ghost use Rattle.std.specs.Prelude.{◌≡◌, ◌<◌, [], ◌∷◌, None, IfOk, OnOk, IfSome, IsTrue, All, length};
-ghost use Rattle.enf_cases.specs.Running.{CanAsk, IsOf, StandsUpTo};
-ghost use Rattle.enf_value.specs.Valuations.{no_values};
-ghost use Rattle.past_state.specs.Guarded.{AreCopies, IsFreshGuard};
-ghost use Rattle.past_state.specs.Past.{AreOf, BindsBound, IsTestOf};
-ghost use Rattle.past_state.specs.LastTimes.{IsFrom};
+ghost use Rattle.enf_cases.specs.machine.GuardRuns.{CanAskQuestion, IsPastOfGuard, StandsUpTo};
+ghost use Rattle.enf_data.specs.meaning.Valuations.{no_values};
+ghost use Rattle.past_state.specs.machine.Guards.{AreCopies, IsFreshGuard};
+ghost use Rattle.past_state.specs.machine.Past.{AreTablesAtStep, BindsBound, IsTestOf};
+ghost use Rattle.past_state.specs.meaning.RowBounds.{IsFrom};
 
 use crate::case::CaseError;
 use crate::output::Output;
 use crate::parts::open_log;
 use crate::past::{begun, kept_rows, restored};
 use crate::tables::{print_row_at, print_table};
-use enf_value::{EventSet, Step};
+use enf_data::{EventSet, Step};
 use log_stream::{Found, LogItem, LogReader};
 use monitorable_guard::Guard;
 use past_state::{KeptRow, PastState, Tables};
@@ -27,7 +27,7 @@ pub enum Question<'a> {
     Holds(&'a [Valuation]),
 }
 
-/// How the past goes on behind a step.
+/// How the past goes on after a step.
 #[derive(Clone, Copy)]
 pub enum Way {
     Committed,
@@ -61,7 +61,7 @@ pub struct Logged {
     pub step: Step,
 }
 
-/// What is asked at each step of a log under a signature, with `/` behind it.
+/// What is asked at each step of a log under a signature, with `/` after it.
 pub fn answer_log(
     alloc: Global,
     run: &Run<'_, '_>,
@@ -70,7 +70,7 @@ pub fn answer_log(
     out: &mut Output,
 ) -> Result<(), CaseError>
     requires fresh { IsFreshGuard run.now.guard.now }
-    requires asked { CanAsk run.now.guard.now run.now.question }
+    requires asked { CanAskQuestion run.now.guard.now run.now.question }
 {
     let mut running = Running {
         state: begun(alloc, run.guard)?,
@@ -90,8 +90,8 @@ fn answer_steps(
     out: &mut Output,
 ) -> Result<(), CaseError>
     requires fresh { IsFreshGuard run.now.guard.now }
-    requires asked { CanAsk run.now.guard.now run.now.question }
-    requires of { IsOf run.now.guard.now running.old.state }
+    requires asked { CanAskQuestion run.now.guard.now run.now.question }
+    requires of { IsPastOfGuard run.now.guard.now running.old.state }
     requires stands { StandsUpTo running.old.last running.old.state }
 {
     for _ in 0..most {
@@ -108,9 +108,9 @@ fn answer_steps(
 // Puts in the past's place, where it is wanted, one that is made of the rows that it keeps.
 fn renew(alloc: Global, run: &Run<'_, '_>, running: &mut Running) -> Result<(), CaseError>
     requires fresh { IsFreshGuard run.now.guard.now }
-    requires of { IsOf run.now.guard.now running.old.state }
+    requires of { IsPastOfGuard run.now.guard.now running.old.state }
     requires stands { StandsUpTo running.old.last running.old.state }
-    ensures of { OnOk result (IsOf run.now.guard.now running.new.state) }
+    ensures of { OnOk result (IsPastOfGuard run.now.guard.now running.new.state) }
     ensures stands { OnOk result (StandsUpTo running.new.last running.new.state) }
 {
     if let Way::Again = run.way {
@@ -158,11 +158,11 @@ fn answer_step(
     running: &mut Running,
     out: &mut Output,
 ) -> Result<(), CaseError>
-    requires asked { CanAsk run.now.guard.now run.now.question }
+    requires asked { CanAskQuestion run.now.guard.now run.now.question }
     requires from { IsFrom running.old.last step.now.time }
-    requires of { IsOf run.now.guard.now running.old.state }
+    requires of { IsPastOfGuard run.now.guard.now running.old.state }
     requires stands { StandsUpTo running.old.last running.old.state }
-    ensures of { OnOk result (IsOf run.now.guard.now running.new.state) }
+    ensures of { OnOk result (IsPastOfGuard run.now.guard.now running.new.state) }
     ensures stands { OnOk result (StandsUpTo running.new.last running.new.state) }
 {
     let tables = running.state.tables(alloc, step.time, &step.events)?;
@@ -179,7 +179,7 @@ fn answer_step(
 /// Makes the step of these tables the last one.
 pub fn commit(step: &Step, tables: Tables, running: &mut Running) -> Result<(), CaseError>
     requires from { IsFrom running.old.last step.now.time }
-    requires are { AreOf running.old.state step.now.time step.now.events tables }
+    requires are { AreTablesAtStep running.old.state step.now.time step.now.events tables }
     requires stands { StandsUpTo running.old.last running.old.state }
     ensures guards { OnOk result (running.new.state.guards ≡ running.old.state.guards) }
     ensures stands { OnOk result (StandsUpTo running.new.last running.new.state) }
@@ -201,7 +201,7 @@ fn print_asked(
     out: &mut Output,
 ) -> Result<(), CaseError>
     requires of { AreCopies (run.now.guard.now ∷ []) tables.now.guards }
-    requires asked { CanAsk run.now.guard.now run.now.question }
+    requires asked { CanAskQuestion run.now.guard.now run.now.question }
 {
     match run.question {
         Question::Rows => print_rows_of(alloc, events, tables, out),
@@ -244,7 +244,7 @@ fn print_held(
     Ok(())
 }
 
-// What is kept behind a step, where it is wanted, and a `/`.
+// What is kept after a step, where it is wanted, and a `/`.
 fn print_end(
     alloc: Global,
     way: Way,

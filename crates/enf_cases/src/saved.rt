@@ -1,9 +1,9 @@
 //! Saved states: whether they are resumed, or why they are refused.
 ghost use Rattle.std.specs.Prelude.{◌≤◌, Ok, length};
-ghost use Rattle.enf_value.specs.declared.limits.TheConstants.{MOST_FILE_BYTES};
-ghost use Rattle.formula_reader.specs.Resolution.{rules_of};
-ghost use Rattle.formula_reader.specs.WellFormed.{IsWellFormedPolicy};
-ghost use Rattle.signature.specs.Refusals.{IsAnswer};
+ghost use Rattle.enf_data.specs.declared.limits.TheConstants.{MOST_FILE_BYTES};
+ghost use Rattle.formula_reader.specs.machine.StoredRules.{policy_rules_of};
+ghost use Rattle.formula_reader.specs.machine.WellFormedPolicies.{IsWellFormedPolicy};
+ghost use Rattle.signature.specs.meaning.Refusals.{AnswersSignature};
 
 use crate::case::CaseError;
 use crate::output::Output;
@@ -48,7 +48,7 @@ fn answer_under(
 ) -> Result<(), CaseError>
     requires short { length texts.signature.now ≤ MOST_FILE_BYTES }
     requires policy { length texts.policy.now ≤ MOST_FILE_BYTES }
-    requires spells { IsAnswer texts.signature.now (Ok names.now) }
+    requires spells { AnswersSignature texts.signature.now (Ok names.now) }
 {
     match read_policy(alloc, names, texts.policy) {
         Ok(policy) => answer_policy(alloc, texts, names, &policy, out),
@@ -67,8 +67,8 @@ fn answer_policy(
     out: &mut Output,
 ) -> Result<(), CaseError>
     requires short { length texts.signature.now ≤ MOST_FILE_BYTES }
-    requires spells { IsAnswer texts.signature.now (Ok names.now) }
-    requires formed { IsWellFormedPolicy names.now (rules_of policy.now) }
+    requires spells { AnswersSignature texts.signature.now (Ok names.now) }
+    requires formed { IsWellFormedPolicy names.now (policy_rules_of policy.now) }
 {
     match TypedPolicy::of(alloc, names, policy) {
         Ok(typed) => answer_state(alloc, texts, names, &typed, out),
@@ -87,7 +87,7 @@ fn answer_state(
     out: &mut Output,
 ) -> Result<(), CaseError>
     requires short { length texts.signature.now ≤ MOST_FILE_BYTES }
-    requires spells { IsAnswer texts.signature.now (Ok names.now) }
+    requires spells { AnswersSignature texts.signature.now (Ok names.now) }
 {
     match resume(
         alloc,

@@ -2,7 +2,7 @@
 use crate::case::CaseError;
 use crate::output::Output;
 use crate::parts::within_limit;
-use enf_value::NameId;
+use enf_data::NameId;
 use signature::{NameEntry, Signature, SignatureLimit, SignatureRefusal, Sort};
 use std::alloc::Global;
 

@@ -1,19 +1,19 @@
 //! Tables: what their operations give.
 ghost use Rattle.std.specs.Prelude.{◌≡◌, IfOk, OnOk, IsTrue, All, Contains, length};
-ghost use Rattle.enf_value.specs.Membership.{HasNoRepeats};
-ghost use Rattle.enf_value.specs.declared.terms.VarId.{VarId as Variable};
-ghost use Rattle.valuations.specs.Terms.{IsColumnOf};
+ghost use Rattle.enf_data.specs.meaning.Membership.{HasNoRepeats};
+ghost use Rattle.enf_data.specs.declared.terms.VarId.{VarId as Variable};
+ghost use Rattle.valuations.specs.machine.Comparisons.{IsColumnOf};
 
 use crate::case::CaseError;
 use crate::output::Output;
 use crate::parts::{cut, cut_at, find, read_variable, read_variables, word};
 use crate::values::read_at;
-use enf_value::{Row, Term, Value, VarId, Vars};
+use enf_data::{Row, Term, Value, VarId, Vars};
 use std::alloc::Global;
 use valuations::{Compare, Table, Valuation};
 
 /// What an operation gives: the input is its name and two operands, with `&` between them. A table is the numbers of
-/// its columns, one digit each, a `|`, and its rows, each with `;` behind it and `,` behind each value.
+/// its columns, one digit each, a `|`, and its rows, each with `;` after it and `,` after each value.
 pub fn answer(alloc: Global, input: &[u8], out: &mut Output) -> Result<(), CaseError> {
     let (name, operands) = cut_at(input, b'&')?;
     let operation = find(&OPERATIONS, name).ok_or(CaseError::Malformed)?;
@@ -175,7 +175,7 @@ fn table_with(columns: Vars, rows: Vec<Row>) -> Result<Table, CaseError>
     }
 }
 
-// Rows, each with `;` behind it.
+// Rows, each with `;` after it.
 fn read_rows(alloc: Global, bytes: &[u8]) -> Result<Vec<Row>, CaseError> {
     let mut rows = Vec::new(alloc);
     push_rows(alloc, bytes, &mut rows)?;
@@ -191,7 +191,7 @@ fn push_rows(alloc: Global, bytes: &[u8], rows: &mut Vec<Row>) -> Result<(), Cas
     Ok(())
 }
 
-// A row, with `,` behind each value.
+// A row, with `,` after each value.
 fn read_row(alloc: Global, bytes: &[u8]) -> Result<Row, CaseError> {
     let mut values = Vec::new(alloc);
     push_values(alloc, bytes, &mut values)?;
@@ -211,7 +211,7 @@ fn read_whole(alloc: Global, bytes: &[u8]) -> Result<Value, CaseError> {
     Ok(read_at(alloc, bytes, 0)?.0)
 }
 
-/// A digit and a value for each variable that is bound, with `,` behind it.
+/// A digit and a value for each variable that is bound, with `,` after it.
 pub fn read_valuation(alloc: Global, bytes: &[u8]) -> Result<Valuation, CaseError> {
     let mut v = Valuation::empty(alloc);
     bind_all(alloc, bytes, &mut v)?;
@@ -314,7 +314,7 @@ pub fn print_rows(rows: &[Row], out: &mut Output) {
     }
 }
 
-/// The values of a row, with `,` behind each.
+/// The values of a row, with `,` after each.
 pub fn print_row(row: &Row, out: &mut Output) {
     for value in row.as_slice() {
         out.value(value);
@@ -322,7 +322,7 @@ pub fn print_row(row: &Row, out: &mut Output) {
     }
 }
 
-/// The values of a row, and its time with `@` before and `;` behind it.
+/// The values of a row, and its time with `@` before and `;` after it.
 pub fn print_row_at(row: &Row, time: u64, out: &mut Output) {
     print_row(row, out);
     out.bytes(b"@");

@@ -1,19 +1,19 @@
 //! Policies by what they may change: the mark, the horizon and the roles, or the first refusal.
-ghost use Rattle.formula_reader.specs.Resolution.{rules_of};
-ghost use Rattle.formula_reader.specs.WellFormed.{IsWellFormedPolicy};
+ghost use Rattle.formula_reader.specs.machine.StoredRules.{policy_rules_of};
+ghost use Rattle.formula_reader.specs.machine.WellFormedPolicies.{IsWellFormedPolicy};
 
 use crate::case::CaseError;
 use crate::output::Output;
 use crate::parts::{read_signature, two, within_limit};
 use crate::policies;
-use enf_value::NameId;
+use enf_data::NameId;
 use enforce_types::{TypeRefusal, TypedPolicy};
 use formula_reader::{Policy, read_policy};
 use rank_check::Role;
 use signature::Signature;
 use std::alloc::Global;
 
-/// Reads a signature and, behind a byte 1, a policy under it: `transparent yes` or `transparent no`, the horizon, and
+/// Reads a signature and, after a byte 1, a policy under it: `transparent yes` or `transparent no`, the horizon, and
 /// each name that is caused or suppressed, in the signature's order.
 pub fn answer(alloc: Global, input: &[u8], out: &mut Output) -> Result<(), CaseError> {
     let (signature, text) = two(input)?;
@@ -47,7 +47,7 @@ fn typed_of(
     policy: &Policy,
     out: &mut Output,
 ) -> Option<TypedPolicy>
-    requires { IsWellFormedPolicy signature.now (rules_of policy.now) }
+    requires { IsWellFormedPolicy signature.now (policy_rules_of policy.now) }
 {
     match TypedPolicy::of(alloc, signature, policy) {
         Ok(typed) => Some(typed),

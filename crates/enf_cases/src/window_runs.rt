@@ -1,23 +1,22 @@
-//! Windows: what they answer and keep, step by step, beside the plain walk over the same steps.
+//! Windows: what they answer and keep, step by step.
 ghost use Rattle.std.specs.Prelude.{◌≡◌, ◌≤◌, IfOk, OnOk};
-ghost use Rattle.enf_cases.specs.Beside.{AreBeside};
-ghost use Rattle.enf_value.specs.Membership.{HasNoRepeats};
-ghost use Rattle.windows.specs.Windows.{FitsColumns, IsSameKind};
+ghost use Rattle.enf_data.specs.meaning.Membership.{HasNoRepeats};
+ghost use Rattle.windows.specs.machine.Windows.{FitsColumns, IsSameKind};
 
 use crate::case::CaseError;
 use crate::output::Output;
 use crate::parts::{cut, cut_at, read_interval, read_number, read_variables, word};
-use crate::tables::{antijoin, are_distinct, print_row_at, print_rows, table_of};
-use enf_value::{Duplicate, Interval, Vars};
+use crate::tables::{are_distinct, print_row_at, print_rows, table_of};
+use enf_data::{Duplicate, Interval, Vars};
 use std::alloc::Global;
 use valuations::Table;
-use windows::{KeptPair, SinceWalk, SinceWindow, Surviving};
+use windows::{KeptPair, SinceWindow, Surviving};
 
-/// For each step, with `/` behind it, the rows that a window gives at it and, once it is committed, its rows and
-/// what it keeps, with `|` between them; where the walk gives other rows, those too. The input is
-/// `LOW HIGH COLUMNS`, a `&`, and the steps, with `/` behind each: the time, a blank, the rows that survive, `|`, and
-/// the right rows. `*` stands for all rows, `+` for those that follow, `-` for all others.
-/// Where it restores, the window is made anew behind each step, of what it keeps.
+/// For each step, with `/` after it, the rows that a window gives at it and, once it is committed, its rows and
+/// what it keeps, with `|` between them. The input is `LOW HIGH COLUMNS`, a `&`, and the steps, with `/` after each:
+/// the time, a blank, the rows that survive, `|`, and the right rows. `*` stands for all rows, `+` for those that
+/// follow, `-` for all others.
+/// Where it restores, the window is made anew after each step, of what it keeps.
 pub fn answer(
     alloc: Global,
     restores: bool,
@@ -63,8 +62,7 @@ fn answer_window(
     requires { HasNoRepeats form.now.columns }
 {
     let mut window = SinceWindow::new(alloc, form.interval, form.columns.duplicate(alloc)?);
-    let mut walk = SinceWalk::new(alloc, form.interval, form.columns.duplicate(alloc)?);
-    answer_steps(alloc, form, steps, &mut window, &mut walk, out)
+    answer_steps(alloc, form, steps, &mut window, out)
 }
 
 fn answer_steps(
@@ -72,11 +70,9 @@ fn answer_steps(
     form: &Form,
     steps: &[u8],
     window: &mut SinceWindow,
-    walk: &mut SinceWalk,
     out: &mut Output,
 ) -> Result<(), CaseError>
     requires distinct { HasNoRepeats form.now.columns }
-    requires beside { AreBeside window.old walk.old }
     requires interval { window.old.interval ≡ form.now.interval }
     requires columns { window.old.columns ≡ form.now.columns }
     requires last { window.old.last ≡ 0 }
@@ -85,7 +81,7 @@ fn answer_steps(
     let mut rest = steps;
     while let Some((bytes, behind)) = cut(rest, b'/') {
         let step = read_step(alloc, &form.columns, last, bytes)?;
-        answer_step(alloc, &step, window, walk, out)?;
+        answer_step(alloc, &step, window, out)?;
         last = step.time;
         rest = behind;
         if form.restores {
@@ -144,38 +140,17 @@ fn answer_step(
     alloc: Global,
     step: &WindowStep,
     window: &mut SinceWindow,
-    walk: &mut SinceWalk,
     out: &mut Output,
 ) -> Result<(), CaseError>
-    requires beside { AreBeside window.old walk.old }
     requires later { window.old.last ≤ step.now.time }
     requires right { step.now.right.columns ≡ window.old.columns }
     requires by { step.now.by.columns ≡ window.old.columns }
-    ensures beside { OnOk result (AreBeside window.new walk.new) }
     ensures kind { OnOk result (IsSameKind window.old window.new) }
     ensures last { OnOk result (window.new.last ≡ step.now.time) }
 {
-    let surviving = surviving_rows(alloc, window, step)?;
-    print_given(alloc, step, &surviving, window, walk, out)?;
+    print_given(alloc, step, window, out)?;
     commit(step, window)?;
-    walk.commit(step.time, &surviving, &step.right)?;
-    print_kept(alloc, window, walk, out)
-}
-
-// The surviving rows as a table: of the window's rows those that survive, or those of the table that tells it.
-fn surviving_rows(
-    alloc: Global,
-    window: &SinceWindow,
-    step: &WindowStep,
-) -> Result<Table, CaseError>
-    requires { step.now.by.columns ≡ window.now.columns }
-    ensures { IfOk result (λ t. t.columns ≡ window.now.columns) }
-{
-    match step.how {
-        How::All => Ok(window.rows(alloc)?),
-        How::Only => Ok(step.by.duplicate(alloc)?),
-        How::AllBut => antijoin(alloc, &window.rows(alloc)?, &step.by),
-    }
+    print_kept(alloc, window, out)
 }
 
 // The rows that the window gives at the step; where a table has those that survive, by the call that takes one.
@@ -207,51 +182,32 @@ fn commit(step: &WindowStep, window: &mut SinceWindow) -> Result<(), CaseError>
 fn print_given(
     alloc: Global,
     step: &WindowStep,
-    surviving: &Table,
     window: &SinceWindow,
-    walk: &SinceWalk,
     out: &mut Output,
 ) -> Result<(), CaseError>
-    requires beside { AreBeside window.now walk.now }
     requires later { window.now.last ≤ step.now.time }
     requires right { step.now.right.columns ≡ window.now.columns }
     requires by { step.now.by.columns ≡ window.now.columns }
-    requires surviving { surviving.now.columns ≡ window.now.columns }
 {
     let given = given_rows(alloc, step, window)?;
-    let walked = walk.answer(alloc, step.time, surviving, &step.right)?;
-    print_both(&given, &walked, out);
+    print_rows(given.rows(), out);
     out.bytes(b"|");
     Ok(())
 }
 
-fn print_kept(
-    alloc: Global,
-    window: &SinceWindow,
-    walk: &SinceWalk,
-    out: &mut Output,
-) -> Result<(), CaseError> {
+fn print_kept(alloc: Global, window: &SinceWindow, out: &mut Output) -> Result<(), CaseError> {
     let rows = window.rows(alloc)?;
-    print_both(&rows, &walk.rows(alloc)?, out);
+    print_rows(rows.rows(), out);
     out.bytes(b"|");
     print_pairs(&window.kept(alloc)?, out);
     out.bytes(b"/");
     Ok(())
 }
 
-// Each row, with `@` and its time behind it.
+// Each row, with `@` and its time after it.
 fn print_pairs(pairs: &[KeptPair], out: &mut Output) {
     for pair in pairs {
         print_row_at(&pair.row, pair.time, out);
-    }
-}
-
-// The rows of a table, and those of the walk where they are others.
-fn print_both(table: &Table, walked: &Table, out: &mut Output) {
-    print_rows(table.rows(), out);
-    if table.rows() != walked.rows() {
-        out.bytes(b" walk: ");
-        print_rows(walked.rows(), out);
     }
 }
 

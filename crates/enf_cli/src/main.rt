@@ -1,32 +1,16 @@
 //! `enf` stands before a system's effects: it reads a signature, a policy and a log, and gives the
-//! log with the events that the policy wants, so that no rule is violated. The top call is `run`;
+//! log with the events that the policy wants, so that no rule is violated. `enf_run::run` does all of it;
 //! `main` makes the standard streams and the files and ends with the status that it answers.
 #![tactic(auto)]
 
-mod auditing;
-mod checking;
-mod drilling;
-mod endings;
-mod files;
-mod generating;
-mod intake;
-mod laws;
-mod lines;
-mod log;
-mod refusals;
-mod reporting;
-mod run;
-mod saving;
 #[cfg(test)]
 mod tests;
-mod words;
-mod worked_cases;
 
 use enf_io::adapters::{StdFiles, StdGate, StdSink};
-use reporting::report_ending;
-use run::run;
+use enf_run::report_lines::report_ending;
+use enf_run::run::run;
+use enf_run::words::command_words;
 use std::process::ExitCode;
-use words::command_words;
 
 fn main(rt: HostRuntime) -> ExitCode {
     let mut gate = StdGate::new(rt.stdin(), rt.stdout());

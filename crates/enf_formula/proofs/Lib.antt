@@ -1,4 +1,7 @@
-pub mod Stability
+pub mod Vocabulary
 pub mod Dependence
 pub mod Gathering
 pub mod NameLemmas
+pub mod SameValues
+pub mod Stability
+pub mod VariableLaws

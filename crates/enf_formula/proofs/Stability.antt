@@ -1,24 +1,15 @@
 -- Each formula holds where its denial is false: the connectives and operators are classical, and the rest can be decided.
-use Rattle.std.proofs.Common.{◌≡◌, ℕ, ◌+◌, ◌-◌, ◌≤◌, ◌<ℤ◌, ◌≤ℤ◌, ℤ, Bool, true, false, List, Option, None, Some, Contains, arith, refl, Decides, ⊎_elim}
-use Rattle.std.specs.Int.Signed.{clash_ℤ}
-use Rattle.std.proofs.lemmas.Bool.{cases_lt}
-use Rattle.std.proofs.lemmas.Int.{by_lt_z}
-use Rattle.std.proofs.lemmas.List.Elements.{Decides-contains}
-use Rattle.std.proofs.lemmas.Bool.Decides.{Decides-by_or, not_from_Decides}
-use Rattle.std.specs.List.{list_any}
-use Rattle.enf_value.specs.Data.{step_at}
-use Rattle.enf_value.specs.declared.steps.Step.{Step}
-use Rattle.enf_value.specs.Decided.{value_eq, value_eq-Decides, event_eq, event_eq-Decides}
-use Rattle.enf_value.specs.Membership.{IsIn, IsUpTo}
-use Rattle.enf_value.specs.declared.events.Event.{Event}
-use Rattle.enf_value.specs.declared.events.NameId.{NameId}
-use Rattle.enf_value.specs.declared.intervals.Interval.{Interval}
-use Rattle.enf_value.specs.declared.values.Value.{Value}
-use Rattle.enf_value.specs.declared.values.Value.TheVariants.{Num, Text}
-use Rattle.enf_formula.specs.Formulas.{Formula, True, False, Atom, Equal, Less, AtMost, Not, And, Or, Implies, Exists, Forall, Prev, Next, Once, Historically, Since, Eventually, Always, Until}
-use Rattle.enf_formula.specs.Laws.{IsStable}
-use Rattle.enf_formula.specs.Satisfaction.{Sat, IsAmong, AreSame, AreOrdered}
-use Rattle.enf_value.specs.Valuations.{Valuation, with_values, value_of, values_of}
+use Rattle.enf_formula.proofs.Vocabulary.{◌≡◌, ℕ, ◌+◌, ◌-◌, ◌≤◌, ◌<ℤ◌, ◌≤ℤ◌, ℤ}
+use Rattle.enf_formula.proofs.Vocabulary.{Bool, true, false, List, Option, None, Some, Contains, arith, refl, ⊎_elim}
+use Rattle.enf_formula.proofs.Vocabulary.{clash_ℤ, cases_lt, by_lt_z, Decides-contains, Decides-by_or}
+use Rattle.enf_formula.proofs.Vocabulary.{not_from_Decides, list_any, step_at, Step, value_eq, event_eq}
+use Rattle.enf_formula.proofs.Vocabulary.{value_eq-Decides, event_eq-Decides, IsIn, IsUpTo, Event, NameId, Interval}
+use Rattle.enf_formula.proofs.Vocabulary.{Value, Num, Text, Formula, True, False, Atom, Equal, Less, AtMost, Not, And}
+use Rattle.enf_formula.proofs.Vocabulary.{Or, Implies, Exists, Forall, Prev, Next, Once, Historically, Since}
+use Rattle.enf_formula.proofs.Vocabulary.{Eventually, Always, Until, Sat, IsEventAmong, AreSameValues}
+use Rattle.enf_formula.proofs.Vocabulary.{AreNumbersInOrder, IsStable, Valuation, with_values, value_of_term}
+use Rattle.enf_formula.proofs.Vocabulary.{values_of_terms}
+use Rattle.std.proofs.Common.{Decides}
 
 denial_stable : (P : Type 0) → IsStable (P → ⊥)
 denial_stable P h p = h (λ n. n p)
@@ -56,16 +47,16 @@ absent events event fails = not_from_Decides _ (contains_decides events event) f
 contains_stable : (events : List Event) (event : Event) → IsStable (Contains events event)
 contains_stable events event = decided_stable _ _ (contains_decides events event)
 
-among_stable : (events : List Event) (name : NameId) (args : Option (List Value)) → IsStable (IsAmong events name args)
+among_stable : (events : List Event) (name : NameId) (args : Option (List Value)) → IsStable (IsEventAmong events name args)
 among_stable events name None = never_stable
 among_stable events name (Some args) = contains_stable events (record { name = name; args = args })
 
-same_stable : (s t : Option Value) → IsStable (AreSame s t)
+same_stable : (s t : Option Value) → IsStable (AreSameValues s t)
 same_stable None t = never_stable
 same_stable (Some a) None = never_stable
 same_stable (Some a) (Some b) = decided_stable _ (value_eq a b) (value_eq-Decides a b)
 
-ordered_stable : (R : ℤ → ℤ → Type 0) → ((x y : ℤ) → IsStable (R x y)) → (s t : Option Value) → IsStable (AreOrdered R s t)
+ordered_stable : (R : ℤ → ℤ → Type 0) → ((x y : ℤ) → IsStable (R x y)) → (s t : Option Value) → IsStable (AreNumbersInOrder R s t)
 ordered_stable R each None t = never_stable
 ordered_stable R each (Some (Num x)) None = never_stable
 ordered_stable R each (Some (Num x)) (Some (Num y)) = each x y
@@ -82,10 +73,10 @@ in_stable interval difference = both_stable _ _ (at_most_stable interval.low dif
 pub Sat_stable : (trace : List Step) (i : ℕ) (v : Valuation) (f : Formula) → IsStable (Sat trace i v f)
 Sat_stable trace i v (True place) = λ _. tt
 Sat_stable trace i v (False place) = never_stable
-Sat_stable trace i v (Atom place name terms) = among_stable (step_at trace i).events name (values_of v terms)
-Sat_stable trace i v (Equal place s t) = same_stable (value_of v s) (value_of v t)
-Sat_stable trace i v (Less place s t) = ordered_stable ◌<ℤ◌ int_below_stable (value_of v s) (value_of v t)
-Sat_stable trace i v (AtMost place s t) = ordered_stable ◌≤ℤ◌ int_at_most_stable (value_of v s) (value_of v t)
+Sat_stable trace i v (Atom place name terms) = among_stable (step_at trace i).events name (values_of_terms v terms)
+Sat_stable trace i v (Equal place s t) = same_stable (value_of_term v s) (value_of_term v t)
+Sat_stable trace i v (Less place s t) = ordered_stable ◌<ℤ◌ int_below_stable (value_of_term v s) (value_of_term v t)
+Sat_stable trace i v (AtMost place s t) = ordered_stable ◌≤ℤ◌ int_at_most_stable (value_of_term v s) (value_of_term v t)
 Sat_stable trace i v (Not place f) = denial_stable _
 Sat_stable trace i v (And place f g) = both_stable _ _ (Sat_stable trace i v f) (Sat_stable trace i v g)
 Sat_stable trace i v (Or place f g) = λ h left right. h (λ either. either left right)

@@ -1,15 +1,2 @@
-pub use Rattle.enf_value.specs.Data
-pub mod Formulas
-pub use Rattle.enf_value.specs.Valuations
-pub mod Satisfaction
-pub mod SameLaws
-pub mod Cases
-pub mod FreeVariables
-pub mod FreeLaws
-pub mod Binding
-pub mod Laws
-pub mod Names
-pub mod Past
-pub mod Shape
-pub mod Scopes
-pub mod ScopeLaws
+pub mod meaning
+pub mod machine

@@ -1,10 +1,10 @@
 //! Copies of formulas.
 ghost use Rattle.std.specs.Prelude.{◌≡◌, IfOk};
-ghost use Rattle.enf_formula.specs.Formulas.{tree_of};
+ghost use Rattle.enf_formula.specs.machine.FormulaViews.{tree_of};
 
 use crate::formulas::Formula;
-use enf_value::items::Duplicate;
-use enf_value::memory::NoMemory;
+use enf_data::items::Duplicate;
+use enf_data::memory::NoMemory;
 use std::alloc::Global;
 
 impl Formula {

@@ -1,8 +1,8 @@
 //! Trees of formulas.
-use enf_value::events::NameId;
-use enf_value::intervals::Interval;
-use enf_value::places::Place;
-use enf_value::terms::{Term, Terms, Vars};
+use enf_data::events::NameId;
+use enf_data::intervals::Interval;
+use enf_data::places::Place;
+use enf_data::terms::{Term, Terms, Vars};
 
 /// A formula of metric first-order temporal logic. Each node has the place of its principal token.
 #[derive(Debug, Drop)]

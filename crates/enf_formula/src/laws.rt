@@ -1,13 +1,13 @@
 //! Laws of satisfaction, each the contract of a function with an empty body.
 ghost use Rattle.std.specs.Prelude.{ℕ, List};
-ghost use Rattle.enf_value.specs.declared.steps.Step.{Step};
-ghost use Rattle.enf_value.specs.declared.intervals.Interval.{Interval};
-ghost use Rattle.enf_value.specs.declared.terms.VarId.{VarId};
-ghost use Rattle.enf_formula.specs.Formulas as tree;
-ghost use Rattle.enf_formula.specs.Formulas.{Formula};
-ghost use Rattle.enf_formula.specs.Laws.{IsStable, IsSameAs, FreeVariablesDecide, NamesDecide, PastDecides};
-ghost use Rattle.enf_formula.specs.Satisfaction.{Sat};
-ghost use Rattle.enf_value.specs.Valuations.{Valuation};
+ghost use Rattle.enf_data.specs.declared.steps.Step.{Step};
+ghost use Rattle.enf_data.specs.declared.intervals.Interval.{Interval};
+ghost use Rattle.enf_data.specs.declared.terms.VarId.{VarId};
+ghost use Rattle.enf_formula.specs.meaning.Satisfaction.{Formula, Sat};
+ghost use Rattle.enf_formula.specs.machine.Laws.{IsStable, AreEquivalent, FreeVariablesDecide, NamesDecide};
+ghost use Rattle.enf_formula.specs.machine.Laws.{PastDecides};
+ghost use Rattle.enf_data.specs.meaning.Valuations.{Valuation};
+ghost use Rattle.enf_formula.specs.meaning.Satisfaction as tree;
 
 /// A formula holds where its denial is false.
 pub fn is_classical()
@@ -18,26 +18,26 @@ pub fn is_classical()
 /// The connectives are those of classical logic.
 pub fn connectives()
     ensures or { (p : ℕ) (f g : Formula)
-        → IsSameAs (tree.Or p f g)
+        → AreEquivalent (tree.Or p f g)
         (tree.Not p (tree.And p (tree.Not p f) (tree.Not p g))) }
     ensures implies { (p : ℕ) (f g : Formula)
-        → IsSameAs (tree.Implies p f g) (tree.Or p (tree.Not p f) g) }
+        → AreEquivalent (tree.Implies p f g) (tree.Or p (tree.Not p f) g) }
     ensures forall { (p : ℕ) (xs : List VarId) (f : Formula)
-        → IsSameAs (tree.Forall p xs f) (tree.Not p (tree.Exists p xs (tree.Not p f))) }
-    ensures not_not { (p : ℕ) (f : Formula) → IsSameAs (tree.Not p (tree.Not p f)) f }
+        → AreEquivalent (tree.Forall p xs f) (tree.Not p (tree.Exists p xs (tree.Not p f))) }
+    ensures not_not { (p : ℕ) (f : Formula) → AreEquivalent (tree.Not p (tree.Not p f)) f }
 {}
 
 /// The operators that are defined by others are these abbreviations.
 pub fn abbreviations()
     ensures once { (p : ℕ) (interval : Interval) (f : Formula)
-        → IsSameAs (tree.Once p interval f) (tree.Since p interval (tree.True p) f) }
+        → AreEquivalent (tree.Once p interval f) (tree.Since p interval (tree.True p) f) }
     ensures historically { (p : ℕ) (interval : Interval) (f : Formula)
-        → IsSameAs (tree.Historically p interval f)
+        → AreEquivalent (tree.Historically p interval f)
         (tree.Not p (tree.Once p interval (tree.Not p f))) }
     ensures eventually { (p : ℕ) (interval : Interval) (f : Formula)
-        → IsSameAs (tree.Eventually p interval f) (tree.Until p interval (tree.True p) f) }
+        → AreEquivalent (tree.Eventually p interval f) (tree.Until p interval (tree.True p) f) }
     ensures always { (p : ℕ) (interval : Interval) (f : Formula)
-        → IsSameAs (tree.Always p interval f)
+        → AreEquivalent (tree.Always p interval f)
         (tree.Not p (tree.Eventually p interval (tree.Not p f))) }
 {}
 

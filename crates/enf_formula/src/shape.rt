@@ -1,16 +1,16 @@
 //! What can be read off a formula: its place, its size, whether it looks ahead.
 ghost use Rattle.std.specs.Prelude.{◌≡◌, ◌↔◌, ◌<◌, ◌^◌, IsTrue};
-ghost use Rattle.enf_formula.specs.Formulas.{tree_of};
-ghost use Rattle.enf_formula.specs.Past.{is_past as looks_back};
-ghost use Rattle.enf_formula.specs.Shape.{place_of, size_of};
+ghost use Rattle.enf_formula.specs.machine.FormulaViews.{tree_of};
+ghost use Rattle.enf_formula.specs.meaning.FormulaShape.{is_past as looks_back, formula_size};
+ghost use Rattle.enf_formula.specs.meaning.Satisfaction.{formula_place};
 
 use crate::formulas::Formula;
-use enf_value::places::Place;
+use enf_data::places::Place;
 
 impl Formula {
     /// The place of its principal token.
     pub fn place(&self) -> Place
-        ensures { result ≡ place_of (tree_of self.now) }
+        ensures { result ≡ formula_place (tree_of self.now) }
     {
         match self {
             Formula::True(place)
@@ -38,8 +38,8 @@ impl Formula {
 
     /// How many nodes it has.
     pub fn size(&self) -> u32
-        requires { size_of (tree_of self.now) < 2 ^ 32 }
-        ensures { result ≡ size_of (tree_of self.now) }
+        requires { formula_size (tree_of self.now) < 2 ^ 32 }
+        ensures { result ≡ formula_size (tree_of self.now) }
     {
         match self {
             Formula::True(_)

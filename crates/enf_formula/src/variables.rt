@@ -1,14 +1,15 @@
 //! The free variables of a formula.
 ghost use Rattle.std.specs.Prelude.{◌≡◌, Contains, IfOk, OnOk};
 ghost use Rattle.std.specs.List.Sorted.{IsStrictlySortedBy};
-ghost use Rattle.enf_value.specs.Valuations.{variable_cmp};
-ghost use Rattle.enf_value.specs.declared.terms.Term.TheVariants.{Var as Variable};
-ghost use Rattle.enf_formula.specs.Formulas.{tree_of};
-ghost use Rattle.enf_formula.specs.FreeVariables.{Adds, AreFreeVariables, IsFree};
+ghost use Rattle.enf_data.specs.meaning.Valuations.{variable_cmp};
+ghost use Rattle.enf_data.specs.declared.terms.Term.TheVariants.{Var as Variable};
+ghost use Rattle.enf_formula.specs.machine.FormulaViews.{tree_of};
+ghost use Rattle.enf_formula.specs.machine.Variables.{AddsVariables};
+ghost use Rattle.enf_formula.specs.meaning.Satisfaction.{AreFreeVariables, IsFree};
 
 use crate::formulas::Formula;
-use enf_value::memory::NoMemory;
-use enf_value::terms::{Term, VarId, Vars};
+use enf_data::memory::NoMemory;
+use enf_data::terms::{Term, VarId, Vars};
 use std::alloc::Global;
 use std::collections::BTreeSet;
 
@@ -25,7 +26,7 @@ impl Formula {
     // Adds the free variables.
     fn gather(&self, alloc: Global, found: &mut BTreeSet<VarId>) -> Result<(), NoMemory>
         ensures { OnOk result
-            (Adds (λ x. IsFree x (tree_of self.now)) found.old.keys found.new.keys) }
+            (AddsVariables (λ x. IsFree x (tree_of self.now)) found.old.keys found.new.keys) }
     {
         match self {
             Formula::True(_) | Formula::False(_) => Ok(()),
@@ -70,7 +71,7 @@ fn listed(alloc: Global, found: &BTreeSet<VarId>) -> Result<Vars, NoMemory>
 
 // Adds a variable.
 fn add(x: VarId, found: &mut BTreeSet<VarId>) -> Result<(), NoMemory>
-    ensures { OnOk result (Adds (λ y. y ≡ x) found.old.keys found.new.keys) }
+    ensures { OnOk result (AddsVariables (λ y. y ≡ x) found.old.keys found.new.keys) }
 {
     let Ok(_) = found.insert(x) else {
         return Err(NoMemory);
@@ -81,7 +82,7 @@ fn add(x: VarId, found: &mut BTreeSet<VarId>) -> Result<(), NoMemory>
 // Adds a term that is a variable.
 fn add_term(term: &Term, found: &mut BTreeSet<VarId>) -> Result<(), NoMemory>
     ensures { OnOk result
-        (Adds (λ y. term.now ≡ Variable y) found.old.keys found.new.keys) }
+        (AddsVariables (λ y. term.now ≡ Variable y) found.old.keys found.new.keys) }
 {
     match term {
         Term::Var(x) => add(*x, found),
@@ -92,7 +93,7 @@ fn add_term(term: &Term, found: &mut BTreeSet<VarId>) -> Result<(), NoMemory>
 // Adds the terms that are variables.
 fn add_all(terms: &[Term], found: &mut BTreeSet<VarId>) -> Result<(), NoMemory>
     ensures { OnOk result
-        (Adds (λ y. Contains terms.now (Variable y)) found.old.keys found.new.keys) }
+        (AddsVariables (λ y. Contains terms.now (Variable y)) found.old.keys found.new.keys) }
 {
     for term in terms {
         add_term(term, found)?;
@@ -103,7 +104,7 @@ fn add_all(terms: &[Term], found: &mut BTreeSet<VarId>) -> Result<(), NoMemory>
 // Adds the variables that are not bound.
 fn add_unbound(xs: &[VarId], bound: &[VarId], found: &mut BTreeSet<VarId>) -> Result<(), NoMemory>
     ensures { OnOk result
-        (Adds (λ y. Contains xs.now y × (Contains bound.now y → ⊥)) found.old.keys found.new.keys) }
+        (AddsVariables (λ y. Contains xs.now y × (Contains bound.now y → ⊥)) found.old.keys found.new.keys) }
 {
     for x in xs {
         if bound.contains(x) {

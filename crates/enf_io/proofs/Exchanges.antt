@@ -1,11 +1,13 @@
--- Bytes that go out in turns go out in order.
-use Rattle.std.proofs.Common.{◌≡◌, ℕ, ◌+◌, ◌-◌, List, ◌++◌, take, drop, length, sym, ap, ◌∙◌, append_assoc}
+-- Bytes that are emitted in turns are emitted in order.
+use Rattle.std.proofs.Common.{◌≡◌, ℕ, ◌+◌, ◌-◌, List, ◌++◌, take, drop, length, sym, ap, ◌∙◌}
+use Rattle.std.proofs.Common.{append_assoc}
 use Rattle.std.proofs.Math.Seq.{take-add}
 use Rattle.std.proofs.lemmas.List.{take_rest}
 use Rattle.std.specs.Prelude.{Option, Some, None}
-use Rattle.enf_io.specs.Exchange.{Exchange, Gave}
+use Rattle.enf_io.specs.meaning.Exchange.{Exchange}
+use Rattle.enf_io.specs.meaning.ExchangeGrowth.{Gave}
 
--- the front that went out, and then the front of the rest
+-- the front that was emitted, and then the front of the rest
 appended_front : (n k : ℕ) (xs held : List ℕ) → held ++ take n xs ++ take k (take (length xs - n) (drop n xs)) ≡ held ++ take (n + k) xs
 appended_front n k xs held =
     ap (λ l. held ++ take n xs ++ take k l) (take_rest xs n) ∙ append_assoc held (take n xs) (take k (drop n xs)) ∙ ap (λ l. held ++ l) (sym (take-add n k xs))

@@ -1,2 +1,3 @@
-pub mod Kept
+pub mod ExchangeLaws
 pub mod Exchanges
+pub mod Kept

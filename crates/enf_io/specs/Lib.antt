@@ -1,13 +1,2 @@
-pub mod Counts
-pub mod Exchange
-pub mod Streams
-pub mod Contents
-pub mod FileCalls
-pub mod Writing
-pub mod KeptFiles
-pub mod Calm
-pub mod Turns
-pub mod Mem
-pub mod Adapted
-pub mod Since
-pub mod SinceLaws
+pub mod meaning
+pub mod machine

@@ -2,11 +2,12 @@
 //! call of theirs is one call of the reader, the writer or the files inside: an error of it is handed on and counted.
 ghost use Rattle.std.specs.Prelude.{◌≡◌, ◌<◌, ◌≤◌, ℕ, List, Option, Err, Ok, IfOk, IfErr, length};
 ghost use Rattle.std.specs.Io.KnownBytes.{ReadConsumes, WriteAppends};
-ghost use Rattle.enf_io.specs.Counts.{faults_after};
-ghost use Rattle.enf_io.specs.Streams.{Stream, Reads, Writes};
-ghost use Rattle.enf_io.specs.FileCalls.{FileView, ReadsFile, WritesFile};
-ghost use Rattle.enf_io.specs.Adapted.{AdaptedFiles, AdaptedOutput, AdaptedPair, AsksOpened, IsOneCall};
-ghost use Rattle.enf_io.specs.Adapted.{adapted, adapted_write, untold_files, untold_stream};
+ghost use Rattle.enf_io.specs.meaning.FileCalls.{faults_after, ReadsFile, WritesFile};
+ghost use Rattle.enf_io.specs.meaning.Exchange.{Stream};
+ghost use Rattle.enf_io.specs.machine.StreamCalls.{Reads, Writes};
+ghost use Rattle.enf_io.specs.meaning.Files.{FileView};
+ghost use Rattle.enf_io.specs.machine.Adapters.{AdaptedFiles, AdaptedOutput, AdaptedPair, AsksOpened, IsOneCall};
+ghost use Rattle.enf_io.specs.machine.Adapters.{adapted, adapted_write, untold_files, untold_stream};
 
 use crate::devices::{Files, Gate, IoRefusal, Sink};
 use crate::outside::{FileOnce, FilesOnce, ReadOnce, RuntimeFiles, WriteOnce};
@@ -216,7 +217,7 @@ fn some_of(bytes: &[u8], answer: io::Result<usize>) -> io::Result<usize>
     }
 }
 
-// Counts an error of the outside, which want of memory is not.
+// Counts an error of the outside, which running out of memory is not.
 #[inline(always)]
 fn counted<T>(answer: io::Result<T>, faults: &mut u64) -> Result<T, IoRefusal>
     ensures adapted { result ≡ adapted answer }

@@ -1,9 +1,9 @@
 //! Files over memory.
-ghost use Rattle.std.specs.Prelude.{◌≡◌, ◌≢◌, ◌++◌, ◌∷◌, OnOk, OnErr, IfErr};
-ghost use Rattle.std.specs.Prelude.{IfOk, IsErrOf, List, [], ℕ, map, string_bytes};
-ghost use Rattle.enf_io.specs.Contents.{Missing, Holds, Gives, with_contents};
-ghost use Rattle.enf_io.specs.FileCalls.{FileView, ReadsFile, WritesFile};
-ghost use Rattle.enf_io.specs.Calm.{CalmContents, calm_files, contents_under};
+ghost use Rattle.std.specs.Prelude.{◌≡◌, ◌≢◌, ◌++◌, ◌∷◌, OnOk, OnErr, IfErr, IfOk, IsErrOf, List};
+ghost use Rattle.std.specs.Prelude.{[], ℕ, map, string_bytes};
+ghost use Rattle.enf_io.specs.meaning.Files.{NoFile, FileBytes, with_contents, FileView};
+ghost use Rattle.enf_io.specs.meaning.FileCalls.{GivesContents, ReadsFile, WritesFile};
+ghost use Rattle.enf_io.specs.machine.CalmDevices.{CalmContents, calm_files, contents_under};
 
 use crate::devices::{Files, IoRefusal, NoMemory};
 use crate::kept_files::KeptFiles;
@@ -41,7 +41,7 @@ impl CalmFiles {
 
     /// Makes these bytes the contents under the name.
     pub fn put(&mut self, name: &str, bytes: Vec<u8>) -> Result<(), NoMemory>
-        ensures held { OnOk result (contents_under self.new name.now ≡ Holds bytes.items) }
+        ensures held { OnOk result (contents_under self.new name.now ≡ FileBytes bytes.items) }
         ensures others { OnOk result ((other : List ℕ) → other ≢ name.now
             → contents_under self.new other ≡ contents_under self.old other) }
         ensures missed { self.new.missed ≡ self.old.missed }
@@ -82,7 +82,7 @@ impl Files for CalmFiles {
 
     fn write(&mut self, name: &str, bytes: &[u8]) -> Result<(), IoRefusal>
         ensures contents { OnOk result (contents_under self.new
-            ≡ with_contents name.now (Holds bytes.now) (contents_under self.old)) }
+            ≡ with_contents name.now (FileBytes bytes.now) (contents_under self.old)) }
         ensures no_memory { IfErr result (λ refusal. refusal ≡ IoRefusal.NoMemory) }
         ensures refused { OnErr result (self.new ≡ self.old) }
         ensures missed { self.new.missed ≡ self.old.missed }

@@ -1,10 +1,11 @@
 //! A gate over memory.
-ghost use Rattle.std.specs.Prelude.{◌≡◌, ◌++◌, OnOk, OnErr, IfErr, IfOk, List};
-ghost use Rattle.std.specs.Prelude.{[], ℕ, ◌<◌, ◌≤◌, length, take, drop, min};
+ghost use Rattle.std.specs.Prelude.{◌≡◌, ◌++◌, OnOk, OnErr, IfErr, IfOk, List, [], ℕ, ◌<◌, ◌≤◌};
+ghost use Rattle.std.specs.Prelude.{length, take, drop, min};
 ghost use Rattle.std.specs.Vec.Iter.{into_iter_items};
-ghost use Rattle.enf_io.specs.Exchange.{Exchange, left, with_taken, with_given, with_mark};
-ghost use Rattle.enf_io.specs.Calm.{CalmExchange, calm_stream, within_piece};
-ghost use Rattle.enf_io.specs.Streams.{Stream, Reads, Writes};
+ghost use Rattle.enf_io.specs.meaning.Exchange.{Exchange, input_left, Stream};
+ghost use Rattle.enf_io.specs.machine.StreamCalls.{with_taken, with_read_mark, Reads, Writes};
+ghost use Rattle.enf_io.specs.meaning.ExchangeGrowth.{with_given};
+ghost use Rattle.enf_io.specs.machine.CalmDevices.{CalmExchange, calm_stream, within_piece};
 
 use crate::calm_sink::CalmSink;
 use crate::devices::{Gate, IoRefusal, Sink};
@@ -68,11 +69,11 @@ impl Gate for CalmGate {
     fn read(&mut self, buf: &mut [u8]) -> Result<usize, IoRefusal>
         requires { 0 < length buf.old }
         ensures count { IfOk result (λ count. count ≡ within_piece self.old.pieces
-            (min (length (left self.old.exchange)) (length buf.old))) }
+            (min (length (input_left self.old.exchange)) (length buf.old))) }
         ensures front { IfOk result
-            (λ count. take count buf.new ≡ take count (left self.old.exchange)) }
+            (λ count. take count buf.new ≡ take count (input_left self.old.exchange)) }
         ensures exchange { IfOk result
-            (λ count. self.new.exchange ≡ with_taken count (with_mark self.old.exchange)) }
+            (λ count. self.new.exchange ≡ with_taken count (with_read_mark self.old.exchange)) }
         ensures pieces { OnOk result (self.new.pieces ≡ drop 1 self.old.pieces) }
         ensures no_memory { IfErr result (λ refusal. refusal ≡ IoRefusal.NoMemory) }
         ensures refused { OnErr result (self.new ≡ self.old) }

@@ -1,7 +1,8 @@
 //! A sink over memory.
 ghost use Rattle.std.specs.Prelude.{◌≡◌, ◌++◌, OnOk, OnErr, IfErr, IfOk, List, [], ℕ, length};
-ghost use Rattle.enf_io.specs.Calm.{calm_stream, given_alone};
-ghost use Rattle.enf_io.specs.Streams.{Stream, Writes};
+ghost use Rattle.enf_io.specs.machine.CalmDevices.{calm_stream, given_alone};
+ghost use Rattle.enf_io.specs.meaning.Exchange.{Stream};
+ghost use Rattle.enf_io.specs.machine.StreamCalls.{Writes};
 
 use crate::devices::{IoRefusal, Sink};
 use std::alloc::Global;

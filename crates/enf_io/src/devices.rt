@@ -1,7 +1,9 @@
 //! What the program asks of a device.
 ghost use Rattle.std.specs.Prelude.{◌≡◌, List, ℕ, ◌<◌, length};
-ghost use Rattle.enf_io.specs.Streams.{Stream, Reads, Writes};
-ghost use Rattle.enf_io.specs.FileCalls.{FileView, ReadsFile, WritesFile};
+ghost use Rattle.enf_io.specs.meaning.Exchange.{Stream};
+ghost use Rattle.enf_io.specs.machine.StreamCalls.{Reads, Writes};
+ghost use Rattle.enf_io.specs.meaning.Files.{FileView};
+ghost use Rattle.enf_io.specs.meaning.FileCalls.{ReadsFile, WritesFile};
 
 use std::alloc::{AllocError, AllocFailed};
 

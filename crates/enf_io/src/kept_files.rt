@@ -1,8 +1,8 @@
 //! Files in memory.
 ghost use Rattle.std.specs.Prelude.{◌≡◌, ◌≢◌, OnOk, OnErr, IfOk, List, [], ℕ, map, string_bytes};
 ghost use Rattle.std.specs.Option.{option_map};
-ghost use Rattle.enf_io.specs.Contents.{Holds};
-ghost use Rattle.enf_io.specs.KeptFiles.{contents_in, front_of};
+ghost use Rattle.enf_io.specs.meaning.Files.{FileBytes};
+ghost use Rattle.enf_io.specs.machine.KeptFiles.{contents_in, front_of};
 
 use crate::devices::NoMemory;
 use std::alloc::Global;
@@ -34,7 +34,7 @@ impl KeptFiles {
 
     // Makes these bytes the contents under the name.
     pub(crate) fn put(&mut self, name: &str, bytes: Vec<u8>) -> Result<(), NoMemory>
-        ensures held { OnOk result (contents_in self.new name.now ≡ Holds bytes.items) }
+        ensures held { OnOk result (contents_in self.new name.now ≡ FileBytes bytes.items) }
         ensures others { OnOk result ((other : List ℕ) → other ≢ name.now
             → contents_in self.new other ≡ contents_in self.old other) }
         ensures no_memory { OnErr result (self.new ≡ self.old) }

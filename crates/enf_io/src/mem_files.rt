@@ -2,11 +2,10 @@
 ghost use Rattle.std.specs.Prelude.{◌≡◌, ◌≢◌, ◌==◌, OnOk, OnErr, IfOk, IsErrOf, List, [], None, Some};
 ghost use Rattle.std.specs.Prelude.{ℕ, true, false};
 ghost use Rattle.std.specs.List.{list_any};
-ghost use Rattle.enf_io.specs.Counts.{faults_after, one_more};
-ghost use Rattle.enf_io.specs.Contents.{Holds, with_contents};
-ghost use Rattle.enf_io.specs.FileCalls.{FileView, ReadsFile, WritesFile};
-ghost use Rattle.enf_io.specs.KeptFiles.{contents_in};
-ghost use Rattle.enf_io.specs.Mem.{MemContents, given_by, is_failing, mem_files};
+ghost use Rattle.enf_io.specs.meaning.FileCalls.{faults_after, ReadsFile, WritesFile};
+ghost use Rattle.enf_io.specs.meaning.Files.{one_more, FileBytes, with_contents, FileView};
+ghost use Rattle.enf_io.specs.machine.KeptFiles.{contents_in};
+ghost use Rattle.enf_io.specs.machine.MemDevices.{MemContents, mem_file_front, is_failing, mem_files};
 
 use crate::devices::{Files, IoRefusal, NoMemory};
 use crate::kept_files::KeptFiles;
@@ -59,7 +58,7 @@ impl MemFiles {
 
     /// Makes these bytes the contents under the name. It is no call of those that may fail.
     pub fn put(&mut self, name: &str, bytes: Vec<u8>) -> Result<(), NoMemory>
-        ensures held { OnOk result (contents_in self.new.files name.now ≡ Holds bytes.items) }
+        ensures held { OnOk result (contents_in self.new.files name.now ≡ FileBytes bytes.items) }
         ensures others { OnOk result ((other : List ℕ) → other ≢ name.now
             → contents_in self.new.files other ≡ contents_in self.old.files other) }
         ensures rest { self.new ≡ record self.old { files = self.new.files } }
@@ -83,8 +82,8 @@ impl Files for MemFiles {
     ghost seen = { mem_files };
 
     fn read(&mut self, name: &str, most: usize) -> Result<Vec<u8>, IoRefusal>
-        ensures ok { IfOk result (λ bytes. given_by self.old name.now most ≡ Some bytes.items) }
-        ensures failed { IsErrOf result IoRefusal.Failed → given_by self.old name.now most ≡ None }
+        ensures ok { IfOk result (λ bytes. mem_file_front self.old name.now most ≡ Some bytes.items) }
+        ensures failed { IsErrOf result IoRefusal.Failed → mem_file_front self.old name.now most ≡ None }
         ensures after { self.new ≡ record self.old {
           calls = one_more self.old.calls;
           read_faults = faults_after result self.old.read_faults;
@@ -104,7 +103,7 @@ impl Files for MemFiles {
         ensures ok { OnOk result (is_failing self.old ≡ false) }
         ensures failed { IsErrOf result IoRefusal.Failed → is_failing self.old ≡ true }
         ensures contents { OnOk result (contents_in self.new.files
-            ≡ with_contents name.now (Holds bytes.now) (contents_in self.old.files)) }
+            ≡ with_contents name.now (FileBytes bytes.now) (contents_in self.old.files)) }
         ensures refused { OnErr result (self.new.files ≡ self.old.files) }
         ensures rest { self.new ≡ record self.old {
           files = self.new.files;

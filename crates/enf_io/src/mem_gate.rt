@@ -1,9 +1,10 @@
 //! A gate over memory whose reads and writes follow turns.
-ghost use Rattle.std.specs.Prelude.{◌≡◌, ◌<◌, ◌≤◌, IfOk, IsErrOf, List, [], None};
-ghost use Rattle.std.specs.Prelude.{Some, length, take, min};
-ghost use Rattle.enf_io.specs.Mem.{MemExchange, after_read, after_write, mem_stream, rest_of};
-ghost use Rattle.enf_io.specs.Streams.{Stream, Reads, Writes};
-ghost use Rattle.enf_io.specs.Turns.{next_turn, read_by, write_by};
+ghost use Rattle.std.specs.Prelude.{◌≡◌, ◌<◌, ◌≤◌, IfOk, IsErrOf, List, [], None, Some, length, take};
+ghost use Rattle.std.specs.Prelude.{min};
+ghost use Rattle.enf_io.specs.machine.MemDevices.{MemExchange, after_read, after_write, mem_stream, mem_input_left};
+ghost use Rattle.enf_io.specs.meaning.Exchange.{Stream};
+ghost use Rattle.enf_io.specs.machine.StreamCalls.{Reads, Writes};
+ghost use Rattle.enf_io.specs.machine.Turns.{next_turn, read_by, write_by};
 
 use crate::devices::{Gate, IoRefusal, Sink};
 use crate::mem_sink::MemSink;
@@ -78,10 +79,10 @@ impl Gate for MemGate {
     fn read(&mut self, buf: &mut [u8]) -> Result<usize, IoRefusal>
         requires { 0 < length buf.old }
         ensures ok { IfOk result (λ count. read_by (next_turn self.old.turns)
-            (min (length (rest_of self.old)) (length buf.old)) ≡ Some count) }
-        ensures front { IfOk result (λ count. take count buf.new ≡ take count (rest_of self.old)) }
+            (min (length (mem_input_left self.old)) (length buf.old)) ≡ Some count) }
+        ensures front { IfOk result (λ count. take count buf.new ≡ take count (mem_input_left self.old)) }
         ensures failed { IsErrOf result IoRefusal.Failed → read_by (next_turn self.old.turns)
-            (min (length (rest_of self.old)) (length buf.old)) ≡ None }
+            (min (length (mem_input_left self.old)) (length buf.old)) ≡ None }
         ensures after { self.new ≡ after_read result self.old }
         ensures seen { Reads buf.new result (mem_stream self.old) (mem_stream self.new) }
     {

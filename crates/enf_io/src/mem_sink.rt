@@ -1,8 +1,9 @@
 //! A sink over memory whose writes follow turns.
 ghost use Rattle.std.specs.Prelude.{◌≡◌, IfOk, IsErrOf, [], None, Some, length};
-ghost use Rattle.enf_io.specs.Mem.{MemOutput, after_write, mem_output};
-ghost use Rattle.enf_io.specs.Streams.{Stream, Writes};
-ghost use Rattle.enf_io.specs.Turns.{next_turn, write_by};
+ghost use Rattle.enf_io.specs.machine.MemDevices.{MemOutput, after_write, mem_output};
+ghost use Rattle.enf_io.specs.meaning.Exchange.{Stream};
+ghost use Rattle.enf_io.specs.machine.StreamCalls.{Writes};
+ghost use Rattle.enf_io.specs.machine.Turns.{next_turn, write_by};
 
 use crate::devices::{IoRefusal, Sink};
 use crate::turns::{Turn, Turns};

@@ -1,6 +1,6 @@
 //! What each call of a device over memory is to do, in turn.
 ghost use Rattle.std.specs.Prelude.{◌≡◌, ◌≤◌, IfSome, List, drop};
-ghost use Rattle.enf_io.specs.Turns.{next_turn, read_by, write_by};
+ghost use Rattle.enf_io.specs.machine.Turns.{next_turn, read_by, write_by};
 ghost use Rattle.enf_io.specs.declared.turns.Turn.{Turn as AnyTurn};
 
 use std::marker::Model;

@@ -1,10 +1,10 @@
 //! Bytes given in full to a sink, however few of them each turn takes.
 ghost use Rattle.std.specs.Prelude.{◌≡◌};
-ghost use Rattle.enf_io.specs.Writing.{WritesAll, refused_after};
+ghost use Rattle.enf_io.specs.machine.StreamCalls.{WritesAll, refused_after};
 
 use crate::devices::{IoRefusal, Sink};
 
-/// Why some bytes did not go out; `written` is how many of the first ones did.
+/// Why some bytes were not written; `written` is how many of the first ones were.
 #[derive(Clone, Copy, Debug, PartialEq, Eq)]
 pub enum WriteRefusal {
     WriteFault { written: usize },

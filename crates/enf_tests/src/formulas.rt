@@ -2,8 +2,8 @@
 ghost use Rattle.std.specs.Prelude.{◌≤◌, length};
 
 use crate::found::Found;
+use enf_data::{EventSet, MOST_FILE_BYTES, Step};
 use enf_formula::Formula;
-use enf_value::{EventSet, MOST_FILE_BYTES, Step};
 use formula_reader::{Rule, print_rule, read_policy};
 use log_gen::generate;
 use signature::Signature;

@@ -1,10 +1,11 @@
 //! What a test finds, as one text.
+use enf_data::NoMemory;
 use enf_io::devices::IoRefusal;
 use enf_io::writing::WriteRefusal;
-use enf_value::{NoMemory, print_bytes, print_number};
+use enf_value::{print_bytes, print_number};
 use std::alloc::Global;
 
-/// What a test finds, as one text, with `|` behind each answer.
+/// What a test finds, as one text, with `|` after each answer.
 #[derive(Drop)]
 pub struct Found {
     text: Vec<u8>,

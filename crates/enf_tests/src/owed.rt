@@ -1,23 +1,24 @@
 //! Deadlines, and what is owed by them, with ample memory.
-ghost use Rattle.std.specs.Prelude.{◌≡◌, ◌≤◌, ◌^◌, length, map};
-ghost use Rattle.obligations.specs.Asked.{guards_at};
-ghost use Rattle.obligations.specs.Traces.{PlansStand};
-ghost use Rattle.obligations.specs.Waiting.{CanAskRoots};
-ghost use Rattle.obligations.specs.declared.now.TheConstants.{MOST_TIME};
-ghost use Rattle.past_state.specs.Guarded.{AreCopies};
-ghost use Rattle.plan_terms.specs.Plans.{plan_of};
+ghost use Rattle.std.specs.Prelude.{◌≡◌, ◌≤◌, ◌^◌, OnOk, length, map};
+ghost use Rattle.past_state.specs.machine.GuardPlaces.{guards_at};
+ghost use Rattle.obligations.specs.machine.PlanClasses.{PlansStand};
+ghost use Rattle.obligations.specs.machine.AskablePlans.{CanAskRoots};
+ghost use Rattle.obligations.specs.declared.present_step.TheConstants.{MOST_TIME};
+ghost use Rattle.past_state.specs.machine.Guards.{AreCopies};
+ghost use Rattle.plan_terms.specs.machine.StoredPlans.{plan_of};
 
 use crate::found::Found;
 use deadline_queue::{DeadlineQueue, NotThere};
-use enf_value::{Event, EventSet, MOST_FILE_BYTES, NameId, Row, TextValue, Value};
+use enf_data::{Event, EventSet, MOST_FILE_BYTES, NameId, Row, TextValue, Value};
 use enforce_types::TypedPolicy;
-use enforcer_core::{Enforcer, StepRefusal};
+use enforcer_core::laws::takes_are_few;
+use enforcer_core::{Enforcer, StepOut, StepRefusal};
 use formula_reader::read_policy;
 use monitorable_guard::StepEvents;
 use obligations::Now;
-use obligations::begun::take;
+use obligations::begin::take;
 use obligations::laws::well_formed_can_be_asked;
-use obligations::missing::{lack, lack_pending};
+use obligations::missing_literals::{lack, lack_pending};
 use past_state::{PastState, Tables};
 use pending::Pending;
 use plan_terms::Plan;
@@ -92,9 +93,7 @@ fn find_steps(
 ) -> Result<(), Fail>
     requires { (enforcer.old.position ≡ 0) × (enforcer.old.clock ≡ 0) }
 {
-    let Ok(stepped) = enforcer.step(alloc, 9, events) else {
-        return Err("a step".into());
-    };
+    let stepped = take_first(alloc, enforcer, events)?;
     found.number(stepped.steps.len() as u64);
     let Err(StepRefusal::Falling { clock, given }) = enforcer.step(alloc, 7, EventSet::new(alloc))
     else {
@@ -102,15 +101,35 @@ fn find_steps(
     };
     found.number(clock);
     found.number(given);
-    let Ok(passed) = enforcer.tick(alloc, 40) else {
-        return Err("a tick".into());
-    };
+    let passed = pass_deadline(alloc, enforcer)?;
     found.number(passed.steps.len() as u64);
     let Ok(drained) = enforcer.drain(alloc) else {
         return Err("a drain".into());
     };
     found.number(drained.steps.len() as u64);
     Ok(())
+}
+
+fn take_first(alloc: Global, enforcer: &mut Enforcer, events: EventSet) -> Result<StepOut, Fail>
+    requires { enforcer.old.position ≡ 0 }
+    ensures { OnOk result (enforcer.new.position ≤ 10) }
+{
+    takes_are_few();
+    match enforcer.step(alloc, 9, events) {
+        Ok(stepped) => Ok(stepped),
+        Err(_refusal) => Err("a step".into()),
+    }
+}
+
+fn pass_deadline(alloc: Global, enforcer: &mut Enforcer) -> Result<StepOut, Fail>
+    requires { enforcer.old.position ≤ 10 }
+    ensures { OnOk result (enforcer.new.position ≤ 51) }
+{
+    takes_are_few();
+    match enforcer.tick(alloc, 40) {
+        Ok(passed) => Ok(passed),
+        Err(_refusal) => Err("a tick".into()),
+    }
 }
 
 fn find_owed(alloc: Global, typed: &TypedPolicy, found: &mut Found) -> Result<(), Fail> {

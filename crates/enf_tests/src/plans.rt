@@ -1,10 +1,10 @@
 //! Plans and what they stand for, tables and slots with ample memory.
 ghost use Rattle.std.specs.Prelude.{◌≤◌, length};
-ghost use Rattle.formula_reader.specs.Resolution.{rules_of};
-ghost use Rattle.formula_reader.specs.WellFormed.{IsWellFormedPolicy};
+ghost use Rattle.formula_reader.specs.machine.StoredRules.{policy_rules_of};
+ghost use Rattle.formula_reader.specs.machine.WellFormedPolicies.{IsWellFormedPolicy};
 
 use crate::found::Found;
-use enf_value::{Duplicate, Interval, Items, MOST_FILE_BYTES, Row, Value, VarId, Vars};
+use enf_data::{Duplicate, Interval, Items, MOST_FILE_BYTES, Row, Value, VarId, Vars};
 use enforce_types::TypedPolicy;
 use formula_reader::{Policy, Rule, print_rule, read_policy};
 use log_gen::{sample_policy, sample_signature};
@@ -62,7 +62,7 @@ fn find_typed(
     policy: &Policy,
     found: &mut Found,
 ) -> Result<(), Fail>
-    requires { IsWellFormedPolicy signature.now (rules_of policy.now) }
+    requires { IsWellFormedPolicy signature.now (policy_rules_of policy.now) }
 {
     let Ok(typed) = TypedPolicy::of(alloc, signature, policy) else {
         return Err("a policy with plans".into());

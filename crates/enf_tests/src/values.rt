@@ -1,9 +1,8 @@
 //! Values, lists and signatures with ample memory.
 use crate::found::Found;
-use enf_value::{
-    Duplicate, Event, EventSet, NameId, Row, Term, Terms, TextValue, Value, VarId, print_value,
-    put_value, read_value,
-};
+use cursor_list::CursorList;
+use enf_data::{Duplicate, Event, EventSet, NameId, Row, Term, TextValue, Value, VarId};
+use enf_value::{Terms, print_value, put_value, read_value};
 use signature::Signature;
 use std::alloc::Global;
 use std::test::Fail;
@@ -61,6 +60,25 @@ fn find_terms(alloc: Global, found: &mut Found) -> Result<(), Fail> {
     terms.push(Term::Const(Value::Num(4)))?;
     let copy = terms.duplicate(alloc)?;
     found.holds(copy == terms);
+    Ok(())
+}
+
+#[test]
+fn a_list_with_a_cursor(rt: HostRuntime) -> Result<(), Fail> {
+    let mut found = Found::new(rt.alloc());
+    find_items(rt.alloc(), &mut found)?;
+    assert_eq!(rt; found.text(), b"2|1|2|".as_slice());
+    Ok(())
+}
+
+fn find_items(alloc: Global, found: &mut Found) -> Result<(), Fail> {
+    let mut list = CursorList::new(alloc);
+    list.push_back(2_u64)?;
+    list.insert_before(1)?;
+    found.number(list.len() as u64);
+    for item in list.walk() {
+        found.number(*item);
+    }
     Ok(())
 }
 

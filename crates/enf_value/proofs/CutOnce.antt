@@ -1,24 +1,22 @@
 -- A text is cut in one way only.
-use Rattle.std.proofs.Common.{◌≡◌, ℕ, suc, ◌+◌, ◌<◌, true, false, List, [], ◌∷◌, ◌++◌, length, slice_index, take, drop, ◌⊎◌, inl, inr, refl, sym, ap, subst, ◌∙◌, arith, append_assoc, append-nil, length-append}
-use Rattle.std.specs.List.{list_all}
-use Rattle.std.proofs.Math.Seq.{drop-append_seam, take-append_seam}
-use Rattle.enf_value.specs.Tokens.{Token, Placed, Word, Digits, Negative, Text, Mark, Wrong, IsProper, is_blank, is_comment_byte, tokens}
-use Rattle.enf_value.specs.TokenLaws.{AreCut, IsGap, Nothing, Blank, Comment, IsInside, IsLastGap, Gap, Open, IsLongest, IsWrongAt, OneCut, Spells, StandsAt}
-use Rattle.enf_value.specs.TokenViews.{BeginsToken}
+use Rattle.enf_value.proofs.Vocabulary.{◌≡◌, ℕ, suc, ◌+◌, ◌<◌, true, List, [], ◌∷◌, ◌++◌}
+use Rattle.enf_value.proofs.Vocabulary.{length, slice_index, take, drop, ◌⊎◌, inl, inr, refl, sym, ap, subst}
+use Rattle.enf_value.proofs.Vocabulary.{◌∙◌, arith, append_assoc, append-nil, length-append, list_all}
+use Rattle.enf_value.proofs.Vocabulary.{drop-append_seam, take-append_seam, false≢true as differ, and_parts, Token}
+use Rattle.enf_value.proofs.Vocabulary.{TokenAtPlace, WordToken, NumberToken, NegativeToken, TextToken, SymbolToken}
+use Rattle.enf_value.proofs.Vocabulary.{WrongToken, is_blank, is_comment_byte, tokens, IsProper, BeginsToken, AreCut}
+use Rattle.enf_value.proofs.Vocabulary.{IsTokenGap, NoGap, BlankGap, CommentGap, IsInComment, IsLastTokenGap, ClosedGap}
+use Rattle.enf_value.proofs.Vocabulary.{CommentToEnd, IsLongestToken, IsWrongAt, SpellsToken, StandsBehindGap, OneCut}
 use Rattle.enf_value.proofs.Cut.{lt_or_eq, texts_are_cut}
-use Rattle.enf_value.proofs.Fronts.{and_true}
 use Rattle.enf_value.proofs.Shapes.{Shape, Spelled, shape}
 use Rattle.enf_value.proofs.Spelled.{spells_starts}
 
-differ : false ≡ true → ⊥
-differ e = cc
-
 -- ---- gaps
 
--- what can stand behind all of a gap: nothing, an open comment, or a token
+-- what can stand after all of a gap: nothing, an open comment, or a token
 data Tail : List ℕ → Type 0 where
   End : Tail []
-  OpenComment : (inside : List ℕ) → IsInside inside → Tail (35 ∷ inside)
+  OpenComment : (inside : List ℕ) → IsInComment inside → Tail (35 ∷ inside)
   Begins : (byte : ℕ) (rest : List ℕ) → BeginsToken byte → Tail (byte ∷ rest)
 
 first_of : {x y : ℕ} {xs ys : List ℕ} → x ∷ xs ≡ y ∷ ys → x ≡ y
@@ -31,13 +29,13 @@ not_nil : (x : ℕ) (xs : List ℕ) → [] ≡ x ∷ xs → ⊥
 not_nil x xs e = omega (arith, ap length e)
 
 -- no line feed stands inside a comment
-no_feed : (inside before after : List ℕ) → IsInside inside → inside ≡ before ++ 10 ∷ after → ⊥
+no_feed : (inside before after : List ℕ) → IsInComment inside → inside ≡ before ++ 10 ∷ after → ⊥
 no_feed [] [] after each e = not_nil 10 after e
 no_feed [] (x ∷ before) after each e = not_nil x (before ++ 10 ∷ after) e
 no_feed (byte ∷ inside) [] after each e =
-    differ (sym (ap is_comment_byte (first_of e)) ∙ (and_true (is_comment_byte byte) (list_all is_comment_byte inside) each).0)
+    differ (sym (ap is_comment_byte (first_of e)) ∙ (and_parts (is_comment_byte byte) (list_all is_comment_byte inside) each).0)
 no_feed (byte ∷ inside) (x ∷ before) after each e =
-    no_feed inside before after (and_true (is_comment_byte byte) (list_all is_comment_byte inside) each).1 (rest_of e)
+    no_feed inside before after (and_parts (is_comment_byte byte) (list_all is_comment_byte inside) each).1 (rest_of e)
 
 no_blank : (tail : List ℕ) (byte : ℕ) (rest : List ℕ) → Tail tail → tail ≡ byte ∷ rest → is_blank byte ≡ true → ⊥
 no_blank tail byte rest End e blank = not_nil byte rest e
@@ -49,56 +47,56 @@ no_comment tail inside after End e = not_nil 35 (inside ++ 10 ∷ after) e
 no_comment tail inside after (OpenComment all each) e = no_feed all inside after each (rest_of e)
 no_comment tail inside after (Begins first more begins) e = begins.1 (first_of e)
 
-same_inside : (i j x y : List ℕ) → IsInside i → IsInside j → i ++ 10 ∷ x ≡ j ++ 10 ∷ y → (length i ≡ length j) × (x ≡ y)
+same_inside : (i j x y : List ℕ) → IsInComment i → IsInComment j → i ++ 10 ∷ x ≡ j ++ 10 ∷ y → (length i ≡ length j) × (x ≡ y)
 same_inside [] [] x y first second e = (refl, rest_of e)
 same_inside [] (byte ∷ j) x y first second e =
-    absurd (differ (ap is_comment_byte (first_of e) ∙ (and_true (is_comment_byte byte) (list_all is_comment_byte j) second).0))
+    absurd (differ (ap is_comment_byte (first_of e) ∙ (and_parts (is_comment_byte byte) (list_all is_comment_byte j) second).0))
 same_inside (byte ∷ i) [] x y first second e =
-    absurd (differ (sym (ap is_comment_byte (first_of e)) ∙ (and_true (is_comment_byte byte) (list_all is_comment_byte i) first).0))
+    absurd (differ (sym (ap is_comment_byte (first_of e)) ∙ (and_parts (is_comment_byte byte) (list_all is_comment_byte i) first).0))
 same_inside (byte ∷ i) (other ∷ j) x y first second e =
-    let rest = same_inside i j x y (and_true (is_comment_byte byte) (list_all is_comment_byte i) first).1 (and_true (is_comment_byte other) (list_all is_comment_byte j) second).1 (rest_of e) in
+    let rest = same_inside i j x y (and_parts (is_comment_byte byte) (list_all is_comment_byte i) first).1 (and_parts (is_comment_byte other) (list_all is_comment_byte j) second).1 (rest_of e) in
     (ap suc rest.0, rest.1)
 
--- a comment and what is behind it
+-- a comment and what is after it
 regroup : (inside gap tail : List ℕ) → (35 ∷ (inside ++ 10 ∷ gap)) ++ tail ≡ 35 ∷ (inside ++ 10 ∷ (gap ++ tail))
 regroup inside gap tail = ap (λ l. 35 ∷ l) (append_assoc inside (10 ∷ gap) tail)
 
 not_hash : (byte : ℕ) → is_blank byte ≡ true → byte ≡ 35 → ⊥
 not_hash byte blank is = differ (sym (ap is_blank is) ∙ blank)
 
-same_gap : (g h s t : List ℕ) → IsGap g → IsGap h → Tail s → Tail t → g ++ s ≡ h ++ t → (length g ≡ length h) × (s ≡ t)
-same_gap g h s t Nothing Nothing first second e = (refl, e)
-same_gap g h s t Nothing (Blank byte rest blank gap) first second e = absurd (no_blank s byte (rest ++ t) first e blank)
-same_gap g h s t Nothing (Comment inside rest each gap) first second e = absurd (no_comment s inside (rest ++ t) first (e ∙ regroup inside rest t))
-same_gap g h s t (Blank byte rest blank gap) Nothing first second e = absurd (no_blank t byte (rest ++ s) second (sym e) blank)
-same_gap g h s t (Comment inside rest each gap) Nothing first second e = absurd (no_comment t inside (rest ++ s) second (sym e ∙ regroup inside rest s))
-same_gap g h s t (Blank byte rest blank gap) (Blank other more also another) first second e =
+same_gap : (g h s t : List ℕ) → IsTokenGap g → IsTokenGap h → Tail s → Tail t → g ++ s ≡ h ++ t → (length g ≡ length h) × (s ≡ t)
+same_gap g h s t NoGap NoGap first second e = (refl, e)
+same_gap g h s t NoGap (BlankGap byte rest blank gap) first second e = absurd (no_blank s byte (rest ++ t) first e blank)
+same_gap g h s t NoGap (CommentGap inside rest each gap) first second e = absurd (no_comment s inside (rest ++ t) first (e ∙ regroup inside rest t))
+same_gap g h s t (BlankGap byte rest blank gap) NoGap first second e = absurd (no_blank t byte (rest ++ s) second (sym e) blank)
+same_gap g h s t (CommentGap inside rest each gap) NoGap first second e = absurd (no_comment t inside (rest ++ s) second (sym e ∙ regroup inside rest s))
+same_gap g h s t (BlankGap byte rest blank gap) (BlankGap other more also another) first second e =
     let same = same_gap rest more s t gap another first second (rest_of e) in (ap suc same.0, same.1)
-same_gap g h s t (Blank byte rest blank gap) (Comment inside more each another) first second e = absurd (not_hash byte blank (first_of e))
-same_gap g h s t (Comment inside rest each gap) (Blank byte more blank another) first second e = absurd (not_hash byte blank (sym (first_of e)))
-same_gap g h s t (Comment inside rest each gap) (Comment other more all another) first second e =
+same_gap g h s t (BlankGap byte rest blank gap) (CommentGap inside more each another) first second e = absurd (not_hash byte blank (first_of e))
+same_gap g h s t (CommentGap inside rest each gap) (BlankGap byte more blank another) first second e = absurd (not_hash byte blank (sym (first_of e)))
+same_gap g h s t (CommentGap inside rest each gap) (CommentGap other more all another) first second e =
     let comment = same_inside inside other (rest ++ s) (more ++ t) each all (rest_of (sym (regroup inside rest s) ∙ e ∙ regroup other more t)) in
     let same = same_gap rest more s t gap another first second comment.1 in
     (omega (arith, comment.0, same.0, length-append inside (10 ∷ rest), length-append other (10 ∷ more)), same.1)
 
 -- ---- the next token of a cut
 
--- a token, whole or wrong, and the cut behind it
-abbrev IsWhole : (at : ℕ) (text : List ℕ) (token : Token) → List Placed → Type 0
+-- a token, whole or wrong, and the cut after it
+abbrev IsWhole : (at : ℕ) (text : List ℕ) (token : Token) → List TokenAtPlace → Type 0
 IsWhole at text token rest =
-    (piece behind : List ℕ) × (text ≡ piece ++ behind) × IsLongest piece behind token × IsProper token × AreCut (at + length piece) behind rest
+    (piece behind : List ℕ) × (text ≡ piece ++ behind) × IsLongestToken piece behind token × IsProper token × AreCut (at + length piece) behind rest
 
-abbrev IsFault : (text : List ℕ) (token : Token) → List Placed → Type 0
-IsFault text token rest = (token ≡ Wrong) × IsWrongAt text × (rest ≡ [])
+abbrev IsFault : (text : List ℕ) (token : Token) → List TokenAtPlace → Type 0
+IsFault text token rest = (token ≡ WrongToken) × IsWrongAt text × (rest ≡ [])
 
-record Head (place : ℕ) (bytes : List ℕ) (at : ℕ) (token : Token) (rest : List Placed) : Type 0 where
+record Head (place : ℕ) (bytes : List ℕ) (at : ℕ) (token : Token) (rest : List TokenAtPlace) : Type 0 where
   pub text : List ℕ
-  pub stands : StandsAt place bytes at text
+  pub stands : StandsBehindGap place bytes at text
   pub tail : Tail text
   pub is : IsWhole at text token rest ⊎ IsFault text token rest
 
-whole_head : (place : ℕ) (bytes : List ℕ) (at : ℕ) (token : Token) (rest : List Placed) (piece behind : List ℕ) → StandsAt place bytes at (piece ++ behind)
-    → IsLongest piece behind token → IsProper token → AreCut (at + length piece) behind rest → Head place bytes at token rest
+whole_head : (place : ℕ) (bytes : List ℕ) (at : ℕ) (token : Token) (rest : List TokenAtPlace) (piece behind : List ℕ) → StandsBehindGap place bytes at (piece ++ behind)
+    → IsLongestToken piece behind token → IsProper token → AreCut (at + length piece) behind rest → Head place bytes at token rest
 whole_head place bytes at token rest piece behind stands longest proper cut =
     let s = spells_starts piece token longest.spells in
     record {
@@ -108,22 +106,22 @@ whole_head place bytes at token rest piece behind stands longest proper cut =
       is = inl (piece, behind, refl, longest, proper, cut);
     }
 
-head_of : (place : ℕ) (bytes : List ℕ) (at : ℕ) (token : Token) (rest : List Placed) → AreCut place bytes ((at, token) ∷ rest) → Head place bytes at token rest
-head_of place bytes at (Word word) rest (piece, behind, stands, longest, proper, cut) = whole_head place bytes at (Word word) rest piece behind stands longest proper cut
-head_of place bytes at (Digits value) rest (piece, behind, stands, longest, proper, cut) = whole_head place bytes at (Digits value) rest piece behind stands longest proper cut
-head_of place bytes at (Negative value) rest (piece, behind, stands, longest, proper, cut) = whole_head place bytes at (Negative value) rest piece behind stands longest proper cut
-head_of place bytes at (Text text) rest (piece, behind, stands, longest, proper, cut) = whole_head place bytes at (Text text) rest piece behind stands longest proper cut
-head_of place bytes at (Mark mark) rest (piece, behind, stands, longest, proper, cut) = whole_head place bytes at (Mark mark) rest piece behind stands longest proper cut
-head_of place bytes at Wrong rest (text, stands, wrong, none) = record {
+head_of : (place : ℕ) (bytes : List ℕ) (at : ℕ) (token : Token) (rest : List TokenAtPlace) → AreCut place bytes ((at, token) ∷ rest) → Head place bytes at token rest
+head_of place bytes at (WordToken word) rest (piece, behind, stands, longest, proper, cut) = whole_head place bytes at (WordToken word) rest piece behind stands longest proper cut
+head_of place bytes at (NumberToken value) rest (piece, behind, stands, longest, proper, cut) = whole_head place bytes at (NumberToken value) rest piece behind stands longest proper cut
+head_of place bytes at (NegativeToken value) rest (piece, behind, stands, longest, proper, cut) = whole_head place bytes at (NegativeToken value) rest piece behind stands longest proper cut
+head_of place bytes at (TextToken text) rest (piece, behind, stands, longest, proper, cut) = whole_head place bytes at (TextToken text) rest piece behind stands longest proper cut
+head_of place bytes at (SymbolToken mark) rest (piece, behind, stands, longest, proper, cut) = whole_head place bytes at (SymbolToken mark) rest piece behind stands longest proper cut
+head_of place bytes at WrongToken rest (text, stands, wrong, none) = record {
   text = text;
   stands = stands;
   tail = subst Tail (sym wrong.is) (Begins wrong.first wrong.rest wrong.begins);
   is = inr (refl, wrong, none);
 }
 
--- behind the last token no other stands
-no_more : (place : ℕ) (bytes : List ℕ) (at : ℕ) (token : Token) (rest : List Placed) → IsLastGap bytes → Head place bytes at token rest → ⊥
-no_more place bytes at token rest (Gap gap is) head =
+-- after the last token no other stands
+no_more : (place : ℕ) (bytes : List ℕ) (at : ℕ) (token : Token) (rest : List TokenAtPlace) → IsLastTokenGap bytes → Head place bytes at token rest → ⊥
+no_more place bytes at token rest (ClosedGap gap is) head =
     by head.tail (same_gap gap head.stands.gap [] head.text is head.stands.between End head.tail (append-nil gap ∙ head.stands.splits)).1 (not_empty head.is)
   where
     not_empty : IsWhole at head.text token rest ⊎ IsFault head.text token rest → ([] ≡ head.text) → ⊥
@@ -134,7 +132,7 @@ no_more place bytes at token rest (Gap gap is) head =
 
     by : Tail head.text → [] ≡ head.text → ([] ≡ head.text → ⊥) → ⊥
     by tail e none = none e
-no_more place bytes at token rest (Open gap inside is each) head =
+no_more place bytes at token rest (CommentToEnd gap inside is each) head =
     begins head.is (same_gap gap head.stands.gap (35 ∷ inside) head.text is head.stands.between (OpenComment inside each) head.tail head.stands.splits).1
   where
     begins : IsWhole at head.text token rest ⊎ IsFault head.text token rest → 35 ∷ inside ≡ head.text → ⊥
@@ -146,7 +144,7 @@ no_more place bytes at token rest (Open gap inside is each) head =
 -- ---- the longest piece
 
 -- it is that of the shape
-piece_is : (byte : ℕ) (rest : List ℕ) (s : Spelled byte rest) (piece behind : List ℕ) (token : Token) → byte ∷ rest ≡ piece ++ behind → IsLongest piece behind token
+piece_is : (byte : ℕ) (rest : List ℕ) (s : Spelled byte rest) (piece behind : List ℕ) (token : Token) → byte ∷ rest ≡ piece ++ behind → IsLongestToken piece behind token
     → (piece ≡ s.piece) × (behind ≡ s.behind) × (token ≡ s.token)
 piece_is byte rest s piece behind token split longest = by (lt_or_eq (length piece) (length s.piece) (s.bound piece behind token split longest.spells))
   where
@@ -156,10 +154,10 @@ piece_is byte rest s piece behind token split longest = by (lt_or_eq (length pie
         let whole = sym split ∙ s.splits in
         let same : piece ≡ s.piece = sym (take-append_seam piece behind) ∙ (λ j. take (equal j) (whole j)) ∙ take-append_seam s.piece s.behind in
         let after : behind ≡ s.behind = sym (drop-append_seam piece behind) ∙ (λ j. drop (equal j) (whole j)) ∙ drop-append_seam s.piece s.behind in
-        (same, after, s.same token (subst (λ l. Spells l token) same longest.spells))
+        (same, after, s.same token (subst (λ l. SpellsToken l token) same longest.spells))
 
 -- two longest pieces of one text are the same
-one_piece : (text p q a b : List ℕ) (t u : Token) → text ≡ p ++ a → IsLongest p a t → text ≡ q ++ b → IsLongest q b u → (p ≡ q) × (a ≡ b) × (t ≡ u)
+one_piece : (text p q a b : List ℕ) (t u : Token) → text ≡ p ++ a → IsLongestToken p a t → text ≡ q ++ b → IsLongestToken q b u → (p ≡ q) × (a ≡ b) × (t ≡ u)
 one_piece [] p q a b t u split first other second =
     let s = spells_starts p t first.spells in absurd (not_nil s.first (s.rest ++ a) (split ∙ ap (λ l. l ++ a) s.is))
 one_piece (byte ∷ rest) p q a b t u split first other second = by (shape byte rest)
@@ -173,7 +171,7 @@ one_piece (byte ∷ rest) p q a b t u split first other second = by (shape byte 
 
 -- ---- the cut
 
-one_cut : (place : ℕ) (bytes : List ℕ) (xs ys : List Placed) → AreCut place bytes xs → AreCut place bytes ys → xs ≡ ys
+one_cut : (place : ℕ) (bytes : List ℕ) (xs ys : List TokenAtPlace) → AreCut place bytes xs → AreCut place bytes ys → xs ≡ ys
 one_cut place bytes [] [] first second = refl
 one_cut place bytes [] ((at, token) ∷ ys) first second = absurd (no_more place bytes at token ys first (head_of place bytes at token ys second))
 one_cut place bytes ((at, token) ∷ xs) [] first second = absurd (no_more place bytes at token xs second (head_of place bytes at token xs first))

@@ -1,28 +1,15 @@
 -- The pieces of a text up to its last quote, found from the front.
-use Rattle.std.proofs.Common.{◌≡◌, ◌≢◌, ℕ, ◌<◌, ◌≤◌, ◌+◌, ◌==◌, Bool, true, false, inl, inr, List, [], ◌∷◌, ◌++◌, length, get_or, slice_index, take, drop, refl, sym, ap, subst, ◌∙◌, arith, append_assoc, append-nil, add-zero, if◌then◌else◌, suc, zero, Option, Some, None}
-use Rattle.std.proofs.lemmas.Bool.{eqb-true, eqb-false}
-use Rattle.std.proofs.lemmas.Bool.Decides.{nat_tests}
-use Rattle.std.proofs.Math.ListN.{drop_of_length-le}
-use Rattle.std.proofs.Math.Seq.{drop-cons}
-use Rattle.enf_value.specs.Tokens.{text_front, with_backslash, with_byte, with_escape}
-use Rattle.enf_value.specs.ValueTokens.{meaning, IsWritten, WrittenAt}
+use Rattle.enf_value.proofs.Vocabulary.{◌≡◌, ◌≢◌, ℕ, ◌<◌, ◌≤◌, ◌+◌, ◌==◌, Bool, true}
+use Rattle.enf_value.proofs.Vocabulary.{false, inl, inr, List, [], ◌∷◌, ◌++◌, length, get_or, slice_index}
+use Rattle.enf_value.proofs.Vocabulary.{take, drop, refl, sym, ap, subst, ◌∙◌, arith, append-nil, add-zero}
+use Rattle.enf_value.proofs.Vocabulary.{if◌then◌else◌, suc, zero, Option, Some, None, eqb-true, eqb-false}
+use Rattle.enf_value.proofs.Vocabulary.{nat_tests, drop_of_length-le, drop-cons, text_front, with_backslash, with_byte}
+use Rattle.enf_value.proofs.Vocabulary.{with_escape, escape_meaning, IsWrittenText, WrittenTextAt}
 
--- behind a text and the bytes that are written for it
+-- after a text and the bytes that are written for it
 abbrev pub behind : List ℕ → ℕ → Option (List ℕ × ℕ) → Option (List ℕ × ℕ)
 behind text place None = None
 behind text place (Some found) = Some (text ++ found.0, place + found.1)
-
-pub behind-byte : (text : List ℕ) (place byte : ℕ) (r : Option (List ℕ × ℕ)) → behind text place (with_byte byte r) ≡ behind (text ++ byte ∷ []) (place + 1) r
-behind-byte text place byte None = refl
-behind-byte text place byte (Some found) =
-    let e : place + suc found.1 ≡ place + 1 + found.1 = omega arith in
-    λ j. Some (sym (append_assoc text (byte ∷ []) found.0) j, e j)
-
-pub behind-backslash : (text : List ℕ) (place : ℕ) (r : Option (List ℕ × ℕ)) → behind text place (with_backslash r) ≡ behind text (place + 1) r
-behind-backslash text place None = refl
-behind-backslash text place (Some found) =
-    let e : place + suc found.1 ≡ place + 1 + found.1 = omega arith in
-    ap (λ n. Some (text ++ found.0, n)) e
 
 from_byte : (byte : ℕ) (r : Option (List ℕ × ℕ)) (p : List ℕ × ℕ) → with_byte byte r ≡ Some p → (q : List ℕ × ℕ) × (r ≡ Some q) × ((byte ∷ q.0, suc q.1) ≡ p)
 from_byte byte None p e = cc
@@ -36,7 +23,7 @@ from_backslash : (r : Option (List ℕ × ℕ)) (p : List ℕ × ℕ) → with_b
 from_backslash None p e = cc
 from_backslash (Some q) p e = (q, refl, cc)
 
-written_plain : (byte : ℕ) (bytes text : List ℕ) (end : ℕ) → byte ≢ 34 → byte ≢ 92 → WrittenAt bytes end text → WrittenAt (byte ∷ bytes) (suc end) (byte ∷ text)
+written_plain : (byte : ℕ) (bytes text : List ℕ) (end : ℕ) → byte ≢ 34 → byte ≢ 92 → WrittenTextAt bytes end text → WrittenTextAt (byte ∷ bytes) (suc end) (byte ∷ text)
 written_plain byte bytes text end quote backslash w = record {
   written = byte ∷ w.written;
   rest = w.rest;
@@ -46,7 +33,8 @@ written_plain byte bytes text end quote backslash w = record {
 }
 
 -- bytes before the first quote or backslash, which is a quote, are written as they stand
-pub plain_written : (bytes : List ℕ) (quote : ℕ) → quote < length bytes → ((k : ℕ) → k < quote → (slice_index bytes k ≢ 34) × (slice_index bytes k ≢ 92)) → slice_index bytes quote ≡ 34 → WrittenAt bytes quote (take quote bytes)
+pub plain_written : (bytes : List ℕ) (quote : ℕ) → quote < length bytes → ((k : ℕ) → k < quote → (slice_index bytes k ≢ 34) × (slice_index bytes k ≢ 92))
+    → slice_index bytes quote ≡ 34 → WrittenTextAt bytes quote (take quote bytes)
 plain_written [] quote within before is = absurd (omega (arith, within))
 plain_written (byte ∷ bytes) zero within before is = record {
   written = [];
@@ -60,7 +48,8 @@ plain_written (byte ∷ bytes) (suc quote) within before is =
     written_plain byte bytes (take quote bytes) quote apart.0 apart.1
     (plain_written bytes quote (omega (arith, within)) (λ k below. before (suc k) (omega (arith, below))) is)
 
-written_escape : (letter byte : ℕ) (bytes text : List ℕ) (end : ℕ) → meaning letter ≡ Some byte → WrittenAt bytes end text → WrittenAt (92 ∷ letter ∷ bytes) (suc (suc end)) (byte ∷ text)
+written_escape : (letter byte : ℕ) (bytes text : List ℕ) (end : ℕ) → escape_meaning letter ≡ Some byte → WrittenTextAt bytes end text
+    → WrittenTextAt (92 ∷ letter ∷ bytes) (suc (suc end)) (byte ∷ text)
 written_escape letter byte bytes text end is w = record {
   written = 92 ∷ letter ∷ w.written;
   rest = w.rest;
@@ -69,39 +58,40 @@ written_escape letter byte bytes text end is w = record {
   pieces = (92 ∷ letter ∷ [], w.written, inr (letter, refl, is), w.pieces, refl);
 }
 
--- what is found stands there, behind no backslash and behind one
+-- what is found stands there, after no backslash and after one
 abbrev IsSound : List ℕ → Type 0
 IsSound bytes =
-    ((p : List ℕ × ℕ) → text_front false bytes ≡ Some p → WrittenAt bytes p.1 p.0)
-    × ((p : List ℕ × ℕ) → text_front true bytes ≡ Some p → WrittenAt (92 ∷ bytes) (suc p.1) p.0)
+    ((p : List ℕ × ℕ) → text_front false bytes ≡ Some p → WrittenTextAt bytes p.1 p.0)
+    × ((p : List ℕ × ℕ) → text_front true bytes ≡ Some p → WrittenTextAt (92 ∷ bytes) (suc p.1) p.0)
 
-sound_plain : (byte : ℕ) (bytes : List ℕ) (a b : Bool) → (byte == 34) ≡ a → (byte == 92) ≡ b → IsSound bytes → (p : List ℕ × ℕ) → (if a then Some ([], 0) else (if b then with_backslash (text_front true bytes) else with_byte byte (text_front false bytes))) ≡ Some p → WrittenAt (byte ∷ bytes) p.1 p.0
+sound_plain : (byte : ℕ) (bytes : List ℕ) (a b : Bool) → (byte == 34) ≡ a → (byte == 92) ≡ b → IsSound bytes → (p : List ℕ × ℕ)
+    → (if a then Some ([], 0) else (if b then with_backslash (text_front true bytes) else with_byte byte (text_front false bytes))) ≡ Some p → WrittenTextAt (byte ∷ bytes) p.1 p.0
 sound_plain byte bytes true b quote backslash rest p e =
     let is : ([], 0) ≡ p = cc in
-    subst (λ q. WrittenAt (byte ∷ bytes) q.1 q.0) is
+    subst (λ q. WrittenTextAt (byte ∷ bytes) q.1 q.0) is
     (record { written = []; rest = bytes; splits = ap (λ x. x ∷ bytes) (eqb-true byte 34 quote); ends = refl; pieces = refl })
 sound_plain byte bytes false true quote backslash rest p e =
     let q = from_backslash (text_front true bytes) p e in
-    subst (λ r. WrittenAt (byte ∷ bytes) r.1 r.0) q.2 (subst (λ x. WrittenAt (x ∷ bytes) (suc q.0.1) q.0.0) (sym (eqb-true byte 92 backslash)) (rest.1 q.0 q.1))
+    subst (λ r. WrittenTextAt (byte ∷ bytes) r.1 r.0) q.2 (subst (λ x. WrittenTextAt (x ∷ bytes) (suc q.0.1) q.0.0) (sym (eqb-true byte 92 backslash)) (rest.1 q.0 q.1))
 sound_plain byte bytes false false quote backslash rest p e =
     let q = from_byte byte (text_front false bytes) p e in
-    subst (λ r. WrittenAt (byte ∷ bytes) r.1 r.0) q.2 (written_plain byte bytes q.0.0 q.0.1 (eqb-false byte 34 quote) (eqb-false byte 92 backslash) (rest.0 q.0 q.1))
+    subst (λ r. WrittenTextAt (byte ∷ bytes) r.1 r.0) q.2 (written_plain byte bytes q.0.0 q.0.1 (eqb-false byte 34 quote) (eqb-false byte 92 backslash) (rest.0 q.0 q.1))
 
-sound_escape : (letter : ℕ) (bytes : List ℕ) → IsSound bytes → (p : List ℕ × ℕ) → text_front true (letter ∷ bytes) ≡ Some p → WrittenAt (92 ∷ letter ∷ bytes) (suc p.1) p.0
+sound_escape : (letter : ℕ) (bytes : List ℕ) → IsSound bytes → (p : List ℕ × ℕ) → text_front true (letter ∷ bytes) ≡ Some p → WrittenTextAt (92 ∷ letter ∷ bytes) (suc p.1) p.0
 sound_escape letter bytes rest p e =
-    let m = from_escape (meaning letter) (text_front false bytes) p e in
+    let m = from_escape (escape_meaning letter) (text_front false bytes) p e in
     let q = from_byte m.0 (text_front false bytes) p m.2 in
-    subst (λ r. WrittenAt (92 ∷ letter ∷ bytes) (suc r.1) r.0) q.2 (written_escape letter m.0 bytes q.0.0 q.0.1 m.1 (rest.0 q.0 q.1))
+    subst (λ r. WrittenTextAt (92 ∷ letter ∷ bytes) (suc r.1) r.0) q.2 (written_escape letter m.0 bytes q.0.0 q.0.1 m.1 (rest.0 q.0 q.1))
 
 sound : (bytes : List ℕ) → IsSound bytes
 sound [] = (λ p e. cc, λ p e. cc)
 sound (byte ∷ bytes) = (sound_plain byte bytes _ _ refl refl (sound bytes), sound_escape byte bytes (sound bytes))
 
-pub written_from_scan : (bytes text : List ℕ) (end : ℕ) → text_front false bytes ≡ Some (text, end) → WrittenAt bytes end text
+pub written_from_scan : (bytes text : List ℕ) (end : ℕ) → text_front false bytes ≡ Some (text, end) → WrittenTextAt bytes end text
 written_from_scan bytes text end e = (sound bytes).0 (text, end) e
 
 -- and what stands there is found
-finds : (text written rest : List ℕ) → IsWritten written text → text_front false (written ++ 34 ∷ rest) ≡ Some (text, length written)
+finds : (text written rest : List ℕ) → IsWrittenText written text → text_front false (written ++ 34 ∷ rest) ≡ Some (text, length written)
 finds [] written rest w = rw w refl
 finds (byte ∷ text) written rest (piece, more, inl (plain, quote, backslash), pieces, split) =
     let tail = more ++ 34 ∷ rest in
@@ -116,11 +106,11 @@ finds (byte ∷ text) written rest (piece, more, inr (letter, plain, is), pieces
     (ap (λ m. with_backslash (with_escape m (text_front false (more ++ 34 ∷ rest)))) is
     ∙ ap (λ r. with_backslash (with_byte byte r)) (finds text more rest pieces))
 
-pub scan_from_written : (bytes text : List ℕ) (end : ℕ) → WrittenAt bytes end text → text_front false bytes ≡ Some (text, end)
+pub scan_from_written : (bytes text : List ℕ) (end : ℕ) → WrittenTextAt bytes end text → text_front false bytes ≡ Some (text, end)
 scan_from_written bytes text end w = ap (text_front false) w.splits ∙ finds text w.written w.rest w.pieces ∙ ap (λ n. Some (text, n)) (sym w.ends)
 
 -- so there is one text at most
-pub one_written : (bytes a b : List ℕ) (m n : ℕ) → WrittenAt bytes m a → WrittenAt bytes n b → (a ≡ b) × (m ≡ n)
+pub one_written : (bytes a b : List ℕ) (m n : ℕ) → WrittenTextAt bytes m a → WrittenTextAt bytes n b → (a ≡ b) × (m ≡ n)
 one_written bytes a b m n v w =
     let e : ◌≡◌ {A = Option (List ℕ × ℕ)} (Some (a, m)) (Some (b, n)) = sym (scan_from_written bytes a m v) ∙ scan_from_written bytes b n w in
     let p : ◌≡◌ {A = List ℕ × ℕ} (a, m) (b, n) = cc in
@@ -131,7 +121,7 @@ pub scan_at_quote : (bytes : List ℕ) (place : ℕ) → place < length bytes �
 scan_at_quote bytes place within is =
     ap (text_front false) (drop-cons bytes place 0 within ∙ ap (λ b. b ∷ drop (suc place) bytes) is)
 
-pub scan_at_letter : (bytes : List ℕ) (place : ℕ) → place < length bytes → meaning (get_or bytes place 0) ≡ None → text_front true (drop place bytes) ≡ None
+pub scan_at_letter : (bytes : List ℕ) (place : ℕ) → place < length bytes → escape_meaning (get_or bytes place 0) ≡ None → text_front true (drop place bytes) ≡ None
 scan_at_letter bytes place within none =
     ap (text_front true) (drop-cons bytes place 0 within) ∙ ap (λ m. with_escape m (text_front false (drop (suc place) bytes))) none
 
@@ -139,10 +129,10 @@ pub scan_at_end : (escape : Bool) (bytes : List ℕ) (place : ℕ) → length by
 scan_at_end true bytes place past = ap (text_front true) (drop_of_length-le bytes past)
 scan_at_end false bytes place past = ap (text_front false) (drop_of_length-le bytes past)
 
-pub written_at_quote : (bytes text : List ℕ) (place : ℕ) (r : Option (List ℕ × ℕ)) → text_front false bytes ≡ behind text place r → r ≡ Some ([], 0) → WrittenAt bytes place text
+pub written_at_quote : (bytes text : List ℕ) (place : ℕ) (r : Option (List ℕ × ℕ)) → text_front false bytes ≡ behind text place r → r ≡ Some ([], 0) → WrittenTextAt bytes place text
 written_at_quote bytes text place r known found =
     written_from_scan bytes text place (known ∙ ap (behind text place) found ∙ (λ j. Some (append-nil text j, add-zero place j)))
 
-pub not_written : (bytes text : List ℕ) (place : ℕ) (r : Option (List ℕ × ℕ)) → text_front false bytes ≡ behind text place r → r ≡ None → (t : List ℕ) (end : ℕ) → WrittenAt bytes end t → ⊥
+pub not_written : (bytes text : List ℕ) (place : ℕ) (r : Option (List ℕ × ℕ)) → text_front false bytes ≡ behind text place r → r ≡ None → (t : List ℕ) (end : ℕ) → WrittenTextAt bytes end t → ⊥
 not_written bytes text place r known none t end w =
     let e = sym (scan_from_written bytes t end w) ∙ known ∙ ap (behind text place) none in cc

@@ -1,16 +1,16 @@
--- The blanks and comments at a place, and the tokens behind them.
-use Rattle.std.proofs.Common.{◌≡◌, ℕ, zero, suc, ◌+◌, ◌-◌, ◌<◌, ◌≤◌, ◌==◌, Bool, true, false, List, [], ◌∷◌, ◌++◌, length, map, drop, slice_index, Option, None, Some, refl, sym, ap, subst, ◌∙◌, arith, add-zero, length-drop, length-take, if◌then◌else◌}
-use Rattle.std.proofs.lemmas.Bool.Decides.{nat_tests}
-use Rattle.std.specs.List.{prefix_len, take_while}
-use Rattle.std.specs.Option.{option_to_list}
-use Rattle.std.proofs.lemmas.List.{drop-drop}
-use Rattle.std.proofs.Math.Seq.{drop-cons}
-use Rattle.enf_value.specs.Tokens.{Token, Piece, is_blank, is_comment_byte, lexeme_at, piece_at, token_piece, tokens_at, tokens_from}
-use Rattle.enf_value.specs.TokenViews.{BeginsToken, IsFront, IsTokenAt, token_of}
+-- The blanks and comments at a place, and the tokens after them.
+use Rattle.enf_value.proofs.Vocabulary.{◌≡◌, ℕ, zero, suc, ◌+◌, ◌-◌, ◌<◌, ◌≤◌, ◌==◌, Bool}
+use Rattle.enf_value.proofs.Vocabulary.{true, false, List, [], ◌∷◌, ◌++◌, length, drop, slice_index, Option}
+use Rattle.enf_value.proofs.Vocabulary.{None, Some, refl, sym, ap, subst, ◌∙◌, arith, add-zero, length-drop}
+use Rattle.enf_value.proofs.Vocabulary.{length-take, if◌then◌else◌, nat_tests, prefix_len, take_while}
+use Rattle.enf_value.proofs.Vocabulary.{option_to_list, drop-drop, drop-cons, Token, CutPiece, is_blank}
+use Rattle.enf_value.proofs.Vocabulary.{is_comment_byte, lexeme_at, piece_at, token_piece, tokens_at, tokens_from}
+use Rattle.enf_value.proofs.Vocabulary.{BeginsToken, IsFrontToken, IsTokenAt, token_of}
+use Rattle.std.proofs.Common.{map}
 use Rattle.enf_value.specs.declared.tokens.Token.{Token as Read}
 use Rattle.enf_value.proofs.Fronts.{front_is_within}
 
--- behind blanks and comments the same tokens are left
+-- after blanks and comments the same tokens are left
 pub record IsPast (bytes : List ℕ) (at place : ℕ) : Type 0 where
   pub from : at ≤ place
   pub within : place ≤ length bytes
@@ -23,7 +23,7 @@ cut_left (suc left) place [] = refl
 cut_left (suc left) place (byte ∷ bytes) =
     cut_left left (place + 1) bytes ∙ ap (λ p. tokens_from 0 p (drop left bytes)) (omega arith)
 
--- the tokens behind a piece of a byte at least
+-- the tokens after a piece of a byte at least
 behind_piece : (size place byte : ℕ) (rest : List ℕ) → 0 < size
     → tokens_from (size - 1) (place + 1) rest ≡ tokens_from 0 (place + size) (drop size (byte ∷ rest))
 behind_piece zero place byte rest some = absurd (omega arith)
@@ -36,14 +36,14 @@ pub text_at : (bytes : List ℕ) (place : ℕ) → place < length bytes
     → drop place bytes ≡ slice_index bytes place ∷ drop (suc place) bytes
 text_at bytes place within = drop-cons bytes place 0 within
 
-abbrev piece_by : (blank hash : Bool) → ℕ → List ℕ → Piece
+abbrev piece_by : (blank hash : Bool) → ℕ → List ℕ → CutPiece
 piece_by blank hash byte rest =
     if blank then (None, 1)
     else (if hash then (None, 1 + length (take_while is_comment_byte rest))
     else token_piece (1 + length rest) (lexeme_at byte rest))
 
--- a token at the front, and what is behind it
-pub front_step : (place byte : ℕ) (rest : List ℕ) (token : Token) (size : ℕ) → BeginsToken byte → IsFront (byte ∷ rest) token size → 0 < size
+-- a token at the front, and what is after it
+pub front_step : (place byte : ℕ) (rest : List ℕ) (token : Token) (size : ℕ) → BeginsToken byte → IsFrontToken (byte ∷ rest) token size → 0 < size
     → tokens_from 0 place (byte ∷ rest) ≡ (place, token) ∷ tokens_from 0 (place + size) (drop size (byte ∷ rest))
 front_step place byte rest token size begins front some =
     let hash : (byte == 35) ≡ false = grind (arith, nat_tests, begins.1) in
@@ -51,7 +51,7 @@ front_step place byte rest token size begins front some =
     (λ j. map (λ t. (place, t)) (option_to_list ((is j).0)) ++ tokens_from ((is j).1 - 1) (place + 1) rest)
     ∙ ap (λ tokens. (place, token) ∷ tokens) (behind_piece size place byte rest some)
 
--- a comment at the front, and what is behind it
+-- a comment at the front, and what is after it
 pub space_step : (place byte : ℕ) (rest : List ℕ) → is_blank byte ≡ false → (byte == 35) ≡ true
     → tokens_from 0 place (byte ∷ rest) ≡ tokens_from 0 (place + (1 + length (take_while is_comment_byte rest))) (drop (1 + length (take_while is_comment_byte rest)) (byte ∷ rest))
 space_step place byte rest blank hash =
@@ -60,7 +60,7 @@ space_step place byte rest blank hash =
     ∙ behind_piece (1 + length (take_while is_comment_byte rest)) place byte rest (omega arith)
 
 module _ (bytes : List ℕ) (place : ℕ) (within : place < length bytes) where
-  -- the piece at a place and what is behind it
+  -- the piece at a place and what is after it
   front_piece : (token : Option Token) (size : ℕ) → piece_at (slice_index bytes place) (drop (suc place) bytes) ≡ (token, size) → 0 < size
       → tokens_at bytes place ≡ map (λ t. (place, t)) (option_to_list token) ++ tokens_at bytes (place + size)
   front_piece token size is some =
@@ -71,10 +71,6 @@ module _ (bytes : List ℕ) (place : ℕ) (within : place < length bytes) where
       ∙ ap (λ text. tokens_from 0 (place + size) (drop size text)) (sym (text_at bytes place within))
       ∙ ap (tokens_from 0 (place + size)) (drop-drop size place bytes))
 
-  pub past_blank : is_blank (slice_index bytes place) ≡ true → tokens_at bytes place ≡ tokens_at bytes (place + 1)
-  past_blank blank =
-      front_piece None 1 (λ j. piece_by (blank j) (slice_index bytes place == 35) (slice_index bytes place) (drop (suc place) bytes)) (omega arith)
-
   pub past_comment : is_blank (slice_index bytes place) ≡ false → slice_index bytes place ≡ 35
       → tokens_at bytes place ≡ tokens_at bytes (place + (1 + length (take_while is_comment_byte (drop (suc place) bytes))))
   past_comment blank begins =
@@ -83,15 +79,15 @@ module _ (bytes : List ℕ) (place : ℕ) (within : place < length bytes) where
       (λ j. piece_by (blank j) (hash j) (slice_index bytes place) (drop (suc place) bytes)) (omega arith)
 
   -- the token that begins at the place
-  pub past_token : BeginsToken (slice_index bytes place) → (token : Token) (size : ℕ) → IsFront (drop place bytes) token size → 0 < size
+  pub past_token : BeginsToken (slice_index bytes place) → (token : Token) (size : ℕ) → IsFrontToken (drop place bytes) token size → 0 < size
       → tokens_at bytes place ≡ (place, token) ∷ tokens_at bytes (place + size)
   past_token begins token size front some =
       let hash : (slice_index bytes place == 35) ≡ false = grind (arith, nat_tests, begins.1) in
       front_piece (Some token) size
       ((λ j. piece_by (begins.0 j) (hash j) (slice_index bytes place) (drop (suc place) bytes))
-      ∙ subst (λ text. IsFront text token size) (text_at bytes place within) front) some
+      ∙ subst (λ text. IsFrontToken text token size) (text_at bytes place within) front) some
 
--- behind a comment the same tokens are left
+-- after a comment the same tokens are left
 pub behind_comment : (bytes : List ℕ) (at place : ℕ) (comment : List ℕ) → IsPast bytes at place → place < length bytes
     → is_blank (slice_index bytes place) ≡ false → slice_index bytes place ≡ 35
     → comment ≡ take_while is_comment_byte (drop (place + 1) bytes) → IsPast bytes at (place + (1 + length comment))
@@ -106,7 +102,7 @@ behind_comment bytes at place comment past within blank begins is =
           ∙ ap (λ l. tokens_at bytes (place + (1 + length l))) (sym (is ∙ ap (λ n. take_while is_comment_byte (drop n bytes)) next));
     }
 
--- the token behind blanks and comments is the next one
+-- the token after blanks and comments is the next one
 pub next_is : (bytes : List ℕ) (at place : ℕ) (token : Read) (end : ℕ) → tokens_at bytes at ≡ tokens_at bytes place
     → place < length bytes → BeginsToken (slice_index bytes place) → IsTokenAt bytes place token end
     → tokens_at bytes at ≡ (place, token_of token) ∷ tokens_at bytes end

@@ -1,7 +1,7 @@
+pub mod Vocabulary
+pub mod AppendedParts
 pub mod Cut
 pub mod CutOnce
-pub mod Distinct
-pub mod Equality
 pub mod Escapes
 pub mod Fronts
 pub mod Gaps
@@ -9,7 +9,8 @@ pub mod Numerals
 pub mod Parts
 pub mod Shapes
 pub mod Spelled
+pub mod SpellingLaws
 pub mod TextTokens
-pub mod TokenLaws
 pub mod TokenReads
+pub mod ValueTokenLaws
 pub mod Words

@@ -1,21 +1,17 @@
 -- The number tokens at the front of bytes, and what `parse` makes of them.
-use Rattle.std.proofs.Common.{◌≡◌, ◌≢◌, ℕ, ◌<◌, ◌≤◌, ◌+◌, ◌-◌, ◌*◌, ◌^◌, ◌==◌, ℤ, pos, negsuc, neg_ℤ, Bool, true, false, cond, inl, inr, List, [], ◌∷◌, ◌++◌, length, get_or, slice_index, take, drop, refl, sym, ap, subst, ◌∙◌, true≢false, arith, if◌then◌else◌, suc, zero, FitsSigned, add-zero, zero-add, Result, Ok, Err, Some, None, MatchResult}
-use Rattle.std.specs.Char.{is_ascii_digit, digit_value}
-use Rattle.std.specs.List.{prefix_len}
+use Rattle.enf_value.proofs.Vocabulary.{◌≡◌, ◌≢◌, ℕ, ◌<◌, ◌≤◌, ◌+◌, ◌-◌, ◌*◌}
+use Rattle.enf_value.proofs.Vocabulary.{◌^◌, ◌==◌, ℤ, pos, negsuc, neg_ℤ, Bool, true, false, cond, inl, inr}
+use Rattle.enf_value.proofs.Vocabulary.{List, [], ◌∷◌, ◌++◌, length, get_or, slice_index, take, drop, refl}
+use Rattle.enf_value.proofs.Vocabulary.{sym, ap, subst, ◌∙◌, true≢false, arith, if◌then◌else◌, suc, zero}
+use Rattle.enf_value.proofs.Vocabulary.{FitsSigned, add-zero, zero-add, Result, Ok, Err, None, MatchResult}
+use Rattle.enf_value.proofs.Vocabulary.{is_ascii_digit, digit_value, prefix_len, result_ok, IsAscii, IsUtf8, AllDigits}
+use Rattle.enf_value.proofs.Vocabulary.{IsNumeral, digits_value, signed_digits_value, without_leading_sign}
+use Rattle.enf_value.proofs.Vocabulary.{without_leading_plus, ParsesSigned, eqb-true, nat_tests, digits_value_more}
+use Rattle.enf_value.proofs.Vocabulary.{get_or-drop, length-take-le, take-append-drop, take-append-le, Ok-from_Ok_iff}
+use Rattle.enf_value.proofs.Vocabulary.{OkIff-at_ok, IsUtf8-from_ascii, digits_value-take-le, take-append_seam}
+use Rattle.enf_value.proofs.Vocabulary.{IsAscii-from_digits, IsNumberToken, IsNoDigit, ValueTokenAt, IsNumberValue, Num}
 use Rattle.std.specs.Int.{w64}
-use Rattle.std.specs.Result.{result_ok}
-use Rattle.std.specs.Str.{IsAscii, IsUtf8}
-use Rattle.std.specs.Str.Parse.{AllDigits, IsNumeral, digits_value, signed_digits_value, without_leading_sign, without_leading_plus, ParsesSigned}
-use Rattle.std.proofs.lemmas.Bool.{eqb-true}
-use Rattle.std.proofs.lemmas.Bool.Decides.{nat_tests}
-use Rattle.std.proofs.lemmas.Int.Digits.{digits_value_more}
-use Rattle.std.proofs.lemmas.List.{get_or-drop, length-drop, length-take-le, take-append-drop, take-append-le}
-use Rattle.std.proofs.lemmas.Result.{Ok-from_Ok_iff, OkIff-at_ok}
-use Rattle.std.proofs.lemmas.Str.{IsUtf8-from_ascii}
-use Rattle.std.proofs.lemmas.Str.Parse.{digits_value-take-le}
-use Rattle.std.proofs.Math.Seq.{take-append_seam}
-use Rattle.enf_value.specs.ValueTokens.{IsNumberToken, IsNoDigit, IsNumber, TokenAt}
-use Rattle.enf_value.specs.declared.values.Value.TheVariants.{Num}
+use Rattle.std.proofs.lemmas.List.{length-drop}
 
 pub digit_from_test : (c : ℕ) → is_ascii_digit c ≡ true → digit_value c < 10
 digit_from_test c h = grind (arith, nat_tests)
@@ -92,7 +88,7 @@ plain_value x digits minus plus =
     ap (λ b. cond b (neg_ℤ (pos (digits_value 10 (without_leading_sign (x ∷ digits))))) (pos (digits_value 10 (without_leading_sign (x ∷ digits))))) minus
     ∙ ap (λ l. pos (digits_value 10 l)) (plain_sign x digits minus plus)
 
--- what is read behind a sign is what the token stands for
+-- what is read after a sign is what the token stands for
 pub value_of_token : (token : List ℕ) (number : ℤ) → IsNumberToken token number → IsNumeral 10 (without_leading_sign token) × (signed_digits_value 10 token ≡ number)
 value_of_token [] number (inl (numeral, is)) = absurd (omega (arith, numeral.0))
 value_of_token (x ∷ digits) number (inl (numeral, is)) =
@@ -118,7 +114,8 @@ token_from_value (x ∷ digits) first numeral = by (x == 45) refl
           digits,
           ap (λ y. y ∷ digits) (eqb-true x 45 e),
           subst (IsNumeral 10) behind numeral,
-          ap (λ b. cond b (neg_ℤ (pos (digits_value 10 (without_leading_sign (x ∷ digits))))) (pos (digits_value 10 (without_leading_sign (x ∷ digits))))) e ∙ ap (λ l. neg_ℤ (pos (digits_value 10 l))) behind,
+          ap (λ b. cond b (neg_ℤ (pos (digits_value 10 (without_leading_sign (x ∷ digits))))) (pos (digits_value 10 (without_leading_sign (x ∷ digits))))) e ∙ ap
+              (λ l. neg_ℤ (pos (digits_value 10 l))) behind,
         )
     by false e = inl (subst (IsNumeral 10) (plain_sign x digits e plus) numeral, plain_value x digits e plus)
 
@@ -133,36 +130,32 @@ no_plus (x ∷ xs) e =
     let none : 0 < 0 = subst (λ y. 0 < end_of (y ∷ xs)) first.0 first.1 in
     absurd (omega (arith, none))
 
-IsAscii-digits : (digits : List ℕ) → AllDigits 10 digits → IsAscii digits
-IsAscii-digits [] each i = omega arith
-IsAscii-digits (x ∷ digits) each zero = let r = range_from_digit x each.0 in omega arith
-IsAscii-digits (x ∷ digits) each (suc i) = IsAscii-digits digits each.1 i
-
 IsAscii-after_minus : (digits : List ℕ) → AllDigits 10 digits → IsAscii (45 ∷ digits)
 IsAscii-after_minus digits each zero = omega arith
-IsAscii-after_minus digits each (suc i) = IsAscii-digits digits each i
+IsAscii-after_minus digits each (suc i) = IsAscii-from_digits digits each i
 
 IsAscii-token : (token : List ℕ) (number : ℤ) → IsNumberToken token number → IsAscii token
-IsAscii-token token number (inl (numeral, is)) = IsAscii-digits token numeral.1
+IsAscii-token token number (inl (numeral, is)) = IsAscii-from_digits token numeral.1
 IsAscii-token token number (inr (digits, split, numeral, is)) = subst IsAscii (sym split) (IsAscii-after_minus digits numeral.1)
 
-pub fits_from_number : (number : ℤ) → IsNumber number → FitsSigned w64 number
+pub fits_from_number : (number : ℤ) → IsNumberValue number → FitsSigned w64 number
 fits_from_number (pos n) small = record { sfits = small }
 fits_from_number (negsuc n) small = record { sfits = small }
 
-number_from_fits : (number : ℤ) → FitsSigned w64 number → IsNumber number
+number_from_fits : (number : ℤ) → FitsSigned w64 number → IsNumberValue number
 number_from_fits (pos n) fits = fits.sfits
 number_from_fits (negsuc n) fits = fits.sfits
 
 -- a number token at the front is the minus and the digits there
-pub front_is : (bytes : List ℕ) (end : ℕ) (number : ℤ) → (t : TokenAt bytes 0 end (Num number)) → t.token ≡ take (end_of bytes) bytes
+pub front_is : (bytes : List ℕ) (end : ℕ) (number : ℤ) → (t : ValueTokenAt bytes 0 end (Num number)) → t.token ≡ take (end_of bytes) bytes
 front_is bytes end number t =
     sym (ap (λ n. take n bytes) (ap end_of t.splits ∙ end_of_token t.token t.rest number t.stands t.whole) ∙ ap (take (length t.token)) t.splits ∙ take-append_seam t.token t.rest)
 
-pub front_utf8 : (bytes : List ℕ) (end : ℕ) (number : ℤ) → TokenAt bytes 0 end (Num number) → IsUtf8 (take (end_of bytes) bytes)
+pub front_utf8 : (bytes : List ℕ) (end : ℕ) (number : ℤ) → ValueTokenAt bytes 0 end (Num number) → IsUtf8 (take (end_of bytes) bytes)
 front_utf8 bytes end number t = subst IsUtf8 (front_is bytes end number t) (IsUtf8-from_ascii t.token (IsAscii-token t.token number t.stands))
 
-pub front_parses : {E : Type 0} (bytes text : List ℕ) (end : ℕ) (number : ℤ) (r : Result ℤ E) → text ≡ take (end_of bytes) bytes → ParsesSigned w64 10 text r → TokenAt bytes 0 end (Num number) → r ≡ Ok number
+pub front_parses : {E : Type 0} (bytes text : List ℕ) (end : ℕ) (number : ℤ) (r : Result ℤ E) → text ≡ take (end_of bytes) bytes → ParsesSigned w64 10 text r
+    → ValueTokenAt bytes 0 end (Num number) → r ≡ Ok number
 front_parses bytes text end number r is parses t =
     let v = subst (λ l. IsNumeral 10 (without_leading_sign l) × (signed_digits_value 10 l ≡ number)) (front_is bytes end number t ∙ sym is) (value_of_token t.token number t.stands) in
     Ok-from_Ok_iff r _ _ parses (v.0, subst (FitsSigned w64) (sym v.1) (fits_from_number number t.fits)) ∙ ap Ok v.1
@@ -171,7 +164,8 @@ token_at : (bytes : List ℕ) (end : ℕ) → end ≡ end_of bytes → IsNumeral
 token_at bytes end at =
     token_from_value (take end bytes) (subst (λ n. slice_index (take n bytes) 0 ≢ 43) (sym at) (no_plus bytes))
 
-pub parsed_front : {E : Type 0} (bytes text : List ℕ) (end : ℕ) (number : ℤ) (r : Result ℤ E) → end ≡ end_of bytes → end ≤ length bytes → text ≡ take end bytes → ParsesSigned w64 10 text r → r ≡ Ok number → TokenAt bytes 0 end (Num number)
+pub parsed_front : {E : Type 0} (bytes text : List ℕ) (end : ℕ) (number : ℤ) (r : Result ℤ E) → end ≡ end_of bytes → end ≤ length bytes → text ≡ take end bytes
+    → ParsesSigned w64 10 text r → r ≡ Ok number → ValueTokenAt bytes 0 end (Num number)
 parsed_front bytes text end number r at within is parses ok =
     let p = OkIff-at_ok r _ _ number parses ok in
     record {
@@ -179,15 +173,11 @@ parsed_front bytes text end number r at within is parses ok =
       rest = drop end bytes;
       splits = sym (take-append-drop end bytes);
       ends = sym (length-take-le end bytes within) ∙ sym (zero-add (length (take end bytes)));
-      stands = subst (IsNumberToken (take end bytes)) (sym p.1) (subst (λ l. IsNumeral 10 (without_leading_sign l) → IsNumberToken (take end bytes) (signed_digits_value 10 l)) (sym is) (token_at bytes end at) p.0.0);
+      stands = subst (IsNumberToken (take end bytes)) (sym p.1) (subst (λ l. IsNumeral 10 (without_leading_sign l) → IsNumberToken (take end bytes) (signed_digits_value 10 l)) (sym is)
+          (token_at bytes end at) p.0.0);
       whole = subst (λ n. IsNoDigit (drop n bytes)) (sym at) (behind_end bytes);
       fits = number_from_fits number (subst (FitsSigned w64) (sym p.1) p.0.1);
     }
-
--- what `?` on what `ok` answers tells of the call before it
-pub ok_some : {T E : Type 0} (r : Result T E) (x : T) → result_ok r ≡ Some x → r ≡ Ok x
-ok_some (Ok y) x e = cc
-ok_some (Err y) x e = cc
 
 pub none_ok : {T E A : Type 0} (r : Result T E) (x : T) → result_ok r ≡ None → r ≡ Ok x → A
 none_ok r x none e = let f = sym none ∙ ap result_ok e in cc
@@ -196,11 +186,12 @@ pub err_utf8 : {T E A : Type 0} (P : T → Type 0) (U : Type 0) (V : E → Type 
 err_utf8 P U V (Ok x) none cases u = let f = none in cc
 err_utf8 P U V (Err e) none cases u = absurd (cases.0 u)
 
--- one digit more behind those before it
+-- one digit more after those before it
 value_of_digit : (c : ℕ) → is_ascii_digit c ≡ true → digit_value c ≡ c - 48
 value_of_digit c h = grind (arith, nat_tests)
 
-pub one_digit_more : (digits : List ℕ) (i number : ℕ) → i < length digits → is_ascii_digit (get_or digits i 0) ≡ true → number ≡ digits_value 10 (take i digits) → 10 * number + (get_or digits i 0 - 48) ≡ digits_value 10 (take (i + 1) digits)
+pub one_digit_more : (digits : List ℕ) (i number : ℕ) → i < length digits → is_ascii_digit (get_or digits i 0) ≡ true → number ≡ digits_value 10 (take i digits)
+    → 10 * number + (get_or digits i 0 - 48) ≡ digits_value 10 (take (i + 1) digits)
 one_digit_more digits i number within digit is =
     let value = value_of_digit (get_or digits i 0) digit in
     let more = digits_value_more 10 digits i within in
@@ -213,7 +204,7 @@ all_digits_more (x ∷ xs) (suc i) within each digit =
     let more : suc (i + 1) ≡ suc i + 1 = omega arith in
     subst (λ n. AllDigits 10 (take n (x ∷ xs))) more (each.0, all_digits_more xs i (omega (arith, within)) each.1 digit)
 
--- as many digits as there are, with no digit behind them, are the digits at the front
+-- as many digits as there are, with no digit after them, are the digits at the front
 pub digits_end : (xs : List ℕ) (count : ℕ) → count ≤ length xs → AllDigits 10 (take count xs) → (count < length xs → is_ascii_digit (get_or xs count 0) ≡ false) → prefix_len is_ascii_digit xs ≡ count
 digits_end [] count within each end = omega (arith, within)
 digits_end (x ∷ xs) zero within each end =
@@ -233,10 +224,12 @@ digits_within (x ∷ xs) (suc count) within each =
     let rest = digits_within xs count (omega (arith, within)) each.1 in omega (arith, first, rest)
 
 -- a number that begins with no minus is written by all digits at its place
-plain_numeral : (bytes : List ℕ) (at end number : ℕ) → slice_index bytes at ≢ 45 → (t : TokenAt bytes at end (Num (pos number))) → IsNumeral 10 t.token × (number ≡ digits_value 10 t.token) × (prefix_len is_ascii_digit (drop at bytes) ≡ length t.token)
+plain_numeral : (bytes : List ℕ) (at end number : ℕ) → slice_index bytes at ≢ 45 → (t : ValueTokenAt bytes at end (Num (pos number))) → IsNumeral 10 t.token
+    × (number ≡ digits_value 10 t.token) × (prefix_len is_ascii_digit (drop at bytes) ≡ length t.token)
 plain_numeral bytes at end number first t = by t.token t.splits t.stands
   where
-    by : (token : List ℕ) → drop at bytes ≡ token ++ t.rest → IsNumberToken token (pos number) → IsNumeral 10 token × (number ≡ digits_value 10 token) × (prefix_len is_ascii_digit (drop at bytes) ≡ length token)
+    by : (token : List ℕ) → drop at bytes ≡ token ++ t.rest → IsNumberToken token (pos number) → IsNumeral 10 token × (number ≡ digits_value 10 token)
+        × (prefix_len is_ascii_digit (drop at bytes) ≡ length token)
     by token splits (inl (numeral, is)) =
         (numeral, cc, ap (prefix_len is_ascii_digit) splits ∙ all_digits token t.rest numeral.1 t.whole)
     by token splits (inr (digits, split, numeral, is)) =
@@ -244,7 +237,8 @@ plain_numeral bytes at end number first t = by t.token t.splits t.stands
         absurd (first (ap (λ n. get_or bytes n 0) (sym (add-zero at)) ∙ sym (get_or-drop at bytes 0 0) ∙ there))
 
 -- so digits at its place write no more than it
-pub no_larger : (bytes : List ℕ) (at end number count : ℕ) → slice_index bytes at ≢ 45 → TokenAt bytes at end (Num (pos number)) → count ≤ length (drop at bytes) → AllDigits 10 (take count (drop at bytes)) → digits_value 10 (take count (drop at bytes)) < 2 ^ 63
+pub no_larger : (bytes : List ℕ) (at end number count : ℕ) → slice_index bytes at ≢ 45 → ValueTokenAt bytes at end (Num (pos number)) → count ≤ length (drop at bytes)
+    → AllDigits 10 (take count (drop at bytes)) → digits_value 10 (take count (drop at bytes)) < 2 ^ 63
 no_larger bytes at end number count first t within each =
     let numeral = plain_numeral bytes at end number first t in
     let most : count ≤ length t.token = subst (λ n. count ≤ n) numeral.2 (digits_within (drop at bytes) count within each) in
@@ -255,14 +249,15 @@ no_larger bytes at end number count first t within each =
     subst (λ l. digits_value 10 l < 2 ^ 63) (sym cut) (omega (arith, lower, fits, same))
 
 -- and there is one at least
-pub some_digit : (bytes : List ℕ) (at end number : ℕ) → slice_index bytes at ≢ 45 → TokenAt bytes at end (Num (pos number)) → 0 < prefix_len is_ascii_digit (drop at bytes)
+pub some_digit : (bytes : List ℕ) (at end number : ℕ) → slice_index bytes at ≢ 45 → ValueTokenAt bytes at end (Num (pos number)) → 0 < prefix_len is_ascii_digit (drop at bytes)
 some_digit bytes at end number first t =
     let numeral = plain_numeral bytes at end number first t in
     let some : 0 < length t.token = numeral.0.0 in
     let all = numeral.2 in omega (arith, some, all)
 
 -- the number that digits alone write is the token at their place
-pub plain_token : (bytes : List ℕ) (at count number : ℕ) → count ≤ length (drop at bytes) → 0 < count → prefix_len is_ascii_digit (drop at bytes) ≡ count → AllDigits 10 (take count (drop at bytes)) → number ≡ digits_value 10 (take count (drop at bytes)) → number < 2 ^ 63 → TokenAt bytes at (at + count) (Num (pos number))
+pub plain_token : (bytes : List ℕ) (at count number : ℕ) → count ≤ length (drop at bytes) → 0 < count → prefix_len is_ascii_digit (drop at bytes) ≡ count
+    → AllDigits 10 (take count (drop at bytes)) → number ≡ digits_value 10 (take count (drop at bytes)) → number < 2 ^ 63 → ValueTokenAt bytes at (at + count) (Num (pos number))
 plain_token bytes at count number within some all each is small =
     let rest = drop at bytes in
     let size = length-take-le count rest within in
@@ -292,7 +287,9 @@ at_end bytes at end onward =
     let there : at + (end - at) ≡ end = omega arith in
     get_or-drop at bytes (end - at) 0 ∙ ap (λ n. get_or bytes n 0) there
 
-pub digit_more : (bytes : List ℕ) (at end number : ℕ) → at ≤ end → end < length bytes → is_ascii_digit (get_or bytes end 0) ≡ true → number ≡ digits_value 10 (take (end - at) (drop at bytes)) → AllDigits 10 (take (end - at) (drop at bytes)) → (10 * number + (get_or bytes end 0 - 48) ≡ digits_value 10 (take (end + 1 - at) (drop at bytes))) × AllDigits 10 (take (end + 1 - at) (drop at bytes))
+pub digit_more : (bytes : List ℕ) (at end number : ℕ) → at ≤ end → end < length bytes → is_ascii_digit (get_or bytes end 0) ≡ true → number
+    ≡ digits_value 10 (take (end - at) (drop at bytes)) → AllDigits 10 (take (end - at) (drop at bytes))
+    → (10 * number + (get_or bytes end 0 - 48) ≡ digits_value 10 (take (end + 1 - at) (drop at bytes))) × AllDigits 10 (take (end + 1 - at) (drop at bytes))
 digit_more bytes at end number onward below digit is each =
     let size = length-drop at bytes in
     let within : end - at < length (drop at bytes) = omega (arith, size, onward, below) in
@@ -303,7 +300,8 @@ digit_more bytes at end number onward below digit is each =
       subst (λ n. AllDigits 10 (take n (drop at bytes))) next (all_digits_more (drop at bytes) (end - at) within each (digit_from_test (get_or (drop at bytes) (end - at) 0) test)),
     )
 
-pub all_passed : (bytes : List ℕ) (at end : ℕ) → at ≤ end → end ≤ length bytes → AllDigits 10 (take (end - at) (drop at bytes)) → (end < length bytes → is_ascii_digit (get_or bytes end 0) ≡ false) → prefix_len is_ascii_digit (drop at bytes) ≡ end - at
+pub all_passed : (bytes : List ℕ) (at end : ℕ) → at ≤ end → end ≤ length bytes → AllDigits 10 (take (end - at) (drop at bytes))
+    → (end < length bytes → is_ascii_digit (get_or bytes end 0) ≡ false) → prefix_len is_ascii_digit (drop at bytes) ≡ end - at
 all_passed bytes at end onward within each none =
     let size = length-drop at bytes in
     digits_end (drop at bytes) (end - at) (omega (arith, size, onward, within)) each

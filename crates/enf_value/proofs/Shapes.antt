@@ -1,23 +1,21 @@
 -- What is spelled at the front of bytes: at most one token as long as it can be, which is the lexeme there where its value fits.
-use Rattle.std.proofs.Common.{◌≡◌, ℕ, zero, suc, ◌+◌, ◌^◌, ◌<◌, ◌≤◌, ◌==◌, nat_lt, nat_le, ◌&&◌, Bool, true, false, cond, List, [], ◌∷◌, ◌++◌, length, slice_index, take, drop, Option, None, Some, ◌⊎◌, inl, inr, refl, sym, ap, subst, ◌∙◌, arith, if◌then◌else◌, append_assoc, length-append}
-use Rattle.std.specs.Char.{is_ascii_digit}
-use Rattle.std.specs.List.{list_all, prefix_len, take_while}
-use Rattle.std.specs.Str.Parse.{AllDigits, IsNumeral, digits_value}
-use Rattle.std.proofs.lemmas.Bool.{eqb-true}
-use Rattle.std.proofs.lemmas.Bool.Decides.{nat_tests}
-use Rattle.std.proofs.lemmas.List.{take-append-drop}
-use Rattle.std.proofs.lemmas.List.Folds.{length-prefix_len}
-use Rattle.enf_value.specs.Names.{is_word, is_word_byte, is_word_start}
-use Rattle.enf_value.specs.Text.{IsText, is_text}
-use Rattle.enf_value.specs.TokenLaws.{Spells}
-use Rattle.enf_value.specs.Tokens.{Token, Word, Digits, Negative, Text, Mark, Wrong, IsProper, begins, lexeme_at, mark_at, mark_lexeme, mark_text, text_front, text_lexeme, wrong}
-use Rattle.enf_value.specs.ValueTokens.{IsTextToken, WrittenAt}
-use Rattle.enf_value.specs.declared.tokens.Mark.{Mark as AnyMark}
-use Rattle.enf_value.specs.declared.tokens.Mark.TheVariants as marks
+use Rattle.enf_value.proofs.Vocabulary.{◌≡◌, ℕ, zero, suc, ◌+◌, ◌^◌, ◌<◌, ◌≤◌, ◌==◌}
+use Rattle.enf_value.proofs.Vocabulary.{nat_lt, nat_le, ◌&&◌, Bool, true, false, cond, List, [], ◌∷◌}
+use Rattle.enf_value.proofs.Vocabulary.{◌++◌, length, slice_index, take, drop, Option, None, Some, ◌⊎◌, inl}
+use Rattle.enf_value.proofs.Vocabulary.{inr, refl, sym, ap, subst, ◌∙◌, arith, if◌then◌else◌, append_assoc}
+use Rattle.enf_value.proofs.Vocabulary.{length-append, is_ascii_digit, list_all, prefix_len, take_while, AllDigits}
+use Rattle.enf_value.proofs.Vocabulary.{IsNumeral, digits_value, eqb-true, and_parts, nat_tests, take-append-drop}
+use Rattle.enf_value.proofs.Vocabulary.{length-prefix_len, is_word, is_word_byte, is_word_start, Token, WordToken}
+use Rattle.enf_value.proofs.Vocabulary.{NumberToken, NegativeToken, TextToken, SymbolToken, WrongToken, begins_with}
+use Rattle.enf_value.proofs.Vocabulary.{lexeme_at, mark_at, mark_lexeme, mark_text, text_front, text_lexeme}
+use Rattle.enf_value.proofs.Vocabulary.{wrong_lexeme, IsTextToken, IsTextValue, is_text_value, SpellsToken, IsProper}
+use Rattle.enf_value.proofs.Vocabulary.{WrittenTextAt, Mark as AnyMark, le_from_true, lt_from_true}
 use Rattle.enf_value.proofs.Escapes.{scan_from_written, written_from_scan}
-use Rattle.enf_value.proofs.Fronts.{and_true, digit_lexeme, front_is_word, front_numeral, le_from, lexeme_by, lt_from, minus_lexeme, start_is_byte, text_from_test, text_test, word_front}
+use Rattle.enf_value.proofs.Fronts.{digit_lexeme, front_is_word, front_numeral, lexeme_by, minus_lexeme, start_is_byte}
+use Rattle.enf_value.proofs.Fronts.{text_from_test, text_test, word_front, digit_no_word}
 use Rattle.enf_value.proofs.Numerals.{range_from_digit, test_from_range}
 use Rattle.enf_value.proofs.TextTokens.{written_from_text}
+use Rattle.enf_value.specs.declared.tokens.Mark.TheVariants as marks
 
 -- ---- the kind of a token, by its first byte
 
@@ -35,19 +33,16 @@ class byte = class_by (is_word_start byte) (is_ascii_digit byte) (byte == 34)
 
 -- a minus begins both marks and numbers
 abbrev kind_of : Token → Kind
-kind_of (Word word) = WordKind
-kind_of (Digits value) = DigitKind
-kind_of (Negative value) = MarkKind
-kind_of (Text text) = QuoteKind
-kind_of (Mark mark) = MarkKind
-kind_of Wrong = MarkKind
+kind_of (WordToken word) = WordKind
+kind_of (NumberToken value) = DigitKind
+kind_of (NegativeToken value) = MarkKind
+kind_of (TextToken text) = QuoteKind
+kind_of (SymbolToken mark) = MarkKind
+kind_of WrongToken = MarkKind
 
 record HasKind (bytes : List ℕ) (kind : Kind) : Type 0 where
   pub some : 0 < length bytes
   pub class : class (slice_index bytes 0) ≡ kind
-
-digit_no_word : (byte : ℕ) → is_ascii_digit byte ≡ true → is_word_start byte ≡ false
-digit_no_word byte e = grind (arith, nat_tests)
 
 digit_class : (byte : ℕ) → is_ascii_digit byte ≡ true → class byte ≡ DigitKind
 digit_class byte e = λ j. class_by (digit_no_word byte e j) (e j) (byte == 34)
@@ -79,23 +74,23 @@ numeral_kind (byte ∷ digits) numeral =
 word_kind : (word : List ℕ) → is_word word ≡ true → HasKind word WordKind
 word_kind [] e = absurd cc
 word_kind (byte ∷ word) e =
-    let h = and_true (is_word_start byte) (list_all is_word_byte word) e in
+    let h = and_parts (is_word_start byte) (list_all is_word_byte word) e in
     record { some = omega arith; class = λ j. class_by (h.0 j) (is_ascii_digit byte) (byte == 34) }
 
-spelled_kind : (piece : List ℕ) (token : Token) → Spells piece token → HasKind piece (kind_of token)
-spelled_kind piece (Word word) (is, proper) = subst (λ l. HasKind l WordKind) (sym is) (word_kind word proper)
-spelled_kind piece (Digits value) (numeral, is) = numeral_kind piece numeral
-spelled_kind piece (Negative value) (digits, split, numeral, is) = subst (λ l. HasKind l MarkKind) (sym split) (record { some = omega arith; class = refl })
-spelled_kind piece (Text text) (written, split, pieces) = subst (λ l. HasKind l QuoteKind) (sym split) (record { some = omega arith; class = refl })
-spelled_kind piece (Mark mark) is = subst (λ l. HasKind l MarkKind) (sym is) (mark_kind mark)
-spelled_kind piece Wrong none = absurd none
+spelled_kind : (piece : List ℕ) (token : Token) → SpellsToken piece token → HasKind piece (kind_of token)
+spelled_kind piece (WordToken word) (is, proper) = subst (λ l. HasKind l WordKind) (sym is) (word_kind word proper)
+spelled_kind piece (NumberToken value) (numeral, is) = numeral_kind piece numeral
+spelled_kind piece (NegativeToken value) (digits, split, numeral, is) = subst (λ l. HasKind l MarkKind) (sym split) (record { some = omega arith; class = refl })
+spelled_kind piece (TextToken text) (written, split, pieces) = subst (λ l. HasKind l QuoteKind) (sym split) (record { some = omega arith; class = refl })
+spelled_kind piece (SymbolToken mark) is = subst (λ l. HasKind l MarkKind) (sym is) (mark_kind mark)
+spelled_kind piece WrongToken none = absurd none
 
 first_is : (byte : ℕ) (rest more behind : List ℕ) → byte ∷ rest ≡ more ++ behind → 0 < length more → slice_index more 0 ≡ byte
 first_is byte rest [] behind e some = absurd (omega arith)
 first_is byte rest (x ∷ more) behind e some = ap (λ l. slice_index l 0) (sym e)
 
 -- a token at the front has the kind of the first byte
-kind_at : (byte : ℕ) (rest more behind : List ℕ) (token : Token) (kind : Kind) → class byte ≡ kind → byte ∷ rest ≡ more ++ behind → Spells more token → kind_of token ≡ kind
+kind_at : (byte : ℕ) (rest more behind : List ℕ) (token : Token) (kind : Kind) → class byte ≡ kind → byte ∷ rest ≡ more ++ behind → SpellsToken more token → kind_of token ≡ kind
 kind_at byte rest more behind token kind at split spells =
     let has = spelled_kind more token spells in
     sym has.class ∙ ap class (first_is byte rest more behind split has.some) ∙ at
@@ -105,7 +100,7 @@ kind_at byte rest more behind token kind at split spells =
 front_bound : (kind : ℕ → Bool) (more rest : List ℕ) → list_all kind more ≡ true → length more ≤ prefix_len kind (more ++ rest)
 front_bound kind [] rest each = omega arith
 front_bound kind (byte ∷ more) rest each =
-    let h = and_true (kind byte) (list_all kind more) each in
+    let h = and_parts (kind byte) (list_all kind more) each in
     let is : prefix_len kind (byte ∷ (more ++ rest)) ≡ 1 + prefix_len kind (more ++ rest) = ap (λ b. cond b (1 + prefix_len kind (more ++ rest)) 0) h.0 in
     let below = front_bound kind more rest h.1 in
     omega arith
@@ -118,14 +113,14 @@ front_size kind bytes more behind split each =
 front_splits : (kind : ℕ → Bool) (bytes : List ℕ) → bytes ≡ take_while kind bytes ++ drop (prefix_len kind bytes) bytes
 front_splits kind bytes = sym (take-append-drop (prefix_len kind bytes) bytes)
 
-digits_pass : (digits : List ℕ) → AllDigits 10 digits → list_all is_ascii_digit digits ≡ true
+pub digits_pass : (digits : List ℕ) → AllDigits 10 digits → list_all is_ascii_digit digits ≡ true
 digits_pass [] each = refl
 digits_pass (byte ∷ digits) each =
     let r = range_from_digit byte each.0 in λ j. test_from_range byte r.0 r.1 j && digits_pass digits each.1 j
 
 word_passes : (word : List ℕ) → is_word word ≡ true → list_all is_word_byte word ≡ true
 word_passes [] e = refl
-word_passes (byte ∷ word) e = let h = and_true (is_word_start byte) (list_all is_word_byte word) e in λ j. start_is_byte byte h.0 j && h.1 j
+word_passes (byte ∷ word) e = let h = and_parts (is_word_start byte) (list_all is_word_byte word) e in λ j. start_is_byte byte h.0 j && h.1 j
 
 not_less : (m n : ℕ) → nat_lt m n ≡ false → m < n → ⊥
 not_less m n e h = grind (arith, nat_tests)
@@ -141,15 +136,15 @@ pub record Spelled (byte : ℕ) (rest : List ℕ) : Type 0 where
   pub behind : List ℕ
   pub token : Token
   pub splits : byte ∷ rest ≡ piece ++ behind
-  pub spells : Spells piece token
-  pub bound : (more after : List ℕ) (other : Token) → byte ∷ rest ≡ more ++ after → Spells more other → length more ≤ length piece
-  pub same : (other : Token) → Spells piece other → other ≡ token
-  pub lexeme : ((lexeme_at byte rest ≡ (token, length piece)) × IsProper token) ⊎ ((lexeme_at byte rest ≡ wrong) × (IsProper token → ⊥))
+  pub spells : SpellsToken piece token
+  pub bound : (more after : List ℕ) (other : Token) → byte ∷ rest ≡ more ++ after → SpellsToken more other → length more ≤ length piece
+  pub same : (other : Token) → SpellsToken piece other → other ≡ token
+  pub lexeme : ((lexeme_at byte rest ≡ (token, length piece)) × IsProper token) ⊎ ((lexeme_at byte rest ≡ wrong_lexeme) × (IsProper token → ⊥))
 
 -- or none
 pub record Unspelled (byte : ℕ) (rest : List ℕ) : Type 0 where
-  pub none : (more after : List ℕ) (other : Token) → byte ∷ rest ≡ more ++ after → Spells more other → ⊥
-  pub lexeme : lexeme_at byte rest ≡ wrong
+  pub none : (more after : List ℕ) (other : Token) → byte ∷ rest ≡ more ++ after → SpellsToken more other → ⊥
+  pub lexeme : lexeme_at byte rest ≡ wrong_lexeme
 
 abbrev pub Shape : ℕ → List ℕ → Type 0
 Shape byte rest = Spelled byte rest ⊎ Unspelled byte rest
@@ -159,7 +154,7 @@ word_shape : (byte : ℕ) (rest : List ℕ) → is_word_start byte ≡ true → 
 word_shape byte rest start = record {
   piece = take_while is_word_byte (byte ∷ rest);
   behind = drop (prefix_len is_word_byte (byte ∷ rest)) (byte ∷ rest);
-  token = Word (take_while is_word_byte (byte ∷ rest));
+  token = WordToken (take_while is_word_byte (byte ∷ rest));
   splits = front_splits is_word_byte (byte ∷ rest);
   spells = (refl, front_is_word byte rest start);
   bound = bound;
@@ -170,35 +165,35 @@ word_shape byte rest start = record {
     is_class : class byte ≡ WordKind
     is_class = λ j. class_by (start j) (is_ascii_digit byte) (byte == 34)
 
-    at : (more after : List ℕ) (other : Token) → byte ∷ rest ≡ more ++ after → Spells more other → kind_of other ≡ WordKind
+    at : (more after : List ℕ) (other : Token) → byte ∷ rest ≡ more ++ after → SpellsToken more other → kind_of other ≡ WordKind
     at more after other split spells = kind_at byte rest more after other WordKind is_class split spells
 
-    by : (more after : List ℕ) (other : Token) → byte ∷ rest ≡ more ++ after → Spells more other → kind_of other ≡ WordKind → length more ≤ length (take_while is_word_byte (byte ∷ rest))
-    by more after (Word word) split (is, proper) kind =
+    by : (more after : List ℕ) (other : Token) → byte ∷ rest ≡ more ++ after → SpellsToken more other → kind_of other ≡ WordKind → length more ≤ length (take_while is_word_byte (byte ∷ rest))
+    by more after (WordToken word) split (is, proper) kind =
         front_size is_word_byte (byte ∷ rest) more after split (ap (list_all is_word_byte) is ∙ word_passes word proper)
-    by more after (Digits value) split spells kind = absurd cc
-    by more after (Negative value) split spells kind = absurd cc
-    by more after (Text text) split spells kind = absurd cc
-    by more after (Mark mark) split spells kind = absurd cc
-    by more after Wrong split spells kind = absurd spells
+    by more after (NumberToken value) split spells kind = absurd cc
+    by more after (NegativeToken value) split spells kind = absurd cc
+    by more after (TextToken text) split spells kind = absurd cc
+    by more after (SymbolToken mark) split spells kind = absurd cc
+    by more after WrongToken split spells kind = absurd spells
 
-    bound : (more after : List ℕ) (other : Token) → byte ∷ rest ≡ more ++ after → Spells more other → length more ≤ length (take_while is_word_byte (byte ∷ rest))
+    bound : (more after : List ℕ) (other : Token) → byte ∷ rest ≡ more ++ after → SpellsToken more other → length more ≤ length (take_while is_word_byte (byte ∷ rest))
     bound more after other split spells = by more after other split spells (at more after other split spells)
 
-    same : (other : Token) → Spells (take_while is_word_byte (byte ∷ rest)) other → kind_of other ≡ WordKind → other ≡ Word (take_while is_word_byte (byte ∷ rest))
-    same (Word word) (is, proper) kind = ap Word (sym is)
-    same (Digits value) spells kind = absurd cc
-    same (Negative value) spells kind = absurd cc
-    same (Text text) spells kind = absurd cc
-    same (Mark mark) spells kind = absurd cc
-    same Wrong spells kind = absurd spells
+    same : (other : Token) → SpellsToken (take_while is_word_byte (byte ∷ rest)) other → kind_of other ≡ WordKind → other ≡ WordToken (take_while is_word_byte (byte ∷ rest))
+    same (WordToken word) (is, proper) kind = ap WordToken (sym is)
+    same (NumberToken value) spells kind = absurd cc
+    same (NegativeToken value) spells kind = absurd cc
+    same (TextToken text) spells kind = absurd cc
+    same (SymbolToken mark) spells kind = absurd cc
+    same WrongToken spells kind = absurd spells
 
 -- digits
 digits_shape : (byte : ℕ) (rest : List ℕ) → is_ascii_digit byte ≡ true → Spelled byte rest
 digits_shape byte rest digit = record {
   piece = digits;
   behind = drop (prefix_len is_ascii_digit (byte ∷ rest)) (byte ∷ rest);
-  token = Digits (digits_value 10 digits);
+  token = NumberToken (digits_value 10 digits);
   splits = front_splits is_ascii_digit (byte ∷ rest);
   spells = (front_numeral byte rest digit, refl);
   bound = λ more after other split spells. bound more after other split spells (kind_at byte rest more after other DigitKind (digit_class byte digit) split spells);
@@ -209,31 +204,34 @@ digits_shape byte rest digit = record {
     digits : List ℕ
     digits = take_while is_ascii_digit (byte ∷ rest)
 
-    bound : (more after : List ℕ) (other : Token) → byte ∷ rest ≡ more ++ after → Spells more other → kind_of other ≡ DigitKind → length more ≤ length (take_while is_ascii_digit (byte ∷ rest))
-    bound more after (Word word) split spells kind = absurd cc
-    bound more after (Digits value) split spells kind = front_size is_ascii_digit (byte ∷ rest) more after split (digits_pass more spells.0.1)
-    bound more after (Negative value) split spells kind = absurd cc
-    bound more after (Text text) split spells kind = absurd cc
-    bound more after (Mark mark) split spells kind = absurd cc
-    bound more after Wrong split spells kind = absurd spells
+    bound : (more after : List ℕ) (other : Token) → byte ∷ rest ≡ more ++ after → SpellsToken more other → kind_of other ≡ DigitKind → length more ≤ length (take_while is_ascii_digit (byte ∷ rest))
+    bound more after (WordToken word) split spells kind = absurd cc
+    bound more after (NumberToken value) split spells kind = front_size is_ascii_digit (byte ∷ rest) more after split (digits_pass more spells.0.1)
+    bound more after (NegativeToken value) split spells kind = absurd cc
+    bound more after (TextToken text) split spells kind = absurd cc
+    bound more after (SymbolToken mark) split spells kind = absurd cc
+    bound more after WrongToken split spells kind = absurd spells
 
-    same : (other : Token) → Spells (take_while is_ascii_digit (byte ∷ rest)) other → kind_of other ≡ DigitKind → other ≡ Digits (digits_value 10 (take_while is_ascii_digit (byte ∷ rest)))
-    same (Word word) spells kind = absurd cc
-    same (Digits value) spells kind = ap Digits spells.1
-    same (Negative value) spells kind = absurd cc
-    same (Text text) spells kind = absurd cc
-    same (Mark mark) spells kind = absurd cc
-    same Wrong spells kind = absurd spells
+    same : (other : Token) → SpellsToken (take_while is_ascii_digit (byte ∷ rest)) other → kind_of other ≡ DigitKind → other ≡ NumberToken (digits_value 10 (take_while is_ascii_digit (byte ∷ rest)))
+    same (WordToken word) spells kind = absurd cc
+    same (NumberToken value) spells kind = ap NumberToken spells.1
+    same (NegativeToken value) spells kind = absurd cc
+    same (TextToken text) spells kind = absurd cc
+    same (SymbolToken mark) spells kind = absurd cc
+    same WrongToken spells kind = absurd spells
 
     lexeme : (b : Bool) → nat_lt (digits_value 10 (take_while is_ascii_digit (byte ∷ rest))) (2 ^ 63) ≡ b
-        → ((lexeme_at byte rest ≡ (Digits (digits_value 10 (take_while is_ascii_digit (byte ∷ rest))), length (take_while is_ascii_digit (byte ∷ rest)))) × (digits_value 10 (take_while is_ascii_digit (byte ∷ rest)) < 2 ^ 63))
-        ⊎ ((lexeme_at byte rest ≡ wrong) × (digits_value 10 (take_while is_ascii_digit (byte ∷ rest)) < 2 ^ 63 → ⊥))
+        → ((lexeme_at byte rest ≡ (NumberToken (digits_value 10 (take_while is_ascii_digit (byte ∷ rest))), length (take_while is_ascii_digit (byte ∷ rest))))
+        × (digits_value 10 (take_while is_ascii_digit (byte ∷ rest)) < 2 ^ 63))
+        ⊎ ((lexeme_at byte rest ≡ wrong_lexeme) × (digits_value 10 (take_while is_ascii_digit (byte ∷ rest)) < 2 ^ 63 → ⊥))
     lexeme true e = inl (
-      digit_lexeme byte rest digit ∙ ap (λ b. if b then (Digits (digits_value 10 (take_while is_ascii_digit (byte ∷ rest))), length (take_while is_ascii_digit (byte ∷ rest))) else wrong) e,
-      lt_from _ _ e,
+      digit_lexeme byte rest digit ∙ ap (λ b. if b then (NumberToken (digits_value 10 (take_while is_ascii_digit (byte ∷ rest))), length (take_while is_ascii_digit (byte ∷ rest)))
+          else wrong_lexeme) e,
+      lt_from_true _ _ e,
     )
     lexeme false e = inr (
-      digit_lexeme byte rest digit ∙ ap (λ b. if b then (Digits (digits_value 10 (take_while is_ascii_digit (byte ∷ rest))), length (take_while is_ascii_digit (byte ∷ rest))) else wrong) e,
+      digit_lexeme byte rest digit ∙ ap (λ b. if b then (NumberToken (digits_value 10 (take_while is_ascii_digit (byte ∷ rest))), length (take_while is_ascii_digit (byte ∷ rest)))
+          else wrong_lexeme) e,
       λ small. not_less _ _ e small,
     )
 
@@ -267,7 +265,7 @@ negative_shape : (byte : ℕ) (rest : List ℕ) → is_ascii_digit byte ≡ true
 negative_shape byte rest digit = record {
   piece = 45 ∷ digits;
   behind = drop (prefix_len is_ascii_digit (byte ∷ rest)) (byte ∷ rest);
-  token = Negative (digits_value 10 digits);
+  token = NegativeToken (digits_value 10 digits);
   splits = ap (λ l. 45 ∷ l) (front_splits is_ascii_digit (byte ∷ rest));
   spells = (digits, refl, front_numeral byte rest digit, refl);
   bound = λ more after other split spells. bound more after other split spells (kind_at 45 (byte ∷ rest) more after other MarkKind refl split spells);
@@ -281,53 +279,64 @@ negative_shape byte rest digit = record {
     some : 0 < length (take_while is_ascii_digit (byte ∷ rest))
     some = (front_numeral byte rest digit).0
 
-    bound : (more after : List ℕ) (other : Token) → 45 ∷ byte ∷ rest ≡ more ++ after → Spells more other → kind_of other ≡ MarkKind → length more ≤ length (45 ∷ take_while is_ascii_digit (byte ∷ rest))
-    bound more after (Word word) split spells kind = absurd cc
-    bound more after (Digits value) split spells kind = absurd cc
-    bound more after (Negative value) split (ds, is, numeral, value_is) kind =
+    bound : (more after : List ℕ) (other : Token) → 45 ∷ byte ∷ rest ≡ more ++ after → SpellsToken more other → kind_of other ≡ MarkKind
+        → length more ≤ length (45 ∷ take_while is_ascii_digit (byte ∷ rest))
+    bound more after (WordToken word) split spells kind = absurd cc
+    bound more after (NumberToken value) split spells kind = absurd cc
+    bound more after (NegativeToken value) split (ds, is, numeral, value_is) kind =
         let split' : byte ∷ rest ≡ ds ++ after = ap (drop 1) (split ∙ ap (λ l. l ++ after) is) in
         let below = front_size is_ascii_digit (byte ∷ rest) ds after split' (digits_pass ds numeral.1) in
         omega (arith, ap length is)
-    bound more after (Text text) split spells kind = absurd cc
-    bound more after (Mark mark) split is kind =
+    bound more after (TextToken text) split spells kind = absurd cc
+    bound more after (SymbolToken mark) split is kind =
         let few = (two_at_most mark).0 in omega (arith, ap length is, some)
-    bound more after Wrong split spells kind = absurd spells
+    bound more after WrongToken split spells kind = absurd spells
 
-    same : (other : Token) → Spells (45 ∷ take_while is_ascii_digit (byte ∷ rest)) other → kind_of other ≡ MarkKind → other ≡ Negative (digits_value 10 (take_while is_ascii_digit (byte ∷ rest)))
-    same (Word word) spells kind = absurd cc
-    same (Digits value) spells kind = absurd cc
-    same (Negative value) (ds, is, numeral, value_is) kind = ap Negative (value_is ∙ ap (digits_value 10) (sym (ap (drop 1) is)))
-    same (Text text) spells kind = absurd cc
-    same (Mark mark) is kind = absurd (differ (sym (ap (λ l. is_ascii_digit (slice_index l 1)) is ∙ (two_at_most mark).1) ∙ first_digit byte rest digit))
+    same : (other : Token) → SpellsToken (45 ∷ take_while is_ascii_digit (byte ∷ rest)) other → kind_of other ≡ MarkKind → other
+        ≡ NegativeToken (digits_value 10 (take_while is_ascii_digit (byte ∷ rest)))
+    same (WordToken word) spells kind = absurd cc
+    same (NumberToken value) spells kind = absurd cc
+    same (NegativeToken value) (ds, is, numeral, value_is) kind = ap NegativeToken (value_is ∙ ap (digits_value 10) (sym (ap (drop 1) is)))
+    same (TextToken text) spells kind = absurd cc
+    same (SymbolToken mark) is kind = absurd (differ (sym (ap (λ l. is_ascii_digit (slice_index l 1)) is ∙ (two_at_most mark).1) ∙ first_digit byte rest digit))
       where
         differ : false ≡ true → ⊥
         differ e = cc
-    same Wrong spells kind = absurd spells
+    same WrongToken spells kind = absurd spells
 
     lexeme : (b : Bool) → nat_le (digits_value 10 (take_while is_ascii_digit (byte ∷ rest))) (2 ^ 63) ≡ b
-        → ((lexeme_at 45 (byte ∷ rest) ≡ (Negative (digits_value 10 (take_while is_ascii_digit (byte ∷ rest))), length (45 ∷ take_while is_ascii_digit (byte ∷ rest)))) × (digits_value 10 (take_while is_ascii_digit (byte ∷ rest)) ≤ 2 ^ 63))
-        ⊎ ((lexeme_at 45 (byte ∷ rest) ≡ wrong) × (digits_value 10 (take_while is_ascii_digit (byte ∷ rest)) ≤ 2 ^ 63 → ⊥))
+        → ((lexeme_at 45 (byte ∷ rest) ≡ (NegativeToken (digits_value 10 (take_while is_ascii_digit (byte ∷ rest))), length (45 ∷ take_while is_ascii_digit (byte ∷ rest))))
+        × (digits_value 10 (take_while is_ascii_digit (byte ∷ rest)) ≤ 2 ^ 63))
+        ⊎ ((lexeme_at 45 (byte ∷ rest) ≡ wrong_lexeme) × (digits_value 10 (take_while is_ascii_digit (byte ∷ rest)) ≤ 2 ^ 63 → ⊥))
     lexeme true e = inl (
-      minus_lexeme (byte ∷ rest) digit ∙ ap (λ b. if b then (Negative (digits_value 10 (take_while is_ascii_digit (byte ∷ rest))), 1 + length (take_while is_ascii_digit (byte ∷ rest))) else wrong) e
-          ∙ ap (λ n. (Negative (digits_value 10 (take_while is_ascii_digit (byte ∷ rest))), n)) (omega arith),
-      le_from _ _ e,
+      minus_lexeme (byte ∷ rest) digit ∙ ap (λ b. if b then (
+        NegativeToken (digits_value 10 (take_while is_ascii_digit (byte ∷ rest))),
+        1 + length
+            (take_while is_ascii_digit (byte ∷ rest)),
+      ) else wrong_lexeme) e
+          ∙ ap (λ n. (NegativeToken (digits_value 10 (take_while is_ascii_digit (byte ∷ rest))), n)) (omega arith),
+      le_from_true _ _ e,
     )
     lexeme false e = inr (
-      minus_lexeme (byte ∷ rest) digit ∙ ap (λ b. if b then (Negative (digits_value 10 (take_while is_ascii_digit (byte ∷ rest))), 1 + length (take_while is_ascii_digit (byte ∷ rest))) else wrong) e,
+      minus_lexeme (byte ∷ rest) digit ∙ ap (λ b. if b then (
+        NegativeToken (digits_value 10 (take_while is_ascii_digit (byte ∷ rest))),
+        1 + length
+            (take_while is_ascii_digit (byte ∷ rest)),
+      ) else wrong_lexeme) e,
       λ small. not_at_most _ _ e small,
     )
 
 -- a text
-text_only : (rest more after : List ℕ) (other : Token) → 34 ∷ rest ≡ more ++ after → Spells more other → (text : List ℕ) × (other ≡ Text text) × IsTextToken more text
+text_only : (rest more after : List ℕ) (other : Token) → 34 ∷ rest ≡ more ++ after → SpellsToken more other → (text : List ℕ) × (other ≡ TextToken text) × IsTextToken more text
 text_only rest more after other split spells = by other spells (kind_at 34 rest more after other QuoteKind refl split spells)
   where
-    by : (token : Token) → Spells more token → kind_of token ≡ QuoteKind → (text : List ℕ) × (token ≡ Text text) × IsTextToken more text
-    by (Word word) s kind = absurd cc
-    by (Digits value) s kind = absurd cc
-    by (Negative value) s kind = absurd cc
-    by (Text text) s kind = (text, refl, s)
-    by (Mark mark) s kind = absurd cc
-    by Wrong s kind = absurd s
+    by : (token : Token) → SpellsToken more token → kind_of token ≡ QuoteKind → (text : List ℕ) × (token ≡ TextToken text) × IsTextToken more text
+    by (WordToken word) s kind = absurd cc
+    by (NumberToken value) s kind = absurd cc
+    by (NegativeToken value) s kind = absurd cc
+    by (TextToken text) s kind = (text, refl, s)
+    by (SymbolToken mark) s kind = absurd cc
+    by WrongToken s kind = absurd s
 
 -- what is found up to the last quote of a text
 text_found : (rest more after text : List ℕ) → 34 ∷ rest ≡ more ++ after → IsTextToken more text → (quote : ℕ) × (text_front false rest ≡ Some (text, quote)) × (length more ≡ quote + 2)
@@ -341,11 +350,11 @@ none_some found e = cc
 some_is : (x y : List ℕ × ℕ) → Some x ≡ Some y → x ≡ y
 some_is x y e = cc
 
-text_spelled : (rest text : List ℕ) (quote : ℕ) → text_front false rest ≡ Some (text, quote) → WrittenAt rest quote text → Spelled 34 rest
+text_spelled : (rest text : List ℕ) (quote : ℕ) → text_front false rest ≡ Some (text, quote) → WrittenTextAt rest quote text → Spelled 34 rest
 text_spelled rest text quote is w = record {
   piece = 34 ∷ w.written ++ 34 ∷ [];
   behind = w.rest;
-  token = Text text;
+  token = TextToken text;
   splits = whole;
   spells = (w.written, refl, w.pieces);
   bound = λ more after other split spells.
@@ -356,8 +365,8 @@ text_spelled rest text quote is w = record {
   same = λ other spells.
       let t = text_only rest (34 ∷ w.written ++ 34 ∷ []) w.rest other whole spells in
       let f = text_found rest (34 ∷ w.written ++ 34 ∷ []) w.rest t.0 whole t.2 in
-      t.1 ∙ ap (λ (p : List ℕ × ℕ). Text p.0) (some_is (t.0, f.0) (text, quote) (sym f.1 ∙ is));
-  lexeme = lexeme (is_text text) refl;
+      t.1 ∙ ap (λ (p : List ℕ × ℕ). TextToken p.0) (some_is (t.0, f.0) (text, quote) (sym f.1 ∙ is));
+  lexeme = lexeme (is_text_value text) refl;
 }
   where
     whole : 34 ∷ rest ≡ (34 ∷ w.written ++ 34 ∷ []) ++ w.rest
@@ -366,14 +375,14 @@ text_spelled rest text quote is w = record {
     size : length (34 ∷ w.written ++ 34 ∷ []) ≡ quote + 2
     size = omega (arith, w.ends, length-append w.written (34 ∷ []))
 
-    lexeme : (b : Bool) → is_text text ≡ b
-        → ((lexeme_at 34 rest ≡ (Text text, length (34 ∷ w.written ++ 34 ∷ []))) × IsText text) ⊎ ((lexeme_at 34 rest ≡ wrong) × (IsText text → ⊥))
+    lexeme : (b : Bool) → is_text_value text ≡ b
+        → ((lexeme_at 34 rest ≡ (TextToken text, length (34 ∷ w.written ++ 34 ∷ []))) × IsTextValue text) ⊎ ((lexeme_at 34 rest ≡ wrong_lexeme) × (IsTextValue text → ⊥))
     lexeme true e = inl (
-      ap text_lexeme is ∙ ap (λ b. if b then (Text text, quote + 2) else wrong) e ∙ ap (λ n. (Text text, n)) (sym size),
+      ap text_lexeme is ∙ ap (λ b. if b then (TextToken text, quote + 2) else wrong_lexeme) e ∙ ap (λ n. (TextToken text, n)) (sym size),
       text_from_test text e,
     )
     lexeme false e = inr (
-      ap text_lexeme is ∙ ap (λ b. if b then (Text text, quote + 2) else wrong) e,
+      ap text_lexeme is ∙ ap (λ b. if b then (TextToken text, quote + 2) else wrong_lexeme) e,
       λ fits. differ (sym e ∙ text_test text fits),
     )
       where
@@ -422,11 +431,11 @@ finds marks.OpenBracket after = exactly (mark_text marks.OpenBracket ++ after) m
 finds marks.CloseBracket after = exactly (mark_text marks.CloseBracket ++ after) marks.CloseBracket refl
 finds marks.Star after = exactly (mark_text marks.Star ++ after) marks.Star refl
 finds marks.Equal after = exactly (mark_text marks.Equal ++ after) marks.Equal refl
-finds marks.Less after = short (mark_text marks.Less ++ after) (begins (λ next. next == 61) after) marks.AtMost marks.Less refl (omega arith)
+finds marks.Less after = short (mark_text marks.Less ++ after) (begins_with (λ next. next == 61) after) marks.AtMost marks.Less refl (omega arith)
 finds marks.AtMost after = exactly (mark_text marks.AtMost ++ after) marks.AtMost refl
 finds marks.Arrow after = exactly (mark_text marks.Arrow ++ after) marks.Arrow refl
-finds marks.Plus after = short (mark_text marks.Plus ++ after) (begins (λ next. next == 45) after) marks.PlusMinus marks.Plus refl (omega arith)
-finds marks.Minus after = short (mark_text marks.Minus ++ after) (begins (λ next. next == 62) after) marks.Arrow marks.Minus refl (omega arith)
+finds marks.Plus after = short (mark_text marks.Plus ++ after) (begins_with (λ next. next == 45) after) marks.PlusMinus marks.Plus refl (omega arith)
+finds marks.Minus after = short (mark_text marks.Minus ++ after) (begins_with (λ next. next == 62) after) marks.Arrow marks.Minus refl (omega arith)
 finds marks.PlusMinus after = exactly (mark_text marks.PlusMinus ++ after) marks.PlusMinus refl
 
 -- the mark that is found stands there
@@ -437,7 +446,7 @@ one_stands : (byte n : ℕ) (rest : List ℕ) (mark : AnyMark) → mark_text mar
 one_stands byte n rest mark text e = (rest, ap (λ b. b ∷ rest) (eqb-true byte n e) ∙ ap (λ l. l ++ rest) (sym text))
 
 two_stand : (byte n m : ℕ) (rest : List ℕ) (long mark : AnyMark) → mark_text mark ≡ n ∷ [] → mark_text long ≡ n ∷ m ∷ [] → (byte == n) ≡ true
-    → MarkStands byte rest (cond (begins (λ next. next == m) rest) long mark)
+    → MarkStands byte rest (cond (begins_with (λ next. next == m) rest) long mark)
 two_stand byte n m [] long mark text longer e = one_stands byte n [] mark text e
 two_stand byte n m (next ∷ rest) long mark text longer e = by (next == m) refl
   where
@@ -475,7 +484,7 @@ mark_stands byte rest mark =
 
 -- where no word, no number and no text begins, a mark alone can stand
 module _ (byte : ℕ) (rest : List ℕ) (word : is_word_start byte ≡ false) (digit : is_ascii_digit byte ≡ false) (quote : (byte == 34) ≡ false)
-    (minus : (byte == 45 && begins is_ascii_digit rest) ≡ false) where
+    (minus : (byte == 45 && begins_with is_ascii_digit rest) ≡ false) where
   is_mark : class byte ≡ MarkKind
   is_mark = λ j. class_by (word j) (digit j) (quote j)
 
@@ -488,26 +497,26 @@ module _ (byte : ℕ) (rest : List ℕ) (word : is_word_start byte ≡ false) (d
   no_negative (first ∷ digits) after split numeral =
       let r = range_from_digit first numeral.1.0 in
       let at : (byte == 45) ≡ true = ap (λ l. slice_index l 0 == 45) split in
-      let next : begins is_ascii_digit rest ≡ true = ap (λ l. begins is_ascii_digit (drop 1 l)) split ∙ test_from_range first r.0 r.1 in
+      let next : begins_with is_ascii_digit rest ≡ true = ap (λ l. begins_with is_ascii_digit (drop 1 l)) split ∙ test_from_range first r.0 r.1 in
       differ (sym minus ∙ (λ j. at j && next j))
     where
       differ : false ≡ true → ⊥
       differ e = cc
 
-  only_marks : (more after : List ℕ) (other : Token) → byte ∷ rest ≡ more ++ after → Spells more other → (mark : AnyMark) × (other ≡ Mark mark) × (more ≡ mark_text mark)
+  only_marks : (more after : List ℕ) (other : Token) → byte ∷ rest ≡ more ++ after → SpellsToken more other → (mark : AnyMark) × (other ≡ SymbolToken mark) × (more ≡ mark_text mark)
   only_marks more after other split spells = by other spells (kind_at byte rest more after other MarkKind is_mark split spells)
     where
-      by : (token : Token) → Spells more token → kind_of token ≡ MarkKind → (mark : AnyMark) × (token ≡ Mark mark) × (more ≡ mark_text mark)
-      by (Word w) s kind = absurd cc
-      by (Digits value) s kind = absurd cc
-      by (Negative value) (digits, is, numeral, value_is) kind = absurd (no_negative digits after (split ∙ ap (λ l. l ++ after) is) numeral)
-      by (Text text) s kind = absurd cc
-      by (Mark mark) s kind = (mark, refl, s)
-      by Wrong s kind = absurd s
+      by : (token : Token) → SpellsToken more token → kind_of token ≡ MarkKind → (mark : AnyMark) × (token ≡ SymbolToken mark) × (more ≡ mark_text mark)
+      by (WordToken w) s kind = absurd cc
+      by (NumberToken value) s kind = absurd cc
+      by (NegativeToken value) (digits, is, numeral, value_is) kind = absurd (no_negative digits after (split ∙ ap (λ l. l ++ after) is) numeral)
+      by (TextToken text) s kind = absurd cc
+      by (SymbolToken mark) s kind = (mark, refl, s)
+      by WrongToken s kind = absurd s
 
   -- the mark that mark_at finds, where one is spelled
-  found_at : (more after : List ℕ) (other : Token) (split : byte ∷ rest ≡ more ++ after) (spells : Spells more other)
-      → (mark : AnyMark) × (other ≡ Mark mark) × (more ≡ mark_text mark) × Finds (byte ∷ rest) mark
+  found_at : (more after : List ℕ) (other : Token) (split : byte ∷ rest ≡ more ++ after) (spells : SpellsToken more other)
+      → (mark : AnyMark) × (other ≡ SymbolToken mark) × (more ≡ mark_text mark) × Finds (byte ∷ rest) mark
   found_at more after other split spells =
       let m = only_marks more after other split spells in
       (m.0, m.1, m.2, subst (λ l. Finds l m.0) (sym (split ∙ ap (λ l. l ++ after) m.2)) (finds m.0 after))
@@ -532,7 +541,7 @@ module _ (byte : ℕ) (rest : List ℕ) (word : is_word_start byte ≡ false) (d
           spelled (after, whole) = record {
             piece = mark_text mark;
             behind = after;
-            token = Mark mark;
+            token = SymbolToken mark;
             splits = whole;
             spells = refl;
             bound = λ more end other split spells.
@@ -542,24 +551,24 @@ module _ (byte : ℕ) (rest : List ℕ) (word : is_word_start byte ≡ false) (d
             same = λ other spells.
                 let m = found_at (mark_text mark) after other whole spells in
                 let same = mark_is m.3.found mark (sym m.3.is ∙ is) in
-                m.1 ∙ ap Mark (m.3.same (sym (ap length m.2) ∙ ap (λ x. length (mark_text x)) (sym same)) ∙ same);
+                m.1 ∙ ap SymbolToken (m.3.same (sym (ap length m.2) ∙ ap (λ x. length (mark_text x)) (sym same)) ∙ same);
             lexeme = inl (lexeme_is ∙ ap mark_lexeme is, tt);
           }
 
 -- ---- any bytes
 
 pub shape : (byte : ℕ) (rest : List ℕ) → Shape byte rest
-shape byte rest = by (is_word_start byte) (is_ascii_digit byte) (byte == 34) (byte == 45 && begins is_ascii_digit rest) refl refl refl refl
+shape byte rest = by (is_word_start byte) (is_ascii_digit byte) (byte == 34) (byte == 45 && begins_with is_ascii_digit rest) refl refl refl refl
   where
-    by : (a b c d : Bool) → is_word_start byte ≡ a → is_ascii_digit byte ≡ b → (byte == 34) ≡ c → (byte == 45 && begins is_ascii_digit rest) ≡ d → Shape byte rest
+    by : (a b c d : Bool) → is_word_start byte ≡ a → is_ascii_digit byte ≡ b → (byte == 34) ≡ c → (byte == 45 && begins_with is_ascii_digit rest) ≡ d → Shape byte rest
     by true b c d word digit quote minus = inl (word_shape byte rest word)
     by false true c d word digit quote minus = inl (digits_shape byte rest digit)
     by false false true d word digit quote minus = subst (λ x. Shape x rest) (sym (eqb-true byte 34 quote)) (text_shape rest)
     by false false false true word digit quote minus =
-        let h = and_true (byte == 45) (begins is_ascii_digit rest) minus in
+        let h = and_parts (byte == 45) (begins_with is_ascii_digit rest) minus in
         subst (λ x. Shape x rest) (sym (eqb-true byte 45 h.0)) (negative rest h.1)
       where
-        negative : (bytes : List ℕ) → begins is_ascii_digit bytes ≡ true → Shape 45 bytes
+        negative : (bytes : List ℕ) → begins_with is_ascii_digit bytes ≡ true → Shape 45 bytes
         negative [] e = absurd cc
         negative (first ∷ bytes) e = inl (negative_shape first bytes e)
     by false false false false word digit quote minus = mark_shape byte rest word digit quote minus

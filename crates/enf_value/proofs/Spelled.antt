@@ -1,25 +1,21 @@
 -- The canonical spelling of a token is cut as that token.
-use Rattle.std.proofs.Common.{◌≡◌, ℕ, ◌+◌, ◌^◌, ◌<◌, ◌==◌, ◌||◌, ◌&&◌, Bool, true, false, cond, List, [], ◌∷◌, ◌++◌, length, drop, None, Some, refl, sym, ap, subst, ◌∙◌, arith, decimal}
-use Rattle.std.specs.Char.{is_ascii_digit}
-use Rattle.std.specs.List.{list_all, take_while}
-use Rattle.std.specs.Str.Parse.{IsNumeral, digits_value}
-use Rattle.std.proofs.lemmas.Bool.Decides.{nat_tests}
-use Rattle.std.proofs.lemmas.Fmt.{decimal_is_IsNumeral}
-use Rattle.std.proofs.lemmas.List.Sums.{take_while-cons}
-use Rattle.std.proofs.Math.Seq.{drop-append_seam}
-use Rattle.enf_value.specs.Names.{is_word_byte, is_word_start}
-use Rattle.enf_value.specs.Spelling.{quoted}
-use Rattle.enf_value.specs.Tokens.{Token, Word, Digits, Negative, Text, Mark, Wrong, IsProper, begins, negative_lexeme, token_piece, tokens_from, word_lexeme}
-use Rattle.enf_value.specs.TokenLaws.{PrintedIsCut, SpelledIsRead, Spells, StopsBefore, goes_on, printed, spelling}
-use Rattle.enf_value.specs.TokenViews.{BeginsToken, IsFront}
-use Rattle.enf_value.specs.ValueTokens.{IsNoDigit, TokenAt}
-use Rattle.enf_value.specs.declared.tokens.Mark.{Mark as AnyMark}
-use Rattle.enf_value.specs.declared.tokens.Mark.TheVariants as marks
-use Rattle.enf_value.specs.declared.values.Value.TheVariants as values
-use Rattle.enf_value.proofs.Fronts.{and_true, digits_are_front, front_from_text, front_is_within, negative_is_front, start_is_byte, word_front}
+use Rattle.enf_value.proofs.Vocabulary.{◌≡◌, ℕ, ◌+◌, ◌^◌, ◌<◌, ◌==◌, ◌&&◌, Bool, true}
+use Rattle.enf_value.proofs.Vocabulary.{false, cond, List, [], ◌∷◌, ◌++◌, length, drop, None, Some, refl, sym}
+use Rattle.enf_value.proofs.Vocabulary.{ap, subst, ◌∙◌, arith, decimal, is_ascii_digit, list_all, take_while}
+use Rattle.enf_value.proofs.Vocabulary.{IsNumeral, digits_value, nat_tests, decimal_is_IsNumeral, take_while-cons}
+use Rattle.enf_value.proofs.Vocabulary.{drop-append_seam, or_parts, and_parts, is_word_byte, is_word_start, quoted}
+use Rattle.enf_value.proofs.Vocabulary.{IsNoDigit, ValueTokenAt, Token, WordToken, NumberToken, NegativeToken}
+use Rattle.enf_value.proofs.Vocabulary.{TextToken, SymbolToken, WrongToken, begins_with, negative_lexeme, token_piece}
+use Rattle.enf_value.proofs.Vocabulary.{tokens_from, word_lexeme, IsProper, BeginsToken, IsFrontToken, PrintedIsCut}
+use Rattle.enf_value.proofs.Vocabulary.{SpelledIsRead, SpellsToken, StopsBefore, goes_on_with_mark, printed_tokens}
+use Rattle.enf_value.proofs.Vocabulary.{token_spelling, Mark as AnyMark}
+use Rattle.enf_value.proofs.Fronts.{digits_are_front, front_from_text, front_is_within, negative_is_front}
+use Rattle.enf_value.proofs.Fronts.{start_is_byte, word_front}
 use Rattle.enf_value.proofs.Gaps.{front_step}
 use Rattle.enf_value.proofs.Numerals.{range_from_digit, test_from_range}
-use Rattle.enf_value.proofs.TokenLaws.{is_printed}
+use Rattle.enf_value.proofs.ValueTokenLaws.{is_printed}
+use Rattle.enf_value.specs.declared.tokens.Mark.TheVariants as marks
+use Rattle.enf_data.specs.declared.values.Value.TheVariants as values
 
 -- ---- the first byte of a spelling
 
@@ -47,7 +43,7 @@ numeral_starts (byte ∷ digits) numeral =
     let r = range_from_digit byte numeral.1.0 in
     record { first = byte; rest = digits; is = refl; begins = digit_begins byte (test_from_range byte r.0 r.1) }
 
-mark_starts : (mark : AnyMark) → Starts (spelling (Mark mark))
+mark_starts : (mark : AnyMark) → Starts (token_spelling (SymbolToken mark))
 mark_starts marks.OpenParen = record { first = 40; rest = []; is = refl; begins = (refl, λ e. omega arith) }
 mark_starts marks.CloseParen = record { first = 41; rest = []; is = refl; begins = (refl, λ e. omega arith) }
 mark_starts marks.Comma = record { first = 44; rest = []; is = refl; begins = (refl, λ e. omega arith) }
@@ -66,69 +62,66 @@ mark_starts marks.Minus = record { first = 45; rest = []; is = refl; begins = (r
 mark_starts marks.PlusMinus = record { first = 43; rest = 45 ∷ []; is = refl; begins = (refl, λ e. omega arith) }
 
 -- the first byte of what spells a token
-pub spells_starts : (piece : List ℕ) (token : Token) → Spells piece token → Starts piece
-spells_starts piece (Word []) (is, proper) = absurd (empty proper)
+pub spells_starts : (piece : List ℕ) (token : Token) → SpellsToken piece token → Starts piece
+spells_starts piece (WordToken []) (is, proper) = absurd (empty proper)
   where
     empty : false ≡ true → ⊥
     empty e = cc
-spells_starts piece (Word (byte ∷ word)) (is, proper) =
-    record { first = byte; rest = word; is = is; begins = word_begins byte (and_true (is_word_start byte) (list_all is_word_byte word) proper).0 }
-spells_starts piece (Digits value) spells = numeral_starts piece spells.0
-spells_starts piece (Negative value) (digits, is, numeral, value_is) = record { first = 45; rest = digits; is = is; begins = (refl, λ e. omega arith) }
-spells_starts piece (Text text) (written, is, pieces) = record { first = 34; rest = written ++ 34 ∷ []; is = is; begins = (refl, λ e. omega arith) }
-spells_starts piece (Mark mark) is = let s = mark_starts mark in record { first = s.first; rest = s.rest; is = is ∙ s.is; begins = s.begins }
-spells_starts piece Wrong spells = absurd spells
+spells_starts piece (WordToken (byte ∷ word)) (is, proper) =
+    record { first = byte; rest = word; is = is; begins = word_begins byte (and_parts (is_word_start byte) (list_all is_word_byte word) proper).0 }
+spells_starts piece (NumberToken value) spells = numeral_starts piece spells.0
+spells_starts piece (NegativeToken value) (digits, is, numeral, value_is) = record { first = 45; rest = digits; is = is; begins = (refl, λ e. omega arith) }
+spells_starts piece (TextToken text) (written, is, pieces) = record { first = 34; rest = written ++ 34 ∷ []; is = is; begins = (refl, λ e. omega arith) }
+spells_starts piece (SymbolToken mark) is = let s = mark_starts mark in record { first = s.first; rest = s.rest; is = is ∙ s.is; begins = s.begins }
+spells_starts piece WrongToken spells = absurd spells
 
-starts : (token : Token) (rest : List ℕ) → IsProper token → StopsBefore token rest → Starts (spelling token)
-starts (Word []) rest proper stops = absurd (empty proper)
+starts : (token : Token) (rest : List ℕ) → IsProper token → StopsBefore token rest → Starts (token_spelling token)
+starts (WordToken []) rest proper stops = absurd (empty proper)
   where
     empty : false ≡ true → ⊥
     empty e = cc
-starts (Word (byte ∷ word)) rest proper stops =
-    record { first = byte; rest = word; is = refl; begins = word_begins byte (and_true _ _ proper).0 }
-starts (Digits value) rest proper stops = numeral_starts (decimal value) (decimal_is_IsNumeral value (omega arith)).0
-starts (Negative value) rest proper stops = record { first = 45; rest = decimal value; is = refl; begins = (refl, λ e. omega arith) }
-starts (Text text) rest proper stops = record { first = 34; rest = drop 1 (quoted text); is = refl; begins = (refl, λ e. omega arith) }
-starts (Mark mark) rest proper stops = mark_starts mark
-starts Wrong rest proper stops = absurd stops
+starts (WordToken (byte ∷ word)) rest proper stops =
+    record { first = byte; rest = word; is = refl; begins = word_begins byte (and_parts _ _ proper).0 }
+starts (NumberToken value) rest proper stops = numeral_starts (decimal value) (decimal_is_IsNumeral value (omega arith)).0
+starts (NegativeToken value) rest proper stops = record { first = 45; rest = decimal value; is = refl; begins = (refl, λ e. omega arith) }
+starts (TextToken text) rest proper stops = record { first = 34; rest = drop 1 (quoted text); is = refl; begins = (refl, λ e. omega arith) }
+starts (SymbolToken mark) rest proper stops = mark_starts mark
+starts WrongToken rest proper stops = absurd stops
 
 -- ---- the token at the front of its spelling
 
-take_front : (kind : ℕ → Bool) (front rest : List ℕ) → list_all kind front ≡ true → begins kind rest ≡ false → take_while kind (front ++ rest) ≡ front
+take_front : (kind : ℕ → Bool) (front rest : List ℕ) → list_all kind front ≡ true → begins_with kind rest ≡ false → take_while kind (front ++ rest) ≡ front
 take_front kind [] [] each stops = refl
 take_front kind [] (byte ∷ rest) each stops = take_while-cons kind byte rest ∙ ap (λ b. cond b (byte ∷ take_while kind rest) []) stops
 take_front kind (byte ∷ front) rest each stops =
-    let h = and_true (kind byte) (list_all kind front) each in
+    let h = and_parts (kind byte) (list_all kind front) each in
     take_while-cons kind byte (front ++ rest)
     ∙ (λ j. cond (h.0 j) (byte ∷ take_front kind front rest h.1 stops j) [])
 
-no_digit : (rest : List ℕ) → begins is_ascii_digit rest ≡ false → IsNoDigit rest
+no_digit : (rest : List ℕ) → begins_with is_ascii_digit rest ≡ false → IsNoDigit rest
 no_digit [] stops = tt
 no_digit (byte ∷ rest) stops = λ low high. differ (sym stops ∙ test_from_range byte low high)
   where
     differ : false ≡ true → ⊥
     differ e = cc
 
-numeral_front : (digits rest : List ℕ) → IsNumeral 10 digits → IsNoDigit rest → digits_value 10 digits < 2 ^ 63 → IsFront (digits ++ rest) (Digits (digits_value 10 digits)) (length digits)
+numeral_front : (digits rest : List ℕ) → IsNumeral 10 digits → IsNoDigit rest → digits_value 10 digits < 2 ^ 63 → IsFrontToken (digits ++ rest) (NumberToken (digits_value 10 digits)) (length digits)
 numeral_front [] rest numeral stops small = absurd (omega (arith, numeral.0))
 numeral_front (byte ∷ digits) rest numeral stops small = digits_are_front byte digits rest numeral stops small
 
 two : (all : ℕ) (b : Bool) (long short : AnyMark) → b ≡ false
-    → token_piece all (Mark (cond b long short), length (spelling (Mark (cond b long short)))) ≡ (Some (Mark short), length (spelling (Mark short)))
-two all b long short e = ap (λ c. token_piece all (Mark (cond c long short), length (spelling (Mark (cond c long short))))) e
+    → token_piece all (SymbolToken (cond b long short), length (token_spelling (SymbolToken (cond b long short)))) ≡ (Some (SymbolToken short), length (token_spelling (SymbolToken short)))
+two all b long short e = ap (λ c. token_piece all (SymbolToken (cond c long short), length (token_spelling (SymbolToken (cond c long short))))) e
 
-or_false : (a b : Bool) → (a || b) ≡ false → (a ≡ false) × (b ≡ false)
-or_false true b e = absurd cc
-or_false false b e = (refl, e)
-
-minus_front : (rest : List ℕ) → begins (goes_on marks.Minus) rest ≡ false → IsFront (45 ∷ rest) (Mark marks.Minus) 1
+minus_front : (rest : List ℕ) → begins_with (goes_on_with_mark marks.Minus) rest ≡ false → IsFrontToken (45 ∷ rest) (SymbolToken marks.Minus) 1
 minus_front [] stops = refl
 minus_front (byte ∷ rest) stops =
-    let h = or_false (byte == 62) (is_ascii_digit byte) stops in
+    let h = or_parts (byte == 62) (is_ascii_digit byte) stops in
     λ j. token_piece (1 + length (byte ∷ rest)) (cond (h.1 j) (negative_lexeme (take_while is_ascii_digit (byte ∷ rest)))
-    (Mark (cond (h.0 j) marks.Arrow marks.Minus), length (spelling (Mark (cond (h.0 j) marks.Arrow marks.Minus)))))
+    (SymbolToken (cond (h.0 j) marks.Arrow marks.Minus), length (token_spelling (SymbolToken (cond (h.0 j) marks.Arrow marks.Minus)))))
 
-mark_front_is : (mark : AnyMark) (rest : List ℕ) → begins (goes_on mark) rest ≡ false → IsFront (spelling (Mark mark) ++ rest) (Mark mark) (length (spelling (Mark mark)))
+mark_front_is : (mark : AnyMark) (rest : List ℕ) → begins_with (goes_on_with_mark mark) rest ≡ false
+    → IsFrontToken (token_spelling (SymbolToken mark) ++ rest) (SymbolToken mark) (length (token_spelling (SymbolToken mark)))
 mark_front_is marks.OpenParen rest stops = refl
 mark_front_is marks.CloseParen rest stops = refl
 mark_front_is marks.Comma rest stops = refl
@@ -139,49 +132,49 @@ mark_front_is marks.OpenBracket rest stops = refl
 mark_front_is marks.CloseBracket rest stops = refl
 mark_front_is marks.Star rest stops = refl
 mark_front_is marks.Equal rest stops = refl
-mark_front_is marks.Less rest stops = two (1 + length rest) (begins (λ next. next == 61) rest) marks.AtMost marks.Less stops
+mark_front_is marks.Less rest stops = two (1 + length rest) (begins_with (λ next. next == 61) rest) marks.AtMost marks.Less stops
 mark_front_is marks.AtMost rest stops = refl
 mark_front_is marks.Arrow rest stops = refl
-mark_front_is marks.Plus rest stops = two (1 + length rest) (begins (λ next. next == 45) rest) marks.PlusMinus marks.Plus stops
+mark_front_is marks.Plus rest stops = two (1 + length rest) (begins_with (λ next. next == 45) rest) marks.PlusMinus marks.Plus stops
 mark_front_is marks.Minus rest stops = minus_front rest stops
 mark_front_is marks.PlusMinus rest stops = refl
 
-spelled_front : (token : Token) (rest : List ℕ) → IsProper token → StopsBefore token rest → IsFront (spelling token ++ rest) token (length (spelling token))
-spelled_front (Word []) rest proper stops = absurd (empty proper)
+spelled_front : (token : Token) (rest : List ℕ) → IsProper token → StopsBefore token rest → IsFrontToken (token_spelling token ++ rest) token (length (token_spelling token))
+spelled_front (WordToken []) rest proper stops = absurd (empty proper)
   where
     empty : false ≡ true → ⊥
     empty e = cc
-spelled_front (Word (byte ∷ word)) rest proper stops =
-    let h = and_true (is_word_start byte) (list_all is_word_byte word) proper in
+spelled_front (WordToken (byte ∷ word)) rest proper stops =
+    let h = and_parts (is_word_start byte) (list_all is_word_byte word) proper in
     let each : list_all is_word_byte (byte ∷ word) ≡ true = λ j. start_is_byte byte h.0 j && h.1 j in
     ap (token_piece (1 + length (word ++ rest))) (word_front byte (word ++ rest) h.0 ∙ ap word_lexeme (take_front is_word_byte (byte ∷ word) rest each stops))
-spelled_front (Digits value) rest proper stops =
+spelled_front (NumberToken value) rest proper stops =
     let d = decimal_is_IsNumeral value (omega arith) in
-    subst (λ v. IsFront (decimal value ++ rest) (Digits v) (length (decimal value))) d.1 (numeral_front (decimal value) rest d.0 (no_digit rest stops) (omega (arith, d.1)))
-spelled_front (Negative value) rest proper stops =
+    subst (λ v. IsFrontToken (decimal value ++ rest) (NumberToken v) (length (decimal value))) d.1 (numeral_front (decimal value) rest d.0 (no_digit rest stops) (omega (arith, d.1)))
+spelled_front (NegativeToken value) rest proper stops =
     let d = decimal_is_IsNumeral value (omega arith) in
     let size : 1 + length (decimal value) ≡ length (45 ∷ decimal value) = omega arith in
-    subst (λ v. IsFront (45 ∷ (decimal value ++ rest)) (Negative v) (length (45 ∷ decimal value))) d.1
-    (subst (IsFront (45 ∷ (decimal value ++ rest)) (Negative (digits_value 10 (decimal value)))) size (negative_is_front (decimal value) rest d.0 (no_digit rest stops) (omega (arith, d.1))))
-spelled_front (Text text) rest proper stops =
-    let t : TokenAt (quoted text ++ rest) 0 (0 + length (quoted text)) (values.Text text) = is_printed (quoted text ++ rest) 0 (values.Text text) rest proper tt refl in
-    subst (IsFront (quoted text ++ rest) (Text text)) (omega arith) (front_from_text (quoted text ++ rest) text (0 + length (quoted text)) t)
-spelled_front (Mark mark) rest proper stops = mark_front_is mark rest stops
-spelled_front Wrong rest proper stops = absurd stops
+    subst (λ v. IsFrontToken (45 ∷ (decimal value ++ rest)) (NegativeToken v) (length (45 ∷ decimal value))) d.1
+    (subst (IsFrontToken (45 ∷ (decimal value ++ rest)) (NegativeToken (digits_value 10 (decimal value)))) size (negative_is_front (decimal value) rest d.0 (no_digit rest stops) (omega (arith, d.1))))
+spelled_front (TextToken text) rest proper stops =
+    let t : ValueTokenAt (quoted text ++ rest) 0 (0 + length (quoted text)) (values.Text text) = is_printed (quoted text ++ rest) 0 (values.Text text) rest proper tt refl in
+    subst (IsFrontToken (quoted text ++ rest) (TextToken text)) (omega arith) (front_from_text (quoted text ++ rest) text (0 + length (quoted text)) t)
+spelled_front (SymbolToken mark) rest proper stops = mark_front_is mark rest stops
+spelled_front WrongToken rest proper stops = absurd stops
 
 pub spelled_is_read : SpelledIsRead
 spelled_is_read place token rest proper stops =
     let s = starts token rest proper stops in
     let front = spelled_front token rest proper stops in
-    let text : spelling token ++ rest ≡ s.first ∷ (s.rest ++ rest) = ap (λ l. l ++ rest) s.is in
-    let size : 0 < length (spelling token) = (front_is_within _ _ _ front).0 in
+    let text : token_spelling token ++ rest ≡ s.first ∷ (s.rest ++ rest) = ap (λ l. l ++ rest) s.is in
+    let size : 0 < length (token_spelling token) = (front_is_within _ _ _ front).0 in
     ap (tokens_from 0 place) text
-    ∙ front_step place s.first (s.rest ++ rest) token (length (spelling token)) s.begins (subst (λ l. IsFront l token (length (spelling token))) text front) size
-    ∙ ap (λ l. (place, token) ∷ tokens_from 0 (place + length (spelling token)) l) (ap (drop (length (spelling token))) (sym text) ∙ drop-append_seam (spelling token) rest)
+    ∙ front_step place s.first (s.rest ++ rest) token (length (token_spelling token)) s.begins (subst (λ l. IsFrontToken l token (length (token_spelling token))) text front) size
+    ∙ ap (λ l. (place, token) ∷ tokens_from 0 (place + length (token_spelling token)) l) (ap (drop (length (token_spelling token))) (sym text) ∙ drop-append_seam (token_spelling token) rest)
 
 pub printed_is_cut : PrintedIsCut
 printed_is_cut place [] apart = refl
 printed_is_cut place (None ∷ pieces) apart = printed_is_cut (place + 1) pieces apart
 printed_is_cut place (Some token ∷ pieces) apart =
-    spelled_is_read place token (printed pieces) apart.0 apart.1
-    ∙ ap (λ rest. (place, token) ∷ rest) (printed_is_cut (place + length (spelling token)) pieces apart.2)
+    spelled_is_read place token (printed_tokens pieces) apart.0 apart.1
+    ∙ ap (λ rest. (place, token) ∷ rest) (printed_is_cut (place + length (token_spelling token)) pieces apart.2)

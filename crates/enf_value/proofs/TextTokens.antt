@@ -1,18 +1,13 @@
 -- The tokens at the front of bytes: a quote begins a text and no number, and tokens stand at a place as they stand at the front of what follows it.
-use Rattle.std.proofs.Common.{◌≡◌, ◌≢◌, ℕ, ◌+◌, ◌-◌, ℤ, inl, inr, List, [], ◌∷◌, ◌++◌, length, slice_index, take, drop, refl, sym, ap, subst, ◌∙◌, arith, append_assoc, length-append, length-drop, Option, Some, None, MatchOption, IfNone, Result, Ok, Err, IfOk, ◌≤◌, length-take}
-use Rattle.std.specs.Option.{IsSomeAnd}
-use Rattle.std.specs.Str.{IsAscii}
-use Rattle.std.proofs.lemmas.Bool.Decides.{nat_tests}
-use Rattle.std.proofs.lemmas.List.{take_all}
-use Rattle.std.proofs.lemmas.Str.{IsUtf8-from_ascii}
+use Rattle.enf_value.proofs.Vocabulary.{◌≡◌, ◌≢◌, ℕ, ◌+◌, ◌-◌, ℤ, inl, inr, List, [], ◌∷◌}
+use Rattle.enf_value.proofs.Vocabulary.{◌++◌, length, slice_index, take, drop, refl, sym, ap, subst, ◌∙◌}
+use Rattle.enf_value.proofs.Vocabulary.{arith, append_assoc, length-append, length-drop, Option, Some, None}
+use Rattle.enf_value.proofs.Vocabulary.{MatchOption, IfNone, Result, Ok, Err, IfOk, ◌≤◌, length-take, IsSomeAnd}
+use Rattle.enf_value.proofs.Vocabulary.{IsAscii, nat_tests, take_all, IsUtf8-from_ascii, IsTextValue, IsNumberToken}
+use Rattle.enf_value.proofs.Vocabulary.{IsTextToken, ValueTokenAt, WrittenTextAt, MOST_TEXT_BYTES, Value, Num, Text}
 use Rattle.enf_value.proofs.Escapes.{one_written}
-use Rattle.enf_value.specs.Text.{IsText}
-use Rattle.enf_value.specs.ValueTokens.{IsNumberToken, IsTextToken, TokenAt, WrittenAt}
-use Rattle.enf_value.specs.declared.limits.TheConstants.{MOST_TEXT_BYTES}
-use Rattle.enf_value.specs.declared.values.Value.{Value}
-use Rattle.enf_value.specs.declared.values.Value.TheVariants.{Num, Text}
 
-pub token_from_written : (bytes text : List ℕ) (quote : ℕ) → slice_index bytes 0 ≡ 34 → WrittenAt (drop 1 bytes) quote text → IsText text → TokenAt bytes 0 (quote + 2) (Text text)
+pub token_from_written : (bytes text : List ℕ) (quote : ℕ) → slice_index bytes 0 ≡ 34 → WrittenTextAt (drop 1 bytes) quote text → IsTextValue text → ValueTokenAt bytes 0 (quote + 2) (Text text)
 token_from_written [] text quote first w fits = absurd (omega (arith, first))
 token_from_written (x ∷ bytes) text quote first w fits = record {
   token = 34 ∷ w.written ++ 34 ∷ [];
@@ -24,7 +19,7 @@ token_from_written (x ∷ bytes) text quote first w fits = record {
   fits = fits;
 }
 
-pub written_from_text : (bytes token rest text : List ℕ) → bytes ≡ token ++ rest → IsTextToken token text → (quote : ℕ) × WrittenAt (drop 1 bytes) quote text × (length token ≡ quote + 2)
+pub written_from_text : (bytes token rest text : List ℕ) → bytes ≡ token ++ rest → IsTextToken token text → (quote : ℕ) × WrittenTextAt (drop 1 bytes) quote text × (length token ≡ quote + 2)
 written_from_text bytes token rest text splits (written, split, pieces) = (
   length written,
   record {
@@ -37,12 +32,12 @@ written_from_text bytes token rest text splits (written, split, pieces) = (
   omega (arith, ap length split, length-append written (34 ∷ [])),
 )
 
-pub written_from_token : (bytes text : List ℕ) (end : ℕ) → TokenAt bytes 0 end (Text text) → (quote : ℕ) × WrittenAt (drop 1 bytes) quote text × (end ≡ quote + 2)
+pub written_from_token : (bytes text : List ℕ) (end : ℕ) → ValueTokenAt bytes 0 end (Text text) → (quote : ℕ) × WrittenTextAt (drop 1 bytes) quote text × (end ≡ quote + 2)
 written_from_token bytes text end t =
     let w = written_from_text bytes t.token t.rest text t.splits t.stands in
     (w.0, w.1, omega (arith, t.ends, w.2))
 
-pub text_begins : (bytes text : List ℕ) (end : ℕ) → TokenAt bytes 0 end (Text text) → slice_index bytes 0 ≡ 34
+pub text_begins : (bytes text : List ℕ) (end : ℕ) → ValueTokenAt bytes 0 end (Text text) → slice_index bytes 0 ≡ 34
 text_begins bytes text end t = ap (λ l. slice_index l 0) (t.splits ∙ ap (λ l. l ++ t.rest) t.stands.1)
 
 pub number_first : (token rest : List ℕ) (number : ℤ) → IsNumberToken token number → slice_index (token ++ rest) 0 ≢ 34
@@ -52,11 +47,11 @@ number_first (x ∷ digits) rest number (inl (numeral, is)) e =
 number_first token rest number (inr (digits, split, numeral, is)) e =
     let f : 45 ≡ 34 = sym (ap (λ l. slice_index (l ++ rest) 0) split) ∙ e in omega (arith, f)
 
-pub number_begins : (bytes : List ℕ) (end : ℕ) (number : ℤ) → TokenAt bytes 0 end (Num number) → slice_index bytes 0 ≢ 34
+pub number_begins : (bytes : List ℕ) (end : ℕ) (number : ℤ) → ValueTokenAt bytes 0 end (Num number) → slice_index bytes 0 ≢ 34
 number_begins bytes end number t e =
     number_first t.token t.rest number t.stands (sym (ap (λ l. slice_index l 0) t.splits) ∙ e)
 
-pub token_at_place : (bytes : List ℕ) (at end : ℕ) (value : Value) → TokenAt (drop at bytes) 0 end value → TokenAt bytes at (at + end) value
+pub token_at_place : (bytes : List ℕ) (at end : ℕ) (value : Value) → ValueTokenAt (drop at bytes) 0 end value → ValueTokenAt bytes at (at + end) value
 token_at_place bytes at end value t = record {
   token = t.token;
   rest = t.rest;
@@ -67,7 +62,7 @@ token_at_place bytes at end value t = record {
   fits = t.fits;
 }
 
-pub token_at_front : (bytes : List ℕ) (at end : ℕ) (value : Value) → (t : TokenAt bytes at end value) → TokenAt (drop at bytes) 0 (length t.token) value
+pub token_at_front : (bytes : List ℕ) (at end : ℕ) (value : Value) → (t : ValueTokenAt bytes at end value) → ValueTokenAt (drop at bytes) 0 (length t.token) value
 token_at_front bytes at end value t = record {
   token = t.token;
   rest = t.rest;
@@ -83,11 +78,13 @@ pub slice_from : (bytes : List ℕ) (at : ℕ) → take (length bytes - at) (dro
 slice_from bytes at = take_all (length bytes - at) (drop at bytes) (omega (arith, length-drop at bytes))
 
 -- where a text begins there is no number, and elsewhere no text
-pub none_from_texts : (bytes : List ℕ) → slice_index bytes 0 ≡ 34 → ((text : List ℕ) (end : ℕ) → TokenAt bytes 0 end (Text text) → ⊥) → (value : Value) (end : ℕ) → TokenAt bytes 0 end value → ⊥
+pub none_from_texts : (bytes : List ℕ) → slice_index bytes 0 ≡ 34 → ((text : List ℕ) (end : ℕ) → ValueTokenAt bytes 0 end (Text text) → ⊥) → (value : Value) (end : ℕ)
+    → ValueTokenAt bytes 0 end value → ⊥
 none_from_texts bytes first none (Num number) end t = number_begins bytes end number t first
 none_from_texts bytes first none (Text text) end t = none text end t
 
-pub none_from_numbers : (bytes : List ℕ) → slice_index bytes 0 ≢ 34 → ((number : ℤ) (end : ℕ) → TokenAt bytes 0 end (Num number) → ⊥) → (value : Value) (end : ℕ) → TokenAt bytes 0 end value → ⊥
+pub none_from_numbers : (bytes : List ℕ) → slice_index bytes 0 ≢ 34 → ((number : ℤ) (end : ℕ) → ValueTokenAt bytes 0 end (Num number) → ⊥) → (value : Value) (end : ℕ)
+    → ValueTokenAt bytes 0 end value → ⊥
 none_from_numbers bytes first none (Num number) end t = none number end t
 none_from_numbers bytes first none (Text text) end t = first (text_begins bytes text end t)
 
@@ -104,15 +101,15 @@ none_onward P R (Ok (Some x)) p f = tt
 none_onward P R (Err e) p f = tt
 
 -- few bytes that are ASCII are a text
-pub text_from_ascii : (bytes : List ℕ) (quote : ℕ) → quote ≤ MOST_TEXT_BYTES → IsAscii (take quote bytes) → IsText (take quote bytes)
+pub text_from_ascii : (bytes : List ℕ) (quote : ℕ) → quote ≤ MOST_TEXT_BYTES → IsAscii (take quote bytes) → IsTextValue (take quote bytes)
 text_from_ascii bytes quote short ascii = record {
   utf8 = IsUtf8-from_ascii (take quote bytes) ascii;
   short = omega (arith, length-take quote bytes, short);
 }
 
 -- there is no token where the text that is written there is refused
-pub none_from_refused : (bytes text : List ℕ) (quote : ℕ) → WrittenAt (drop 1 bytes) quote text → (IsText text → ⊥) → (other : List ℕ) (end : ℕ) → TokenAt bytes 0 end (Text other) → ⊥
+pub none_from_refused : (bytes text : List ℕ) (quote : ℕ) → WrittenTextAt (drop 1 bytes) quote text → (IsTextValue text → ⊥) → (other : List ℕ) (end : ℕ) → ValueTokenAt bytes 0 end (Text other) → ⊥
 none_from_refused bytes text quote w refused other end t =
     let o = written_from_token bytes other end t in
     let same = one_written (drop 1 bytes) other text o.0 quote o.1 w in
-    refused (subst IsText same.0 t.fits)
+    refused (subst IsTextValue same.0 t.fits)

@@ -1,20 +1,17 @@
 -- What the reader reads at a place is the token there.
-use Rattle.std.proofs.Common.{◌≡◌, ℕ, ◌+◌, ◌-◌, ◌<◌, ◌==◌, ℤ, true, false, cond, List, [], ◌∷◌, length, slice_index, take, drop, None, Some, sym, ap, subst, ◌∙◌, arith, length-drop}
-use Rattle.std.specs.Prelude.{unsigned_abs}
-use Rattle.std.proofs.lemmas.Bool.Decides.{nat_tests}
-use Rattle.enf_value.specs.Names.{is_word_start}
-use Rattle.enf_value.specs.Tokens.{Digits, Negative, Wrong, mark_lexeme, token_piece}
-use Rattle.enf_value.specs.TokenViews.{IsFront, IsMarkAt, IsTokenAt, begins_value}
-use Rattle.enf_value.specs.ValueTokens.{TokenAt}
-use Rattle.enf_value.specs.declared.values.Value.{Value}
-use Rattle.enf_value.specs.declared.values.Value.TheVariants as values
-use Rattle.enf_value.specs.declared.tokens.Token.TheVariants as variants
+use Rattle.enf_value.proofs.Vocabulary.{◌≡◌, ℕ, ◌+◌, ◌-◌, ◌<◌, ◌==◌, ℤ, true, false, cond}
+use Rattle.enf_value.proofs.Vocabulary.{List, [], ◌∷◌, length, slice_index, take, drop, None, Some, sym, ap}
+use Rattle.enf_value.proofs.Vocabulary.{subst, ◌∙◌, arith, length-drop, unsigned_abs, nat_tests, is_word_start}
+use Rattle.enf_value.proofs.Vocabulary.{NumberToken, NegativeToken, WrongToken, mark_lexeme, token_piece, ValueTokenAt}
+use Rattle.enf_value.proofs.Vocabulary.{IsFrontToken, IsMarkAt, IsTokenAt, begins_value, Value}
 use Rattle.enf_value.proofs.Fronts.{front_from_number, front_from_text, mark_front, number_token, wrong_from_none}
 use Rattle.enf_value.proofs.Gaps.{text_at}
 use Rattle.enf_value.proofs.TextTokens.{slice_from, token_at_front, token_at_place}
+use Rattle.enf_data.specs.declared.values.Value.TheVariants as values
+use Rattle.enf_value.specs.declared.tokens.Token.TheVariants as variants
 
 module _ (bytes : List ℕ) (place : ℕ) where
-  pub text_read : (text : List ℕ) (end : ℕ) → TokenAt bytes place end (values.Text text) → IsTokenAt bytes place (variants.Text text) end
+  pub text_read : (text : List ℕ) (end : ℕ) → ValueTokenAt bytes place end (values.Text text) → IsTokenAt bytes place (variants.Text text) end
   text_read text end t = record {
     size = length t.token;
     ends = t.ends;
@@ -25,42 +22,42 @@ module _ (bytes : List ℕ) (place : ℕ) where
     first_is : slice_index (drop place bytes) 0 ≡ slice_index bytes place
     first_is = ap (λ l. slice_index l 0) (text_at bytes place within)
 
-    number_read : (number : ℤ) (end : ℕ) → (t : TokenAt bytes place end (values.Num number))
-        → IsFront (drop place bytes) (number_token (slice_index bytes place) number) (length t.token)
+    number_read : (number : ℤ) (end : ℕ) → (t : ValueTokenAt bytes place end (values.Num number))
+        → IsFrontToken (drop place bytes) (number_token (slice_index bytes place) number) (length t.token)
     number_read number end t =
-        subst (λ b. IsFront (drop place bytes) (number_token b number) (length t.token)) first_is
+        subst (λ b. IsFrontToken (drop place bytes) (number_token b number) (length t.token)) first_is
         (front_from_number (drop place bytes) number (length t.token) (token_at_front bytes place end (values.Num number) t))
 
-    pub negative_read : (number : ℤ) (end n : ℕ) → TokenAt bytes place end (values.Num number) → slice_index bytes place ≡ 45 → n ≡ unsigned_abs number
+    pub negative_read : (number : ℤ) (end n : ℕ) → ValueTokenAt bytes place end (values.Num number) → slice_index bytes place ≡ 45 → n ≡ unsigned_abs number
         → IsTokenAt bytes place (variants.Negative n) end
     negative_read number end n t minus is = record {
       size = length t.token;
       ends = t.ends;
-      front = subst (λ token. IsFront (drop place bytes) token (length t.token)) (ap (λ b. number_token b number) minus ∙ ap Negative (sym is)) (number_read number end t);
+      front = subst (λ token. IsFrontToken (drop place bytes) token (length t.token)) (ap (λ b. number_token b number) minus ∙ ap NegativeToken (sym is)) (number_read number end t);
     }
 
-    pub digits_read : (number : ℤ) (end n : ℕ) → TokenAt bytes place end (values.Num number) → (slice_index bytes place ≡ 45 → ⊥) → n ≡ unsigned_abs number
+    pub digits_read : (number : ℤ) (end n : ℕ) → ValueTokenAt bytes place end (values.Num number) → (slice_index bytes place ≡ 45 → ⊥) → n ≡ unsigned_abs number
         → IsTokenAt bytes place (variants.Digits n) end
     digits_read number end n t plain is =
         let no_minus : (slice_index bytes place == 45) ≡ false = grind (arith, nat_tests, plain) in
         record {
           size = length t.token;
           ends = t.ends;
-          front = subst (λ token. IsFront (drop place bytes) token (length t.token))
-              (ap (λ b. cond b (Negative (unsigned_abs number)) (Digits (unsigned_abs number))) no_minus ∙ ap Digits (sym is)) (number_read number end t);
+          front = subst (λ token. IsFrontToken (drop place bytes) token (length t.token))
+              (ap (λ b. cond b (NegativeToken (unsigned_abs number)) (NumberToken (unsigned_abs number))) no_minus ∙ ap NumberToken (sym is)) (number_read number end t);
         }
 
-    pub nothing_read : begins_value (drop place bytes) ≡ true → ((value : Value) (end : ℕ) → TokenAt bytes place end value → ⊥) → IsTokenAt bytes place variants.Wrong (length bytes)
+    pub nothing_read : begins_value (drop place bytes) ≡ true → ((value : Value) (end : ℕ) → ValueTokenAt bytes place end value → ⊥) → IsTokenAt bytes place variants.Wrong (length bytes)
     nothing_read begins none = record {
       size = length (drop place bytes);
       ends = omega (arith, length-drop place bytes, within);
       front = wrong_from_none (drop place bytes) begins (λ value end t. none value (place + end) (token_at_place bytes place end value t));
     }
 
-no_mark : (bytes : List ℕ) → 0 < length bytes → is_word_start (slice_index bytes 0) ≡ false → begins_value bytes ≡ false → IsMarkAt bytes None → IsFront bytes Wrong (length bytes)
+no_mark : (bytes : List ℕ) → 0 < length bytes → is_word_start (slice_index bytes 0) ≡ false → begins_value bytes ≡ false → IsMarkAt bytes None → IsFrontToken bytes WrongToken (length bytes)
 no_mark [] some word value none = absurd (omega (arith, some))
 no_mark (byte ∷ rest) some word value none =
-    ap (token_piece (1 + length rest)) (mark_front byte rest word value ∙ ap mark_lexeme (sym none)) ∙ ap (λ n. (Some Wrong, n)) (omega arith)
+    ap (token_piece (1 + length rest)) (mark_front byte rest word value ∙ ap mark_lexeme (sym none)) ∙ ap (λ n. (Some WrongToken, n)) (omega arith)
 
 pub no_token : (bytes : List ℕ) (place : ℕ) (rest : List ℕ) → place < length bytes → rest ≡ take (length bytes - place) (drop place bytes)
     → is_word_start (slice_index bytes place) ≡ false → begins_value rest ≡ false → IsMarkAt rest None → IsTokenAt bytes place variants.Wrong (length bytes)

@@ -1,9 +1,9 @@
 //! Laws of tokens, each the contract of a function with an empty body.
 ghost use Rattle.std.specs.Prelude.{◌≡◌, ◌∷◌, ◌++◌, [], codes};
-ghost use Rattle.enf_value.specs.TokenLaws.{OneCut, PrintedIsCut, SpelledIsRead, TextsAreCut};
-ghost use Rattle.enf_value.specs.Tokens.{tokens};
-ghost use Rattle.enf_value.specs.Tokens as token;
-ghost use Rattle.enf_value.specs.ValueTokens.{PrintedIsToken, OneTokenAtPlace, TokenIsLongest};
+ghost use Rattle.enf_value.specs.machine.Laws.{OneCut, PrintedIsCut, SpelledIsRead, TextsAreCut, PrintedIsToken};
+ghost use Rattle.enf_value.specs.machine.Laws.{OneTokenAtPlace, TokenIsLongest};
+ghost use Rattle.enf_value.specs.meaning.Tokens.{tokens};
+ghost use Rattle.enf_value.specs.meaning.Tokens as token;
 ghost use Rattle.enf_value.specs.declared.tokens.Mark.TheVariants as mark;
 
 /// What is printed for a value is read again as that value, whatever follows that does not lengthen a number.
@@ -45,21 +45,22 @@ pub fn printed_is_cut()
 /// Worked cases of tokens.
 pub fn worked_cases()
     ensures longest { tokens (codes "a1+-5;")
-        ≡ (0, token.Word (codes "a1")) ∷ (2, token.Mark mark.PlusMinus)
-        ∷ (4, token.Digits 5) ∷ (5, token.Mark mark.Semicolon) ∷ [] }
-    ensures apart { tokens (codes "+ -") ≡ (0, token.Mark mark.Plus) ∷ (2, token.Mark mark.Minus) ∷ [] }
+        ≡ (0, token.WordToken (codes "a1")) ∷ (2, token.SymbolToken mark.PlusMinus)
+        ∷ (4, token.NumberToken 5) ∷ (5, token.SymbolToken mark.Semicolon) ∷ [] }
+    ensures apart { tokens (codes "+ -") ≡ (0, token.SymbolToken mark.Plus) ∷ (2, token.SymbolToken mark.Minus) ∷
+        [] }
     ensures minus { tokens (codes "<-5 --> 007")
-        ≡ (0, token.Mark mark.Less) ∷ (1, token.Negative 5) ∷ (4, token.Mark mark.Minus)
-        ∷ (5, token.Mark mark.Arrow) ∷ (8, token.Digits 7) ∷ [] }
+        ≡ (0, token.SymbolToken mark.Less) ∷ (1, token.NegativeToken 5) ∷ (4, token.SymbolToken mark.Minus)
+        ∷ (5, token.SymbolToken mark.Arrow) ∷ (8, token.NumberToken 7) ∷ [] }
     ensures comment { tokens (codes "a #(" ++ 10 ∷ codes ")#;")
-        ≡ (0, token.Word (codes "a")) ∷ (5, token.Mark mark.CloseParen) ∷ [] }
-    ensures least { tokens (codes "-9223372036854775808") ≡ (0, token.Negative 9223372036854775808) ∷ [] }
-    ensures too_great { tokens (codes "a 9223372036854775808 b") ≡ (0, token.Word (codes "a"))
-        ∷ (2, token.Wrong) ∷ [] }
+        ≡ (0, token.WordToken (codes "a")) ∷ (5, token.SymbolToken mark.CloseParen) ∷ [] }
+    ensures least { tokens (codes "-9223372036854775808") ≡ (0, token.NegativeToken 9223372036854775808) ∷ [] }
+    ensures too_great { tokens (codes "a 9223372036854775808 b") ≡ (0, token.WordToken (codes "a"))
+        ∷ (2, token.WrongToken) ∷ [] }
     ensures text { tokens (34 ∷ codes "a#" ++ 92 ∷ 110 ∷ 34 ∷ codes "b")
-        ≡ (0, token.Text (codes "a#" ++ 10 ∷ [])) ∷ (6, token.Word (codes "b")) ∷ [] }
-    ensures no_quote { tokens (codes "a" ++ 34 ∷ codes "b c") ≡ (0, token.Word (codes "a"))
-        ∷ (1, token.Wrong) ∷ [] }
-    ensures wrong_escape { tokens (34 ∷ 92 ∷ codes "x" ++ 34 ∷ []) ≡ (0, token.Wrong) ∷ [] }
-    ensures wrong_byte { tokens (codes "!;") ≡ (0, token.Wrong) ∷ [] }
+        ≡ (0, token.TextToken (codes "a#" ++ 10 ∷ [])) ∷ (6, token.WordToken (codes "b")) ∷ [] }
+    ensures no_quote { tokens (codes "a" ++ 34 ∷ codes "b c") ≡ (0, token.WordToken (codes "a"))
+        ∷ (1, token.WrongToken) ∷ [] }
+    ensures wrong_escape { tokens (34 ∷ 92 ∷ codes "x" ++ 34 ∷ []) ≡ (0, token.WrongToken) ∷ [] }
+    ensures wrong_byte { tokens (codes "!;") ≡ (0, token.WrongToken) ∷ [] }
 {}

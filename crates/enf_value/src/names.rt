@@ -1,12 +1,12 @@
 //! Words and names, and the longest front of a text that is of one kind.
 ghost use Rattle.std.specs.Prelude.{◌≡◌, ◌≤◌, IfOk, IsTrue, length, take_while};
 ghost use Rattle.std.specs.List.{prefix_len};
-ghost use Rattle.enf_value.specs.Names.{is_reserved, is_word};
-ghost use Rattle.enf_value.specs.Kinds.{has};
+ghost use Rattle.enf_value.specs.meaning.Tokens.{is_reserved, is_word};
+ghost use Rattle.enf_value.specs.machine.ValueCalls.{is_of_kind};
 
-use crate::limits::MOST_NAME_BYTES;
-use crate::memory::NoMemory;
-use crate::texts::{TextRefusal, TextValue};
+use enf_data::limits::MOST_NAME_BYTES;
+use enf_data::memory::NoMemory;
+use enf_data::texts::{TextRefusal, TextValue};
 use std::alloc::Global;
 
 /// A kind of byte.
@@ -27,7 +27,7 @@ pub enum ByteKind {
 impl ByteKind {
     /// Whether a byte is of this kind.
     pub fn has(self, byte: u8) -> bool
-        ensures { result ≡ has self byte }
+        ensures { result ≡ is_of_kind self byte }
     {
         match self {
             ByteKind::Digit => byte.is_ascii_digit(),
@@ -40,7 +40,7 @@ impl ByteKind {
 
     /// How many bytes of this kind stand at the front of a text.
     pub fn front_length(self, bytes: &[u8]) -> usize
-        ensures length { result ≡ prefix_len (has self) bytes.now }
+        ensures length { result ≡ prefix_len (is_of_kind self) bytes.now }
         ensures within { result ≤ length bytes.now }
     {
         bytes.iter().take_while(|byte| self.has(**byte)).count()
@@ -48,7 +48,7 @@ impl ByteKind {
 
     /// The bytes of this kind at the front of a text, as many as there are.
     pub fn front(self, bytes: &[u8]) -> &[u8]
-        ensures { result.now ≡ take_while (has self) bytes.now }
+        ensures { result.now ≡ take_while (is_of_kind self) bytes.now }
     {
         &bytes[..self.front_length(bytes)]
     }

@@ -3,17 +3,18 @@ ghost use Rattle.std.specs.Prelude.{◌≡◌, ◌++◌, ◌∷◌, ◌<◌, ◌
 ghost use Rattle.std.specs.Prelude.{decimal, length, take};
 ghost use Rattle.std.specs.Fmt.{signed_decimal};
 ghost use Rattle.std.specs.List.{flat_map};
-ghost use Rattle.enf_value.specs.Spelling.{spelled, escaped, quoted, AppendsPart};
+ghost use Rattle.enf_value.specs.meaning.Tokens.{spelled, escaped, quoted};
+ghost use Rattle.enf_value.specs.machine.ValueCalls.{AppendsPart};
 
-use crate::memory::NoMemory;
 use crate::names::ByteKind;
-use crate::values::Value;
+use enf_data::memory::NoMemory;
+use enf_data::values::Value;
 use itoa::{Buffer, write_digits};
 
 // How many digits the greatest number has.
 const MOST_DIGITS: usize = 20;
 
-/// Appends bytes; for want of memory nothing is appended.
+/// Appends bytes; where memory runs out, nothing is appended.
 #[inline(always)]
 pub fn print_bytes(bytes: &[u8], out: &mut Vec<u8>) -> Result<(), NoMemory>
     ensures ok { OnOk result (out.new.items ≡ out.old.items ++ bytes.now) }
@@ -23,7 +24,7 @@ pub fn print_bytes(bytes: &[u8], out: &mut Vec<u8>) -> Result<(), NoMemory>
     Ok(())
 }
 
-/// Appends a byte; for want of memory nothing is appended.
+/// Appends a byte; where memory runs out, nothing is appended.
 #[inline(always)]
 pub fn print_byte(byte: u8, out: &mut Vec<u8>) -> Result<(), NoMemory>
     ensures ok { OnOk result (out.new.items ≡ out.old.items ++ byte ∷ []) }
@@ -33,7 +34,7 @@ pub fn print_byte(byte: u8, out: &mut Vec<u8>) -> Result<(), NoMemory>
     Ok(())
 }
 
-/// Appends a number's decimal text; for want of memory nothing is appended.
+/// Appends a number's decimal text; where memory runs out, nothing is appended.
 #[inline(always)]
 pub fn print_number(number: u64, out: &mut Vec<u8>) -> Result<(), NoMemory>
     ensures ok { OnOk result (out.new.items ≡ out.old.items ++ decimal number) }
@@ -42,7 +43,7 @@ pub fn print_number(number: u64, out: &mut Vec<u8>) -> Result<(), NoMemory>
     if number < 10 {
         return print_byte(b'0' + number as u8, out);
     }
-    // Behind the digits there are as many bytes more, so that each copy has the same length.
+    // After the digits there are as many bytes more, so that each copy has the same length.
     let mut digits = [0; 2 * MOST_DIGITS];
     let start = write_digits(number, &mut digits, MOST_DIGITS);
     let end = out.len() + (MOST_DIGITS - start);
@@ -100,7 +101,7 @@ fn print_escaped(bytes: &[u8], out: &mut Vec<u8>) -> Result<(), NoMemory>
     Ok(())
 }
 
-// Appends the bytes that stand for themselves, and the byte behind them, and gives how many they are.
+// Appends the bytes that stand for themselves, and the byte after them, and gives how many they are.
 fn print_front(bytes: &[u8], out: &mut Vec<u8>) -> Result<usize, NoMemory>
     requires { 0 < length bytes.now }
     ensures ok { IfOk result (λ count. out.new.items ≡ out.old.items ++ flat_map escaped (take count bytes.now)) }
@@ -130,7 +131,7 @@ fn print_escaped_byte(byte: u8, out: &mut Vec<u8>) -> Result<(), NoMemory>
     }
 }
 
-/// Appends the value's text: a number in decimal, a text in quotes with its escapes. For want of memory a front
+/// Appends the value's text: a number in decimal, a text in quotes with its escapes. Where memory runs out, a front
 /// of that text is appended.
 #[inline(always)]
 pub fn print_value(value: &Value, out: &mut Vec<u8>) -> Result<(), NoMemory>

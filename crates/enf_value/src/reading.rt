@@ -1,25 +1,25 @@
 //! The tokens of values, read where they begin.
-ghost use Rattle.std.specs.Prelude.{◌≡◌, ◌≢◌, ◌<◌, ◌≤◌, ◌+◌, ◌==◌};
-ghost use Rattle.std.specs.Prelude.{◌^◌, ℕ, ℤ, pos};
-ghost use Rattle.std.specs.Prelude.{List, length, take, drop, slice_index};
-ghost use Rattle.std.specs.Prelude.{IfOk, IfSome, IfNone, IsTrue, OnErr, if◌then◌else◌};
+ghost use Rattle.std.specs.Prelude.{◌≡◌, ◌≢◌, ◌<◌, ◌≤◌, ◌+◌, ◌==◌, ◌^◌, ℕ, ℤ};
+ghost use Rattle.std.specs.Prelude.{pos, List, length, take, drop, slice_index, IfOk, IfSome, IfNone, IsTrue, OnErr};
+ghost use Rattle.std.specs.Prelude.{if◌then◌else◌};
 ghost use Rattle.std.specs.Char.{is_ascii_digit};
 ghost use Rattle.std.specs.List.{prefix_len};
 ghost use Rattle.std.specs.Str.{IsAscii};
-ghost use Rattle.enf_value.specs.Text.{IsText};
-ghost use Rattle.enf_value.specs.ValueTokens.{PutsToken, TokenAt, WrittenAt, meaning};
-ghost use Rattle.enf_value.specs.declared.values.Value.{Value as AnyValue};
-ghost use Rattle.enf_value.specs.declared.values.Value.TheVariants.{Num, Text};
+ghost use Rattle.enf_data.specs.meaning.Texts.{IsTextValue};
+ghost use Rattle.enf_value.specs.machine.ValueCalls.{PutsValueToken, WrittenTextAt};
+ghost use Rattle.enf_value.specs.meaning.Tokens.{ValueTokenAt, escape_meaning};
+ghost use Rattle.enf_data.specs.declared.values.Value.{Value as AnyValue};
+ghost use Rattle.enf_data.specs.declared.values.Value.TheVariants.{Num, Text};
 
-use crate::limits::MOST_TEXT_BYTES;
-use crate::memory::NoMemory;
 use crate::names::ByteKind;
-use crate::rows::Row;
-use crate::texts::{TextRefusal, TextValue};
-use crate::values::Value;
+use enf_data::limits::MOST_TEXT_BYTES;
+use enf_data::memory::NoMemory;
+use enf_data::rows::Row;
+use enf_data::texts::{TextRefusal, TextValue};
+use enf_data::values::Value;
 use std::alloc::Global;
 
-/// The value of the number or text token that begins at a place, and the place behind it; none where no token
+/// The value of the number or text token that begins at a place, and the place after it; none where no token
 /// begins there or its value is refused. A number takes all digits that follow, so the token ends at another byte
 /// or at the end.
 #[inline(always)]
@@ -29,10 +29,10 @@ pub fn read_value(
     at: usize,
 ) -> Result<Option<(Value, usize)>, NoMemory>
     requires { at ≤ length bytes.now }
-    ensures some { IfOk result (λ found. IfSome found (λ read. TokenAt bytes.now at read.1 read.0)) }
+    ensures some { IfOk result (λ found. IfSome found (λ read. ValueTokenAt bytes.now at read.1 read.0)) }
     ensures within { IfOk result (λ found. IfSome found (λ read. (at < read.1) × (read.1 ≤ length bytes.now))) }
     ensures none { IfOk result
-        (λ found. IfNone found ((value : AnyValue) (end : ℕ) → TokenAt bytes.now at end value → ⊥)) }
+        (λ found. IfNone found ((value : AnyValue) (end : ℕ) → ValueTokenAt bytes.now at end value → ⊥)) }
 {
     let Some((value, length)) = read_front(alloc, &bytes[at..])? else {
         return Ok(None);
@@ -40,7 +40,7 @@ pub fn read_value(
     Ok(Some((value, at + length)))
 }
 
-/// Puts the value of the token that begins at a place last in a row, and gives the place behind the token; none where
+/// Puts the value of the token that begins at a place last in a row, and gives the place after the token; none where
 /// `read_value` gives none, and then the row stays.
 #[inline(always)]
 pub fn put_value(
@@ -50,10 +50,10 @@ pub fn put_value(
     row: &mut Row,
 ) -> Result<Option<usize>, NoMemory>
     requires { at ≤ length bytes.now }
-    ensures some { IfOk result (λ found. IfSome found (λ end. PutsToken bytes.now at end row.old row.new)) }
+    ensures some { IfOk result (λ found. IfSome found (λ end. PutsValueToken bytes.now at end row.old row.new)) }
     ensures within { IfOk result (λ found. IfSome found (λ end. (at < end) × (end ≤ length bytes.now))) }
     ensures none { IfOk result
-        (λ found. IfNone found ((value : AnyValue) (end : ℕ) → TokenAt bytes.now at end value → ⊥)) }
+        (λ found. IfNone found ((value : AnyValue) (end : ℕ) → ValueTokenAt bytes.now at end value → ⊥)) }
     ensures kept { IfOk result (λ found. IfNone found (row.new ≡ row.old)) }
     ensures err { OnErr result (row.new ≡ row.old) }
 {
@@ -65,9 +65,9 @@ pub fn put_value(
 
 #[inline(always)]
 fn put_front(alloc: Global, bytes: &[u8], row: &mut Row) -> Result<Option<usize>, NoMemory>
-    ensures some { IfOk result (λ found. IfSome found (λ end. PutsToken bytes.now 0 end row.old row.new)) }
+    ensures some { IfOk result (λ found. IfSome found (λ end. PutsValueToken bytes.now 0 end row.old row.new)) }
     ensures none { IfOk result
-        (λ found. IfNone found ((value : AnyValue) (end : ℕ) → TokenAt bytes.now 0 end value → ⊥)) }
+        (λ found. IfNone found ((value : AnyValue) (end : ℕ) → ValueTokenAt bytes.now 0 end value → ⊥)) }
     ensures kept { IfOk result (λ found. IfNone found (row.new ≡ row.old)) }
     ensures err { OnErr result (row.new ≡ row.old) }
 {
@@ -80,9 +80,9 @@ fn put_front(alloc: Global, bytes: &[u8], row: &mut Row) -> Result<Option<usize>
 
 #[inline(always)]
 fn put_number(bytes: &[u8], row: &mut Row) -> Result<Option<usize>, NoMemory>
-    ensures some { IfOk result (λ found. IfSome found (λ end. PutsToken bytes.now 0 end row.old row.new)) }
+    ensures some { IfOk result (λ found. IfSome found (λ end. PutsValueToken bytes.now 0 end row.old row.new)) }
     ensures none { IfOk result
-        (λ found. IfNone found ((number : ℤ) (end : ℕ) → TokenAt bytes.now 0 end (Num number) → ⊥)) }
+        (λ found. IfNone found ((number : ℤ) (end : ℕ) → ValueTokenAt bytes.now 0 end (Num number) → ⊥)) }
     ensures kept { IfOk result (λ found. IfNone found (row.new ≡ row.old)) }
     ensures err { OnErr result (row.new ≡ row.old) }
 {
@@ -97,9 +97,9 @@ fn put_number(bytes: &[u8], row: &mut Row) -> Result<Option<usize>, NoMemory>
 #[inline(always)]
 fn put_text(alloc: Global, bytes: &[u8], row: &mut Row) -> Result<Option<usize>, NoMemory>
     requires { slice_index bytes.now 0 ≡ 34 }
-    ensures some { IfOk result (λ found. IfSome found (λ end. PutsToken bytes.now 0 end row.old row.new)) }
+    ensures some { IfOk result (λ found. IfSome found (λ end. PutsValueToken bytes.now 0 end row.old row.new)) }
     ensures none { IfOk result
-        (λ found. IfNone found ((text : List ℕ) (end : ℕ) → TokenAt bytes.now 0 end (Text text) → ⊥)) }
+        (λ found. IfNone found ((text : List ℕ) (end : ℕ) → ValueTokenAt bytes.now 0 end (Text text) → ⊥)) }
     ensures kept { IfOk result (λ found. IfNone found (row.new ≡ row.old)) }
     ensures err { OnErr result (row.new ≡ row.old) }
 {
@@ -117,9 +117,9 @@ fn put_text(alloc: Global, bytes: &[u8], row: &mut Row) -> Result<Option<usize>,
 #[inline(never)]
 fn put_any_text(alloc: Global, bytes: &[u8], row: &mut Row) -> Result<Option<usize>, NoMemory>
     requires { slice_index bytes.now 0 ≡ 34 }
-    ensures some { IfOk result (λ found. IfSome found (λ end. PutsToken bytes.now 0 end row.old row.new)) }
+    ensures some { IfOk result (λ found. IfSome found (λ end. PutsValueToken bytes.now 0 end row.old row.new)) }
     ensures none { IfOk result
-        (λ found. IfNone found ((text : List ℕ) (end : ℕ) → TokenAt bytes.now 0 end (Text text) → ⊥)) }
+        (λ found. IfNone found ((text : List ℕ) (end : ℕ) → ValueTokenAt bytes.now 0 end (Text text) → ⊥)) }
     ensures kept { IfOk result (λ found. IfNone found (row.new ≡ row.old)) }
     ensures err { OnErr result (row.new ≡ row.old) }
 {
@@ -132,9 +132,9 @@ fn put_any_text(alloc: Global, bytes: &[u8], row: &mut Row) -> Result<Option<usi
 
 #[inline(always)]
 fn read_front(alloc: Global, bytes: &[u8]) -> Result<Option<(Value, usize)>, NoMemory>
-    ensures some { IfOk result (λ found. IfSome found (λ read. TokenAt bytes.now 0 read.1 read.0)) }
+    ensures some { IfOk result (λ found. IfSome found (λ read. ValueTokenAt bytes.now 0 read.1 read.0)) }
     ensures none { IfOk result
-        (λ found. IfNone found ((value : AnyValue) (end : ℕ) → TokenAt bytes.now 0 end value → ⊥)) }
+        (λ found. IfNone found ((value : AnyValue) (end : ℕ) → ValueTokenAt bytes.now 0 end value → ⊥)) }
 {
     if begins_text(bytes) {
         Ok(read_text(alloc, bytes)?.map(|(text, end)| (Value::Text(text), end)))
@@ -150,8 +150,8 @@ fn begins_text(bytes: &[u8]) -> bool
 }
 
 fn read_number(bytes: &[u8]) -> Option<(i64, usize)>
-    ensures some { IfSome result (λ read. TokenAt bytes.now 0 read.1 (Num read.0)) }
-    ensures none { IfNone result ((number : ℤ) (end : ℕ) → TokenAt bytes.now 0 end (Num number) → ⊥) }
+    ensures some { IfSome result (λ read. ValueTokenAt bytes.now 0 read.1 (Num read.0)) }
+    ensures none { IfNone result ((number : ℤ) (end : ℕ) → ValueTokenAt bytes.now 0 end (Num number) → ⊥) }
 {
     if let Some((number, end)) = read_digits(bytes, 0) {
         return Some((number as i64, end));
@@ -161,18 +161,18 @@ fn read_number(bytes: &[u8]) -> Option<(i64, usize)>
     Some((number, end))
 }
 
-// A number above this one is 2^63 or more with any digit behind it.
+// A number above this one is 2^63 or more with any digit after it.
 const MOST_BEFORE_A_DIGIT: u64 = 922_337_203_685_477_580;
 
-/// The number below 2^63 that digits alone write at a place, and the place behind them; none where no such number
+/// The number below 2^63 that digits alone write at a place, and the place after them; none where no such number
 /// stands there.
 pub fn read_digits(bytes: &[u8], at: usize) -> Option<(u64, usize)>
     requires { at ≤ length bytes.now }
-    ensures some { IfSome result (λ read. TokenAt bytes.now at read.1 (Num (pos read.0))) }
+    ensures some { IfSome result (λ read. ValueTokenAt bytes.now at read.1 (Num (pos read.0))) }
     ensures digits { IfSome result (λ read. slice_index bytes.now at ≢ 45) }
     ensures within { IfSome result (λ read. (at < read.1) × (read.1 ≤ length bytes.now) × (read.0 < 2 ^ 63)) }
     ensures none { IfNone result ((number end : ℕ) → slice_index bytes.now at ≢ 45
-        → TokenAt bytes.now at end (Num (pos number)) → ⊥) }
+        → ValueTokenAt bytes.now at end (Num (pos number)) → ⊥) }
 {
     let mut number = 0;
     let mut end = at;
@@ -204,9 +204,9 @@ fn number_end(bytes: &[u8]) -> usize
 #[inline(always)]
 fn read_text(alloc: Global, bytes: &[u8]) -> Result<Option<(TextValue, usize)>, NoMemory>
     requires { slice_index bytes.now 0 ≡ 34 }
-    ensures some { IfOk result (λ found. IfSome found (λ read. TokenAt bytes.now 0 read.1 (Text read.0))) }
+    ensures some { IfOk result (λ found. IfSome found (λ read. ValueTokenAt bytes.now 0 read.1 (Text read.0))) }
     ensures none { IfOk result
-        (λ found. IfNone found ((text : List ℕ) (end : ℕ) → TokenAt bytes.now 0 end (Text text) → ⊥)) }
+        (λ found. IfNone found ((text : List ℕ) (end : ℕ) → ValueTokenAt bytes.now 0 end (Text text) → ⊥)) }
 {
     let behind = &bytes[1..];
     if let Some((quote, _)) = plain_end(behind) {
@@ -218,11 +218,11 @@ fn read_text(alloc: Global, bytes: &[u8]) -> Result<Option<(TextValue, usize)>, 
     text_token(alloc, written.as_slice(), quote)
 }
 
-// Where the last quote of a text stands that has no escape, in the bytes behind its first, and whether all bytes up to
+// Where the last quote of a text stands that has no escape, in the bytes after its first, and whether all bytes up to
 // it are ASCII.
 #[inline(always)]
 fn plain_end(bytes: &[u8]) -> Option<(usize, bool)>
-    ensures written { IfSome result (λ found. WrittenAt bytes.now found.0 (take found.0 bytes.now)) }
+    ensures written { IfSome result (λ found. WrittenTextAt bytes.now found.0 (take found.0 bytes.now)) }
     ensures within { IfSome result (λ found. found.0 < length bytes.now) }
     ensures ascii { IfSome result (λ found. IsTrue found.1 → IsAscii (take found.0 bytes.now)) }
 {
@@ -241,7 +241,7 @@ fn plain_end(bytes: &[u8]) -> Option<(usize, bool)>
     None
 }
 
-// The text, where its bytes are one, and the place behind its last quote.
+// The text, where its bytes are one, and the place after its last quote.
 #[inline(always)]
 fn text_token(
     alloc: Global,
@@ -249,11 +249,11 @@ fn text_token(
     quote: usize,
 ) -> Result<Option<(TextValue, usize)>, NoMemory>
     requires { quote < 2 ^ 63 }
-    ensures some { (bytes : List ℕ) → slice_index bytes 0 ≡ 34 → WrittenAt (drop 1 bytes) quote text.now
-        → IfOk result (λ found. IfSome found (λ read. TokenAt bytes 0 read.1 (Text read.0))) }
-    ensures none { (bytes : List ℕ) → WrittenAt (drop 1 bytes) quote text.now
+    ensures some { (bytes : List ℕ) → slice_index bytes 0 ≡ 34 → WrittenTextAt (drop 1 bytes) quote text.now
+        → IfOk result (λ found. IfSome found (λ read. ValueTokenAt bytes 0 read.1 (Text read.0))) }
+    ensures none { (bytes : List ℕ) → WrittenTextAt (drop 1 bytes) quote text.now
         → IfOk result
-        (λ found. IfNone found ((other : List ℕ) (end : ℕ) → TokenAt bytes 0 end (Text other) → ⊥)) }
+        (λ found. IfNone found ((other : List ℕ) (end : ℕ) → ValueTokenAt bytes 0 end (Text other) → ⊥)) }
 {
     match TextValue::from_bytes(alloc, text) {
         Ok(text) => Ok(Some((text, quote + 2))),
@@ -263,13 +263,13 @@ fn text_token(
     }
 }
 
-// The bytes of a text behind its first quote, and where its last quote stands.
+// The bytes of a text after its first quote, and where its last quote stands.
 #[inline(never)]
 fn read_written(alloc: Global, bytes: &[u8]) -> Result<Option<(Vec<u8>, usize)>, NoMemory>
-    ensures some { IfOk result (λ found. IfSome found (λ read. WrittenAt bytes.now read.1 read.0.items)) }
+    ensures some { IfOk result (λ found. IfSome found (λ read. WrittenTextAt bytes.now read.1 read.0.items)) }
     ensures within { IfOk result (λ found. IfSome found (λ read. read.1 < length bytes.now)) }
     ensures none { IfOk result
-        (λ found. IfNone found ((text : List ℕ) (end : ℕ) → WrittenAt bytes.now end text → ⊥)) }
+        (λ found. IfNone found ((text : List ℕ) (end : ℕ) → WrittenTextAt bytes.now end text → ⊥)) }
 {
     let mut text = Vec::new(alloc);
     let mut escape = false;
@@ -291,7 +291,7 @@ fn read_written(alloc: Global, bytes: &[u8]) -> Result<Option<(Vec<u8>, usize)>,
 }
 
 fn escaped_by(letter: u8) -> Option<u8>
-    ensures { result ≡ meaning letter }
+    ensures { result ≡ escape_meaning letter }
 {
     match letter {
         b'"' | b'\\' => Some(letter),

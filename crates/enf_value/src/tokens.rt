@@ -1,18 +1,17 @@
 //! The tokens of signatures and policies, each read where it begins.
 ghost use Rattle.std.specs.Prelude.{◌≡◌, ◌<◌, ◌≤◌, ◌+◌, ◌-◌, ◌∷◌, [], false, true, IfOk};
-ghost use Rattle.std.specs.Prelude.{IfSome, IfNone, drop};
-ghost use Rattle.std.specs.Prelude.{length, slice_index};
-ghost use Rattle.enf_value.specs.Tokens.{IsProper, is_blank, mark_text, tokens_at};
-ghost use Rattle.enf_value.specs.Names.{is_word_start};
-ghost use Rattle.enf_value.specs.TokenViews.{BeginsToken, IsMarkAt, IsTokenAt, begins_value, placed_of, token_of};
+ghost use Rattle.std.specs.Prelude.{IfSome, IfNone, drop, length, slice_index};
+ghost use Rattle.enf_value.specs.machine.TokenViews.{IsProper, BeginsToken, IsMarkAt, IsTokenAt, begins_value};
+ghost use Rattle.enf_value.specs.machine.TokenViews.{placed_of, token_of};
+ghost use Rattle.enf_value.specs.meaning.Tokens.{is_blank, mark_text, tokens_at, is_word_start};
 
-use crate::limits::MOST_FILE_BYTES;
-use crate::memory::NoMemory;
 use crate::names::ByteKind;
-use crate::places::Place;
 use crate::reading::read_value;
-use crate::texts::TextValue;
-use crate::values::Value;
+use enf_data::limits::MOST_FILE_BYTES;
+use enf_data::memory::NoMemory;
+use enf_data::places::Place;
+use enf_data::texts::TextValue;
+use enf_data::values::Value;
 use std::alloc::Global;
 
 /// A token of one or two bytes that is no word, number or text.
@@ -48,7 +47,7 @@ pub enum Token<'a> {
     Wrong,
 }
 
-/// A token, where it begins, and the place behind it.
+/// A token, where it begins, and the place after it.
 #[derive(Debug, Drop)]
 pub struct PlacedToken<'a> {
     pub token: Token<'a>,
@@ -56,7 +55,7 @@ pub struct PlacedToken<'a> {
     pub end: usize,
 }
 
-/// The next token at a place or behind it; none where blanks and comments alone are left. Behind a wrong token there
+/// The next token at a place or after it; none where blanks and comments alone are left. After a wrong token there
 /// is none.
 pub fn next_token(
     alloc: Global,
@@ -91,7 +90,7 @@ fn is_blank(byte: u8) -> bool
     matches!(byte, b' ' | b'\t' | b'\r' | b'\n')
 }
 
-// The place behind the blanks and comments that begin at a place.
+// The place after the blanks and comments that begin at a place.
 fn token_place(bytes: &[u8], at: usize) -> usize
     requires { at ≤ length bytes.now }
     ensures from { at ≤ result }
@@ -126,7 +125,7 @@ fn begins_value(bytes: &[u8]) -> bool
     matches!(bytes, [b'0'..=b'9' | b'"', ..] | [b'-', b'0'..=b'9', ..])
 }
 
-// The token that begins at a place, and the place behind it.
+// The token that begins at a place, and the place after it.
 fn token_at(alloc: Global, bytes: &[u8], place: usize) -> Result<(Token<'_>, usize), NoMemory>
     requires { place < length bytes.now }
     ensures { IfOk result (λ read. IsTokenAt bytes.now place read.0 read.1) }
@@ -145,7 +144,7 @@ fn token_at(alloc: Global, bytes: &[u8], place: usize) -> Result<(Token<'_>, usi
     }
 }
 
-// The number or the text that begins at a place, and the place behind it.
+// The number or the text that begins at a place, and the place after it.
 fn value_at(alloc: Global, bytes: &[u8], place: usize) -> Result<(Token<'_>, usize), NoMemory>
     requires within { place < length bytes.now }
     requires begins { begins_value (drop place bytes.now) ≡ true }

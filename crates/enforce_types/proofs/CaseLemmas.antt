@@ -1,14 +1,7 @@
 -- What guards and tests of small formulas ask.
-use Rattle.std.proofs.Common.{◌≡◌, ℕ, [], ◌∷◌, Contains, ⊎_elim, subst}
-use Rattle.enf_value.specs.declared.terms.Term.{Term}
-use Rattle.enf_value.specs.declared.terms.Term.TheVariants.{Var}
-use Rattle.enf_value.specs.declared.terms.VarId.{VarId}
-use Rattle.enf_formula.specs.Cases.{x}
-use Rattle.enf_formula.specs.Formulas.{Not}
-use Rattle.enf_value.specs.ListLaws.{here, later, first_or_later, none_in_nil}
-use Rattle.monitorable_guard.specs.Safety.{IsTest}
-use Rattle.enforce_types.specs.Answers.{Guards}
-use Rattle.enforce_types.specs.Cases.{y, p_at, q_at, p_x_at, p_x_y_at, once_p, once_q}
+use Rattle.enforce_types.proofs.Vocabulary.{◌≡◌, ℕ, [], ◌∷◌, Contains, ⊎_elim, subst, Term, Var, VarId}
+use Rattle.enforce_types.proofs.Vocabulary.{variable_x, Not, here, later, first_or_later, none_in_nil, IsTest}
+use Rattle.enforce_types.proofs.Vocabulary.{IsGuardFor, var_y, p_at, q_at, p_x_at, p_x_y_at, once_p, once_q}
 
 -- without terms no variable is free
 pub closed : (z : VarId) → Contains {X = Term} [] (Var z) → Contains [] z
@@ -26,20 +19,25 @@ test_not_q = ((closed, tt), closed)
 pub test_q_now : IsTest (q_at 1) (Contains [])
 test_q_now = (tt, closed)
 
-pub guards_p : Guards [] [] (p_at 1)
+pub guards_p : IsGuardFor [] [] (p_at 1)
 guards_p = record { safe = tt; tells = λ z there. absurd (none_in_nil z there) }
 
-pub guards_x : (place : ℕ) → Guards [] (x ∷ []) (p_x_at place)
-guards_x place = record { safe = tt; tells = λ z there. ⊎_elim (λ is. subst (λ (w : VarId). Contains (Var x ∷ []) (Var w)) is (here (Var x) [])) (λ none. absurd (none_in_nil z none)) (first_or_later z x [] there) }
+pub guards_x : (place : ℕ) → IsGuardFor [] (variable_x ∷ []) (p_x_at place)
+guards_x place = record {
+  safe = tt;
+  tells = λ z there.
+      ⊎_elim (λ is. subst (λ (w : VarId). Contains (Var variable_x ∷ []) (Var w)) is (here (Var variable_x) []))
+      (λ none. absurd (none_in_nil z none)) (first_or_later z variable_x [] there);
+}
 
-pub guards_x_y : Guards [] (x ∷ y ∷ []) (p_x_y_at 3)
+pub guards_x_y : IsGuardFor [] (variable_x ∷ var_y ∷ []) (p_x_y_at 3)
 guards_x_y = record { safe = tt; tells = tells }
   where
-    first : (z : VarId) → x ≡ z → Contains (Var x ∷ Var y ∷ []) (Var z)
-    first z is = subst (λ (w : VarId). Contains (Var x ∷ Var y ∷ []) (Var w)) is (here (Var x) (Var y ∷ []))
+    first : (z : VarId) → variable_x ≡ z → Contains (Var variable_x ∷ Var var_y ∷ []) (Var z)
+    first z is = subst (λ (w : VarId). Contains (Var variable_x ∷ Var var_y ∷ []) (Var w)) is (here (Var variable_x) (Var var_y ∷ []))
 
-    second : (z : VarId) → y ≡ z → Contains (Var x ∷ Var y ∷ []) (Var z)
-    second z is = subst (λ (w : VarId). Contains (Var x ∷ Var y ∷ []) (Var w)) is (later (Var y) (Var x) (Var y ∷ []) (here (Var y) []))
+    second : (z : VarId) → var_y ≡ z → Contains (Var variable_x ∷ Var var_y ∷ []) (Var z)
+    second z is = subst (λ (w : VarId). Contains (Var variable_x ∷ Var var_y ∷ []) (Var w)) is (later (Var var_y) (Var variable_x) (Var var_y ∷ []) (here (Var var_y) []))
 
-    tells : (z : VarId) → Contains (x ∷ y ∷ []) z → Contains (Var x ∷ Var y ∷ []) (Var z)
-    tells z there = ⊎_elim (first z) (λ more. ⊎_elim (second z) (λ none. absurd (none_in_nil z none)) (first_or_later z y [] more)) (first_or_later z x (y ∷ []) there)
+    tells : (z : VarId) → Contains (variable_x ∷ var_y ∷ []) z → Contains (Var variable_x ∷ Var var_y ∷ []) (Var z)
+    tells z there = ⊎_elim (first z) (λ more. ⊎_elim (second z) (λ none. absurd (none_in_nil z none)) (first_or_later z var_y [] more)) (first_or_later z variable_x (var_y ∷ []) there)

@@ -1,30 +1,25 @@
 -- The names that a formula of a policy looks for are those of the signature.
-use Rattle.std.proofs.Common.{◌≡◌, ℕ, ◌+◌, ◌<◌, ◌≤◌, Bool, IsTrue, List, [], ◌∷◌, ◌++◌, length, map, Option, None, Some, Contains, refl, subst}
-use Rattle.std.specs.List.{AllByRecursion, AllZip, slice_get}
-use Rattle.std.specs.Option.{option_map, option_or}
-use Rattle.std.proofs.lemmas.Option.{slice_get_within}
-use Rattle.enf_value.specs.ListLaws.{AllByRecursion-append, AllByRecursion-of_append}
-use Rattle.enf_value.specs.declared.events.NameId.{NameId}
-use Rattle.enf_formula.specs.Formulas.{Formula, True, False, Atom, Equal, Less, AtMost, Not, And, Or, Implies, Exists, Forall, Prev, Next, Once, Historically, Since, Eventually, Always, Until}
-use Rattle.formula_reader.specs.WellFormed.{IsPolicyFormula, arity_of}
-use Rattle.plan_terms.specs.Names.{AreBelow, names_in}
-use Rattle.plan_terms.specs.Triggers.{of_each, triggers}
-use Rattle.signature.specs.declared.entries.NameEntry.{NameEntry}
-use Rattle.enforce_types.specs.Marks.{marked}
+use Rattle.enforce_types.proofs.Vocabulary.{◌≡◌, ℕ, ◌+◌, ◌<◌, Bool, IsTrue, List, [], ◌∷◌}
+use Rattle.enforce_types.proofs.Vocabulary.{◌++◌, length, Option, None, Some, refl, subst, slice_get, option_map}
+use Rattle.enforce_types.proofs.Vocabulary.{option_or, slice_get_within, AllByRecursion-append}
+use Rattle.enforce_types.proofs.Vocabulary.{AllByRecursion-of_append, NameId, Formula, True, False, Atom, Equal, Less}
+use Rattle.enforce_types.proofs.Vocabulary.{AtMost, Not, And, Or, Implies, Exists, Forall, Prev, Next, Once}
+use Rattle.enforce_types.proofs.Vocabulary.{Historically, Since, Eventually, Always, Until, IsPolicyFormula, AreBelow}
+use Rattle.enforce_types.proofs.Vocabulary.{names_in_formula, of_each, triggers, NameEntry, has_mark}
 
 mapped_within : (A : Type 0) (f : NameEntry → A) (entries : List NameEntry) (k : ℕ) (found : Option NameEntry) (a : A) → slice_get entries k ≡ found → option_map f found ≡ Some a → k < length entries
 mapped_within A f entries k (Some entry) a at is = slice_get_within entries k entry at
 mapped_within A f entries k None a at is = absurd (cc)
 
-marked_in : (mark : NameEntry → Bool) (entries : List NameEntry) (k : ℕ) (found : Option NameEntry) → slice_get entries k ≡ found → IsTrue (marked mark found) → k < length entries
+marked_in : (mark : NameEntry → Bool) (entries : List NameEntry) (k : ℕ) (found : Option NameEntry) → slice_get entries k ≡ found → IsTrue (has_mark mark found) → k < length entries
 marked_in mark entries k (Some entry) at is = slice_get_within entries k entry at
 marked_in mark entries k None at is = absurd (cc)
 
 -- a name that has a mark is one of the signature
-pub marked_within : (mark : NameEntry → Bool) (entries : List NameEntry) (k : ℕ) → IsTrue (marked mark (slice_get entries k)) → k < length entries
+pub marked_within : (mark : NameEntry → Bool) (entries : List NameEntry) (k : ℕ) → IsTrue (has_mark mark (slice_get entries k)) → k < length entries
 marked_within mark entries k is = marked_in mark entries k (slice_get entries k) refl is
 
-pub names_below : (entries : List NameEntry) (scope : ℕ) (f : Formula) → IsPolicyFormula entries scope f → AreBelow (length entries) (names_in f)
+pub names_below : (entries : List NameEntry) (scope : ℕ) (f : Formula) → IsPolicyFormula entries scope f → AreBelow (length entries) (names_in_formula f)
 names_below entries scope (True place) p = tt
 names_below entries scope (False place) p = tt
 names_below entries scope (Atom place name terms) p = (mapped_within ℕ (λ (entry : NameEntry). length entry.sorts) entries name.0 (slice_get entries name.0) (length terms) refl p, tt)
@@ -32,32 +27,39 @@ names_below entries scope (Equal place l r) p = tt
 names_below entries scope (Less place l r) p = tt
 names_below entries scope (AtMost place l r) p = tt
 names_below entries scope (Not place g) p = names_below entries scope g p
-names_below entries scope (And place g h) p = AllByRecursion-append (λ (name : NameId). name.0 < length entries) (names_in g) (names_in h) (names_below entries scope g p.0) (names_below entries scope h p.1)
-names_below entries scope (Or place g h) p = AllByRecursion-append (λ (name : NameId). name.0 < length entries) (names_in g) (names_in h) (names_below entries scope g p.0) (names_below entries scope h p.1)
-names_below entries scope (Implies place g h) p = AllByRecursion-append (λ (name : NameId). name.0 < length entries) (names_in g) (names_in h) (names_below entries scope g p.0) (names_below entries scope h p.1)
+names_below entries scope (And place g h) p = AllByRecursion-append (λ (name : NameId). name.0 < length entries)
+    (names_in_formula g) (names_in_formula h) (names_below entries scope g p.0) (names_below entries scope h p.1)
+names_below entries scope (Or place g h) p = AllByRecursion-append (λ (name : NameId). name.0 < length entries)
+    (names_in_formula g) (names_in_formula h) (names_below entries scope g p.0) (names_below entries scope h p.1)
+names_below entries scope (Implies place g h) p = AllByRecursion-append (λ (name : NameId). name.0 < length entries)
+    (names_in_formula g) (names_in_formula h) (names_below entries scope g p.0) (names_below entries scope h p.1)
 names_below entries scope (Exists place xs g) p = names_below entries (scope + length xs) g p.1
 names_below entries scope (Forall place xs g) p = names_below entries (scope + length xs) g p.1
 names_below entries scope (Prev place interval g) p = names_below entries scope g p.1
 names_below entries scope (Next place interval g) p = names_below entries scope g p.1
 names_below entries scope (Once place interval g) p = names_below entries scope g p.1
 names_below entries scope (Historically place interval g) p = names_below entries scope g p.1
-names_below entries scope (Since place interval g h) p = AllByRecursion-append (λ (name : NameId). name.0 < length entries) (names_in g) (names_in h) (names_below entries scope g p.1) (names_below entries scope h p.2)
+names_below entries scope (Since place interval g h) p = AllByRecursion-append
+    (λ (name : NameId). name.0 < length entries) (names_in_formula g) (names_in_formula h)
+    (names_below entries scope g p.1) (names_below entries scope h p.2)
 names_below entries scope (Eventually place interval g) p = names_below entries scope g p.1
 names_below entries scope (Always place interval g) p = names_below entries scope g p.1
-names_below entries scope (Until place interval g h) p = AllByRecursion-append (λ (name : NameId). name.0 < length entries) (names_in g) (names_in h) (names_below entries scope g p.1) (names_below entries scope h p.2)
+names_below entries scope (Until place interval g h) p = AllByRecursion-append
+    (λ (name : NameId). name.0 < length entries) (names_in_formula g) (names_in_formula h)
+    (names_below entries scope g p.1) (names_below entries scope h p.2)
 
 -- so are its triggers
-pub triggers_below : (most : ℕ) (f : Formula) (found : List NameId) → AreBelow most (names_in f) → triggers f ≡ Some found → AreBelow most found
+pub triggers_below : (most : ℕ) (f : Formula) (found : List NameId) → AreBelow most (names_in_formula f) → triggers f ≡ Some found → AreBelow most found
 triggers_below most (Atom place name terms) found below is = let same : name ∷ [] ≡ found = cc in subst (AreBelow most) same below
 triggers_below most (And place g h) found below is =
-    let each = AllByRecursion-of_append (λ (name : NameId). name.0 < most) (names_in g) (names_in h) below in
+    let each = AllByRecursion-of_append (λ (name : NameId). name.0 < most) (names_in_formula g) (names_in_formula h) below in
     by (triggers g) (triggers h) is (λ xs e. triggers_below most g xs each.0 e) (λ xs e. triggers_below most h xs each.1 e)
   where
     by : (a b : Option (List NameId)) → option_or a b ≡ Some found → ((xs : List NameId) → a ≡ Some xs → AreBelow most xs) → ((xs : List NameId) → b ≡ Some xs → AreBelow most xs) → AreBelow most found
     by (Some xs) b e left right = left found e
     by None b e left right = right found e
 triggers_below most (Or place g h) found below is =
-    let each = AllByRecursion-of_append (λ (name : NameId). name.0 < most) (names_in g) (names_in h) below in
+    let each = AllByRecursion-of_append (λ (name : NameId). name.0 < most) (names_in_formula g) (names_in_formula h) below in
     by (triggers g) (triggers h) is (λ xs e. triggers_below most g xs each.0 e) (λ xs e. triggers_below most h xs each.1 e)
   where
     by : (a b : Option (List NameId)) → of_each a b ≡ Some found → ((xs : List NameId) → a ≡ Some xs → AreBelow most xs) → ((xs : List NameId) → b ≡ Some xs → AreBelow most xs) → AreBelow most found

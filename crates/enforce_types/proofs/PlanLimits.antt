@@ -1,34 +1,21 @@
 -- The plans of a policy that was read keep to the limits, and their names are those of the signature.
-use Rattle.std.proofs.Common.{◌≡◌, ◌⊎◌, ℕ, ◌+◌, ◌<◌, ◌≤◌, IsTrue, List, [], ◌∷◌, ◌++◌, length, Option, None, Some, Ok, Contains, inl, inr, refl, sym, subst, arith}
-use Rattle.std.specs.List.{AllByRecursion, AllZip, flat_map, slice_get}
+use Rattle.enforce_types.proofs.Vocabulary.{◌≡◌, ℕ, ◌+◌, ◌<◌, ◌≤◌, IsTrue, List, [], ◌∷◌}
+use Rattle.enforce_types.proofs.Vocabulary.{length, Option, None, Some, inl, inr, sym, subst, arith, AllByRecursion}
+use Rattle.enforce_types.proofs.Vocabulary.{AllZip, flat_map, AllByRecursion-append, AllByRecursion-contains}
+use Rattle.enforce_types.proofs.Vocabulary.{AllByRecursion-weaker, NameId, MOST_NAMES, MOST_NODES, VarId, Formula}
+use Rattle.enforce_types.proofs.Vocabulary.{formula_size, Rule, IsWellFormedPolicy, IsWellFormedRule, IsCaused}
+use Rattle.enforce_types.proofs.Vocabulary.{IsSuppressed, caused_at, caused_below, suppressed_at, suppressed_below}
+use Rattle.enforce_types.proofs.Vocabulary.{nodes, Plan, guard_triggers, AllEndLater, EndsLater, EndsInTime}
+use Rattle.enforce_types.proofs.Vocabulary.{IsSmallPlan, AreBelow, AtEach-nodes, AtEach-weaker, ArePlansWithinLimits}
+use Rattle.enforce_types.proofs.Vocabulary.{AreTriggersBelow, AreNamesBelow, NameEntry, Up, is_causable}
+use Rattle.enforce_types.proofs.Vocabulary.{is_suppressible, ArePlanned, HasPlan, node_count, guard_count, renumber}
+use Rattle.enforce_types.proofs.Vocabulary.{renumber_all, FillsColumns, formulas_of}
 use Rattle.std.specs.List.Sorted.{IsStrictlySortedBy}
-use Rattle.enf_value.specs.ListLaws.{AllByRecursion-append, AllByRecursion-contains, AllByRecursion-weaker}
-use Rattle.enf_value.specs.declared.events.NameId.{NameId}
-use Rattle.enf_value.specs.declared.limits.TheConstants.{MOST_NAMES, MOST_NODES}
-use Rattle.enf_value.specs.declared.terms.VarId.{VarId}
-use Rattle.enf_formula.specs.Formulas.{Formula}
-use Rattle.enf_formula.specs.Shape.{size_of}
-use Rattle.formula_reader.specs.Resolution.{Rule}
-use Rattle.formula_reader.specs.WellFormed.{IsWellFormedPolicy, IsWellFormedRule}
-use Rattle.plan_terms.specs.Changes.{IsCaused, IsSuppressed, cause_of, caused_below, suppress_of, suppressed_below}
-use Rattle.plan_terms.specs.Limits.{AllEndLater, EndsInTime, EndsLater, IsSmall}
-use Rattle.plan_terms.specs.Names.{AreBelow}
-use Rattle.plan_terms.specs.Nodes.{nodes}
-use Rattle.plan_terms.specs.Plans as plan
-use Rattle.plan_terms.specs.Plans.{Plan}
-use Rattle.plan_terms.specs.ScopeLaws.{AtEach-nodes, AtEach-weaker}
-use Rattle.plan_terms.specs.Triggers.{guard_triggers}
-use Rattle.rank_check.specs.Limits.{ArePlansWithinLimits, AreTriggersBelow}
-use Rattle.rank_check.specs.Roles.{AreNamesBelow}
-use Rattle.signature.specs.declared.entries.NameEntry.{NameEntry}
-use Rattle.enforce_types.specs.Elab.{Up}
-use Rattle.enforce_types.specs.Marks.{FillsColumns, is_causable, is_suppressible}
-use Rattle.enforce_types.specs.Numbering.{node_count, guard_count, numbered, all_numbered}
-use Rattle.enforce_types.specs.PolicyPlans.{ArePlanned, HasPlan, formulas_of}
 use Rattle.enforce_types.proofs.FormulaNames.{marked_within, triggers_below}
-use Rattle.enforce_types.proofs.MadeWell.{AreFine, IsFine, IsGiven, MayBeDone, fine_stays, made_fine}
+use Rattle.enforce_types.proofs.MadeNodes.{AreFine, IsFine, IsGiven, MayBeDone, fine_stays, made_fine}
 use Rattle.enforce_types.proofs.NumberingLemmas.{each_stays, same_count}
 use Rattle.enforce_types.proofs.PlanSizes.{plan_fits}
+use Rattle.plan_terms.specs.meaning.Plans as plan
 
 -- the names that nodes have, where those of each have a property
 named : (Q : NameId → Type 0) (own : Plan → List NameId) (xs : List Plan) → AllByRecursion (λ node. AllByRecursion Q (own node)) xs → AllByRecursion Q (flat_map own xs)
@@ -61,22 +48,22 @@ module _ (entries : List NameEntry) where
   given rule formed = (formed.scoped, (0, formed.formula), formed.small, tt)
 
   all_fine : (g : ℕ) (rules : List Rule) (made : List Plan) → AllZip (HasPlan entries) (formulas_of rules) made → AllByRecursion (IsWellFormedRule entries) rules
-      → AllByRecursion IsFinePlan (all_numbered g made) × AllByRecursion IsSmall (all_numbered g made)
+      → AllByRecursion IsFinePlan (renumber_all g made) × AllByRecursion IsSmallPlan (renumber_all g made)
   all_fine g [] [] h formed = (tt, tt)
   all_fine g [] (p ∷ made) h formed = absurd h
   all_fine g (rule ∷ rules) [] h formed = absurd h
   all_fine g (rule ∷ rules) (p ∷ made) h formed =
       let more = all_fine (g + guard_count p) rules made h.1 formed.1 in
       let fine : IsFinePlan p = made_fine entries (is_causable entries) (is_suppressible entries) MOST_NODES Up rule.formula [] p h.0 (given rule formed.0) in
-      let fits : node_count p ≤ size_of rule.formula = plan_fits (is_causable entries) (is_suppressible entries) Up rule.formula [] p h.0 in
-      let small : IsSmall (numbered 0 g p) = omega (arith, same_count 0 g p, formed.0.small, fits) in
+      let fits : node_count p ≤ formula_size rule.formula = plan_fits (is_causable entries) (is_suppressible entries) Up rule.formula [] p h.0 in
+      let small : IsSmallPlan (renumber 0 g p) = omega (arith, same_count 0 g p, formed.0.small, fits) in
       ((each_stays IsFineHere (fine_stays entries (is_causable entries) (is_suppressible entries) MOST_NODES) p 0 g [] fine, more.0), (small, more.1))
 
   pub planned_fine : (rules : List Rule) (plans : List Plan) (guards : List (Formula × List VarId)) → IsWellFormedPolicy entries rules → ArePlanned entries (formulas_of rules) plans guards
-      → AllByRecursion IsFinePlan plans × AllByRecursion IsSmall plans
+      → AllByRecursion IsFinePlan plans × AllByRecursion IsSmallPlan plans
   planned_fine rules plans guards formed are =
       let all = all_fine 0 rules are.made are.answered formed.each in
-      (subst (AllByRecursion IsFinePlan) (sym are.numbered) all.0, subst (AllByRecursion IsSmall) (sym are.numbered) all.1)
+      (subst (AllByRecursion IsFinePlan) (sym are.numbered) all.0, subst (AllByRecursion IsSmallPlan) (sym are.numbered) all.1)
 
   -- what follows for each node of a plan
   module _ (R : Plan → Type 0) (follows : (p : Plan) (scope : List VarId) → IsFineHere p scope → R p) where
@@ -86,29 +73,29 @@ module _ (entries : List NameEntry) where
     pub fine_all_nodes : (plans : List Plan) → AllByRecursion IsFinePlan plans → AllByRecursion (λ p. AllByRecursion R (nodes p)) plans
     fine_all_nodes plans fine = AllByRecursion-weaker IsFinePlan (λ p. AllByRecursion R (nodes p)) plans fine_nodes fine
 
-  causes_done : (p : Plan) → IsDone p → AllByRecursion CanCause (cause_of p)
-  causes_done (plan.Cause node place name terms) done = (done, tt)
-  causes_done (plan.Suppress node place name terms) done = tt
+  causes_done : (p : Plan) → IsDone p → AllByRecursion CanCause (caused_at p)
+  causes_done (plan.CausePlan node place name terms) done = (done, tt)
+  causes_done (plan.SuppressPlan node place name terms) done = tt
   causes_done (plan.Both node l r) done = tt
   causes_done (plan.Either node l r) done = tt
   causes_done (plan.TestOr node guard test body) done = tt
   causes_done (plan.Guarded node vars guard test body) done = tt
-  causes_done (plan.Eventually node place low high body) done = tt
-  causes_done (plan.Always node place low high body) done = tt
-  causes_done (plan.Until node place low high l r) done = tt
-  causes_done (plan.Next node place high body) done = tt
+  causes_done (plan.EventuallyPlan node place low high body) done = tt
+  causes_done (plan.AlwaysPlan node place low high body) done = tt
+  causes_done (plan.UntilPlan node place low high l r) done = tt
+  causes_done (plan.NextPlan node place high body) done = tt
 
-  suppresses_done : (p : Plan) → IsDone p → AllByRecursion CanSuppress (suppress_of p)
-  suppresses_done (plan.Cause node place name terms) done = tt
-  suppresses_done (plan.Suppress node place name terms) done = (done, tt)
+  suppresses_done : (p : Plan) → IsDone p → AllByRecursion CanSuppress (suppressed_at p)
+  suppresses_done (plan.CausePlan node place name terms) done = tt
+  suppresses_done (plan.SuppressPlan node place name terms) done = (done, tt)
   suppresses_done (plan.Both node l r) done = tt
   suppresses_done (plan.Either node l r) done = tt
   suppresses_done (plan.TestOr node guard test body) done = tt
   suppresses_done (plan.Guarded node vars guard test body) done = tt
-  suppresses_done (plan.Eventually node place low high body) done = tt
-  suppresses_done (plan.Always node place low high body) done = tt
-  suppresses_done (plan.Until node place low high l r) done = tt
-  suppresses_done (plan.Next node place high body) done = tt
+  suppresses_done (plan.EventuallyPlan node place low high body) done = tt
+  suppresses_done (plan.AlwaysPlan node place low high body) done = tt
+  suppresses_done (plan.UntilPlan node place low high l r) done = tt
+  suppresses_done (plan.NextPlan node place high body) done = tt
 
   -- the names that some node changes, where those of each can be changed so
   all_named : (Q : NameId → Type 0) (own : Plan → List NameId) (plans : List Plan) → AllByRecursion (λ p. AllByRecursion (λ node. AllByRecursion Q (own node)) (nodes p)) plans
@@ -119,12 +106,12 @@ module _ (entries : List NameEntry) where
   pub caused_can : (plans : List Plan) → AllByRecursion IsFinePlan plans → (name : NameId) → IsCaused plans name → CanCause name
   caused_can plans fine name there =
       AllByRecursion-contains CanCause (flat_map caused_below plans) name
-      (all_named CanCause cause_of plans (fine_all_nodes (λ node. AllByRecursion CanCause (cause_of node)) (λ p scope h. causes_done p h.5) plans fine)) there
+      (all_named CanCause caused_at plans (fine_all_nodes (λ node. AllByRecursion CanCause (caused_at node)) (λ p scope h. causes_done p h.5) plans fine)) there
 
   pub suppressed_can : (plans : List Plan) → AllByRecursion IsFinePlan plans → (name : NameId) → IsSuppressed plans name → CanSuppress name
   suppressed_can plans fine name there =
       AllByRecursion-contains CanSuppress (flat_map suppressed_below plans) name
-      (all_named CanSuppress suppress_of plans (fine_all_nodes (λ node. AllByRecursion CanSuppress (suppress_of node)) (λ p scope h. suppresses_done p h.5) plans fine)) there
+      (all_named CanSuppress suppressed_at plans (fine_all_nodes (λ node. AllByRecursion CanSuppress (suppressed_at node)) (λ p scope h. suppresses_done p h.5) plans fine)) there
 
   pub all_filled : (plans : List Plan) → AllByRecursion IsFinePlan plans → AllByRecursion (FillsColumns entries) (flat_map nodes plans)
   all_filled plans fine = of_all_nodes (FillsColumns entries) plans (fine_all_nodes (FillsColumns entries) (λ p scope h. h.6) plans fine)
@@ -144,16 +131,16 @@ module _ (entries : List NameEntry) where
   no_triggers found is = absurd (cc)
 
   has_triggers : (p : Plan) (scope : List VarId) → IsFineHere p scope → HasTriggersBelow p
-  has_triggers (plan.Cause node place name terms) scope h found is = no_triggers found is
-  has_triggers (plan.Suppress node place name terms) scope h found is = no_triggers found is
+  has_triggers (plan.CausePlan node place name terms) scope h found is = no_triggers found is
+  has_triggers (plan.SuppressPlan node place name terms) scope h found is = no_triggers found is
   has_triggers (plan.Both node l r) scope h found is = no_triggers found is
   has_triggers (plan.Either node l r) scope h found is = no_triggers found is
   has_triggers (plan.TestOr node guard test body) scope h found is = no_triggers found is
   has_triggers (plan.Guarded node vars guard test body) scope h found is = triggers_below (length entries) test found h.2 is
-  has_triggers (plan.Eventually node place low high body) scope h found is = no_triggers found is
-  has_triggers (plan.Always node place low high body) scope h found is = no_triggers found is
-  has_triggers (plan.Until node place low high l r) scope h found is = no_triggers found is
-  has_triggers (plan.Next node place high body) scope h found is = no_triggers found is
+  has_triggers (plan.EventuallyPlan node place low high body) scope h found is = no_triggers found is
+  has_triggers (plan.AlwaysPlan node place low high body) scope h found is = no_triggers found is
+  has_triggers (plan.UntilPlan node place low high l r) scope h found is = no_triggers found is
+  has_triggers (plan.NextPlan node place high body) scope h found is = no_triggers found is
 
   guards_below : (plans : List Plan) → AllByRecursion IsFinePlan plans → AreTriggersBelow (length entries) plans
   guards_below plans fine node found name there is has =

@@ -1,14 +1,2 @@
-pub mod Answers
-pub mod Elab
-pub mod Joined
-pub mod Marks
-pub mod Laws
-pub mod Cases
-pub mod Numbering
-pub mod PolicyPlans
-pub mod PolicyLaws
-pub mod Accepted
-pub mod Typed
-pub mod Sorting
-pub mod SortingLaws
-pub mod PlanSorts
+pub mod meaning
+pub mod machine

@@ -1,24 +1,22 @@
 //! How a formula is made true or false.
-ghost use Rattle.std.specs.Prelude.{◌≡◌, ◌++◌, IfOk, IsTrue};
-ghost use Rattle.enf_formula.specs.Formulas.{tree_of};
-ghost use Rattle.enforce_types.specs.Elab.{Elab, Up, Down, UpForAll};
-ghost use Rattle.enforce_types.specs.Answers.{Exclusion, Implication, LeafWhere, answer_of};
-ghost use Rattle.enforce_types.specs.Joined.{tested};
-ghost use Rattle.enforce_types.specs.Marks.{is_causable as can_cause, is_suppressible as can_suppress};
-ghost use Rattle.plan_terms.specs.Plans as tree;
-ghost use Rattle.plan_terms.specs.Plans.{plan_of};
+ghost use Rattle.std.specs.Prelude.{◌≡◌};
+ghost use Rattle.enf_formula.specs.machine.FormulaViews.{tree_of};
+ghost use Rattle.enforce_types.specs.meaning.Elab.{Elab, Up, Down, UpForAll, Exclusion, ImplicationAnswer, LeafWhere};
+ghost use Rattle.enforce_types.specs.meaning.Elab.{OneOfTwo, is_causable as can_cause, is_suppressible as can_suppress};
+ghost use Rattle.enforce_types.specs.machine.OperandAnswers.{GivesAnswer, aim_where, denied_where, test_answer};
+ghost use Rattle.plan_terms.specs.machine.StoredPlans.{plan_of};
+ghost use Rattle.plan_terms.specs.meaning.Plans as tree;
 
-use crate::joining::{
-    always, both, either, eventually, extended, guarded, is_guard, next, one_of_two, refused,
-    test_or, until,
+use crate::operand_plans::{
+    always, both, either, end_from_zero, end_of, eventually, extended, guarded, is_guard, next,
+    test_or, until, without,
 };
-use crate::refusals::{Answer, Refusal};
+use crate::refusals::TypeRefusal;
+use enf_data::events::NameId;
+use enf_data::items::Duplicate;
+use enf_data::places::Place;
+use enf_data::terms::{Terms, Vars};
 use enf_formula::Formula;
-use enf_value::events::NameId;
-use enf_value::items::Duplicate;
-use enf_value::memory::NoMemory;
-use enf_value::places::Place;
-use enf_value::terms::{Terms, Vars};
 use monitorable_guard::is_test;
 use plan_terms::Plan;
 use signature::Signature;
@@ -31,9 +29,9 @@ pub fn up(
     signature: &Signature,
     formula: &Formula,
     scope: &Vars,
-) -> Result<Answer, NoMemory>
-    ensures { IfOk result (λ answer. Elab (can_cause signature.now) (can_suppress signature.now)
-        Up (tree_of formula.now) scope.now (answer_of answer)) }
+) -> Result<Plan, TypeRefusal>
+    ensures { GivesAnswer (Elab (can_cause signature.now) (can_suppress signature.now)
+        Up (tree_of formula.now) scope.now) result }
 {
     match formula {
         Formula::Atom(place, name, terms) => cause(alloc, signature, *place, *name, terms),
@@ -41,34 +39,34 @@ pub fn up(
         Formula::And(_, g, h) => {
             let left = up(alloc, signature, g, scope)?;
             let right = up(alloc, signature, h, scope)?;
-            both(alloc, left, right)
+            Ok(both(alloc, left, right)?)
         }
-        Formula::Or(_, g, h) => {
-            let left = up(alloc, signature, g, scope)?;
-            let right = up(alloc, signature, h, scope)?;
-            one_of_two(alloc, scope, false, g, h, left, right)
-        }
+        Formula::Or(_, g, h) => one_of_two(alloc, signature, false, g, h, scope),
         Formula::Implies(place, g, h) => {
             let none = Vars::new(alloc);
             up_implies(alloc, signature, *place, *place, &none, g, h, scope)
         }
         Formula::Forall(place, xs, g) => up_for_all(alloc, signature, *place, xs, g, scope),
         Formula::Eventually(place, interval, g) => {
+            let high = end_of(*place, interval)?;
             let body = up(alloc, signature, g, scope)?;
-            eventually(alloc, *place, interval, body)
+            Ok(eventually(alloc, *place, interval.low, high, body)?)
         }
         Formula::Always(place, interval, g) => {
+            let high = end_of(*place, interval)?;
             let body = up(alloc, signature, g, scope)?;
-            always(alloc, *place, interval, body)
+            Ok(always(alloc, *place, interval.low, high, body)?)
         }
         Formula::Until(place, interval, g, h) => {
+            let high = end_of(*place, interval)?;
             let left = up(alloc, signature, g, scope)?;
             let right = up(alloc, signature, h, scope)?;
-            until(alloc, *place, interval, left, right)
+            Ok(until(alloc, *place, interval.low, high, left, right)?)
         }
         Formula::Next(place, interval, g) => {
+            let high = end_from_zero(*place, interval)?;
             let body = up(alloc, signature, g, scope)?;
-            next(alloc, *place, interval, body)
+            Ok(next(alloc, *place, high, body)?)
         }
         Formula::True(place)
         | Formula::False(place)
@@ -79,7 +77,7 @@ pub fn up(
         | Formula::Prev(place, _, _)
         | Formula::Once(place, _, _)
         | Formula::Historically(place, _, _)
-        | Formula::Since(place, _, _, _) => Ok(refused(*place)),
+        | Formula::Since(place, _, _, _) => Err(TypeRefusal::NotEnforceable { place: *place }),
     }
 }
 
@@ -90,36 +88,34 @@ pub fn down(
     signature: &Signature,
     formula: &Formula,
     scope: &Vars,
-) -> Result<Answer, NoMemory>
-    ensures { IfOk result (λ answer. Elab (can_cause signature.now) (can_suppress signature.now)
-        Down (tree_of formula.now) scope.now (answer_of answer)) }
+) -> Result<Plan, TypeRefusal>
+    ensures { GivesAnswer (Elab (can_cause signature.now) (can_suppress signature.now)
+        Down (tree_of formula.now) scope.now) result }
 {
     match formula {
         Formula::Atom(place, name, terms) => suppress(alloc, signature, *place, *name, terms),
         Formula::Not(_, g) => up(alloc, signature, g, scope),
-        Formula::And(_, g, h) => {
-            let left = down(alloc, signature, g, scope)?;
-            let right = down(alloc, signature, h, scope)?;
-            one_of_two(alloc, scope, true, g, h, left, right)
-        }
+        Formula::And(_, g, h) => one_of_two(alloc, signature, true, g, h, scope),
         Formula::Or(_, g, h) => {
             let left = down(alloc, signature, g, scope)?;
             let right = down(alloc, signature, h, scope)?;
-            both(alloc, left, right)
+            Ok(both(alloc, left, right)?)
         }
         Formula::Implies(_, g, h) => {
             let left = up(alloc, signature, g, scope)?;
             let right = down(alloc, signature, h, scope)?;
-            both(alloc, left, right)
+            Ok(both(alloc, left, right)?)
         }
         Formula::Exists(place, xs, g) => exclude(alloc, signature, *place, xs, g, scope),
         Formula::Eventually(place, interval, g) => {
+            let high = end_of(*place, interval)?;
             let body = down(alloc, signature, g, scope)?;
-            always(alloc, *place, interval, body)
+            Ok(always(alloc, *place, interval.low, high, body)?)
         }
         Formula::Always(place, interval, g) => {
+            let high = end_of(*place, interval)?;
             let body = down(alloc, signature, g, scope)?;
-            eventually(alloc, *place, interval, body)
+            Ok(eventually(alloc, *place, interval.low, high, body)?)
         }
         Formula::True(place)
         | Formula::False(place)
@@ -132,7 +128,64 @@ pub fn down(
         | Formula::Once(place, _, _)
         | Formula::Historically(place, _, _)
         | Formula::Since(place, _, _, _)
-        | Formula::Until(place, _, _, _) => Ok(refused(*place)),
+        | Formula::Until(place, _, _, _) => Err(TypeRefusal::NotEnforceable { place: *place }),
+    }
+}
+
+// How one of two formulas is made true, or made false where both are denied. That one is refused does not matter where
+// it is a test and the other has a plan.
+#[cycle(elaboration)]
+fn one_of_two(
+    alloc: Global,
+    signature: &Signature,
+    denied: bool,
+    l: &Formula,
+    r: &Formula,
+    scope: &Vars,
+) -> Result<Plan, TypeRefusal>
+    ensures { GivesAnswer (OneOfTwo scope.now
+        (denied_where denied (tree_of l.now)) (denied_where denied (tree_of r.now))
+        (Elab (can_cause signature.now) (can_suppress signature.now) (aim_where denied) (tree_of l.now) scope.now)
+        (Elab (can_cause signature.now) (can_suppress signature.now) (aim_where denied) (tree_of r.now) scope.now))
+        result }
+{
+    match one_side(alloc, signature, denied, r, scope) {
+        Ok(plan) => {
+            if is_test(alloc, l, scope)? {
+                return Ok(test_or(alloc, denied, l, plan)?);
+            }
+            let other = one_side(alloc, signature, denied, l, scope)?;
+            Ok(either(alloc, other, plan)?)
+        }
+        Err(refusal) => match refusal {
+            TypeRefusal::NoMemory => Err(TypeRefusal::NoMemory),
+            _ => {
+                if !is_test(alloc, r, scope)? {
+                    return Err(refusal);
+                }
+                let plan = one_side(alloc, signature, denied, l, scope)?;
+                Ok(test_or(alloc, denied, r, plan)?)
+            }
+        },
+    }
+}
+
+// How the formula is made true, or made false where it is denied.
+#[cycle(elaboration)]
+fn one_side(
+    alloc: Global,
+    signature: &Signature,
+    denied: bool,
+    formula: &Formula,
+    scope: &Vars,
+) -> Result<Plan, TypeRefusal>
+    ensures { GivesAnswer (Elab (can_cause signature.now) (can_suppress signature.now)
+        (aim_where denied) (tree_of formula.now) scope.now) result }
+{
+    if denied {
+        down(alloc, signature, formula, scope)
+    } else {
+        up(alloc, signature, formula, scope)
     }
 }
 
@@ -145,9 +198,9 @@ fn up_for_all(
     xs: &Vars,
     body: &Formula,
     scope: &Vars,
-) -> Result<Answer, NoMemory>
-    ensures { IfOk result (λ answer. Elab (can_cause signature.now) (can_suppress signature.now)
-        (UpForAll first xs.now) (tree_of body.now) scope.now (answer_of answer)) }
+) -> Result<Plan, TypeRefusal>
+    ensures { GivesAnswer (Elab (can_cause signature.now) (can_suppress signature.now)
+        (UpForAll first xs.now) (tree_of body.now) scope.now) result }
 {
     match body {
         Formula::Forall(_, ys, g) => {
@@ -158,7 +211,7 @@ fn up_for_all(
             up_implies(alloc, signature, first, *place, xs, g, h, scope)
         }
         Formula::Not(_, g) => exclude(alloc, signature, first, xs, g, scope),
-        _ => Ok(Err(Refusal::Unguarded { place: first })),
+        _ => Err(TypeRefusal::Unguarded { place: first }),
     }
 }
 
@@ -172,37 +225,35 @@ fn up_implies(
     g: &Formula,
     h: &Formula,
     scope: &Vars,
-) -> Result<Answer, NoMemory>
-    ensures { IfOk result (λ answer. Implication place arrow scope.now xs.now (tree_of g.now) (tree_of h.now)
+) -> Result<Plan, TypeRefusal>
+    ensures { GivesAnswer (ImplicationAnswer place arrow scope.now xs.now (tree_of g.now) (tree_of h.now)
         (Elab (can_cause signature.now) (can_suppress signature.now) Down (tree_of g.now))
-        (Elab (can_cause signature.now) (can_suppress signature.now) Up (tree_of h.now))
-        (answer_of answer)) }
+        (Elab (can_cause signature.now) (can_suppress signature.now) Up (tree_of h.now))) result }
 {
     let all = extended(alloc, scope, xs)?;
     let guards = is_guard(alloc, scope, xs, g)?;
-    match up(alloc, signature, h, &all)? {
+    match up(alloc, signature, h, &all) {
         Ok(plan) => {
             if guards {
                 let test = g.duplicate(alloc)?;
-                return Ok(Ok(guarded(alloc, xs, test, plan)?));
+                return Ok(guarded(alloc, xs, test, plan)?);
             }
             if !xs.is_empty() {
-                return Ok(Err(Refusal::Unguarded { place }));
+                return Err(TypeRefusal::Unguarded { place });
             }
-            match down(alloc, signature, g, scope)? {
-                Ok(other) => Ok(Ok(either(alloc, other, plan)?)),
-                Err(refusal) => Ok(Err(refusal)),
-            }
+            let other = down(alloc, signature, g, scope)?;
+            Ok(either(alloc, other, plan)?)
         }
-        Err(refusal) => {
-            if !is_test(alloc, h, &all)? {
-                return Ok(Err(refusal));
+        Err(refusal) => match refusal {
+            TypeRefusal::NoMemory => Err(TypeRefusal::NoMemory),
+            _ => {
+                if !is_test(alloc, h, &all)? {
+                    return Err(refusal);
+                }
+                let plan = down(alloc, signature, g, &all)?;
+                test_implies(alloc, place, arrow, xs, guards, g, h, plan)
             }
-            match down(alloc, signature, g, &all)? {
-                Ok(plan) => test_implies(alloc, place, arrow, xs, guards, g, h, plan),
-                Err(other) => Ok(Err(other)),
-            }
-        }
+        },
     }
 }
 
@@ -216,21 +267,18 @@ fn test_implies(
     g: &Formula,
     h: &Formula,
     plan: Plan,
-) -> Result<Answer, NoMemory>
-    ensures { IfOk result (λ answer. answer_of answer ≡ tested place arrow xs.now guards
-        (tree_of g.now) (tree_of h.now) (plan_of plan)) }
+) -> Result<Plan, TypeRefusal>
+    ensures { GivesAnswer (λ answer. answer ≡ test_answer place arrow xs.now guards
+        (tree_of g.now) (tree_of h.now) (plan_of plan)) result }
 {
     if guards {
-        let left = Box::new(alloc, g.duplicate(alloc)?)?;
-        let right = Box::new(alloc, h.duplicate(alloc)?)?;
-        let right = Box::new(alloc, Formula::Not(h.place(), right))?;
-        let test = Formula::And(arrow, left, right);
-        return Ok(Ok(guarded(alloc, xs, test, plan)?));
+        let test = without(alloc, arrow, g, h)?;
+        return Ok(guarded(alloc, xs, test, plan)?);
     }
     if xs.is_empty() {
-        return Ok(Ok(test_or(alloc, false, h, plan)?));
+        return Ok(test_or(alloc, false, h, plan)?);
     }
-    Ok(Err(Refusal::Unguarded { place }))
+    Err(TypeRefusal::Unguarded { place })
 }
 
 // How the formula is made false for all values of these variables.
@@ -242,23 +290,17 @@ fn exclude(
     xs: &Vars,
     g: &Formula,
     scope: &Vars,
-) -> Result<Answer, NoMemory>
-    ensures { IfOk result (λ answer. Exclusion place scope.now xs.now (tree_of g.now)
-        (Elab (can_cause signature.now) (can_suppress signature.now) Down (tree_of g.now))
-        (answer_of answer)) }
+) -> Result<Plan, TypeRefusal>
+    ensures { GivesAnswer (Exclusion place scope.now xs.now (tree_of g.now)
+        (Elab (can_cause signature.now) (can_suppress signature.now) Down (tree_of g.now))) result }
 {
     let all = extended(alloc, scope, xs)?;
-    match down(alloc, signature, g, &all)? {
-        Ok(plan) => {
-            if is_guard(alloc, scope, xs, g)? {
-                let test = g.duplicate(alloc)?;
-                Ok(Ok(guarded(alloc, xs, test, plan)?))
-            } else {
-                Ok(Err(Refusal::Unguarded { place }))
-            }
-        }
-        Err(refusal) => Ok(Err(refusal)),
+    let plan = down(alloc, signature, g, &all)?;
+    if !is_guard(alloc, scope, xs, g)? {
+        return Err(TypeRefusal::Unguarded { place });
     }
+    let test = g.duplicate(alloc)?;
+    Ok(guarded(alloc, xs, test, plan)?)
 }
 
 // The leaf that causes the event, where the name's events can be caused.
@@ -268,23 +310,23 @@ fn cause(
     place: Place,
     name: NameId,
     terms: &Terms,
-) -> Result<Answer, NoMemory>
-    ensures { IfOk result (λ answer. LeafWhere (can_cause signature.now name) place
-        (tree.Cause 0 place name terms.now) (answer_of answer)) }
+) -> Result<Plan, TypeRefusal>
+    ensures { GivesAnswer (LeafWhere (can_cause signature.now name) place
+        (tree.CausePlan 0 place name terms.now)) result }
 {
     let causable = match signature.entry(name) {
         Some(entry) => entry.causable,
         None => false,
     };
     if !causable {
-        return Ok(refused(place));
+        return Err(TypeRefusal::NotEnforceable { place });
     }
-    Ok(Ok(Plan::Cause {
+    Ok(Plan::Cause {
         node: 0,
         place,
         name,
         terms: terms.duplicate(alloc)?,
-    }))
+    })
 }
 
 // The leaf that suppresses the event, where the name's events can be suppressed.
@@ -294,21 +336,21 @@ fn suppress(
     place: Place,
     name: NameId,
     terms: &Terms,
-) -> Result<Answer, NoMemory>
-    ensures { IfOk result (λ answer. LeafWhere (can_suppress signature.now name) place
-        (tree.Suppress 0 place name terms.now) (answer_of answer)) }
+) -> Result<Plan, TypeRefusal>
+    ensures { GivesAnswer (LeafWhere (can_suppress signature.now name) place
+        (tree.SuppressPlan 0 place name terms.now)) result }
 {
     let suppressible = match signature.entry(name) {
         Some(entry) => entry.suppressible,
         None => false,
     };
     if !suppressible {
-        return Ok(refused(place));
+        return Err(TypeRefusal::NotEnforceable { place });
     }
-    Ok(Ok(Plan::Suppress {
+    Ok(Plan::Suppress {
         node: 0,
         place,
         name,
         terms: terms.duplicate(alloc)?,
-    }))
+    })
 }

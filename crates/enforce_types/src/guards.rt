@@ -1,14 +1,16 @@
 //! The guards and tests of plans, as they are evaluated.
 ghost use Rattle.std.specs.Prelude.{◌≡◌, ◌++◌, ◌∷◌, [], OnOk, Contains};
-ghost use Rattle.enf_formula.specs.Formulas.{tree_of};
-ghost use Rattle.plan_terms.specs.Guards.{guards_in, guards_of, GuardsAreSafe};
-ghost use Rattle.monitorable_guard.specs.Safety.{Safe};
-ghost use Rattle.plan_terms.specs.Plans.{plan_of};
+ghost use Rattle.enf_formula.specs.machine.FormulaViews.{tree_of};
+ghost use Rattle.plan_terms.specs.meaning.Plans.{guards_of_plan};
+ghost use Rattle.plan_terms.specs.machine.GuardProperties.{guards_of};
+ghost use Rattle.plan_terms.specs.machine.WellFormed.{GuardsAreSafe};
+ghost use Rattle.monitorable_guard.specs.meaning.Safety.{Safe};
+ghost use Rattle.plan_terms.specs.machine.StoredPlans.{plan_of};
 
-use crate::joining::extended;
+use crate::operand_plans::extended;
+use enf_data::memory::NoMemory;
+use enf_data::terms::Vars;
 use enf_formula::Formula;
-use enf_value::memory::NoMemory;
-use enf_value::terms::Vars;
 use monitorable_guard::{Guard, GuardRefusal};
 use plan_terms::Plan;
 use std::alloc::Global;
@@ -22,7 +24,7 @@ pub fn collect(
 ) -> Result<(), NoMemory>
     requires { GuardsAreSafe (plan_of plan.now) scope.now }
     ensures { OnOk result (guards_of guards.new.items
-        ≡ guards_of guards.old.items ++ guards_in (plan_of plan.now) scope.now) }
+        ≡ guards_of guards.old.items ++ guards_of_plan (plan_of plan.now) scope.now) }
 {
     match plan {
         Plan::Cause { .. } | Plan::Suppress { .. } => Ok(()),

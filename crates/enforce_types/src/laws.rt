@@ -1,15 +1,15 @@
 //! What plans are worth: laws over the definitions, each the contract of a function with an empty body.
-ghost use Rattle.enforce_types.specs.Laws.{UpKeepsMeaning, DownKeepsMeaning, HasOneAnswer};
-ghost use Rattle.enforce_types.specs.Laws.{PlansHaveSafeGuards, SafeLooksBack};
-ghost use Rattle.enforce_types.specs.Numbering.{NodesAreNumbered, GuardsAreNumbered};
-ghost use Rattle.enforce_types.specs.Numbering.{NumbersMeanNothing, NumberingKeepsSafe, PlansAreSmall};
-ghost use Rattle.enforce_types.specs.PolicyLaws.{PolicyKeepsMeaning, PolicyIsNumbered, PolicyGuardsAreSafe};
-ghost use Rattle.enforce_types.specs.PolicyLaws.{IsAnswered, NotBoth, OnePlans, OneRefusal};
-ghost use Rattle.enforce_types.specs.PolicyLaws.{GuardsAreAtNumbers, PlansAreWellFormed, PlansAreWithinLimits};
-ghost use Rattle.enforce_types.specs.PolicyLaws.{PlansEndLater, PlansKeepToSignature};
-ghost use Rattle.enforce_types.specs.PlanSorts.{MadeKeepsSorts, PolicyKeepsSorts};
-ghost use Rattle.enforce_types.specs.Sorting.{ReadIsSorted, SafeIsFound, SafeValuesFit};
-ghost use Rattle.enforce_types.specs.Accepted.{AcceptedIsNotRefused, AcceptedOrRefused, RefusedOnce};
+ghost use Rattle.enforce_types.specs.machine.PlanLaws.{UpKeepsMeaning, DownKeepsMeaning, FormulaHasOneAnswer};
+ghost use Rattle.enforce_types.specs.machine.PlanLaws.{PlansHaveSafeGuards, SafeLooksBack, NodesAreNumbered};
+ghost use Rattle.enforce_types.specs.machine.PlanLaws.{GuardsAreNumbered, NumbersMeanNothing, NumberingKeepsSafe};
+ghost use Rattle.enforce_types.specs.machine.PlanLaws.{PlansAreSmall};
+ghost use Rattle.enforce_types.specs.machine.PolicyLaws.{PolicyKeepsMeaning, PolicyIsNumbered, PolicyGuardsAreSafe};
+ghost use Rattle.enforce_types.specs.machine.PolicyLaws.{PolicyHasAnswer, NotPlannedAndRefused, OnePlans, OneRefusal};
+ghost use Rattle.enforce_types.specs.machine.PolicyLaws.{GuardsAreAtNumbers, PlansAreWellFormed, PlansAreWithinLimits};
+ghost use Rattle.enforce_types.specs.machine.PolicyLaws.{PlansEndLater, PlansKeepToSignature, AcceptedIsNotRefused};
+ghost use Rattle.enforce_types.specs.machine.PolicyLaws.{AcceptedOrRefused, RefusedOnce};
+ghost use Rattle.enforce_types.specs.machine.SortLaws.{MadeKeepsSorts, PolicyKeepsSorts, ReadIsSorted, SafeIsFound};
+ghost use Rattle.enforce_types.specs.machine.SortLaws.{SafeValuesFit};
 
 use enf_formula::laws::is_classical;
 use rank_check::laws::plans_have_one_answer;
@@ -25,7 +25,7 @@ pub fn plans_keep_meaning()
 
 /// For each formula that is to be made true or false there is exactly one answer, a plan or the first refusal.
 pub fn has_one_answer()
-    ensures { HasOneAnswer }
+    ensures { FormulaHasOneAnswer }
 {}
 
 /// The guards and tests of a plan can be evaluated over finite tables where they stand, and look back alone.
@@ -77,20 +77,20 @@ pub fn plans_are_well_formed()
 
 /// Each policy has plans or a first refusal, exactly one.
 pub fn policy_has_one_answer()
-    ensures answered { IsAnswered }
-    ensures not_both { NotBoth }
+    ensures answered { PolicyHasAnswer }
+    ensures not_both { NotPlannedAndRefused }
     ensures plans { OnePlans }
     ensures refusal { OneRefusal }
 {}
 
-/// A policy that is accepted is refused for want of memory alone.
+/// A policy that is accepted is refused in no other way than by running out of memory.
 pub fn accepted_is_not_refused()
     ensures { AcceptedIsNotRefused }
 {
     plans_have_one_answer();
 }
 
-/// Each policy is accepted or refused, and has one refusal at most but for want of memory.
+/// Each policy is accepted or refused, and has one refusal at most, other than by running out of memory.
 pub fn policy_is_accepted_or_refused()
     ensures answered { AcceptedOrRefused }
     ensures once { RefusedOnce }

@@ -4,14 +4,14 @@
 
 pub mod elaboration;
 mod guards;
-mod joining;
 pub mod laws;
-mod numbering;
-pub mod planning;
+mod node_numbers;
+mod operand_plans;
 pub mod refusals;
+pub mod rule_plans;
 pub mod typed_policy;
 pub mod worked_cases;
 
-pub use planning::{RulePlans, plan_rules};
-pub use refusals::{Answer, Refusal, TypeRefusal};
+pub use refusals::{Refusal, TypeRefusal};
+pub use rule_plans::{RulePlans, plan_rules};
 pub use typed_policy::TypedPolicy;

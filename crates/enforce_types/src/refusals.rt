@@ -1,19 +1,16 @@
 //! What is answered for a formula that is to be made true or false.
-use enf_value::events::NameId;
-use enf_value::memory::NoMemory;
-use enf_value::places::Place;
-use plan_terms::Plan;
+use enf_data::events::NameId;
+use enf_data::memory::NoMemory;
+use enf_data::places::Place;
 use rank_check::RankRefusal;
 
-/// Why a formula cannot be made true or false, with the place of the formula that is refused.
+/// Why a formula cannot be made true or false, with the place of the formula that is refused: what the definitions
+/// answer. The code says it by a `TypeRefusal`, since it can run out of memory too.
 #[derive(Clone, Copy, Debug, PartialEq, Eq)]
 pub enum Refusal {
     Unguarded { place: Place },
     NotEnforceable { place: Place },
 }
-
-/// A plan, whose nodes and guards have the number 0 each, or the first refusal.
-pub type Answer = Result<Plan, Refusal>;
 
 /// Why a policy is not accepted: the first refusal of a rule, or that its plans cannot work together.
 #[derive(Clone, Copy, Debug, PartialEq, Eq)]
@@ -26,25 +23,11 @@ pub enum TypeRefusal {
     NoMemory,
 }
 
-impl From<Refusal> for TypeRefusal {
-    ghost use Rattle.std.specs.Prelude.{◌≡◌};
-    ghost use Rattle.enforce_types.specs.Accepted.{of_rule};
-
-    ghost from_gives = { λ why refusal. refusal ≡ of_rule why };
-
-    fn from(why: Refusal) -> TypeRefusal {
-        match why {
-            Refusal::Unguarded { place } => TypeRefusal::Unguarded { place },
-            Refusal::NotEnforceable { place } => TypeRefusal::NotEnforceable { place },
-        }
-    }
-}
-
 impl From<RankRefusal> for TypeRefusal {
     ghost use Rattle.std.specs.Prelude.{◌≡◌};
-    ghost use Rattle.enforce_types.specs.Accepted.{of_plans};
+    ghost use Rattle.enforce_types.specs.machine.TypedPolicies.{type_refusal_of_plans};
 
-    ghost from_gives = { λ why refusal. refusal ≡ of_plans why };
+    ghost from_gives = { λ why refusal. refusal ≡ type_refusal_of_plans why };
 
     fn from(why: RankRefusal) -> TypeRefusal {
         match why {

@@ -1,19 +1,19 @@
 //! Policies whose rules have plans that can work together.
 ghost use Rattle.std.specs.Prelude.{◌≡◌, ◌≤◌, All, IfErr, IfOk};
-ghost use Rattle.enforce_types.specs.Accepted.{IsTyped, RefusesPolicy};
-ghost use Rattle.enforce_types.specs.PolicyLaws.{KeepsToSignature};
-ghost use Rattle.enforce_types.specs.Typed.{typed_of};
-ghost use Rattle.formula_reader.specs.Resolution.{formulas, rules_of};
-ghost use Rattle.formula_reader.specs.WellFormed.{IsWellFormedPolicy};
-ghost use Rattle.plan_terms.specs.Guards.{IsFresh, guard_of};
-ghost use Rattle.plan_terms.specs.Limits.{AllEndLater};
-ghost use Rattle.plan_terms.specs.WellFormed.{AreWellFormed};
-ghost use Rattle.rank_check.specs.Ranked.{AreRanked, role_in};
-ghost use Rattle.rank_check.specs.Refusals.{AreAccepted};
+ghost use Rattle.enforce_types.specs.meaning.PolicyRefusals.{IsTyped, RefusesPolicy};
+ghost use Rattle.enforce_types.specs.machine.PolicyLaws.{KeepsToSignature};
+ghost use Rattle.enforce_types.specs.machine.TypedPolicies.{typed_of};
+ghost use Rattle.formula_reader.specs.machine.StoredRules.{stored_rule_formulas, policy_rules_of};
+ghost use Rattle.formula_reader.specs.machine.WellFormedPolicies.{IsWellFormedPolicy};
+ghost use Rattle.plan_terms.specs.machine.WellFormed.{GuardBindsFresh, AreWellFormed};
+ghost use Rattle.plan_terms.specs.machine.GuardProperties.{guard_of};
+ghost use Rattle.plan_terms.specs.machine.IntervalEnds.{AllEndLater};
+ghost use Rattle.rank_check.specs.meaning.Ranked.{AreRanked, role_in};
+ghost use Rattle.rank_check.specs.meaning.AcceptedPlans.{AreAccepted};
 
-use crate::planning::{RulePlans, plan_rules};
 use crate::refusals::TypeRefusal;
-use enf_value::events::NameId;
+use crate::rule_plans::{RulePlans, plan_rules};
+use enf_data::events::NameId;
 use formula_reader::Policy;
 use monitorable_guard::Guard;
 use plan_terms::Plan;
@@ -30,10 +30,10 @@ pub struct TypedPolicy {
 }
 
 impl Model for TypedPolicy {
-    ghost use Rattle.enforce_types.specs.Typed.{StoredTyped, WorkTogether, typed_of};
-    ghost use Rattle.monitorable_guard.specs.Guards.{bound_formula_code};
-    ghost use Rattle.plan_terms.specs.contracts.plans.Plan as plan;
+    ghost use Rattle.enforce_types.specs.machine.TypedPolicies.{StoredTyped, WorkTogether, typed_of};
+    ghost use Rattle.monitorable_guard.specs.machine.Guards.{bound_formula_code};
     ghost use Rattle.std.specs.Coded.{codes};
+    ghost use Rattle.plan_terms.specs.contracts.plans.Plan as plan;
 
     ghost Value = { StoredTyped };
 
@@ -56,15 +56,16 @@ impl TypedPolicy {
         policy: &Policy,
     ) -> Result<TypedPolicy, TypeRefusal>
         // So is each policy that was read under the signature.
-        requires { IsWellFormedPolicy signature.now (rules_of policy.now) }
-        ensures typed { IfOk result (λ made. IsTyped signature.now (formulas policy.now.rules) (typed_of made)) }
+        requires { IsWellFormedPolicy signature.now (policy_rules_of policy.now) }
+        ensures typed { IfOk result (λ made. IsTyped signature.now (stored_rule_formulas policy.now.rules)
+            (typed_of made)) }
         // The names that it causes can be caused, and those that it suppresses can be suppressed, with terms for their
         // columns.
         ensures kept { IfOk result
             (λ made. KeepsToSignature signature.now (typed_of made).plans (typed_of made).guards) }
-        ensures refused { IfErr result (RefusesPolicy signature.now (formulas policy.now.rules)) }
+        ensures refused { IfErr result (RefusesPolicy signature.now (stored_rule_formulas policy.now.rules)) }
     {
-        let made = plan_rules(alloc, signature, policy.rules.as_slice())??;
+        let made = plan_rules(alloc, signature, policy.rules.as_slice())?;
         let ranks = check(alloc, &made.plans, signature.len())?;
         Ok(TypedPolicy { made, ranks })
     }
@@ -84,7 +85,7 @@ impl TypedPolicy {
     /// The guards and tests, at their numbers: no quantifier in one binds a variable in scope.
     pub fn guards(&self) -> &[Guard]
         ensures guards { result.now ≡ self.now.guards }
-        ensures fresh { All (λ guard. IsFresh (guard_of guard)) self.now.guards }
+        ensures fresh { All (λ guard. GuardBindsFresh (guard_of guard)) self.now.guards }
     {
         &self.made.guards
     }

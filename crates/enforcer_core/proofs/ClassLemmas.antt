@@ -1,21 +1,14 @@
--- Classes fall below a node, and behind an event that triggers it.
-use Rattle.std.proofs.Common.{◌≡◌, ℕ, zero, suc, ◌+◌, ◌-◌, ◌*◌, ◌<◌, ◌≤◌, List, [], ◌∷◌, ◌++◌, length, map, get_or, Contains, Option, None, Some, length-append, refl, sym, ap, subst, arith, ⊎_elim}
-use Rattle.std.specs.List.{flat_map}
-use Rattle.std.specs.Option.{option_or}
-use Rattle.std.proofs.lemmas.List.Elements.{Contains-append_left, Contains-append_right}
-use Rattle.std.proofs.lemmas.Nat.{mul-add-lt, mul-le}
-use Rattle.enf_value.specs.ListLaws.{Contains-append, first_or_later, here, later, none_in_nil}
-use Rattle.enf_value.specs.declared.events.NameId.{NameId}
-use Rattle.valuations.specs.SearchLaws.{Contains-from_map, Contains-map}
-use Rattle.plan_terms.specs.Changes.{cause_of, caused_below}
-use Rattle.plan_terms.specs.Nodes.{nodes}
-use Rattle.plan_terms.specs.Plans.{Plan, Cause, Suppress, Both, Either, TestOr, Guarded, Eventually, Always}
-use Rattle.plan_terms.specs.Plans.{Until, Next}
-use Rattle.plan_terms.specs.Triggers.{guard_triggers}
-use Rattle.rank_check.specs.Chains.{IsRank}
-use Rattle.rank_check.specs.Horizon.{class_of, greatest, least_rank, least_with, rank_in, size}
-use Rattle.rank_check.specs.Laws.{EdgesRise}
-use Rattle.rank_check.specs.Paths.{Edge, IsCause, IsPath, IsStart, below, path_triggers}
+-- Classes fall below a node, and after an event that triggers it.
+use Rattle.enforcer_core.proofs.Vocabulary.{◌≡◌, ℕ, zero, suc, ◌+◌, ◌-◌, ◌*◌, ◌<◌, ◌≤◌}
+use Rattle.enforcer_core.proofs.Vocabulary.{List, [], ◌∷◌, ◌++◌, length, map, get_or, Contains, Option, None}
+use Rattle.enforcer_core.proofs.Vocabulary.{Some, length-append, refl, sym, ap, subst, arith, ⊎_elim, flat_map}
+use Rattle.enforcer_core.proofs.Vocabulary.{option_or, Contains-append_left, Contains-append_right, mul-add-lt, mul-le}
+use Rattle.enforcer_core.proofs.Vocabulary.{Contains-append, first_or_later, here, later, none_in_nil}
+use Rattle.enforcer_core.proofs.Vocabulary.{Contains-from_map, Contains-map, NameId, caused_at, caused_below, nodes}
+use Rattle.enforcer_core.proofs.Vocabulary.{Plan, CausePlan, SuppressPlan, Both, Either, TestOr, Guarded}
+use Rattle.enforcer_core.proofs.Vocabulary.{EventuallyPlan, AlwaysPlan, UntilPlan, NextPlan, guard_triggers, IsRank}
+use Rattle.enforcer_core.proofs.Vocabulary.{class_of, greatest, least_rank, least_with, rank_in, plan_size, EdgesRise}
+use Rattle.enforcer_core.proofs.Vocabulary.{Edge, IsCauseNode, IsPath, IsStart, below, path_triggers}
 
 -- ---- the greatest and the least of a list
 
@@ -91,20 +84,20 @@ module _ (P : Plan → Type 0) (end : Plan) (is : P end) (up : (plan next : Plan
   one plan body b on_body there = self plan (nodes body) (λ more. up plan body b (on_body more)) there
 
   pub upward : (plan : Plan) → Contains (nodes plan) end → P plan
-  upward (Cause n place name terms) there = self (Cause n place name terms) [] (λ none. absurd (none_in_nil end none)) there
-  upward (Suppress n place name terms) there = self (Suppress n place name terms) [] (λ none. absurd (none_in_nil end none)) there
+  upward (CausePlan n place name terms) there = self (CausePlan n place name terms) [] (λ none. absurd (none_in_nil end none)) there
+  upward (SuppressPlan n place name terms) there = self (SuppressPlan n place name terms) [] (λ none. absurd (none_in_nil end none)) there
   upward (Both n l r) there = sides (Both n l r) l r (here l (r ∷ [])) (later r l (r ∷ []) (here r [])) (upward l) (upward r) there
   upward (Either n l r) there = sides (Either n l r) l r (here l (r ∷ [])) (later r l (r ∷ []) (here r [])) (upward l) (upward r) there
   upward (TestOr n guard test body) there = one (TestOr n guard test body) body (here body []) (upward body) there
   upward (Guarded n xs guard test body) there = one (Guarded n xs guard test body) body (here body []) (upward body) there
-  upward (Eventually n place low high body) there = one (Eventually n place low high body) body (here body []) (upward body) there
-  upward (Always n place low high body) there = one (Always n place low high body) body (here body []) (upward body) there
-  upward (Until n place low high l r) there = sides (Until n place low high l r) l r (here l (r ∷ [])) (later r l (r ∷ []) (here r [])) (upward l) (upward r) there
-  upward (Next n place high body) there = one (Next n place high body) body (here body []) (upward body) there
+  upward (EventuallyPlan n place low high body) there = one (EventuallyPlan n place low high body) body (here body []) (upward body) there
+  upward (AlwaysPlan n place low high body) there = one (AlwaysPlan n place low high body) body (here body []) (upward body) there
+  upward (UntilPlan n place low high l r) there = sides (UntilPlan n place low high l r) l r (here l (r ∷ [])) (later r l (r ∷ []) (here r [])) (upward l) (upward r) there
+  upward (NextPlan n place high body) there = one (NextPlan n place high body) body (here body []) (upward body) there
 
 -- the nodes of a plan begin with it, and have those of each plan directly below
 record Larger (plan next : Plan) : Type 0 where
-  longer : size next < size plan
+  longer : plan_size next < plan_size plan
   has : (end : Plan) → Contains (nodes next) end → Contains (nodes plan) end
 
 larger_one : (plan body : Plan) (next : Plan) → nodes plan ≡ plan ∷ nodes body → Contains (body ∷ []) next → Larger plan next
@@ -128,28 +121,28 @@ larger_two plan left right next are at = in_two (Larger plan) left right
     }) next at
 
 larger : (plan next : Plan) → Contains (below plan) next → Larger plan next
-larger (Cause n place name terms) next at = absurd (none_in_nil next at)
-larger (Suppress n place name terms) next at = absurd (none_in_nil next at)
+larger (CausePlan n place name terms) next at = absurd (none_in_nil next at)
+larger (SuppressPlan n place name terms) next at = absurd (none_in_nil next at)
 larger (Both n l r) next at = larger_two (Both n l r) l r next refl at
 larger (Either n l r) next at = larger_two (Either n l r) l r next refl at
 larger (TestOr n guard test body) next at = larger_one (TestOr n guard test body) body next refl at
 larger (Guarded n xs guard test body) next at = larger_one (Guarded n xs guard test body) body next refl at
-larger (Eventually n place low high body) next at = larger_one (Eventually n place low high body) body next refl at
-larger (Always n place low high body) next at = larger_one (Always n place low high body) body next refl at
-larger (Until n place low high l r) next at = larger_two (Until n place low high l r) l r next refl at
-larger (Next n place high body) next at = larger_one (Next n place high body) body next refl at
+larger (EventuallyPlan n place low high body) next at = larger_one (EventuallyPlan n place low high body) body next refl at
+larger (AlwaysPlan n place low high body) next at = larger_one (AlwaysPlan n place low high body) body next refl at
+larger (UntilPlan n place low high l r) next at = larger_two (UntilPlan n place low high l r) l r next refl at
+larger (NextPlan n place high body) next at = larger_one (NextPlan n place high body) body next refl at
 
 pub self_in : (plan : Plan) → Contains (nodes plan) plan
-self_in (Cause n place name terms) = here (Cause n place name terms) []
-self_in (Suppress n place name terms) = here (Suppress n place name terms) []
+self_in (CausePlan n place name terms) = here (CausePlan n place name terms) []
+self_in (SuppressPlan n place name terms) = here (SuppressPlan n place name terms) []
 self_in (Both n l r) = here (Both n l r) (nodes l ++ nodes r)
 self_in (Either n l r) = here (Either n l r) (nodes l ++ nodes r)
 self_in (TestOr n guard test body) = here (TestOr n guard test body) (nodes body)
 self_in (Guarded n xs guard test body) = here (Guarded n xs guard test body) (nodes body)
-self_in (Eventually n place low high body) = here (Eventually n place low high body) (nodes body)
-self_in (Always n place low high body) = here (Always n place low high body) (nodes body)
-self_in (Until n place low high l r) = here (Until n place low high l r) (nodes l ++ nodes r)
-self_in (Next n place high body) = here (Next n place high body) (nodes body)
+self_in (EventuallyPlan n place low high body) = here (EventuallyPlan n place low high body) (nodes body)
+self_in (AlwaysPlan n place low high body) = here (AlwaysPlan n place low high body) (nodes body)
+self_in (UntilPlan n place low high l r) = here (UntilPlan n place low high l r) (nodes l ++ nodes r)
+self_in (NextPlan n place high body) = here (NextPlan n place high body) (nodes body)
 
 pub below_in : (plan next end : Plan) → Contains (below plan) next → Contains (nodes next) end → Contains (nodes plan) end
 below_in plan next end at there = (larger plan next at).has end there
@@ -158,15 +151,15 @@ pub nodes_in : (plan node end : Plan) → Contains (nodes plan) node → Contain
 nodes_in plan node end there inside =
     upward (λ p. Contains (nodes p) end) node inside (λ p next at holds. (larger p next at).has end holds) plan there
 
-size_in : (plan node : Plan) → Contains (nodes plan) node → size node ≤ size plan
+size_in : (plan node : Plan) → Contains (nodes plan) node → plan_size node ≤ plan_size plan
 size_in plan node there =
-    upward (λ p. size node ≤ size p) node (omega arith) (λ p next at holds. let l = (larger p next at).longer in omega (arith, l, holds)) plan there
+    upward (λ p. plan_size node ≤ plan_size p) node (omega arith) (λ p next at holds. let l = (larger p next at).longer in omega (arith, l, holds)) plan there
 
 pub caused_in : (plan node : Plan) (name : NameId) → Contains (nodes plan) node → Contains (caused_below node) name
     → Contains (caused_below plan) name
 caused_in plan node name there caused =
-    let leaf = from_flat cause_of (nodes node) name caused in
-    in_flat cause_of (nodes plan) leaf.0 name (nodes_in plan node leaf.0 there leaf.1) leaf.2
+    let leaf = from_flat caused_at (nodes node) name caused in
+    in_flat caused_at (nodes plan) leaf.0 name (nodes_in plan node leaf.0 there leaf.1) leaf.2
 
 -- ---- paths
 
@@ -190,22 +183,22 @@ triggers_stay (node ∷ path) more names is = by (λ rest. triggers_stay path mo
     by again None rest = again rest
     by again (Some own) rest = rest
 
-cause_is : (node : Plan) (name : NameId) → Contains (cause_of node) name → IsCause node name
-cause_is (Cause n place name terms) other there =
+cause_is : (node : Plan) (name : NameId) → Contains (caused_at node) name → IsCauseNode node name
+cause_is (CausePlan n place name terms) other there =
     ⊎_elim (λ same. same) (λ none. absurd (none_in_nil other none)) (first_or_later other name [] there)
-cause_is (Suppress n place name terms) other there = absurd (none_in_nil other there)
+cause_is (SuppressPlan n place name terms) other there = absurd (none_in_nil other there)
 cause_is (Both n l r) other there = absurd (none_in_nil other there)
 cause_is (Either n l r) other there = absurd (none_in_nil other there)
 cause_is (TestOr n guard test body) other there = absurd (none_in_nil other there)
 cause_is (Guarded n xs guard test body) other there = absurd (none_in_nil other there)
-cause_is (Eventually n place low high body) other there = absurd (none_in_nil other there)
-cause_is (Always n place low high body) other there = absurd (none_in_nil other there)
-cause_is (Until n place low high l r) other there = absurd (none_in_nil other there)
-cause_is (Next n place high body) other there = absurd (none_in_nil other there)
+cause_is (EventuallyPlan n place low high body) other there = absurd (none_in_nil other there)
+cause_is (AlwaysPlan n place low high body) other there = absurd (none_in_nil other there)
+cause_is (UntilPlan n place low high l r) other there = absurd (none_in_nil other there)
+cause_is (NextPlan n place high body) other there = absurd (none_in_nil other there)
 
 -- ---- classes
 
--- a node behind a trigger, in a plan of the policy
+-- a node after a trigger, in a plan of the policy
 pub record IsBehind (plans : List Plan) (trigger : NameId) (node : Plan) : Type 0 where
   pub plan : Plan
   pub there : Contains plans plan
@@ -220,7 +213,7 @@ pub record IsBehind (plans : List Plan) (trigger : NameId) (node : Plan) : Type 
 edge_to : (plans : List Plan) (trigger : NameId) (node : Plan) (name : NameId) → IsBehind plans trigger node
     → Contains (caused_below node) name → Edge plans trigger name
 edge_to plans trigger node name behind caused =
-    let leaf = from_flat cause_of (nodes node) name caused in
+    let leaf = from_flat caused_at (nodes node) name caused in
     let rest = path_to node leaf.0 leaf.1 in (
       behind.plan,
       behind.there,
@@ -235,16 +228,16 @@ edge_to plans trigger node name behind caused =
       behind.has,
     )
 
-lower_class : (above least other step size size' : ℕ) → least < other → other ≤ above → size' < step
-    → (above - other) * step + size' < (above - least) * step + size
-lower_class above least other step size size' less within small =
+lower_class : (above least other step plan_size size' : ℕ) → least < other → other ≤ above → size' < step
+    → (above - other) * step + size' < (above - least) * step + plan_size
+lower_class above least other step plan_size size' less within small =
     let apart : (above - other) * step + size' < step * (above - least) =
     mul-add-lt (above - other) step size' (above - least) (omega (arith, less, within)) small in
     omega (arith, apart)
 
-smaller_class : (above least other step size size' : ℕ) → least ≤ other → size' < size
-    → (above - other) * step + size' < (above - least) * step + size
-smaller_class above least other step size size' less small =
+smaller_class : (above least other step plan_size size' : ℕ) → least ≤ other → size' < plan_size
+    → (above - other) * step + size' < (above - least) * step + plan_size
+smaller_class above least other step plan_size size' less small =
     let one : (above - other) * step ≤ (above - least) * step = mul-le (above - other) step (above - least) step (omega (arith, less)) (omega arith) in
     omega (arith, one, small)
 
@@ -269,7 +262,7 @@ module _ (ranks : List ℕ) (plans : List Plan) where
       (λ rank among. let name = Contains-from_map (rank_in ranks) (caused_below node) rank among in
       subst (λ r. least plan ≤ r) name.2 (least_caused plan name.0 (caused_in plan node name.0 there name.1)))
 
-  -- nor is what is caused behind a trigger ranked as low as that
+  -- nor is what is caused after a trigger ranked as low as that
   pub least_behind : EdgesRise → ((name : NameId) → IsRank (Edge plans) name (rank_in ranks name)) → (trigger : NameId) (node : Plan)
       → IsBehind plans trigger node → rank_in ranks trigger < least node
   least_behind rise are trigger node behind =
@@ -286,7 +279,7 @@ module _ (ranks : List ℕ) (plans : List Plan) where
   class_below plan next node at there =
       let l = larger plan next at in
       let s = size_in next node there in
-      smaller_class above (least plan) (least node) (greatest (map size plans) + 1) (size plan) (size node)
+      smaller_class above (least plan) (least node) (greatest (map plan_size plans) + 1) (plan_size plan) (plan_size node)
       (least_in plan node (l.has node there)) (omega (arith, l.longer, s))
 
   -- and one whose causes are ranked higher
@@ -294,6 +287,6 @@ module _ (ranks : List ℕ) (plans : List Plan) where
       → class_of ranks plans other < class_of ranks plans node
   class_higher node other plan less among there =
       let s = size_in plan other there in
-      let most = greatest_is (map size plans) (size plan) (Contains-map size plans plan among) in
-      lower_class above (least node) (least other) (greatest (map size plans) + 1) (size node) (size other) less
+      let most = greatest_is (map plan_size plans) (plan_size plan) (Contains-map plan_size plans plan among) in
+      lower_class above (least node) (least other) (greatest (map plan_size plans) + 1) (plan_size node) (plan_size other) less
       (least_within above (map (rank_in ranks) (caused_below other))) (omega (arith, s, most))

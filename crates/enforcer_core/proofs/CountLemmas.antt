@@ -1,31 +1,18 @@
 -- What is new at an inserted step has lower classes than something that is met there; so counts by class fall.
-use Rattle.std.proofs.Common.{◌≡◌, ℕ, ◌+◌, ◌<◌, ◌≤◌, ◌&&◌, Bool, true, false, cond, List, [], ◌∷◌, ◌++◌, Contains, Option, None, Some, nat_eq, refl, sym, ap, subst, ◌∙◌, arith, ⊎_elim}
-use Rattle.std.specs.Cmp.{unsigned_Decides}
-use Rattle.std.specs.List.{count_by}
-use Rattle.std.proofs.lemmas.Bool.{cases_lt, false≢true}
-use Rattle.std.proofs.lemmas.List.Sums.{sum_by-append, sum_by-cons}
-use Rattle.std.proofs.lemmas.Option.{same_Some}
-use Rattle.enf_value.specs.ListLaws.{Contains-append, first_or_later, here, later, none_in_nil}
-use Rattle.enf_value.specs.declared.steps.Step.{Step}
-use Rattle.plan_terms.specs.Nodes.{has_deadline}
-use Rattle.plan_terms.specs.Plans.{Plan}
-use Rattle.plan_terms.specs.Standing.{NodesStandIn}
-use Rattle.plan_terms.specs.WellFormed.{AreWellFormed}
-use Rattle.rank_check.specs.Horizon.{class_of, greatest}
-use Rattle.rank_check.specs.Laws.{EdgesRise}
-use Rattle.enforce_types.specs.Typed.{Typed}
-use Rattle.obligations.specs.Begun.{time_now}
-use Rattle.obligations.specs.Missing.{MissingIsOne}
-use Rattle.obligations.specs.Pending.{After, Goes, node_of}
-use Rattle.obligations.specs.Reached.{BegunIsNamed, BegunIsReached, MissedIsReached, ReachedIsInside}
-use Rattle.obligations.specs.Rows.{Gathers}
-use Rattle.obligations.specs.declared.instances.Instance.{Instance}
-use Rattle.choice_step.specs.Choice.{with_step}
-use Rattle.choice_step.specs.Laws.{DecidedMissesNothing}
-use Rattle.enforcer_core.specs.Ending.{AnyCountsFall, CountsFall, is_of_class, of_class}
+use Rattle.enforcer_core.proofs.Vocabulary.{◌≡◌, ℕ, ◌+◌, ◌<◌, ◌≤◌, ◌&&◌, Bool, true, false}
+use Rattle.enforcer_core.proofs.Vocabulary.{cond, List, [], ◌∷◌, ◌++◌, Contains, Option, None, Some, nat_eq}
+use Rattle.enforcer_core.proofs.Vocabulary.{refl, sym, ap, subst, ◌∙◌, arith, ⊎_elim, unsigned_Decides}
+use Rattle.enforcer_core.proofs.Vocabulary.{count_by, cases_lt, false≢true, sum_by-append, sum_by-cons, same_Some}
+use Rattle.enforcer_core.proofs.Vocabulary.{Contains-append, first_or_later, here, later, none_in_nil, Step}
+use Rattle.enforcer_core.proofs.Vocabulary.{has_deadline, Plan, NodesStandIn, AreWellFormed, class_of, greatest}
+use Rattle.enforcer_core.proofs.Vocabulary.{EdgesRise, Typed, time_now, Gathers, MissingIsOne, After, PendingAfter}
+use Rattle.enforcer_core.proofs.Vocabulary.{node_of, BegunIsNamed, BegunIsReached, MissedIsReached, ReachedIsInside}
+use Rattle.enforcer_core.proofs.Vocabulary.{Instance, trace_with_step, DecidedMissesNothing, AnyCountsFall, CountsFall}
+use Rattle.enforcer_core.proofs.Vocabulary.{is_of_class, count_of_class}
 use Rattle.enforcer_core.proofs.ClassLemmas.{greatest_is}
 use Rattle.enforcer_core.proofs.TriggerLemmas.{IsDue}
-use Rattle.enforcer_core.proofs.EndingLemmas.{IsMet, IsNew, Leaves, Passes, Stays, becomes, due_at, due_ends, ending_met, is_served, leaves_new, new_lower, roots_new, stays_new}
+use Rattle.enforcer_core.proofs.ReachLemmas.{IsMet, IsNew, Leaves, Passes, Stays, becomes, due_at, due_ends, ending_met}
+use Rattle.enforcer_core.proofs.ReachLemmas.{is_served, leaves_new, new_lower, roots_new, stays_new}
 
 -- ---- counts
 
@@ -86,14 +73,14 @@ module _ (ranks : List ℕ) (plans : List Plan) where
       count_is class i node found ∙ ap (λ (b : Bool). cond {A = ℕ} (b && nat_eq (class_of ranks plans node) class) 1 0) has
 
   cons_is : (class : ℕ) (i : Instance) (is : List Instance)
-      → of_class ranks plans class (i ∷ is) ≡ counted class i + of_class ranks plans class is
+      → count_of_class ranks plans class (i ∷ is) ≡ counted class i + count_of_class ranks plans class is
   cons_is class i is = sum_by-cons (counted class) i is
 
   -- where none of the instances with a deadline is of the class
   none_counted : (class : ℕ) (is : List Instance)
       → ((i : Instance) (node : Plan) → Contains is i → node_of plans i ≡ Some node → has_deadline node ≡ true
       → class_of ranks plans node ≡ class → ⊥)
-      → of_class ranks plans class is ≡ 0
+      → count_of_class ranks plans class is ≡ 0
   none_counted class [] none = refl
   none_counted class (i ∷ is) none =
       let rest = none_counted class is (λ j node there. none j node (later j i is there)) in
@@ -112,7 +99,7 @@ module _ (ranks : List ℕ) (plans : List Plan) where
       by (Some node) found = by_due node found (has_deadline node) refl
 
   joined : (class : ℕ) (is js : List Instance)
-      → of_class ranks plans class (is ++ js) ≡ of_class ranks plans class is + of_class ranks plans class js
+      → count_of_class ranks plans class (is ++ js) ≡ count_of_class ranks plans class is + count_of_class ranks plans class js
   joined class is js = sum_by-append (counted class) is js
 
 -- ---- what leaves, and what is new
@@ -133,8 +120,8 @@ module _ (stand : NodesStandIn) (inside : ReachedIsInside) (named : BegunIsNamed
   record Balance (before after : List Instance) : Type 0 where
     classes : List ℕ
     fresh : List Instance
-    even : (class : ℕ) → of_class ranks plans class after + times class classes
-        ≡ of_class ranks plans class before + of_class ranks plans class fresh
+    even : (class : ℕ) → count_of_class ranks plans class after + times class classes
+        ≡ count_of_class ranks plans class before + count_of_class ranks plans class fresh
     met : (i : Instance) (node : Plan) → IsDue plans before i node → IsMet trace i node → Contains classes (class_of ranks plans node)
     new : (i : Instance) → Contains fresh i → New i
 
@@ -160,7 +147,7 @@ module _ (stand : NodesStandIn) (inside : ReachedIsInside) (named : BegunIsNamed
       fresh = s.more ++ b.fresh;
       even = λ class.
           let all = joined ranks plans class first rest in
-          let own = ap (of_class ranks plans class) s.are ∙ cons_is ranks plans class i s.more in
+          let own = ap (count_of_class ranks plans class) s.are ∙ cons_is ranks plans class i s.more in
           let front = cons_is ranks plans class i before in
           let fresh = joined ranks plans class s.more b.fresh in
           let rest' = b.even class in
@@ -202,7 +189,7 @@ module _ (stand : NodesStandIn) (inside : ReachedIsInside) (named : BegunIsNamed
       fresh = b.fresh;
       even = λ class.
           let all = joined ranks plans class first rest in
-          let none = ap (of_class ranks plans class) p.none in
+          let none = ap (count_of_class ranks plans class) p.none in
           let own = count_other ranks plans class i node found p.has in
           let front = cons_is ranks plans class i before in
           let rest' = b.even class in
@@ -216,7 +203,7 @@ module _ (stand : NodesStandIn) (inside : ReachedIsInside) (named : BegunIsNamed
   balance [] kept within none = record {
     classes = [];
     fresh = [];
-    even = λ class. let is = ap (of_class ranks plans class) none in omega (arith, is);
+    even = λ class. let is = ap (count_of_class ranks plans class) none in omega (arith, is);
     met = λ i node due is. absurd (none_in_nil i due.there);
     new = λ i among. absurd (none_in_nil i among);
   }
@@ -229,13 +216,13 @@ module _ (stand : NodesStandIn) (inside : ReachedIsInside) (named : BegunIsNamed
       (λ other. ⊎_elim (with_leaves i before first rest there turn.0 turn.1 b) (with_passes i before first rest there turn.0 turn.1 b) other)
       turn.2)
 
-  balance_all : (after : List Instance) → Goes plans trace pending after → Balance pending after
+  balance_all : (after : List Instance) → PendingAfter plans trace pending after → Balance pending after
   balance_all after (kept, begun, goes, begins, are) =
       let b = balance pending kept (λ i there. there) goes in record {
         classes = b.classes;
         fresh = b.fresh ++ begun;
         even = λ class.
-            let all = ap (of_class ranks plans class) are ∙ joined ranks plans class kept begun in
+            let all = ap (count_of_class ranks plans class) are ∙ joined ranks plans class kept begun in
             let fresh = joined ranks plans class b.fresh begun in
             let rest' = b.even class in
             omega (arith, all, fresh, rest');
@@ -253,7 +240,7 @@ module _ (stand : NodesStandIn) (inside : ReachedIsInside) (named : BegunIsNamed
       → (i : Instance) (node : Plan) → IsDue plans pending i node → IsMet trace i node → CountsFall ranks plans pending after
   counts_fall after b lower i node due is =
       let some = b.met i node due is in
-      let low : (class : ℕ) → greatest b.classes ≤ class → of_class ranks plans class b.fresh ≡ 0 =
+      let low : (class : ℕ) → greatest b.classes ≤ class → count_of_class ranks plans class b.fresh ≡ 0 =
       λ class le. none_counted ranks plans class b.fresh (λ j other among found has same.
       let new = b.new j among in
       let at : new.node ≡ other = same_Some new.node other (sym new.found ∙ found) in
@@ -283,10 +270,10 @@ module _ (stand : NodesStandIn) (inside : ReachedIsInside) (named : BegunIsNamed
       typed trace pending after deadline actions events accepted ranked ordered decided goes in
       let d = due_at typed.plans least.instance deadline least.is in
       let due : IsDue typed.plans pending least.instance d.0 = record { there = least.there; found = d.1; has = d.2 } in
-      let now : time_now (with_step trace deadline events) ≡ least.instance.high = s.now ∙ sym d.3 in
-      counts_fall stand inside named begun_reached missing_one typed formed (with_step trace deadline events) pending after
-      (balance_all stand inside named begun_reached missing_one typed formed (with_step trace deadline events) pending after s.goes)
-      (new_lower stand inside named begun_reached missing_one typed formed accepted rise ranked.ranks (with_step trace deadline events) pending s.ordered s.quiet s.owed)
+      let now : time_now (trace_with_step trace deadline events) ≡ least.instance.high = s.now ∙ sym d.3 in
+      counts_fall stand inside named begun_reached missing_one typed formed (trace_with_step trace deadline events) pending after
+      (balance_all stand inside named begun_reached missing_one typed formed (trace_with_step trace deadline events) pending after s.goes)
+      (new_lower stand inside named begun_reached missing_one typed formed accepted rise ranked.ranks (trace_with_step trace deadline events) pending s.ordered s.quiet s.owed)
       least.instance d.0 due
-      (ending_met stand inside named begun_reached missing_one typed formed accepted rise ranked.ranks (with_step trace deadline events) pending s.ordered s.quiet s.owed
-      least.instance d.0 due (due_ends (time_now (with_step trace deadline events)) least.instance d.0 d.2 now))
+      (ending_met stand inside named begun_reached missing_one typed formed accepted rise ranked.ranks (trace_with_step trace deadline events) pending s.ordered s.quiet s.owed
+      least.instance d.0 due (due_ends (time_now (trace_with_step trace deadline events)) least.instance d.0 d.2 now))

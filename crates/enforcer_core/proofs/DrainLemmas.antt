@@ -1,31 +1,15 @@
 -- Where no deadline is left the policy is satisfied, and so each trace that is ready can be continued well.
-use Rattle.std.proofs.Common.{◌≡◌, ℕ, ◌+◌, ◌<◌, ◌≤◌, true, List, [], ◌∷◌, ◌++◌, All, length, refl, sym, subst, append_assoc, arith, Option, None, Contains}
-use Rattle.std.specs.List.{AllByRecursion}
-use Rattle.std.proofs.lemmas.List.{append-nil}
-use Rattle.std.proofs.lemmas.List.Elements.{All-cons, All-contains, All-from_recursion, All-nil, All-weaker}
-use Rattle.enf_value.specs.Data.{IsTrace}
-use Rattle.enf_value.specs.ListLaws.{AllByRecursion-contains, AllByRecursion-from_contains}
-use Rattle.enf_value.specs.Valuations.{no_values}
-use Rattle.enf_value.specs.declared.steps.Step.{Step}
-use Rattle.enf_value.specs.declared.terms.VarId.{VarId}
-use Rattle.enf_formula.specs.Formulas.{Formula}
-use Rattle.enf_formula.specs.Satisfaction.{Sat}
-use Rattle.trace_meaning.specs.Good.{Good}
-use Rattle.trace_meaning.specs.Satisfies.{Satisfies}
-use Rattle.trace_meaning.specs.declared.kinds.StepKind.{StepKind}
-use Rattle.trace_meaning.specs.declared.kinds.StepKind.TheVariants.{Inserted}
-use Rattle.plan_terms.specs.Nodes.{has_deadline, is_future}
-use Rattle.plan_terms.specs.Plans.{Plan, Cause, Suppress, Both, Either, TestOr, Guarded, Eventually, Always, Until, Next}
-use Rattle.enforce_types.specs.Typed.{Typed, WorkTogether}
-use Rattle.obligations.specs.Pending.{AtNode, HasDeadline, IsClean, IsReady, NoneIsOver, Pend}
-use Rattle.obligations.specs.Residuals.{OwesAt, Residual}
-use Rattle.obligations.specs.Traces.{AllHold, PendingIsEnough, PlansStand}
-use Rattle.obligations.specs.Waiting.{CanAskOf}
-use Rattle.obligations.specs.declared.instances.Instance.{Instance}
-use Rattle.choice_step.specs.Choice.{Decides}
-use Rattle.choice_step.specs.Follows.{ActedStep, FollowsDrain, Inserts, is_inserted, steps_of}
-use Rattle.enforcer_core.specs.Enforcers.{formulas_for}
-use Rattle.enforcer_core.specs.StepLaws.{DrainLaws}
+use Rattle.enforcer_core.proofs.Vocabulary.{◌≡◌, ℕ, ◌+◌, ◌<◌, ◌≤◌, true, List, [], ◌∷◌}
+use Rattle.enforcer_core.proofs.Vocabulary.{◌++◌, All, length, refl, sym, subst, append_assoc, arith, Option, None}
+use Rattle.enforcer_core.proofs.Vocabulary.{Contains, AllByRecursion, append-nil, All-cons, All-contains}
+use Rattle.enforcer_core.proofs.Vocabulary.{All-from_recursion, All-nil, All-weaker, IsTrace, AllByRecursion-contains}
+use Rattle.enforcer_core.proofs.Vocabulary.{AllByRecursion-from_contains, no_values, Step, VarId, Formula, Sat, Good}
+use Rattle.enforcer_core.proofs.Vocabulary.{Satisfies, StepKind, Inserted, has_deadline, is_future, Plan, CausePlan}
+use Rattle.enforcer_core.proofs.Vocabulary.{SuppressPlan, Both, Either, TestOr, Guarded, EventuallyPlan, AlwaysPlan}
+use Rattle.enforcer_core.proofs.Vocabulary.{UntilPlan, NextPlan, Typed, WorkTogether, AtNode, HasDeadline, IsClean}
+use Rattle.enforcer_core.proofs.Vocabulary.{IsReady, NoneIsOver, Pend, OwesAt, Residual, AllHold, PendingIsEnough}
+use Rattle.enforcer_core.proofs.Vocabulary.{PlansStand, CanAskOf, Instance, Decides, ActedStep, is_inserted, steps_of}
+use Rattle.enforcer_core.proofs.Vocabulary.{FollowsDrain, InsertsSteps, formulas_for, DrainLaws}
 use Rattle.enforcer_core.proofs.StepLemmas.{ready_behind}
 
 -- ---- where no deadline is left
@@ -33,16 +17,16 @@ use Rattle.enforcer_core.proofs.StepLemmas.{ready_behind}
 abbrev pub NoDeadline : List Plan → List Instance → Type 0
 NoDeadline plans pending = (i : Instance) (deadline : ℕ) → Contains pending i → HasDeadline plans i deadline → ⊥
 
--- the positions behind a trace owe an instance nothing, where it has no deadline
+-- the positions after a trace owe an instance nothing, where it has no deadline
 owes_nothing : (trace : List Step) (i : Instance) (node : Plan) → is_future node ≡ true → (has_deadline node ≡ true → ⊥)
     → OwesAt trace (length trace) node i
-owes_nothing trace i (Always node place low high body) future none =
+owes_nothing trace i (AlwaysPlan node place low high body) future none =
     λ j left. let from = left.from_there in let there = left.is_there in absurd (omega (arith, from, there))
-owes_nothing trace i (Eventually node place low high body) future none = absurd (none refl)
-owes_nothing trace i (Until node place low high left right) future none = absurd (none refl)
-owes_nothing trace i (Next node place high body) future none = absurd (none refl)
-owes_nothing trace i (Cause node place name terms) future none = absurd cc
-owes_nothing trace i (Suppress node place name terms) future none = absurd cc
+owes_nothing trace i (EventuallyPlan node place low high body) future none = absurd (none refl)
+owes_nothing trace i (UntilPlan node place low high left right) future none = absurd (none refl)
+owes_nothing trace i (NextPlan node place high body) future none = absurd (none refl)
+owes_nothing trace i (CausePlan node place name terms) future none = absurd cc
+owes_nothing trace i (SuppressPlan node place name terms) future none = absurd cc
 owes_nothing trace i (Both node left right) future none = absurd cc
 owes_nothing trace i (Either node left right) future none = absurd cc
 owes_nothing trace i (TestOr node guard test body) future none = absurd cc
@@ -76,7 +60,7 @@ drained_satisfies enough guards plans trace pending stand is_trace clean pend ca
 
 -- ---- where all deadlines are served
 
-pend_of : (plans : List Plan) (trace : List Step) (until : Option ℕ) (out : List ActedStep) → Inserts plans trace until out
+pend_of : (plans : List Plan) (trace : List Step) (until : Option ℕ) (out : List ActedStep) → InsertsSteps plans trace until out
     → (pending : List Instance) × Pend plans trace pending
 pend_of plans trace until [] (pending, pend, none) = (pending, pend)
 pend_of plans trace until (o ∷ out) (deadline, (pending, pend, least), passed, goes, rest) = (pending, pend)

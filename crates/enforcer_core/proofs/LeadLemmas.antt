@@ -1,43 +1,26 @@
 -- What a step leads on to, whatever the guards say: later deadlines, and nothing that is owed for longer.
-use Rattle.std.proofs.Common.{◌≡◌, ◌⊎◌, ℕ, zero, suc, ◌+◌, ◌<◌, ◌≤◌, Bool, true, false, List, [], ◌∷◌, map, Contains, Option, None, Some, refl, sym, ap, subst, ◌∙◌, arith, inl, inr, ⊎_elim}
-use Rattle.std.specs.Cmp.{unsigned_Decides}
-use Rattle.std.specs.List.{flat_map}
-use Rattle.std.proofs.lemmas.Bool.{cases_lt, false≢true}
-use Rattle.std.proofs.lemmas.List.Elements.{All-contains}
-use Rattle.std.proofs.lemmas.Option.{same_Some}
-use Rattle.enf_value.specs.ListLaws.{AllByRecursion-contains, here, later, there_from_get}
-use Rattle.enf_value.specs.declared.events.Event.{Event}
-use Rattle.enf_value.specs.declared.events.NameId.{NameId}
-use Rattle.trace_meaning.specs.Lawful.{IsCause}
-use Rattle.valuations.specs.SearchLaws.{Contains-from_map, Contains-map}
-use Rattle.plan_terms.specs.Changes.{cause_of, caused_below}
-use Rattle.plan_terms.specs.Limits.{EndsLater}
-use Rattle.plan_terms.specs.Nodes.{has_deadline, nodes}
-use Rattle.plan_terms.specs.Plans.{Plan, Cause, Suppress, Both, Either, TestOr, Guarded, Eventually, Always}
-use Rattle.plan_terms.specs.Plans.{Until, Next}
-use Rattle.plan_terms.specs.Standing.{NodesStandIn}
-use Rattle.rank_check.specs.Horizon.{class_of, greatest, rank_in, window_end, with_deadlines}
-use Rattle.rank_check.specs.Laws.{EdgesRise}
-use Rattle.rank_check.specs.Paths.{needs_trigger}
-use Rattle.enforce_types.specs.Typed.{Typed, WorkTogether}
-use Rattle.obligations.specs.Asked.{IsLeaf}
-use Rattle.obligations.specs.Carrying.{LeadsAt, is_forced_at}
-use Rattle.obligations.specs.Pending.{AtNode, HasDeadline, NoneIsOver, node_of}
-use Rattle.obligations.specs.Reached.{BegunIsNamed, ReachedIsInside}
-use Rattle.obligations.specs.Reaching.{IsBegunAt, IsBegunUnder, IsReachedBy}
-use Rattle.obligations.specs.Waiting.{HasPart}
-use Rattle.obligations.specs.declared.actions.Action.{Action}
-use Rattle.obligations.specs.declared.instances.Instance.{Instance}
-use Rattle.obligations.specs.declared.literals.LiteralKind.{LiteralKind}
+use Rattle.enforcer_core.proofs.Vocabulary.{◌≡◌, ◌⊎◌, ℕ, zero, suc, ◌+◌, ◌<◌, ◌≤◌, Bool}
+use Rattle.enforcer_core.proofs.Vocabulary.{true, false, List, [], ◌∷◌, map, Contains, Option, None, Some, refl}
+use Rattle.enforcer_core.proofs.Vocabulary.{sym, ap, subst, ◌∙◌, arith, inl, inr, ⊎_elim, unsigned_Decides}
+use Rattle.enforcer_core.proofs.Vocabulary.{flat_map, cases_lt, false≢true, All-contains, same_Some}
+use Rattle.enforcer_core.proofs.Vocabulary.{AllByRecursion-contains, here, later, there_from_get, Contains-from_map}
+use Rattle.enforcer_core.proofs.Vocabulary.{Contains-map, Event, NameId, IsCause, caused_at, caused_below, has_deadline}
+use Rattle.enforcer_core.proofs.Vocabulary.{nodes, window_end, Plan, CausePlan, SuppressPlan, Both, Either, TestOr}
+use Rattle.enforcer_core.proofs.Vocabulary.{Guarded, EventuallyPlan, AlwaysPlan, UntilPlan, NextPlan, EndsLater}
+use Rattle.enforcer_core.proofs.Vocabulary.{NodesStandIn, class_of, greatest, rank_in, with_deadlines, EdgesRise}
+use Rattle.enforcer_core.proofs.Vocabulary.{needs_trigger, Typed, WorkTogether, IsLeaf, LeadsAt, is_forced_at, AtNode}
+use Rattle.enforcer_core.proofs.Vocabulary.{HasDeadline, NoneIsOver, node_of, BegunIsNamed, ReachedIsInside, IsBegunAt}
+use Rattle.enforcer_core.proofs.Vocabulary.{IsBegunUnder, IsReachedBy, HasPart, Action, Instance, LiteralKind}
+use Rattle.enforcer_core.proofs.Vocabulary.{acted_among, ActsFrom, AreAskedActions, change_by, change_of, CausesAlone}
+use Rattle.enforcer_core.proofs.Vocabulary.{LedDeadlinesFall, LedStaysInReach, reach_of, widest_window}
+use Rattle.enforcer_core.proofs.ClassLemmas.{below_in, caused_in, class_below, class_higher, greatest_is, in_flat}
+use Rattle.enforcer_core.proofs.ClassLemmas.{least, least_behind, least_caused, nodes_in, self_in}
+use Rattle.enforcer_core.proofs.ReachLemmas.{begun_high, below_reach, deadline_of, due_at, in_deadlines, in_reach}
+use Rattle.enforcer_core.proofs.ReachLemmas.{later_end, needs, over_at, over_from, reach_is, reach_of_within}
+use Rattle.enforcer_core.proofs.ReachLemmas.{reach_within, window_within}
+use Rattle.enforcer_core.proofs.TriggerLemmas.{IsAsked, IsDue, anew_asked, at_place, behind_event, cause_leaf}
+use Rattle.enforcer_core.proofs.TriggerLemmas.{due_asked, root_asked}
 use Rattle.obligations.specs.declared.literals.LiteralKind.TheVariants as kind
-use Rattle.choice_step.specs.AskedLaws.{acted_among}
-use Rattle.choice_step.specs.Choosing.{ActsFrom, AreAsked}
-use Rattle.choice_step.specs.Follows.{change_by, change_of}
-use Rattle.choice_step.specs.Laws.{CausesAlone}
-use Rattle.enforcer_core.specs.Ending.{LedDeadlinesFall, LedStaysInReach, reach_of, widest}
-use Rattle.enforcer_core.proofs.ClassLemmas.{below_in, caused_in, class_below, class_higher, greatest_is, in_flat, least, least_behind, least_caused, nodes_in, self_in}
-use Rattle.enforcer_core.proofs.EndingLemmas.{begun_high, below_reach, deadline_of, due_at, in_deadlines, in_reach, later_end, needs, over_at, over_from, reach_is, reach_of_within, reach_within, window_within}
-use Rattle.enforcer_core.proofs.TriggerLemmas.{IsAsked, IsDue, anew_asked, at_place, behind_event, cause_leaf, due_asked, root_asked}
 
 -- anything that is pending will do
 abbrev Any : Instance → Plan → Type 0
@@ -62,18 +45,18 @@ module _ (inside : ReachedIsInside) (named : BegunIsNamed) (stand : NodesStandIn
   -- ---- where what is asked stands
 
   part_asked : (i : Instance) (node part : Plan) → Contains pending i → node_of plans i ≡ Some node → HasPart node part → Asked i.rule part
-  part_asked i (Eventually n place low high body) part there found has =
-      due_asked plans pending Any i (Eventually n place low high body) part there found (subst (Contains (body ∷ [])) has (here body [])) refl tt
-  part_asked i (Next n place high body) part there found has =
-      due_asked plans pending Any i (Next n place high body) part there found (subst (Contains (body ∷ [])) has (here body [])) refl tt
-  part_asked i (Always n place low high body) part there found has =
-      anew_asked plans pending Any i (Always n place low high body) part there found (subst (Contains (body ∷ [])) has (here body []))
-  part_asked i (Until n place low high left right) part there found has = ⊎_elim
-      (λ on_left. anew_asked plans pending Any i (Until n place low high left right) part there found (subst (Contains (left ∷ [])) on_left (here left [])))
-      (λ on_right. due_asked plans pending Any i (Until n place low high left right) part there found
+  part_asked i (EventuallyPlan n place low high body) part there found has =
+      due_asked plans pending Any i (EventuallyPlan n place low high body) part there found (subst (Contains (body ∷ [])) has (here body [])) refl tt
+  part_asked i (NextPlan n place high body) part there found has =
+      due_asked plans pending Any i (NextPlan n place high body) part there found (subst (Contains (body ∷ [])) has (here body [])) refl tt
+  part_asked i (AlwaysPlan n place low high body) part there found has =
+      anew_asked plans pending Any i (AlwaysPlan n place low high body) part there found (subst (Contains (body ∷ [])) has (here body []))
+  part_asked i (UntilPlan n place low high left right) part there found has = ⊎_elim
+      (λ on_left. anew_asked plans pending Any i (UntilPlan n place low high left right) part there found (subst (Contains (left ∷ [])) on_left (here left [])))
+      (λ on_right. due_asked plans pending Any i (UntilPlan n place low high left right) part there found
       (subst (Contains (left ∷ right ∷ [])) on_right (later right left (right ∷ []) (here right []))) refl tt) has
-  part_asked i (Cause n place name terms) part there found has = absurd has
-  part_asked i (Suppress n place name terms) part there found has = absurd has
+  part_asked i (CausePlan n place name terms) part there found has = absurd has
+  part_asked i (SuppressPlan n place name terms) part there found has = absurd has
   part_asked i (Both n left right) part there found has = absurd has
   part_asked i (Either n left right) part there found has = absurd has
   part_asked i (TestOr n guard test body) part there found has = absurd has
@@ -105,7 +88,7 @@ module _ (inside : ReachedIsInside) (named : BegunIsNamed) (stand : NodesStandIn
       }) asked.from
 
   module _ (causes : CausesAlone) (actions : List Action) (events : List Event) (acts : ActsFrom plans [] actions events)
-      (asked : AreAsked plans pending [] actions) where
+      (asked : AreAskedActions plans pending [] actions) where
     abbrev caused : List Event
     caused = map (λ (a : Action). a.event) actions
 
@@ -120,7 +103,7 @@ module _ (inside : ReachedIsInside) (named : BegunIsNamed) (stand : NodesStandIn
     action_owes action there each =
         let is = asked action there in
         let cause = cause_leaf is.leaf action.leaf action.event (subst (λ (k : LiteralKind). IsLeaf is.leaf k action.leaf action.event) (kind_of action there) is.is) in
-        let below_it = in_flat cause_of (nodes is.leaf) is.leaf action.event.name (self_in is.leaf) cause.0 in
+        let below_it = in_flat caused_at (nodes is.leaf) is.leaf action.event.name (self_in is.leaf) cause.0 in
         ⊎_elim
         (λ root.
         let at = at_place plans root.plan root.among in
@@ -203,7 +186,7 @@ module _ (inside : ReachedIsInside) (named : BegunIsNamed) (stand : NodesStandIn
     led_among : (j : Instance) (new : IsLed j) → Contains plans new.asked.plan
     led_among j new = there_from_get plans new.rule new.asked.plan new.asked.plan_is
 
-    led_window : (j : Instance) (new : IsLed j) → has_deadline new.node ≡ true → (j.high ≡ time + window_end new.node) × (window_end new.node ≤ widest plans)
+    led_window : (j : Instance) (new : IsLed j) → has_deadline new.node ≡ true → (j.high ≡ time + window_end new.node) × (window_end new.node ≤ widest_window plans)
     led_window j new has = (
       begun_high time position new.rule new.node j new.begins has,
       window_within plans new.node (in_deadlines plans new.asked.plan new.node (led_among j new) new.within has),
@@ -216,7 +199,7 @@ module _ (inside : ReachedIsInside) (named : BegunIsNamed) (stand : NodesStandIn
         (λ new. let has = led_has j deadline new due in let window = led_window j new has.0 in omega (arith, window.0, has.1))
         (led after leads j there))
 
-    -- and nothing is owed behind the horizon, but for what was
+    -- and nothing is owed after the horizon, but for what was
     pub led_in_reach : (after : List Instance) → LeadsAt events time position plans inserted pending after → (most : ℕ)
         → reach_of ranks plans pending ≤ most → time + typed.ranked.horizon ≤ most → reach_of ranks plans after ≤ most
     led_in_reach after leads most was horizon = reach_of_within ranks plans after most (λ j there. ⊎_elim
@@ -225,12 +208,12 @@ module _ (inside : ReachedIsInside) (named : BegunIsNamed) (stand : NodesStandIn
         let window = led_window j new has in
         let there' = in_deadlines plans new.asked.plan new.node (led_among j new) new.within has in
         let class = greatest_is (map (class_of ranks plans) (with_deadlines plans)) (class_of ranks plans new.node) (Contains-map (class_of ranks plans) (with_deadlines plans) new.node there') in
-        below_reach time (window_end new.node) (widest plans) (class_of ranks plans new.node)
+        below_reach time (window_end new.node) (widest_window plans) (class_of ranks plans new.node)
         (greatest (map (class_of ranks plans) (with_deadlines plans)) + 1) j.high time most
         window.0 window.1 (omega (arith, class)) (omega arith) (omega (arith, works.ranked.horizon, horizon))))
         (led after leads j there))
 
-    module _ (causes : CausesAlone) (actions : List Action) (acts : ActsFrom plans [] actions events) (asked : AreAsked plans pending [] actions)
+    module _ (causes : CausesAlone) (actions : List Action) (acts : ActsFrom plans [] actions events) (asked : AreAskedActions plans pending [] actions)
         (forced : inserted ≡ true) where
       -- what is begun has a lower class than something that is due
       led_lower : (j : Instance) (new : IsLed j) → has_deadline new.node ≡ true
@@ -259,7 +242,7 @@ module _ (inside : ReachedIsInside) (named : BegunIsNamed) (stand : NodesStandIn
           let later = over_at plans time pending over low.0 due.there low.0.high (deadline_of plans low.0 low.1 due.found due.has) in
           let reach = in_reach ranks plans pending low.0 due.there in
           let reach_as = reach_is ranks plans low.0 low.1 due.found due.has in
-          below_reach time (window_end new.node) (widest plans) (class_of ranks plans new.node) (class_of ranks plans low.1) j.high low.0.high (reach_of ranks plans pending)
+          below_reach time (window_end new.node) (widest_window plans) (class_of ranks plans new.node) (class_of ranks plans low.1) j.high low.0.high (reach_of ranks plans pending)
           window.0 window.1 low.3 later (omega (arith, reach, reach_as))))
           (led after leads j there))
 
@@ -279,7 +262,8 @@ module _ (inside : ReachedIsInside) (named : BegunIsNamed) (stand : NodesStandIn
           (λ new.
           let has = led_has j deadline new due in
           let window = led_window j new has.0 in
-          let ends = later_end new.node (AllByRecursion-contains EndsLater (flat_map nodes plans) new.node works.later (in_flat nodes plans new.asked.plan new.node (led_among j new) new.within)) has.0 in
+          let ends = later_end new.node (AllByRecursion-contains EndsLater (flat_map nodes plans) new.node
+          works.later (in_flat nodes plans new.asked.plan new.node (led_among j new) new.within)) has.0 in
           omega (arith, window.0, ends, has.1))
           (led after leads j there))
 

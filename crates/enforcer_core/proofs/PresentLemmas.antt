@@ -1,10 +1,8 @@
 -- Plans that do not look ahead, one after another.
-use Rattle.std.proofs.Common.{◌≡◌, ℕ, zero, suc, ◌+◌, ◌<◌, Bool, true, false, List, [], ◌∷◌, length, map, take, get_or, refl, sym, subst, arith, ◌||◌, ◌∙◌}
-use Rattle.std.proofs.lemmas.Bool.{false≢true}
-use Rattle.std.specs.List.{AllByRecursion, list_any}
-use Rattle.plan_terms.specs.Nodes.{has_future, is_future, nodes}
-use Rattle.plan_terms.specs.Plans.{Plan}
-use Rattle.obligations.specs.Traces.{LooksAtNow}
+use Rattle.enforcer_core.proofs.Vocabulary.{◌≡◌, ℕ, zero, suc, ◌+◌, ◌<◌, Bool, true, false, List, []}
+use Rattle.enforcer_core.proofs.Vocabulary.{◌∷◌, length, map, take, get_or, refl, sym, subst, arith, ◌||◌}
+use Rattle.enforcer_core.proofs.Vocabulary.{◌∙◌, false≢true, AllByRecursion, list_any, has_future, is_future}
+use Rattle.enforcer_core.proofs.Vocabulary.{nodes, Plan, LooksAtNow}
 
 both : (x y : Bool) → (x || y) ≡ false → (x ≡ false) × (y ≡ false)
 both false y e = (refl, e)

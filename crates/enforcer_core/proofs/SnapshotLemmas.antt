@@ -1,74 +1,42 @@
 -- The guards of a policy and their copies have the same operators, which can be numbered.
-use Rattle.std.proofs.Common.{◌≡◌, ◌∙◌, ℕ, ◌<◌, ◌≤◌, ◌^◌, Bool, true, false, cond, List, [], ◌∷◌, All, Option, None, Some, length, map, sum, refl, sym, ap, subst, arith}
-use Rattle.std.specs.Prelude.{IsSome, slice_get}
+use Rattle.enforcer_core.proofs.Vocabulary.{◌≡◌, ◌∙◌, ℕ, ◌<◌, ◌≤◌, ◌^◌, Bool, true, false}
+use Rattle.enforcer_core.proofs.Vocabulary.{cond, List, [], ◌∷◌, All, Option, None, Some, length, map, sum, refl}
+use Rattle.enforcer_core.proofs.Vocabulary.{sym, ap, subst, arith, IsSome, slice_get, AllByRecursion, find, sum_by}
+use Rattle.enforcer_core.proofs.Vocabulary.{option_map, false≢true, All-contains, none-some, same_Some}
+use Rattle.enforcer_core.proofs.Vocabulary.{AllByRecursion-contains, AllByRecursion-from_contains, here, there_from_get}
+use Rattle.enforcer_core.proofs.Vocabulary.{no_values, value_at, variable_cmp, Value, has_deadline, has_number}
+use Rattle.enforcer_core.proofs.Vocabulary.{is_future, nodes_of, Plan, AtEach-found, FoundEndsInTime, FoundIsFirst}
+use Rattle.enforcer_core.proofs.Vocabulary.{scoped_at, FitsScope, only_future, scoped_in_plan, AreWellFormed}
+use Rattle.enforcer_core.proofs.Vocabulary.{AreWithinBounds, IsFrom, IsLastTime, AreRowsRising, all_operators}
+use Rattle.enforcer_core.proofs.Vocabulary.{KeptAreWithinBounds, KeptRow, Step, last_time, most_time, Inserted, Typed}
+use Rattle.enforcer_core.proofs.Vocabulary.{WorkTogether, typed_of, policy_plans, KeptCanBeTakenUp, policy_operators}
+use Rattle.enforcer_core.proofs.Vocabulary.{CanAskIn, CanAskNode, CanAskOf, CanAskRoot, CanAskRoots, CanBePending}
+use Rattle.enforcer_core.proofs.Vocabulary.{PendCanBePending, IsReady, NoneIsOver, Pend, node_of, PendIsOne, MOST_TIME}
+use Rattle.enforcer_core.proofs.Vocabulary.{MOST_HORIZON, HighsAreNear, reach_of, Instance, sum-map, Formula}
+use Rattle.enforcer_core.proofs.Vocabulary.{formula_size, VarId, BoundFormula, NoMoreThanNodes, AreCopies, tree_in}
+use Rattle.enforcer_core.proofs.Vocabulary.{formulas_of_guards, PlacedGuard, guards_of}
+use Rattle.enforcer_core.proofs.ReachLemmas.{due_at, over_from, reach_later}
 use Rattle.std.specs.FinMap as finite
-use Rattle.std.specs.List.{AllByRecursion, find, sum_by}
-use Rattle.std.specs.Option.{option_map}
-use Rattle.std.proofs.lemmas.Bool.{false≢true}
-use Rattle.std.proofs.lemmas.List.Elements.{All-contains}
-use Rattle.std.proofs.lemmas.Option.{none-some, same_Some}
-use Rattle.enf_value.specs.ListLaws.{AllByRecursion-contains, AllByRecursion-from_contains, here, there_from_get}
-use Rattle.enf_value.specs.Valuations.{no_values, value_at, variable_cmp}
-use Rattle.enf_value.specs.declared.values.Value.{Value}
-use Rattle.plan_terms.specs.Nodes.{has_deadline, has_number, is_future}
-use Rattle.plan_terms.specs.Plans.{Plan}
-use Rattle.plan_terms.specs.ScopeLaws.{AtEach-found, FoundEndsInTime, FoundIsFirst}
-use Rattle.plan_terms.specs.Scopes.{scoped_at}
-use Rattle.plan_terms.specs.Standing.{nodes_of}
-use Rattle.plan_terms.specs.WellFormed.{AreWellFormed}
-use Rattle.past_state.specs.Bounds.{AreWithinBounds}
-use Rattle.past_state.specs.LastTimes.{IsFrom, IsLastTime}
-use Rattle.past_state.specs.Restoring.{KeptAreWithinBounds}
-use Rattle.past_state.specs.Saved.{AreRowsRising}
-use Rattle.past_state.specs.declared.kept.KeptRow.{KeptRow}
-use Rattle.enf_value.specs.declared.steps.Step.{Step}
-use Rattle.trace_meaning.specs.Continuation.{last_time}
-use Rattle.trace_meaning.specs.Records.{most_time}
-use Rattle.trace_meaning.specs.declared.kinds.StepKind.TheVariants.{Inserted}
-use Rattle.enforce_types.specs.Typed.{Typed, WorkTogether, typed_of}
-use Rattle.enforcer_core.specs.Enforcers.{plans_in}
-use Rattle.enforcer_core.specs.Snapshots.{KeptCanBeTakenUp, operators_in}
-use Rattle.obligations.specs.Asked.{CanAskIn, CanAskNode, FitsScope}
-use Rattle.obligations.specs.Bounds.{CanBePending, PendCanBePending}
-use Rattle.obligations.specs.Pending.{IsReady, NoneIsOver, Pend, PendIsOne, node_of}
-use Rattle.obligations.specs.declared.now.TheConstants.{MOST_TIME}
-use Rattle.rank_check.specs.declared.horizon.TheConstants.{MOST_HORIZON}
-use Rattle.enforcer_core.specs.Ending.{HighsAreNear, reach_of}
-use Rattle.enforcer_core.proofs.EndingLemmas.{due_at, over_from, reach_later}
-use Rattle.obligations.specs.Scopes.{ahead, scoped_in_plan}
-use Rattle.obligations.specs.Waiting.{CanAskOf, CanAskRoot, CanAskRoots}
-use Rattle.obligations.specs.declared.instances.Instance.{Instance}
-use Rattle.std.proofs.lemmas.List.Sums.{sum-map}
-use Rattle.enf_formula.specs.Formulas.{Formula}
-use Rattle.enf_formula.specs.Shape.{size_of}
-use Rattle.enf_value.specs.declared.terms.VarId.{VarId}
-use Rattle.monitorable_guard.specs.Guards.{BoundFormula}
-use Rattle.past_state.specs.Counts.{NoMoreThanNodes}
-use Rattle.past_state.specs.Guarded.{AreCopies, tree_in}
-use Rattle.past_state.specs.Operators.{all_operators}
-use Rattle.past_state.specs.Past.{formulas}
-use Rattle.past_state.specs.declared.guards.PlacedGuard.{PlacedGuard}
-use Rattle.plan_terms.specs.Guards.{guards_of}
 
-pub same_formulas : (guards : List BoundFormula) (placed : List PlacedGuard) → AreCopies guards placed → formulas placed ≡ map tree_in guards
+pub same_formulas : (guards : List BoundFormula) (placed : List PlacedGuard) → AreCopies guards placed → formulas_of_guards placed ≡ map tree_in guards
 same_formulas [] [] copies = refl
 same_formulas [] (p ∷ placed) copies = absurd copies
 same_formulas (g ∷ guards) [] copies = absurd copies
-same_formulas (g ∷ guards) (p ∷ placed) copies = ap (λ f. f ∷ formulas placed) copies.0 ∙ ap (λ fs. tree_in g ∷ fs) (same_formulas guards placed copies.2)
+same_formulas (g ∷ guards) (p ∷ placed) copies = ap (λ f. f ∷ formulas_of_guards placed) copies.0 ∙ ap (λ fs. tree_in g ∷ fs) (same_formulas guards placed copies.2)
 
-same_sizes : (guards : List BoundFormula) → map size_of (map tree_in guards) ≡ map (λ (g : Formula × List VarId). size_of g.0) (guards_of guards)
+same_sizes : (guards : List BoundFormula) → map formula_size (map tree_in guards) ≡ map (λ (g : Formula × List VarId). formula_size g.0) (guards_of guards)
 same_sizes [] = refl
-same_sizes (g ∷ guards) = ap (λ l. size_of (tree_in g) ∷ l) (same_sizes guards)
+same_sizes (g ∷ guards) = ap (λ l. formula_size (tree_in g) ∷ l) (same_sizes guards)
 
-same_sum : (guards : List BoundFormula) → sum (map size_of (map tree_in guards)) ≡ sum_by (λ (g : Formula × List VarId). size_of g.0) (guards_of guards)
-same_sum guards = ap sum (same_sizes guards) ∙ sum-map (λ (g : Formula × List VarId). size_of g.0) (guards_of guards)
+same_sum : (guards : List BoundFormula) → sum (map formula_size (map tree_in guards)) ≡ sum_by (λ (g : Formula × List VarId). formula_size g.0) (guards_of guards)
+same_sum guards = ap sum (same_sizes guards) ∙ sum-map (λ (g : Formula × List VarId). formula_size g.0) (guards_of guards)
 
 pub few_operators : NoMoreThanNodes → (guards : List BoundFormula) (placed : List PlacedGuard) → AreCopies guards placed
-    → sum_by (λ (g : Formula × List VarId). size_of g.0) (guards_of guards) < 2 ^ 32 → length (all_operators (formulas placed)) ≤ 2 ^ 32
+    → sum_by (λ (g : Formula × List VarId). formula_size g.0) (guards_of guards) < 2 ^ 32 → length (all_operators (formulas_of_guards placed)) ≤ 2 ^ 32
 few_operators most guards placed copies small =
-    let count : length (all_operators (map tree_in guards)) ≤ sum (map size_of (map tree_in guards)) = most (map tree_in guards) in
+    let count : length (all_operators (map tree_in guards)) ≤ sum (map formula_size (map tree_in guards)) = most (map tree_in guards) in
     let sizes = same_sum guards in
-    let same : length (all_operators (formulas placed)) ≡ length (all_operators (map tree_in guards)) = ap (λ fs. length (all_operators fs)) (same_formulas guards placed copies) in
+    let same : length (all_operators (formulas_of_guards placed)) ≡ length (all_operators (map tree_in guards)) = ap (λ fs. length (all_operators fs)) (same_formulas guards placed copies) in
     omega (arith, count, sizes, same, small)
 
 -- ---- what can be pending can be asked
@@ -81,7 +49,7 @@ no_binding (x ∷ scope) fits = absurd (none (value_at no_values x) (finite.get-
     none None is some = false≢true some
     none (Some value) is some = none-some value (sym is)
 
-future_found : (found : Option (Plan × List VarId)) (node : Plan × List VarId) → ahead found ≡ Some node → (found ≡ Some node) × (is_future node.0 ≡ true)
+future_found : (found : Option (Plan × List VarId)) (node : Plan × List VarId) → only_future found ≡ Some node → (found ≡ Some node) × (is_future node.0 ≡ true)
 future_found None node is = absurd (none-some node is)
 future_found (Some other) node is = by (is_future other.0) refl is
   where
@@ -94,7 +62,7 @@ pub kept_at : FoundIsFirst → (plans : List Plan) (clock position : ℕ) (i : I
     × (node_of plans i ≡ Some b.node) × (is_future b.node ≡ true)
 kept_at is_first plans clock position i b = by (slice_get plans i.rule) refl b.named
   where
-    by : (at : Option Plan) → slice_get plans i.rule ≡ at → ahead (scoped_in_plan i.node at) ≡ Some (b.node, b.scope)
+    by : (at : Option Plan) → slice_get plans i.rule ≡ at → only_future (scoped_in_plan i.node at) ≡ Some (b.node, b.scope)
         → (plan : Plan) × (slice_get plans i.rule ≡ Some plan) × (scoped_at i.node plan [] ≡ Some (b.node, b.scope))
         × (node_of plans i ≡ Some b.node) × (is_future b.node ≡ true)
     by None is named = absurd (none-some (b.node, b.scope) named)
@@ -140,7 +108,7 @@ none_over_kept is_first plans clock position pending can = over_from plans clock
     let late = b.waits.in_time.0 (subst (λ (n : Plan). has_deadline n ≡ true) (sym same) d.2) in
     omega (arith, late, d.3))
 
--- nor is anything owed for longer than inserted steps can go out
+-- nor is anything owed for longer than inserted steps can be emitted
 pub kept_in_reach : (typed : Typed) → WorkTogether typed → typed.ranked.horizon ≤ MOST_HORIZON → (pending : List Instance)
     → All (λ i. i.high ≤ most_time Inserted) pending → reach_of typed.ranked.ranks typed.plans pending ≤ MOST_TIME
 kept_in_reach typed works bounded pending due =
@@ -160,7 +128,7 @@ pub last_from : (trace : List Step) (last : Option ℕ) (clock : ℕ) → IsLast
 last_from trace None clock is later = tt
 last_from trace (Some last) clock is later = omega (arith, is.1, later)
 
--- what is pending behind a trace that is ready for the clock can be so
+-- what is pending after a trace that is ready for the clock can be so
 pub can_pend : PendCanBePending → PendIsOne → (plans : List Plan) (guards : List (Formula × List VarId)) (trace : List Step) (clock : ℕ) (pending : List Instance) → AreWellFormed plans guards
     → IsReady plans trace clock → Pend plans trace pending → All (CanBePending plans clock (length trace)) pending
 can_pend pends one plans guards trace clock pending formed ready pend =
@@ -169,12 +137,12 @@ can_pend pends one plans guards trace clock pending formed ready pend =
 pub kept_taken_up : PendCanBePending → KeptAreWithinBounds → PendIsOne → HighsAreNear → KeptCanBeTakenUp
 kept_taken_up pends within one near policy trace clock s together is_trace ready early is = record {
   in_time = subst (λ c. c ≤ most_time Inserted) (sym is.clocked) (omega (arith, early));
-  due = near (plans_in policy) (typed_of policy).guards trace s.pending clock together.formed is_trace is.pending ready.not_later early;
+  due = near (policy_plans policy) (typed_of policy).guards trace s.pending clock together.formed is_trace is.pending ready.not_later early;
   not_later = subst (IsFrom s.last) (sym is.clocked) (last_from trace s.last clock is.last ready.not_later);
-  kept = within trace s.last (operators_in policy) s.kept is_trace is.last is.rising is.kept;
-  pending = subst (λ n. All (CanBePending (plans_in policy) s.clock n) s.pending) (sym is.position)
-      (subst (λ c. All (CanBePending (plans_in policy) c (length trace)) s.pending) (sym is.clocked)
-      (can_pend pends one (plans_in policy) (typed_of policy).guards trace clock s.pending together.formed ready is.pending));
+  kept = within trace s.last (policy_operators policy) s.kept is_trace is.last is.rising is.kept;
+  pending = subst (λ n. All (CanBePending (policy_plans policy) s.clock n) s.pending) (sym is.position)
+      (subst (λ c. All (CanBePending (policy_plans policy) c (length trace)) s.pending) (sym is.clocked)
+      (can_pend pends one (policy_plans policy) (typed_of policy).guards trace clock s.pending together.formed ready is.pending));
 }
 
 -- rows within their bounds rise

@@ -1,62 +1,39 @@
--- One step that goes out: it misses nothing, whichever kind it is of, and an enforcer stands for the trace with it.
-use Rattle.std.proofs.Common.{◌≡◌, ℕ, suc, ◌≤◌, Bool, true, false, List, [], ◌∷◌, ◌++◌, map, refl, sym, ap, subst, ◌∙◌, arith, ⊎_elim, inl, Option, None, Some, Contains}
-use Rattle.std.specs.List.{AllByRecursion}
-use Rattle.std.proofs.lemmas.Bool.{eqb-true}
-use Rattle.std.proofs.lemmas.List.Elements.{All-from_recursion}
-use Rattle.enf_value.specs.ListLaws.{AllByRecursion-from_contains, AllByRecursion-of_append}
-use Rattle.enf_value.specs.Membership.{HasNoRepeats}
-use Rattle.enf_value.specs.Valuations.{Valuation, no_values}
-use Rattle.enf_value.specs.declared.events.Event.{Event}
-use Rattle.enf_value.specs.declared.steps.Step.{Step}
-use Rattle.trace_meaning.specs.Continuation.{last_time}
-use Rattle.trace_meaning.specs.declared.kinds.StepKind.{StepKind}
-use Rattle.plan_terms.specs.Plans.{Plan, Cause, Suppress, Both, Either, TestOr, Guarded, Eventually, Always, Until, Next}
-use Rattle.obligations.specs.Begun.{LacksNothing, LacksSome, time_now}
-use Rattle.obligations.specs.DeadlineLaws.{deadline_is_listed, listed_is_deadline}
-use Rattle.obligations.specs.Missing.{Missing, MissingIsOne}
-use Rattle.obligations.specs.Pending.{AtNode, HasDeadline, IsCleanAt, IsReady, MissesAt, MissingOf, NoneIsOver, Pend, node_of}
-use Rattle.obligations.specs.Waiting.{IsLeastOf}
-use Rattle.obligations.specs.declared.instances.Instance.{Instance}
-use Rattle.pending.specs.Listed.{IsKeptFor, PendingList}
-use Rattle.choice_step.specs.Choice.{MissesNothing, Waiting, all_asked, is_forced, roots_from, with_step}
-use Rattle.choice_step.specs.Follows.{ActedStep, GoesOut, IsLeastDeadline, is_inserted}
-use Rattle.enforce_types.specs.Typed.{StoredTyped}
-use Rattle.enforcer_core.specs.Enforcers.{Enforcing, plans_in, plans_of}
-use Rattle.enforcer_core.specs.Keeping.{enforcing_at}
-use Rattle.enforcer_core.specs.Remembering.{Remembers}
-use Rattle.enforcer_core.specs.Stands.{Stands}
-use Rattle.enforcer_core.specs.StepLaws.{StepLaws}
-use Rattle.enforcer_core.specs.declared.remembered.Remembered.{Remembered}
+-- One step that is emitted: it misses nothing, whichever kind it is of, and an enforcer stands for the trace with it.
+use Rattle.enforcer_core.proofs.Vocabulary.{◌≡◌, ℕ, suc, ◌≤◌, Bool, true, false, List, [], ◌∷◌}
+use Rattle.enforcer_core.proofs.Vocabulary.{◌++◌, map, refl, sym, ap, subst, ◌∙◌, arith, ⊎_elim, inl}
+use Rattle.enforcer_core.proofs.Vocabulary.{Option, None, Some, Contains, AllByRecursion, eqb-true, All-from_recursion}
+use Rattle.enforcer_core.proofs.Vocabulary.{AllByRecursion-from_contains, AllByRecursion-of_append, HasNoRepeats}
+use Rattle.enforcer_core.proofs.Vocabulary.{Valuation, no_values, Event, Step, last_time, StepKind, Plan, CausePlan}
+use Rattle.enforcer_core.proofs.Vocabulary.{SuppressPlan, Both, Either, TestOr, Guarded, EventuallyPlan, AlwaysPlan}
+use Rattle.enforcer_core.proofs.Vocabulary.{UntilPlan, NextPlan, LacksNothing, LacksSome, time_now, Missing}
+use Rattle.enforcer_core.proofs.Vocabulary.{deadline_is_listed, listed_is_deadline, MissingIsOne, AtNode, HasDeadline}
+use Rattle.enforcer_core.proofs.Vocabulary.{IsCleanAt, IsReady, MissesAt, MissingOf, NoneIsOver, Pend, node_of}
+use Rattle.enforcer_core.proofs.Vocabulary.{IsLeastOf, Instance, IsPendingListOf, PendingList, MissesNothing, Waiting}
+use Rattle.enforcer_core.proofs.Vocabulary.{all_asked, is_forced, roots_from, trace_with_step, ActedStep, is_inserted}
+use Rattle.enforcer_core.proofs.Vocabulary.{GoesOut, IsLeastDeadline, StoredTyped, policy_plans, enforcing_at}
+use Rattle.enforcer_core.proofs.Vocabulary.{RemembersTrace, Stands, StepLaws, Remembered}
 
 -- ---- deadlines
 
 -- what an instance has to meet is in the list, and the other way round
-pub deadline_listed : (plans : List Plan) (pending : PendingList) (i : Instance) (deadline : ℕ) → IsKeptFor plans pending
+pub deadline_listed : (plans : List Plan) (pending : PendingList) (i : Instance) (deadline : ℕ) → IsPendingListOf plans pending
     → Contains pending.instances i → HasDeadline plans i deadline → Contains pending.deadlines deadline
 deadline_listed plans pending i deadline keeps there has =
     deadline_is_listed plans pending.instances pending.deadlines keeps.due i deadline there has
 
 -- where no deadline of the list is earlier, none of the instances is
-pub none_earlier : (plans : List Plan) (pending : PendingList) (time : ℕ) → IsKeptFor plans pending
+pub none_earlier : (plans : List Plan) (pending : PendingList) (time : ℕ) → IsPendingListOf plans pending
     → ((deadline : ℕ) → Contains pending.deadlines deadline → time ≤ deadline) → NoneIsOver plans pending.instances time
 none_earlier plans pending time keeps later =
     All-from_recursion (λ i. (deadline : ℕ) → HasDeadline plans i deadline → time ≤ deadline) pending.instances
     (AllByRecursion-from_contains (λ i. (deadline : ℕ) → HasDeadline plans i deadline → time ≤ deadline) pending.instances
     (λ i there deadline has. later deadline (deadline_listed plans pending i deadline keeps there has)))
 
-pub least_is : (plans : List Plan) (pending : PendingList) (deadline : ℕ) → IsKeptFor plans pending
+pub least_is : (plans : List Plan) (pending : PendingList) (deadline : ℕ) → IsPendingListOf plans pending
     → IsLeastOf pending.deadlines (Some deadline) → IsLeastDeadline plans pending.instances deadline
 least_is plans pending deadline keeps least =
     let has : (i : Instance) × Contains pending.instances i × HasDeadline plans i deadline = listed_is_deadline plans pending.instances pending.deadlines keeps.due deadline least.0 in
     record { instance = has.0; there = has.1; is = has.2; least = none_earlier plans pending deadline keeps least.1 }
-
--- no deadline is below the clock
-pub none_below : StepLaws → (e : Enforcing) (trace : List Step) → Stands e trace → NoneIsOver (plans_of e) e.pending.instances e.clock
-none_below laws e trace stands =
-    subst (λ (l : List Instance). NoneIsOver (plans_of e) l e.clock)
-    (laws.pending (plans_of e) trace stands.ready.pending e.pending.instances stands.ready.pend stands.pending) stands.ready.in_time
-
--- ---- what misses nothing where it is forced, misses nothing where it is not
 
 lacks_or_not : MissingIsOne → (trace : List Step) (plan : Plan) (v : Valuation) → LacksSome trace plan v → Missing trace plan v [] → ⊥
 lacks_or_not one trace plan v (first, rest, some) none =
@@ -64,16 +41,16 @@ lacks_or_not one trace plan v (first, rest, some) none =
 
 unforced_at : MissingIsOne → (trace : List Step) (node : Plan) (i : Instance) (forced : Bool) → i.low ≤ i.high
     → (forced ≡ true → time_now trace ≡ i.high) → MissesAt trace node i forced [] → MissesAt trace node i false []
-unforced_at one trace (Eventually node place low high body) i forced order due misses = refl
-unforced_at one trace (Until node place low high left right) i true order due misses =
+unforced_at one trace (EventuallyPlan node place low high body) i forced order due misses = refl
+unforced_at one trace (UntilPlan node place low high left right) i true order due misses =
     let at : time_now trace ≡ i.high = due refl in
     ⊎_elim (λ now. inl now)
     (λ later. absurd (lacks_or_not one trace right i.valuation (later.0 (omega (arith, order, at), omega (arith, at))) later.1)) misses
-unforced_at one trace (Until node place low high left right) i false order due misses = misses
-unforced_at one trace (Next node place high body) i forced order due misses = misses
-unforced_at one trace (Always node place low high body) i forced order due misses = misses
-unforced_at one trace (Cause node place name terms) i forced order due misses = misses
-unforced_at one trace (Suppress node place name terms) i forced order due misses = misses
+unforced_at one trace (UntilPlan node place low high left right) i false order due misses = misses
+unforced_at one trace (NextPlan node place high body) i forced order due misses = misses
+unforced_at one trace (AlwaysPlan node place low high body) i forced order due misses = misses
+unforced_at one trace (CausePlan node place name terms) i forced order due misses = misses
+unforced_at one trace (SuppressPlan node place name terms) i forced order due misses = misses
 unforced_at one trace (Both node left right) i forced order due misses = misses
 unforced_at one trace (Either node left right) i forced order due misses = misses
 unforced_at one trace (TestOr node guard test body) i forced order due misses = misses
@@ -122,7 +99,7 @@ module _ (laws : StepLaws) (plans : List Plan) (trace : List Step) (kind : StepK
   misses_nothing =
       subst (λ (step : Step). AllByRecursion (MissesNothing plans (is_inserted kind) (trace ++ step ∷ [])) (all_asked plans pending))
       (ap (λ (t : ℕ). record { time = t; events = o.step.events }) (sym goes.time_is))
-      (subst (λ (l : List Instance). AllByRecursion (MissesNothing plans (is_inserted kind) (with_step trace time o.step.events)) (all_asked plans l))
+      (subst (λ (l : List Instance). AllByRecursion (MissesNothing plans (is_inserted kind) (trace_with_step trace time o.step.events)) (all_asked plans l))
       (laws.pending plans trace goes.pending pending goes.pend pend)
       (laws.missed plans trace goes.pending (is_inserted kind) time events o.actions o.step.events goes.decided))
 
@@ -135,7 +112,7 @@ module _ (laws : StepLaws) (plans : List Plan) (trace : List Step) (kind : StepK
         in_time = subst (NoneIsOver plans pending) (sym last_is) none_over;
       }
 
-  -- the trace with it is ready for a clock that is not before it, where no deadline behind it is
+  -- the trace with it is ready for a clock that is not before it, where no deadline after it is
   pub ready_behind : (clock behind : ℕ) → IsReady plans trace clock → AllByRecursion (λ i. i.low ≤ i.high) pending
       → NoneIsOver plans pending time → time ≤ behind → (after : List Instance) → Pend plans longer after
       → NoneIsOver plans after behind → IsReady plans longer behind
@@ -152,11 +129,11 @@ module _ (laws : StepLaws) (plans : List Plan) (trace : List Step) (kind : StepK
 module _ (laws : StepLaws) (policy : StoredTyped) (r r' : Remembered) (clock time behind : ℕ) (later : clock ≤ time)
     (not_later : time ≤ behind) (kind : StepKind) (events : List Event) (o : ActedStep) (trace : List Step) where
   abbrev plans : List Plan
-  plans = plans_in policy
+  plans = policy_plans policy
 
   pub stands_behind : Stands (enforcing_at policy r clock) trace → AllByRecursion (λ i. i.low ≤ i.high) r.pending.instances
       → NoneIsOver plans r.pending.instances time → GoesOut plans trace kind time events o → HasNoRepeats o.step.events
-      → Remembers plans r' (trace ++ o.step ∷ []) → IsKeptFor plans r'.pending
+      → RemembersTrace plans r' (trace ++ o.step ∷ []) → IsPendingListOf plans r'.pending
       → NoneIsOver plans r'.pending.instances behind → Stands (enforcing_at policy r' behind) (trace ++ o.step ∷ [])
   stands_behind stands order none_over goes distinct remembers keeps none_behind = record {
     is_trace = laws.grows trace o.step stands.is_trace (let last = stands.ready.not_later in let at = goes.time_is in omega (arith, last, later, at)) distinct;
@@ -171,7 +148,7 @@ module _ (laws : StepLaws) (policy : StoredTyped) (r r' : Remembered) (clock tim
 
 -- at a later clock, where no deadline is below it
 pub stands_later : (policy : StoredTyped) (r : Remembered) (clock time : ℕ) → clock ≤ time
-    → NoneIsOver (plans_in policy) r.pending.instances time → (trace : List Step) → Stands (enforcing_at policy r clock) trace
+    → NoneIsOver (policy_plans policy) r.pending.instances time → (trace : List Step) → Stands (enforcing_at policy r clock) trace
     → Stands (enforcing_at policy r time) trace
 stands_later policy r clock time later none_over trace stands = record {
   is_trace = stands.is_trace;

@@ -1,40 +1,25 @@
 -- What an inserted step causes is not ranked below what was owed at its time.
-use Rattle.std.proofs.Common.{◌≡◌, ◌⊎◌, ℕ, suc, ◌≤◌, Bool, true, false, List, [], ◌∷◌, ◌++◌, length, map, Contains, Option, None, Some, slice_get, length-append, refl, sym, ap, subst, arith, inl, inr, ⊎_elim}
-use Rattle.std.specs.List.{find}
-use Rattle.std.specs.Option.{option_or}
-use Rattle.std.proofs.lemmas.Option.{none-some}
-use Rattle.enf_value.specs.Data.{step_at}
-use Rattle.enf_value.specs.ListLaws.{AllByRecursion-find, AllByRecursion-from_contains, Contains-append, first_or_later, here, later, none_in_nil, there_from_get}
-use Rattle.enf_value.specs.Valuations.{no_values}
-use Rattle.enf_value.specs.declared.events.Event.{Event}
-use Rattle.enf_value.specs.declared.events.NameId.{NameId}
-use Rattle.enf_value.specs.declared.steps.Step.{Step}
-use Rattle.valuations.specs.SearchLaws.{Contains-from_map}
-use Rattle.plan_terms.specs.Changes.{IsCaused, cause_of, caused_below, suppress_of, suppressed_below}
-use Rattle.plan_terms.specs.Nodes.{has_deadline, has_number, nodes}
-use Rattle.plan_terms.specs.Plans.{Plan, Cause, Suppress, Both, Either, TestOr, Guarded, Eventually, Always}
-use Rattle.plan_terms.specs.Plans.{Until, Next}
-use Rattle.plan_terms.specs.Standing.{nodes_of}
-use Rattle.plan_terms.specs.Triggers.{guard_triggers}
-use Rattle.rank_check.specs.Chains.{IsRank}
-use Rattle.rank_check.specs.Horizon.{rank_in}
-use Rattle.rank_check.specs.Laws.{EdgesRise}
-use Rattle.rank_check.specs.Paths.{Edge, IsPath, IsStart, begun_by, below, needs_trigger, path_triggers}
-use Rattle.rank_check.specs.Refusals.{AllIsTriggered, AreAccepted}
-use Rattle.obligations.specs.Asked.{Changes, IsLeaf}
-use Rattle.obligations.specs.Begun.{time_now}
-use Rattle.obligations.specs.Missing.{Missing}
-use Rattle.obligations.specs.Pending.{AtNode, MissesAt, MissingOf, node_of}
-use Rattle.obligations.specs.Reached.{IsMissedIn, IsReached, MissedIsReached, ReachedIsInside, last_events}
-use Rattle.obligations.specs.Reaching.{AreMetBy, IsReachedBy}
-use Rattle.obligations.specs.Rows.{last_position}
-use Rattle.obligations.specs.declared.actions.Action.{Action}
-use Rattle.obligations.specs.declared.instances.Instance.{Instance}
-use Rattle.obligations.specs.declared.literals.Literal.{Literal}
-use Rattle.obligations.specs.declared.literals.LiteralKind.{LiteralKind}
+use Rattle.enforcer_core.proofs.Vocabulary.{◌≡◌, ◌⊎◌, ℕ, suc, ◌≤◌, Bool, true, false, List, []}
+use Rattle.enforcer_core.proofs.Vocabulary.{◌∷◌, ◌++◌, length, map, Contains, Option, None, Some}
+use Rattle.enforcer_core.proofs.Vocabulary.{length-append, refl, sym, ap, subst, arith, inl, inr, ⊎_elim, find}
+use Rattle.enforcer_core.proofs.Vocabulary.{option_or, none-some, step_at, AllByRecursion-find}
+use Rattle.enforcer_core.proofs.Vocabulary.{AllByRecursion-from_contains, Contains-append, first_or_later, here, later}
+use Rattle.enforcer_core.proofs.Vocabulary.{none_in_nil, there_from_get, Contains-from_map, no_values, Event, NameId}
+use Rattle.enforcer_core.proofs.Vocabulary.{Step, IsCaused, caused_at, caused_below, suppressed_at, suppressed_below}
+use Rattle.enforcer_core.proofs.Vocabulary.{has_deadline, has_number, nodes, nodes_of, Plan, CausePlan, SuppressPlan}
+use Rattle.enforcer_core.proofs.Vocabulary.{Both, Either, TestOr, Guarded, EventuallyPlan, AlwaysPlan, UntilPlan}
+use Rattle.enforcer_core.proofs.Vocabulary.{NextPlan, guard_triggers, IsRank, rank_in, EdgesRise, Edge, IsPath, IsStart}
+use Rattle.enforcer_core.proofs.Vocabulary.{begun_later, below, needs_trigger, path_triggers, AllIsTriggered}
+use Rattle.enforcer_core.proofs.Vocabulary.{AreAccepted, ChangesEvents, IsLeaf, time_now, Missing, last_position}
+use Rattle.enforcer_core.proofs.Vocabulary.{AtNode, MissesAt, MissingOf, node_of, IsMissedIn, IsReached, last_events}
+use Rattle.enforcer_core.proofs.Vocabulary.{AreMetBy, IsReachedBy, MissedIsReached, ReachedIsInside, Action, Instance}
+use Rattle.enforcer_core.proofs.Vocabulary.{Literal, LiteralKind, Applies, Candidate, Decides, IsFirstMissing}
+use Rattle.enforcer_core.proofs.Vocabulary.{CandidateMisses, Root, Waiting, all_asked, is_forced, roots_from}
+use Rattle.enforcer_core.proofs.Vocabulary.{trace_with_step}
+use Rattle.std.proofs.Common.{slice_get}
+use Rattle.enforcer_core.proofs.ClassLemmas.{IsBehind, below_in, caused_in, in_flat, least, least_behind, least_caused}
+use Rattle.enforcer_core.proofs.ClassLemmas.{nodes_in, self_in}
 use Rattle.obligations.specs.declared.literals.LiteralKind.TheVariants as kind
-use Rattle.choice_step.specs.Choice.{Applies, Candidate, Decides, IsFirst, Misses, Root, Waiting, all_asked, is_forced, roots_from, with_step}
-use Rattle.enforcer_core.proofs.ClassLemmas.{IsBehind, below_in, caused_in, in_flat, least, least_behind, least_caused, nodes_in, self_in}
 
 -- ---- paths that are met
 
@@ -70,18 +55,18 @@ module _ (events : List Event) where
       ⊎_elim (arrived plan end) (λ deep. through plan body end at met (on_body deep)) reached
 
   way : (start end : Plan) → IsReachedBy events start end → Way events start end
-  way (Cause n place name terms) end reached = arrived (Cause n place name terms) end reached
-  way (Suppress n place name terms) end reached = arrived (Suppress n place name terms) end reached
+  way (CausePlan n place name terms) end reached = arrived (CausePlan n place name terms) end reached
+  way (SuppressPlan n place name terms) end reached = arrived (SuppressPlan n place name terms) end reached
   way (Both n l r) end reached = sides (Both n l r) l r end (here l (r ∷ [])) (later r l (r ∷ []) (here r [])) tt reached (way l end) (way r end)
   way (Either n l r) end reached = sides (Either n l r) l r end (here l (r ∷ [])) (later r l (r ∷ []) (here r [])) tt reached (way l end) (way r end)
   way (TestOr n guard test body) end reached = one (TestOr n guard test body) body end (here body []) tt reached (way body end)
   way (Guarded n xs guard test body) end reached =
       ⊎_elim (arrived (Guarded n xs guard test body) end)
       (λ deep. through (Guarded n xs guard test body) body end (here body []) deep.0 (way body end deep.1)) reached
-  way (Eventually n place low high body) end reached = one (Eventually n place low high body) body end (here body []) tt reached (way body end)
-  way (Always n place low high body) end reached = one (Always n place low high body) body end (here body []) tt reached (way body end)
-  way (Until n place low high l r) end reached = sides (Until n place low high l r) l r end (here l (r ∷ [])) (later r l (r ∷ []) (here r [])) tt reached (way l end) (way r end)
-  way (Next n place high body) end reached = one (Next n place high body) body end (here body []) tt reached (way body end)
+  way (EventuallyPlan n place low high body) end reached = one (EventuallyPlan n place low high body) body end (here body []) tt reached (way body end)
+  way (AlwaysPlan n place low high body) end reached = one (AlwaysPlan n place low high body) body end (here body []) tt reached (way body end)
+  way (UntilPlan n place low high l r) end reached = sides (UntilPlan n place low high l r) l r end (here l (r ∷ [])) (later r l (r ∷ []) (here r [])) tt reached (way l end) (way r end)
+  way (NextPlan n place high body) end reached = one (NextPlan n place high body) body end (here body []) tt reached (way body end)
 
 pub at_place : {X : Type 0} (xs : List X) (x : X) → Contains xs x → (k : ℕ) × (slice_get xs k ≡ Some x)
 at_place [] x there = absurd (none_in_nil x there)
@@ -90,7 +75,7 @@ at_place (y ∷ ys) x there =
 
 module _ (plans : List Plan) (triggered : AllIsTriggered plans) (inside : ReachedIsInside) (events : List Event) (rule : ℕ)
     (plan start node : Plan) where
-  -- what causes or owes something, and is reached from a start, is behind an event of the step
+  -- what causes or owes something, and is reached from a start, is after an event of the step
   pub behind_event : slice_get plans rule ≡ Some plan → IsStart plan start → Contains (nodes plan) start
       → IsReachedBy events start node → needs_trigger node ≡ true
       → (event : Event) × Contains events event × IsBehind plans event.name node
@@ -152,14 +137,14 @@ pub record IsDue (plans : List Plan) (pending : List Instance) (i : Instance) (n
   pub found : node_of plans i ≡ Some node
   pub has : has_deadline node ≡ true
 
-begun_below : (node part : Plan) → Contains (begun_by node) part → Contains (below node) part
-begun_below (Always n place low high body) part at = at
-begun_below (Until n place low high l r) part at =
+begun_below : (node part : Plan) → Contains (begun_later node) part → Contains (below node) part
+begun_below (AlwaysPlan n place low high body) part at = at
+begun_below (UntilPlan n place low high l r) part at =
     ⊎_elim (λ (same : l ≡ part). subst (Contains (l ∷ r ∷ [])) same (here l (r ∷ []))) (λ none. absurd (none_in_nil part none)) (first_or_later part l [] at)
-begun_below (Eventually n place low high body) part at = absurd (none_in_nil part at)
-begun_below (Next n place high body) part at = absurd (none_in_nil part at)
-begun_below (Cause n place name terms) part at = absurd (none_in_nil part at)
-begun_below (Suppress n place name terms) part at = absurd (none_in_nil part at)
+begun_below (EventuallyPlan n place low high body) part at = absurd (none_in_nil part at)
+begun_below (NextPlan n place high body) part at = absurd (none_in_nil part at)
+begun_below (CausePlan n place name terms) part at = absurd (none_in_nil part at)
+begun_below (SuppressPlan n place name terms) part at = absurd (none_in_nil part at)
 begun_below (Both n l r) part at = absurd (none_in_nil part at)
 begun_below (Either n l r) part at = absurd (none_in_nil part at)
 begun_below (TestOr n guard test body) part at = absurd (none_in_nil part at)
@@ -195,7 +180,7 @@ module _ (plans : List Plan) (pending : List Instance) (P : Instance → Plan �
         from = from h.plan h.inside;
       }
 
-  pub anew_asked : Contains (begun_by node) part → IsAsked plans pending P i.rule part
+  pub anew_asked : Contains (begun_later node) part → IsAsked plans pending P i.rule part
   anew_asked at = asked_by (begun_below node part at) (λ plan inside. inl (inr (node, inside, at)))
 
   pub due_asked : Contains (below node) part → has_deadline node ≡ true → P i node → IsAsked plans pending P i.rule part
@@ -205,9 +190,9 @@ module _ (plans : List Plan) (pending : List Instance) (P : Instance → Plan �
 
 -- at an inserted step at its deadline a node has to be met, and Next at the next step
 abbrev pub ends_now : Plan → (forced : Bool) → Bool
-ends_now (Eventually n place low high body) forced = forced
-ends_now (Until n place low high l r) forced = forced
-ends_now (Next n place high body) forced = true
+ends_now (EventuallyPlan n place low high body) forced = forced
+ends_now (UntilPlan n place low high l r) forced = forced
+ends_now (NextPlan n place high body) forced = true
 ends_now plan forced = false
 
 abbrev pub Ends : (time : ℕ) → Instance → Plan → Type 0
@@ -216,7 +201,7 @@ Ends time i node = ends_now node (is_forced true time i) ≡ true
 -- what an instance misses is missed by what it begins anew, or by what has to be met
 abbrev MissedBelow : List Step → Instance → Plan → (forced : Bool) → Literal → Type 0
 MissedBelow trace i node forced l = (part : Plan) × IsMissedIn trace part l
-    × (Contains (begun_by node) part ⊎ ((has_deadline node ≡ true) × (ends_now node forced ≡ true) × Contains (below node) part))
+    × (Contains (begun_later node) part ⊎ ((has_deadline node ≡ true) × (ends_now node forced ≡ true) × Contains (below node) part))
 
 module _ (missed : MissedIsReached) (trace : List Step) (i : Instance) (l : Literal) (rest : List Literal) where
   by_part : (part : Plan) → Missing trace part i.valuation (l ∷ rest) → IsMissedIn trace part l
@@ -226,18 +211,18 @@ module _ (missed : MissedIsReached) (trace : List Step) (i : Instance) (l : Lite
   no_literal none = none_in_nil l (subst (λ (ls : List Literal). Contains ls l) none (here l rest))
 
   missed_below : (node : Plan) (forced : Bool) → MissesAt trace node i forced (l ∷ rest) → MissedBelow trace i node forced l
-  missed_below (Eventually n place low high body) true missing = (body, by_part body missing, inr (refl, refl, here body []))
-  missed_below (Eventually n place low high body) false missing = absurd (no_literal missing)
-  missed_below (Next n place high body) forced missing = (body, by_part body missing, inr (refl, refl, here body []))
-  missed_below (Always n place low high body) forced missing =
+  missed_below (EventuallyPlan n place low high body) true missing = (body, by_part body missing, inr (refl, refl, here body []))
+  missed_below (EventuallyPlan n place low high body) false missing = absurd (no_literal missing)
+  missed_below (NextPlan n place high body) forced missing = (body, by_part body missing, inr (refl, refl, here body []))
+  missed_below (AlwaysPlan n place low high body) forced missing =
       ⊎_elim (λ inside. (body, by_part body inside.1, inl (here body []))) (λ outside. absurd (no_literal outside.1)) missing
-  missed_below (Until n place low high l' r) true missing =
+  missed_below (UntilPlan n place low high l' r) true missing =
       ⊎_elim (λ met. absurd (no_literal met.2))
       (λ waits. (r, by_part r waits.1, inr (refl, refl, later r l' (r ∷ []) (here r [])))) missing
-  missed_below (Until n place low high l' r) false missing =
+  missed_below (UntilPlan n place low high l' r) false missing =
       ⊎_elim (λ met. absurd (no_literal met.2)) (λ waits. (l', by_part l' waits.1, inl (here l' []))) missing
-  missed_below (Cause n place name terms) forced missing = absurd missing
-  missed_below (Suppress n place name terms) forced missing = absurd missing
+  missed_below (CausePlan n place name terms) forced missing = absurd missing
+  missed_below (SuppressPlan n place name terms) forced missing = absurd missing
   missed_below (Both n l' r) forced missing = absurd missing
   missed_below (Either n l' r) forced missing = absurd missing
   missed_below (TestOr n guard test body) forced missing = absurd missing
@@ -246,30 +231,30 @@ module _ (missed : MissedIsReached) (trace : List Step) (i : Instance) (l : Lite
 -- ---- what is caused
 
 pub cause_leaf : (leaf : Plan) (number : ℕ) (event : Event) → IsLeaf leaf kind.Cause number event
-    → Contains (cause_of leaf) event.name × (needs_trigger leaf ≡ true)
-cause_leaf (Cause n place name terms) number event is = (subst (λ (x : NameId). Contains (name ∷ []) x) (sym is.2) (here name []), refl)
-cause_leaf (Suppress n place name terms) number event is = absurd (cc)
+    → Contains (caused_at leaf) event.name × (needs_trigger leaf ≡ true)
+cause_leaf (CausePlan n place name terms) number event is = (subst (λ (x : NameId). Contains (name ∷ []) x) (sym is.2) (here name []), refl)
+cause_leaf (SuppressPlan n place name terms) number event is = absurd (cc)
 cause_leaf (Both n l r) number event is = absurd is
 cause_leaf (Either n l r) number event is = absurd is
 cause_leaf (TestOr n guard test body) number event is = absurd is
 cause_leaf (Guarded n xs guard test body) number event is = absurd is
-cause_leaf (Eventually n place low high body) number event is = absurd is
-cause_leaf (Always n place low high body) number event is = absurd is
-cause_leaf (Until n place low high l r) number event is = absurd is
-cause_leaf (Next n place high body) number event is = absurd is
+cause_leaf (EventuallyPlan n place low high body) number event is = absurd is
+cause_leaf (AlwaysPlan n place low high body) number event is = absurd is
+cause_leaf (UntilPlan n place low high l r) number event is = absurd is
+cause_leaf (NextPlan n place high body) number event is = absurd is
 
 suppress_leaf : (leaf : Plan) (number : ℕ) (event : Event) → IsLeaf leaf kind.Suppress number event
-    → Contains (suppress_of leaf) event.name
-suppress_leaf (Suppress n place name terms) number event is = subst (λ (x : NameId). Contains (name ∷ []) x) (sym is.2) (here name [])
-suppress_leaf (Cause n place name terms) number event is = absurd (cc)
+    → Contains (suppressed_at leaf) event.name
+suppress_leaf (SuppressPlan n place name terms) number event is = subst (λ (x : NameId). Contains (name ∷ []) x) (sym is.2) (here name [])
+suppress_leaf (CausePlan n place name terms) number event is = absurd (cc)
 suppress_leaf (Both n l r) number event is = absurd is
 suppress_leaf (Either n l r) number event is = absurd is
 suppress_leaf (TestOr n guard test body) number event is = absurd is
 suppress_leaf (Guarded n xs guard test body) number event is = absurd is
-suppress_leaf (Eventually n place low high body) number event is = absurd is
-suppress_leaf (Always n place low high body) number event is = absurd is
-suppress_leaf (Until n place low high l r) number event is = absurd is
-suppress_leaf (Next n place high body) number event is = absurd is
+suppress_leaf (EventuallyPlan n place low high body) number event is = absurd is
+suppress_leaf (AlwaysPlan n place low high body) number event is = absurd is
+suppress_leaf (UntilPlan n place low high l r) number event is = absurd is
+suppress_leaf (NextPlan n place high body) number event is = absurd is
 
 at_end : (trace : List Step) (step : Step) → step_at (trace ++ step ∷ []) (length trace) ≡ step
 at_end [] step = refl
@@ -309,13 +294,13 @@ module _ (plans : List Plan) (ranks : List ℕ) (accepted : AreAccepted plans) (
     (are : (name : NameId) → IsRank (Edge plans) name (rank_in ranks name)) (inside : ReachedIsInside)
     (missed : MissedIsReached) (pending : List Instance) (time : ℕ) where
   module _ (trace : List Step) (now : time_now trace ≡ time) where
-    first_in : (all : List Candidate) (asked : Candidate) (l : Literal) → IsFirst plans true trace all asked l
-        → Contains all asked × ((rest : List Literal) × Misses plans true trace asked (l ∷ rest))
+    first_in : (all : List Candidate) (asked : Candidate) (l : Literal) → IsFirstMissing plans true trace all asked l
+        → Contains all asked × ((rest : List Literal) × CandidateMisses plans true trace asked (l ∷ rest))
     first_in [] asked l none = absurd none
     first_in (next ∷ others) asked l first = ⊎_elim
         (λ is. (
           subst (Contains (next ∷ others)) is.0 (here next others),
-          (is.1, subst (λ (a : Candidate). Misses plans true trace a (l ∷ is.1)) is.0 is.2),
+          (is.1, subst (λ (a : Candidate). CandidateMisses plans true trace a (l ∷ is.1)) is.0 is.2),
         ))
         (λ behind. let rest = first_in others asked l behind.1 in (later asked next others rest.0, rest.1)) first
 
@@ -343,24 +328,24 @@ module _ (plans : List Plan) (ranks : List ℕ) (accepted : AreAccepted plans) (
             )
 
     asked_part : (asked : Candidate) (l : Literal) (rest : List Literal) → Contains (all_asked plans pending) asked
-        → Misses plans true trace asked (l ∷ rest)
+        → CandidateMisses plans true trace asked (l ∷ rest)
         → (rule : ℕ) × (start : Plan) × Asked rule start × IsMissedIn trace start l
     asked_part asked l rest there misses = ⊎_elim
         (λ front.
         let i = Contains-from_map Waiting pending asked front in
-        waiting_part i.0 l rest i.1 (subst (λ (a : Candidate). Misses plans true trace a (l ∷ rest)) (sym i.2) misses))
+        waiting_part i.0 l rest i.1 (subst (λ (a : Candidate). CandidateMisses plans true trace a (l ∷ rest)) (sym i.2) misses))
         (λ back.
         let root = roots_in 0 plans asked back in (
           root.0,
           root.1,
           root_asked plans pending (Ends time) root.0 root.1 root.2,
-          missed trace root.1 no_values (l ∷ rest) l (subst (λ (a : Candidate). Misses plans true trace a (l ∷ rest)) (sym root.4) misses) (here l rest),
+          missed trace root.1 no_values (l ∷ rest) l (subst (λ (a : Candidate). CandidateMisses plans true trace a (l ∷ rest)) (sym root.4) misses) (here l rest),
         ))
         (Contains-append (map Waiting pending) (roots_from 0 plans) asked there)
 
     module _ (events : List Event) (is : (step_at trace (last_position trace)).events ≡ events) (owed : AreOwed plans ranks pending time events)
         (rule : ℕ) (start : Plan) (asked : Asked rule start) where
-      -- behind a part that is asked, something is due that is not ranked higher
+      -- after a part that is asked, something is due that is not ranked higher
       behind_owed : (name : NameId) (node : Plan) → IsReached trace start node → needs_trigger node ≡ true
           → Contains (caused_below node) name → Owes plans ranks pending time name
       behind_owed name node reached needs caused = ⊎_elim
@@ -382,11 +367,11 @@ module _ (plans : List Plan) (ranks : List ℕ) (accepted : AreAccepted plans) (
           → IsOwed plans ranks pending time event
       cause_owed leaf number event reached is =
           let cause = cause_leaf leaf number event is in
-          let below_it = in_flat cause_of (nodes leaf) leaf event.name (self_in leaf) cause.0 in
+          let below_it = in_flat caused_at (nodes leaf) leaf event.name (self_in leaf) cause.0 in
           let there = nodes_in asked.plan start leaf asked.inside (inside (last_events trace) start leaf reached) in
           record {
             caused = in_flat caused_below plans asked.plan event.name (there_from_get plans rule asked.plan asked.plan_is)
-                (in_flat cause_of (nodes asked.plan) leaf event.name there cause.0);
+                (in_flat caused_at (nodes asked.plan) leaf event.name there cause.0);
             owes = behind_owed event.name leaf reached cause.1 below_it;
           }
 
@@ -397,14 +382,14 @@ module _ (plans : List Plan) (ranks : List ℕ) (accepted : AreAccepted plans) (
           accepted.roles event.name (
             (owed event present).caused,
             in_flat suppressed_below plans asked.plan event.name (there_from_get plans rule asked.plan asked.plan_is)
-                (in_flat suppress_of (nodes asked.plan) leaf event.name there (suppress_leaf leaf number event is)),
+                (in_flat suppressed_at (nodes asked.plan) leaf event.name there (suppress_leaf leaf number event is)),
           )
 
       applied : (l : Literal) (between : List Event) → IsMissedIn trace start l → Applies l.kind l.event events between
           → AreOwed plans ranks pending time between
       applied l between (leaf, reached, is_leaf, changes) applies = by l.kind is_leaf changes applies
         where
-          by : (k : LiteralKind) → IsLeaf leaf k l.leaf l.event → Changes k l.event (step_at trace (last_position trace)).events
+          by : (k : LiteralKind) → IsLeaf leaf k l.leaf l.event → ChangesEvents k l.event (step_at trace (last_position trace)).events
               → Applies k l.event events between → AreOwed plans ranks pending time between
           by kind.Cause is_leaf changes after event there = ⊎_elim
               (λ old. owed event old)
@@ -419,9 +404,9 @@ module _ (plans : List Plan) (ranks : List ℕ) (accepted : AreAccepted plans) (
       → Decides plans trace pending true time before actions after → AreOwed plans ranks pending time before → AreOwed plans ranks pending time after
   decided_owed trace [] before after (same, nothing) owed = subst (AreOwed plans ranks pending time) (sym same) owed
   decided_owed trace (action ∷ actions) before after (asked, l, between, first, is, applies, rest) owed =
-      let now : time_now (with_step trace time before) ≡ time = ap (λ (s : Step). s.time) (last_step trace (record { time = time; events = before })) in
-      let front = first_in (with_step trace time before) now (all_asked plans pending) asked l first in
-      let part = asked_part (with_step trace time before) now asked l front.1.0 front.0 front.1.1 in
+      let now : time_now (trace_with_step trace time before) ≡ time = ap (λ (s : Step). s.time) (last_step trace (record { time = time; events = before })) in
+      let front = first_in (trace_with_step trace time before) now (all_asked plans pending) asked l first in
+      let part = asked_part (trace_with_step trace time before) now asked l front.1.0 front.0 front.1.1 in
       decided_owed trace actions between after rest
-      (applied (with_step trace time before) now before (ap (λ (s : Step). s.events) (last_step trace (record { time = time; events = before }))) owed
+      (applied (trace_with_step trace time before) now before (ap (λ (s : Step). s.events) (last_step trace (record { time = time; events = before }))) owed
       part.0 part.1 part.2 l between part.3 applies)

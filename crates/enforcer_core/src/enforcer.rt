@@ -1,28 +1,24 @@
 //! The enforcer.
-ghost use Rattle.std.specs.Prelude.{◌≡◌, ◌≢◌, ◌≤◌, ◌<◌, ◌+◌, ◌-◌, ℕ};
-ghost use Rattle.std.specs.Prelude.{List, [], ◌∷◌, false};
-ghost use Rattle.std.specs.Prelude.{All, Contains, IfOk, Err, length};
-ghost use Rattle.enforce_types.specs.Typed.{WorkTogether, typed_of};
-ghost use Rattle.enf_value.specs.declared.steps.Step.{Step};
-ghost use Rattle.obligations.specs.Waiting.{IsLeastOf};
-ghost use Rattle.obligations.specs.declared.now.TheConstants.{MOST_TIME};
-ghost use Rattle.trace_meaning.specs.Records.{StepRecord, Tick, most_time};
+ghost use Rattle.std.specs.Prelude.{◌≡◌, ◌≢◌, ◌≤◌, ◌<◌, ◌+◌, ℕ, List, [], ◌∷◌, false};
+ghost use Rattle.std.specs.Prelude.{All, Contains, IfOk, IfErr, Err, length};
+ghost use Rattle.enforce_types.specs.machine.TypedPolicies.{WorkTogether, typed_of};
+ghost use Rattle.enf_data.specs.declared.steps.Step.{Step};
+ghost use Rattle.deadline_queue.specs.machine.Queues.{IsLeastOf};
+ghost use Rattle.trace_meaning.specs.meaning.Traces.{StepRecord, Tick, most_time};
 ghost use Rattle.trace_meaning.specs.declared.kinds.StepKind.TheVariants.{System};
-ghost use Rattle.enforcer_core.specs.Answered.{Admits, Answered, AnsweredDrain, ChangesLawfully, IsNewOf, RiseWithin};
-ghost use Rattle.enforcer_core.specs.Enforcers.{acted_steps, plans_of};
-ghost use Rattle.enforcer_core.specs.Follows.{FollowsDrainFrom, FollowsFrom};
-ghost use Rattle.enforcer_core.specs.Justifying.{IsJustifiedFrom};
-ghost use Rattle.enforcer_core.specs.Remembering.{most_positions};
-ghost use Rattle.enforcer_core.specs.Snapshots.{CanBeTakenUp, IsKeptOf, IsTakenUpFrom, SavesTrace, StandsAgain};
-ghost use Rattle.enforcer_core.specs.Stands.{KeepsStanding, SatisfiesBehind, Stands};
-ghost use Rattle.enforcer_core.specs.Transparency.{DrainsNothing, LeavesAlone};
+ghost use Rattle.enforcer_core.specs.machine.Answers.{Admits, IsNewEnforcer, Leaves, RefusesCall, RefusesDrain};
+ghost use Rattle.enforcer_core.specs.machine.EnforcerSteps.{EnforcerDrains, EnforcerTakes};
+ghost use Rattle.enforcer_core.specs.machine.MadeSteps.{acted_steps};
+ghost use Rattle.enforcer_core.specs.machine.Stands.{DrainsNothing, IsJustifiedFrom, LeavesAlone, Stands};
+ghost use Rattle.enforcer_core.specs.machine.StepMemory.{most_positions};
+ghost use Rattle.enforcer_core.specs.machine.Snapshots.{CanBeTakenUp, IsKeptOf, IsTakenUpFrom, SavesTrace, StandsAgain};
 
-use crate::facts::PlanFacts;
 use crate::laws::{all_are_justified, lawful_are_left_alone, step_laws};
-use crate::remembered::{Passed, Remembered};
+use crate::plan_facts::PlanFacts;
+use crate::step_memory::{Passed, Remembered};
 use crate::steps::{OutSteps, StepOut, StepRefusal, Untaken};
-use enf_value::event_sets::EventSet;
-use enf_value::memory::NoMemory;
+use enf_data::event_sets::EventSet;
+use enf_data::memory::NoMemory;
 use enforce_types::TypedPolicy;
 use obligations::instances::Instances;
 use obligations::laws::{pending_is_enough, well_formed_can_be_asked};
@@ -35,7 +31,7 @@ use std::alloc::Global;
 use std::marker::Model;
 
 /// An enforcer of a policy, seen as the policy, what its guards remember, what is pending, the number of the steps that
-/// went out, the time of the last one, the clock and whether it is stopped.
+/// was emitted, the time of the last one, the clock and whether it is stopped.
 #[derive(Drop)]
 pub struct Enforcer {
     policy: TypedPolicy,
@@ -47,14 +43,13 @@ pub struct Enforcer {
 }
 
 impl Model for Enforcer {
-    ghost use Rattle.enforce_types.specs.contracts.typed_policy.TypedPolicy as typed;
-    ghost use Rattle.enforcer_core.specs.Enforcers.{Enforcing};
-    ghost use Rattle.enforcer_core.specs.Keeping.{IsEnforcing};
-    ghost use Rattle.pending.specs.Listed.{pending_code};
-    ghost use Rattle.past_state.specs.PastCodes.{past_code};
+    ghost use Rattle.enforcer_core.specs.machine.Enforcers.{Enforcing, policy_plans};
+    ghost use Rattle.enforcer_core.specs.machine.EnforcerInvariant.{IsEnforcing};
+    ghost use Rattle.pending.specs.machine.PendingLists.{pending_code};
+    ghost use Rattle.past_state.specs.machine.PastCodes.{past_code};
     ghost use Rattle.std.specs.Coded.{codes};
-    ghost use Rattle.enforcer_core.specs.Enforcers.{plans_in};
-    ghost use Rattle.enforcer_core.specs.PlanFacts.{AreFactsOf};
+    ghost use Rattle.enforcer_core.specs.machine.StepMemory.{AreFactsOf};
+    ghost use Rattle.enforce_types.specs.contracts.typed_policy.TypedPolicy as typed;
 
     ghost Value = { Enforcing };
 
@@ -78,13 +73,13 @@ impl Model for Enforcer {
       last = e.remembered.last;
       clock = e.clock;
       stopped = e.stopped;
-    }) × AreFactsOf (plans_in e.policy) e.facts };
+    }) × AreFactsOf (policy_plans e.policy) e.facts };
 }
 
 impl Enforcer {
     /// An enforcer of a policy, with clock 0, which stands for the trace without a step.
     pub fn new(alloc: Global, policy: TypedPolicy) -> Result<Enforcer, NoMemory>
-        ensures made { IfOk result (IsNewOf policy) }
+        ensures made { IfOk result (IsNewEnforcer policy) }
         ensures together { IfOk result (λ enforcer. WorkTogether (typed_of enforcer.policy)) }
         ensures stands { IfOk result (λ enforcer. Stands enforcer []) }
     {
@@ -218,17 +213,9 @@ impl Enforcer {
     ) -> Result<StepOut, StepRefusal>
         requires in_time { time ≤ most_time System }
         requires room { self.old.position < most_positions }
-        ensures answered { Answered self.old time result self.new }
-        ensures few { IfOk result (λ out. length out.steps ≤ 1 + (time - self.old.clock)) }
-        ensures rising { IfOk result (λ out. RiseWithin self.old.clock time (acted_steps out.steps)) }
-        ensures stands { IfOk result
-            (λ out. KeepsStanding self.old self.new (acted_steps out.steps)) }
-        ensures changed { IfOk result
-            (λ out. ChangesLawfully (plans_of self.old) self.old.clock time
-            (StepRecord (record { time = time; events = events }) ∷ []) (acted_steps out.steps)) }
-        ensures decided { IfOk result
-            (λ out. FollowsFrom self.old
-            (StepRecord (record { time = time; events = events }) ∷ []) (acted_steps out.steps)) }
+        ensures takes { IfOk result (λ made. EnforcerTakes self.old
+            (StepRecord (record { time = time; events = events })) made self.new) }
+        ensures refused { IfErr result (λ why. RefusesCall self.old time why × Leaves why self.old self.new) }
         ensures justified { IfOk result
             (λ out. IsJustifiedFrom self.old
             (StepRecord (record { time = time; events = events }) ∷ []) (acted_steps out.steps)) }
@@ -255,18 +242,10 @@ impl Enforcer {
     pub fn tick(&mut self, alloc: Global, time: u64) -> Result<StepOut, StepRefusal>
         requires in_time { time ≤ most_time System }
         requires room { self.old.position < most_positions }
-        ensures answered { Answered self.old time result self.new }
-        ensures few { IfOk result (λ out. length out.steps ≤ 1 + (time - self.old.clock)) }
+        ensures takes { IfOk result (λ made. EnforcerTakes self.old (Tick time) made self.new) }
+        ensures refused { IfErr result (λ why. RefusesCall self.old time why × Leaves why self.old self.new) }
         ensures no_memory { ((deadline : ℕ) → Contains self.old.pending.deadlines deadline → time ≤ deadline)
             → result ≢ Err StepRefusal.NoMemory }
-        ensures rising { IfOk result (λ out. RiseWithin self.old.clock time (acted_steps out.steps)) }
-        ensures stands { IfOk result
-            (λ out. KeepsStanding self.old self.new (acted_steps out.steps)) }
-        ensures changed { IfOk result
-            (λ out. ChangesLawfully (plans_of self.old) self.old.clock time (Tick time ∷ [])
-            (acted_steps out.steps)) }
-        ensures decided { IfOk result
-            (λ out. FollowsFrom self.old (Tick time ∷ []) (acted_steps out.steps)) }
         ensures justified { IfOk result
             (λ out. IsJustifiedFrom self.old (Tick time ∷ []) (acted_steps out.steps)) }
         ensures transparent { IfOk result
@@ -288,28 +267,15 @@ impl Enforcer {
     /// none is left. The policy is then satisfied, whatever comes.
     pub fn drain(&mut self, alloc: Global) -> Result<StepOut, StepRefusal>
         requires room { self.old.position < most_positions }
-        ensures answered { AnsweredDrain self.old result self.new }
-        ensures rising { IfOk result
-            (λ out. RiseWithin self.old.clock self.new.clock (acted_steps out.steps)) }
-        ensures bounded { IfOk result
-            (λ out. All (λ o. o.step.time ≤ MOST_TIME) (acted_steps out.steps)) }
+        ensures drains { IfOk result (λ made. EnforcerDrains self.old made self.new) }
+        ensures refused { IfErr result (λ why. RefusesDrain self.old why × Leaves why self.old self.new) }
         ensures latest { IfOk result (λ out. (last : ℕ)
             → ((deadline : ℕ) → Contains self.old.pending.deadlines deadline → deadline ≤ last)
             → All (λ o. o.step.time ≤ last + (typed_of self.old.policy).ranked.horizon) (acted_steps out.steps)) }
         ensures horizon { IfOk result (λ _. (trace : List Step) → Stands self.old trace
             → self.new.clock ≤ self.old.clock + (typed_of self.old.policy).ranked.horizon + 1) }
-        ensures stands { IfOk result
-            (λ out. KeepsStanding self.old self.new (acted_steps out.steps)) }
-        ensures changed { IfOk result
-            (λ out. ChangesLawfully (plans_of self.old) self.old.clock self.new.clock []
-            (acted_steps out.steps)) }
-        ensures decided { IfOk result
-            (λ out. FollowsDrainFrom self.old (acted_steps out.steps)) }
         ensures justified { IfOk result (λ out. IsJustifiedFrom self.old [] (acted_steps out.steps)) }
         ensures transparent { IfOk result (λ out. DrainsNothing self.old (acted_steps out.steps)) }
-        ensures served { IfOk result (λ _. self.new.pending.deadlines ≡ []) }
-        ensures satisfied { IfOk result
-            (λ out. SatisfiesBehind self.old (acted_steps out.steps)) }
     {
         step_laws();
         pending_is_enough();

@@ -1,13 +1,13 @@
-//! That something goes out: laws over the definitions, the contract of a function that does nothing.
-ghost use Rattle.enforcer_core.specs.Existing.{JustOneFollows, JustOneFollowsPolicy, JustOneFollowsToEnd};
-ghost use Rattle.enforcer_core.specs.Existing.{SomethingDrains, SomethingFollows};
+//! That something is emitted: laws over the definitions, the contract of a function that does nothing.
+ghost use Rattle.enforcer_core.specs.machine.ExistenceLaws.{JustOneFollows, JustOneFollowsPolicy, JustOneFollowsToEnd};
+ghost use Rattle.enforcer_core.specs.machine.ExistenceLaws.{SomethingDrains, SomethingFollows};
 
-use crate::ending::serving_ends;
+use crate::termination::serving_ends;
 use choice_step::laws::{follows_is_one, something_goes_out};
 use enforce_types::laws::policy_has_one_answer;
 use obligations::laws::well_formed_can_be_asked;
 
-/// The plans of every accepted policy decide something behind each trace: for the records of each log, and where all
+/// The plans of every accepted policy decide something after each trace: for the records of each log, and where all
 /// that is pending is served.
 pub fn something_is_decided()
     ensures records { SomethingFollows }
@@ -18,8 +18,8 @@ pub fn something_is_decided()
     something_goes_out();
 }
 
-/// Just one list of steps goes out for the records of a log, by the plans of an accepted policy and by the policy, and
-/// up to the end.
+/// Just one list of steps is emitted for the records of a log, by the plans of an accepted policy and by the policy,
+/// and up to the end.
 pub fn just_one_follows()
     ensures plans { JustOneFollows }
     ensures policy { JustOneFollowsPolicy }

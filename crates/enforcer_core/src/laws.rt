@@ -1,17 +1,16 @@
 //! Laws of enforcers, each the contract of a function that does nothing.
-ghost use Rattle.enforcer_core.specs.Fitting.{FollowsFitsSignature};
-ghost use Rattle.enforcer_core.specs.Justifying.{CourseIsJustified, CourseIsJustifiedToEnd, DrainIsJustified};
-ghost use Rattle.enforcer_core.specs.Justifying.{FollowsIsJustified};
-ghost use Rattle.enforcer_core.specs.Laws.{CourseBegins, CourseGoesOn, CourseKeepsUp, CourseEnforces};
-ghost use Rattle.enforcer_core.specs.Laws.{CourseFollows, CourseFollowsToEnd, PlannedAreSatisfied, StandsForGood};
-ghost use Rattle.enforcer_core.specs.SavedBounds.{SavedKeepsBounds};
-ghost use Rattle.enforcer_core.specs.Snapshots.{KeptCanBeTakenUp};
-ghost use Rattle.enforcer_core.specs.StepLaws.{DrainLaws, StepLaws};
-ghost use Rattle.enforcer_core.specs.Transparency.{CourseIsTransparent, CourseIsTransparentToEnd};
-ghost use Rattle.enforcer_core.specs.Transparency.{FollowsAlone, NothingDrains};
+ghost use Rattle.enforcer_core.specs.machine.Laws.{FollowsFitsSignature, DrainIsJustified, FollowsIsJustified};
+ghost use Rattle.enforcer_core.specs.machine.Laws.{PlannedAreSatisfied, StandsForGood, FollowsAlone, NothingDrains};
+ghost use Rattle.enforcer_core.specs.machine.CourseLaws.{CourseIsJustified, CourseIsJustifiedToEnd, CourseBegins};
+ghost use Rattle.enforcer_core.specs.machine.CourseLaws.{CourseGoesOn, CourseKeepsUp, CourseEnforces, CourseFollows};
+ghost use Rattle.enforcer_core.specs.machine.CourseLaws.{CourseFollowsToEnd, CourseIsTransparent};
+ghost use Rattle.enforcer_core.specs.machine.CourseLaws.{CourseIsTransparentToEnd};
+ghost use Rattle.enforcer_core.specs.machine.EnforcerSteps.{TakesAreFew};
+ghost use Rattle.enforcer_core.specs.machine.SnapshotLaws.{SavedKeepsBounds, KeptCanBeTakenUp};
+ghost use Rattle.enforcer_core.specs.machine.StepLaws.{DrainLaws, StepLaws};
 
-use crate::ending::{serving_ends, steps_lead_on};
 use crate::existing::something_is_decided;
+use crate::termination::{serving_ends, steps_lead_on};
 use choice_step::laws::{
     actions_are_justified, actions_are_lawful, decided_misses_nothing, some_decision,
 };
@@ -54,8 +53,13 @@ pub fn course()
     lawful_are_left_alone();
 }
 
-/// Under transparent plans the steps of a log go out as they came, while they can be continued well, and nothing is
-/// drained behind a trace that satisfies what the plans stand for.
+/// For a record few steps are emitted: at most one for each unit of time that the clock rises, and one more.
+pub fn takes_are_few()
+    ensures { TakesAreFew }
+{}
+
+/// Under transparent plans the steps of a log are emitted as they came, while they can be continued well, and nothing
+/// is drained after a trace that satisfies what the plans stand for.
 pub fn lawful_are_left_alone()
     ensures records { FollowsAlone }
     ensures drain { NothingDrains }
@@ -65,7 +69,7 @@ pub fn lawful_are_left_alone()
     owed_nodes_are_not_lost();
 }
 
-/// What goes out for the records of a log, and at its end, is justified: each action is for a node that is owed and
+/// What is emitted for the records of a log, and at its end, is justified: each action is for a node that is owed and
 /// otherwise lost, and each inserted step is needed.
 pub fn all_are_justified()
     ensures records { FollowsIsJustified }
@@ -124,7 +128,7 @@ pub fn saved_keeps_bounds()
     sound_keeps_bounds();
 }
 
-/// Behind a trace of which the events are of the signature, what goes out for records of which they are has such too.
+/// After a trace of which the events are of the signature, what is emitted for records of which they are has such too.
 pub fn what_goes_out_fits()
     ensures { FollowsFitsSignature }
 {
@@ -135,7 +139,7 @@ pub fn what_goes_out_fits()
     plans_are_well_formed();
 }
 
-// What a step that goes out rests on.
+// What a step that is emitted rests on.
 pub(crate) fn step_laws()
     ensures { StepLaws }
 {

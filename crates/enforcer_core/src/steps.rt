@@ -1,17 +1,17 @@
 //! The steps that an enforcer gives, and its refusals.
 ghost use Rattle.enforcer_core.specs.declared.steps.StepRefusal.TheVariants.{NoMemory as OutOfMemory};
-ghost use Rattle.enforcer_core.specs.Answered.{refused_as};
+ghost use Rattle.enforcer_core.specs.machine.Answers.{refused_as};
 ghost use Rattle.std.specs.Prelude.{◌≡◌, ◌↔◌, ◌++◌, ◌∷◌, [], IfOk, IfSome, IsTrue, length};
 
 use choice_step::Actions;
-use enf_value::Event;
-use enf_value::event_sets::EventSet;
-use enf_value::memory::NoMemory;
+use enf_data::Event;
+use enf_data::event_sets::EventSet;
+use enf_data::memory::NoMemory;
 use std::marker::Model;
 use std::slice;
 use trace_meaning::kinds::StepKind;
 
-/// A step that goes out, with the actions that made it, in their order.
+/// A step that is emitted, with the actions that made it, in their order.
 #[derive(Drop)]
 pub struct OutStep {
     pub kind: StepKind,
@@ -20,7 +20,7 @@ pub struct OutStep {
     pub actions: Actions,
 }
 
-/// A list of steps that go out. One alone takes no memory.
+/// A list of steps that are emitted. One alone takes no memory.
 #[derive(Drop)]
 pub struct OutSteps {
     steps: Kept,
@@ -36,15 +36,15 @@ pub(crate) enum Kept {
 impl Model for OutSteps {
     ghost use Rattle.std.specs.Prelude.{List};
     ghost use Rattle.enforcer_core.specs.declared.steps.OutStep.{OutStep};
-    ghost use Rattle.enforcer_core.specs.Steps.{kept};
-    ghost use Rattle.enforcer_core.specs.contracts.steps.OutStep as step;
+    ghost use Rattle.enforcer_core.specs.machine.MadeSteps.{kept_steps};
     ghost use Rattle.std.specs.Coded.{codes};
+    ghost use Rattle.enforcer_core.specs.contracts.steps.OutStep as step;
 
     ghost Value = { List OutStep };
 
     ghost coded = { Prim.hlevel (codes, step.the_row.coded) };
 
-    ghost view = { λ s. kept s.steps };
+    ghost view = { λ s. kept_steps s.steps };
 }
 
 impl OutSteps {
@@ -66,7 +66,7 @@ impl OutSteps {
         }
     }
 
-    // Steps, and one more behind them.
+    // Steps, and one more after them.
     pub(crate) fn and_last(mut steps: Vec<OutStep>, last: OutStep) -> Result<OutSteps, NoMemory>
         ensures { IfOk result (λ all. all ≡ steps.items ++ last ∷ []) }
     {

@@ -2,24 +2,22 @@
 ghost use Rattle.std.specs.Prelude.{◌≡◌, ◌↔◌, ℕ, [], List, None, Result, Some};
 ghost use Rattle.std.specs.Option.{option_map};
 ghost use Rattle.std.specs.List.{AllByRecursion};
-ghost use Rattle.policy_syntax.specs.Reading.{IsPolicyText};
-ghost use Rattle.policy_syntax.specs.Trees.{Rule as SyntaxRule};
+ghost use Rattle.policy_syntax.specs.meaning.Grammar.{IsPolicyText};
+ghost use Rattle.policy_syntax.specs.meaning.Trees.{PolicyRule as SyntaxRule};
 ghost use Rattle.signature.specs.declared.entries.NameEntry.{NameEntry};
-ghost use Rattle.formula_reader.specs.Answers.{IsAnswer};
-ghost use Rattle.enf_value.specs.TokenLaws.{placed_from, printed};
-ghost use Rattle.enf_value.specs.Tokens.{tokens};
-ghost use Rattle.formula_reader.specs.Canonical.{rule_text};
-ghost use Rattle.formula_reader.specs.Pieces.{IsRuleText, rule_pieces};
-ghost use Rattle.formula_reader.specs.Points.{Point, points};
-ghost use Rattle.formula_reader.specs.Reading.{IsTextAnswer};
-ghost use Rattle.formula_reader.specs.Resolution.{Rule, rule_in};
-ghost use Rattle.formula_reader.specs.Places.{bare_refusal, bare_resolved};
-ghost use Rattle.policy_syntax.specs.Places.{bare_rule};
-ghost use Rattle.formula_reader.specs.Sorts.{first_refusal, policy_refusal, rule_refusal};
-ghost use Rattle.formula_reader.specs.RoundTrip.{PrintedIsRead, TextsHaveLevels};
-ghost use Rattle.formula_reader.specs.Standing.{IsLeast, IsLeastInRules, Rises, Stands, StandsInRules};
-ghost use Rattle.formula_reader.specs.WellFormed.{ReadIsWellFormed};
-ghost use Rattle.formula_reader.specs.Written.{rule_back, rule_plain};
+ghost use Rattle.formula_reader.specs.meaning.PolicyAnswers.{IsResolutionAnswer, IsPolicyAnswer};
+ghost use Rattle.enf_value.specs.machine.PrintedTokens.{placed_from, printed_tokens};
+ghost use Rattle.enf_value.specs.meaning.Tokens.{tokens};
+ghost use Rattle.formula_reader.specs.meaning.RuleText.{rule_text};
+ghost use Rattle.formula_reader.specs.machine.TextPieces.{IsRuleText, rule_pieces};
+ghost use Rattle.formula_reader.specs.meaning.Resolution.{Point, points, Rule, rule_in};
+ghost use Rattle.formula_reader.specs.machine.BareRules.{bare_refusal, bare_resolved};
+ghost use Rattle.policy_syntax.specs.machine.BareTrees.{bare_rule};
+ghost use Rattle.formula_reader.specs.meaning.SortRefusals.{first_point_refusal, policy_refusal, rule_refusal};
+ghost use Rattle.formula_reader.specs.machine.Laws.{PrintedIsRead, TextsHaveLevels, ReadIsWellFormed};
+ghost use Rattle.formula_reader.specs.machine.RefusalPlaces.{IsLeastRefusal, IsLeastInRules, PlacesRise, RefusalStands};
+ghost use Rattle.formula_reader.specs.machine.RefusalPlaces.{StandsInRules};
+ghost use Rattle.formula_reader.specs.machine.WrittenBack.{rule_back, plain_rule};
 ghost use Rattle.formula_reader.specs.declared.policies.PolicyRefusal.{PolicyRefusal};
 
 use enf_value::laws::printed_is_cut;
@@ -28,15 +26,15 @@ use policy_syntax::laws::{texts_are_writable, written_is_read};
 /// The rules of a syntax tree have exactly one answer under a signature.
 pub fn one_answer()
     ensures { (entries : List NameEntry) (rules : List SyntaxRule) →
-        (answer : Result (List Rule) PolicyRefusal) × IsAnswer entries rules answer
-        × ((other : Result (List Rule) PolicyRefusal) → IsAnswer entries rules other → other ≡ answer) }
+        (answer : Result (List Rule) PolicyRefusal) × IsResolutionAnswer entries rules answer
+        × ((other : Result (List Rule) PolicyRefusal) → IsResolutionAnswer entries rules other → other ≡ answer) }
 {}
 
 /// A text has exactly one answer under a signature.
 pub fn one_text_answer()
     ensures { (entries : List NameEntry) (bytes : List ℕ) →
-        (answer : Result (List Rule) PolicyRefusal) × IsTextAnswer entries bytes answer
-        × ((other : Result (List Rule) PolicyRefusal) → IsTextAnswer entries bytes other → other ≡ answer) }
+        (answer : Result (List Rule) PolicyRefusal) × IsPolicyAnswer entries bytes answer
+        × ((other : Result (List Rule) PolicyRefusal) → IsPolicyAnswer entries bytes other → other ≡ answer) }
 {
     policy_syntax::laws::one_answer();
 }
@@ -51,10 +49,10 @@ pub fn read_is_well_formed()
 
 /// Where the places of the points of a rule rise, the first refusal is the one that stands at the least place.
 pub fn first_by_place()
-    ensures least { (entries : List NameEntry) (points : List Point) (refusal : PolicyRefusal) → Rises points
-        → (first_refusal entries [] points ≡ Some refusal) ↔ IsLeast entries points refusal }
+    ensures least { (entries : List NameEntry) (points : List Point) (refusal : PolicyRefusal) → PlacesRise points
+        → (first_point_refusal entries [] points ≡ Some refusal) ↔ IsLeastRefusal entries points refusal }
     ensures none { (entries : List NameEntry) (points : List Point) (refusal : PolicyRefusal)
-        → first_refusal entries [] points ≡ None → Stands entries [] points refusal → ⊥ }
+        → first_point_refusal entries [] points ≡ None → RefusalStands entries [] points refusal → ⊥ }
 {}
 
 /// Of the rules of a text the second pass answers the refusal that stands at the least place.
@@ -65,13 +63,13 @@ pub fn first_of_text()
     ensures none { (entries : List NameEntry) (rules : List SyntaxRule) (refusal : PolicyRefusal)
         → policy_refusal entries rules ≡ None → StandsInRules entries rules refusal → ⊥ }
     ensures rises { (entries : List NameEntry) (bytes : List ℕ) (rules : List SyntaxRule) → IsPolicyText bytes rules
-        → AllByRecursion (λ (rule : SyntaxRule). Rises (points entries [] [] rule.formula)) rules }
+        → AllByRecursion (λ (rule : SyntaxRule). PlacesRise (points entries [] [] rule.formula)) rules }
 {}
 
 /// The canonical text of a rule is spelled by these tokens, with a blank for each blank.
 pub fn text_is_spelled()
     ensures { (entries : List NameEntry) (rule : Rule)
-        → printed (rule_pieces entries rule) ≡ rule_text entries rule }
+        → printed_tokens (rule_pieces entries rule) ≡ rule_text entries rule }
 {}
 
 /// The canonical text of a rule is cut into these tokens at their places, where its names are words and its values and
@@ -88,7 +86,7 @@ pub fn text_is_cut()
 pub fn rule_is_written_back()
     ensures { (entries : List NameEntry) (rule : SyntaxRule) (resolved : Rule)
         → rule_in entries rule ≡ Some resolved
-        → rule_back entries resolved ≡ rule_plain rule }
+        → rule_back entries resolved ≡ plain_rule rule }
 {}
 
 /// The second pass does not look at places: a rule at other places is refused for the same cause, or is the same rule

@@ -2,8 +2,8 @@
 ghost use Rattle.std.specs.Prelude.{◌≡◌};
 ghost use Rattle.formula_reader.specs.declared.policies.PolicyRefusal.TheVariants.{NoMemory as OutOfMemory};
 
+use enf_data::{Items, NoMemory, Place, TextValue};
 use enf_formula::Formula;
-use enf_value::{Items, NoMemory, Place, TextValue};
 use policy_syntax::SyntaxRefusal;
 use std::alloc::{AllocError, AllocFailed};
 
@@ -58,7 +58,7 @@ impl From<NoMemory> for PolicyRefusal {
 }
 
 impl From<SyntaxRefusal> for PolicyRefusal {
-    ghost use Rattle.formula_reader.specs.Reading.{of_first_pass};
+    ghost use Rattle.formula_reader.specs.meaning.PolicyAnswers.{of_first_pass};
 
     ghost from_gives = { λ first refusal. refusal ≡ of_first_pass first };
 

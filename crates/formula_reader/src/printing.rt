@@ -1,22 +1,25 @@
 //! The canonical text of a rule.
-ghost use Rattle.std.specs.Prelude.{◌≡◌, ◌++◌, ◌∷◌, [], Option, codes};
-ghost use Rattle.std.specs.Prelude.{decimal, OnErr, OnOk, slice_index_or};
+ghost use Rattle.std.specs.Prelude.{◌≡◌, ◌++◌, ◌∷◌, [], Option, codes, decimal, OnErr, OnOk};
+ghost use Rattle.std.specs.Prelude.{slice_index_or};
 ghost use Rattle.std.specs.List.{flat_map};
-ghost use Rattle.enf_formula.specs.Formulas as tree;
-ghost use Rattle.enf_value.specs.Spelling.{AppendsPart, spelled};
-ghost use Rattle.formula_reader.specs.Canonical.{atom_text, comparison_text, end_text, formula_text, infix_text};
-ghost use Rattle.formula_reader.specs.Canonical.{interval_text, name_text, operand_text, prefix_text, quantified_text};
-ghost use Rattle.formula_reader.specs.Canonical.{rule_text, separated, stands_alone as is_alone, term_text};
-ghost use Rattle.formula_reader.specs.Canonical.{variable_text};
-ghost use Rattle.formula_reader.specs.Printing.{operator_text};
-ghost use Rattle.formula_reader.specs.Resolution.{rule_of};
+ghost use Rattle.enf_value.specs.machine.ValueCalls.{AppendsPart};
+ghost use Rattle.enf_value.specs.meaning.Tokens.{spelled};
+ghost use Rattle.formula_reader.specs.meaning.RuleText.{atom_text, comparison_text, end_text, formula_text, infix_text};
+ghost use Rattle.formula_reader.specs.meaning.RuleText.{interval_text, name_text, prefix_text, quantified_text};
+ghost use Rattle.formula_reader.specs.meaning.RuleText.{rule_text, separated_text, formula_stands_alone as is_alone};
+ghost use Rattle.formula_reader.specs.meaning.RuleText.{term_text};
+ghost use Rattle.formula_reader.specs.machine.PrintedOperators.{operand_text, operator_text};
+ghost use Rattle.formula_reader.specs.meaning.Resolution.{variable_text};
+ghost use Rattle.formula_reader.specs.machine.StoredRules.{rule_of};
+ghost use Rattle.enf_formula.specs.machine.FormulaViews as tree;
 
 use crate::policies::{Rule, VarNames};
+use enf_data::{Interval, NameId, NoMemory, Term, VarId};
 use enf_formula::Formula;
-use enf_value::{Interval, NameId, NoMemory, Term, VarId, print_bytes, print_number, print_value};
+use enf_value::{print_bytes, print_number, print_value};
 use signature::Signature;
 
-/// Appends the canonical text of a rule. For want of memory a front of it is appended.
+/// Appends the canonical text of a rule. Where memory runs out, a front of it is appended.
 pub fn print_rule(signature: &Signature, rule: &Rule, out: &mut Vec<u8>) -> Result<(), NoMemory>
     ensures ok { OnOk result (out.new.items ≡ out.old.items ++ rule_text signature.now (rule_of rule.now)) }
     ensures err { OnErr result (AppendsPart (rule_text signature.now (rule_of rule.now)) out.old.items out.new.items) }
@@ -79,9 +82,10 @@ impl Printer<'_> {
 
     fn print_terms(&self, terms: &[Term], out: &mut Vec<u8>) -> Result<(), NoMemory>
         ensures ok { OnOk result
-            (out.new.items ≡ out.old.items ++ separated (term_text self.now.vars.now) (codes ",") terms.now) }
+            (out.new.items ≡ out.old.items ++ separated_text (term_text self.now.vars.now) (codes ",") terms.now) }
         ensures err { OnErr result
-            (AppendsPart (separated (term_text self.now.vars.now) (codes ",") terms.now) out.old.items out.new.items) }
+            (AppendsPart (separated_text (term_text self.now.vars.now) (codes ",") terms.now) out.old.items
+            out.new.items) }
     {
         let [first, rest @ ..] = terms else {
             return Ok(());
@@ -97,9 +101,9 @@ impl Printer<'_> {
     fn print_variables(&self, variables: &[VarId], out: &mut Vec<u8>) -> Result<(), NoMemory>
         ensures ok { OnOk result
             (out.new.items ≡ out.old.items
-            ++ separated (variable_text self.now.vars.now) (codes ", ") variables.now) }
+            ++ separated_text (variable_text self.now.vars.now) (codes ", ") variables.now) }
         ensures err { OnErr result
-            (AppendsPart (separated (variable_text self.now.vars.now) (codes ", ") variables.now) out.old.items
+            (AppendsPart (separated_text (variable_text self.now.vars.now) (codes ", ") variables.now) out.old.items
             out.new.items) }
     {
         let [first, rest @ ..] = variables else {

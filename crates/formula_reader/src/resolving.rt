@@ -1,27 +1,31 @@
 //! The second pass of the reader: from a syntax tree to the tree under a signature.
 ghost use Rattle.std.specs.Prelude.{◌≡◌, ◌≢◌, ◌∷◌, ◌++◌, [], length, map, List, Result, None};
-ghost use Rattle.std.specs.Prelude.{Some, IfErr, IfOk};
-ghost use Rattle.std.specs.Prelude.{OnErr, OnOk};
-ghost use Rattle.enf_formula.specs.Formulas as tree;
-ghost use Rattle.policy_syntax.specs.Trees.{formula_of, rule_of as syntax_rule_of, rules_of as syntax_rules_of};
-ghost use Rattle.formula_reader.specs.Passing.{Binds, Passes, Refuses, body_in, both_in};
-ghost use Rattle.formula_reader.specs.Passing.{arguments_with, binders_with, formula_with, pass_with, points_with};
-ghost use Rattle.formula_reader.specs.Passing.{points_of_atom, points_of_both, points_of_bound, points_of_equal};
-ghost use Rattle.formula_reader.specs.Passing.{points_of_ordered, term_with, terms_with, use_with};
-ghost use Rattle.formula_reader.specs.Points.{This, bound_names, entry_named, names_of, variables_from};
-ghost use Rattle.formula_reader.specs.Points as want;
-ghost use Rattle.formula_reader.specs.Resolution.{name_in, rule_in, rule_of, rules_in};
-ghost use Rattle.formula_reader.specs.Resolution.{Rule as PureRule};
-ghost use Rattle.formula_reader.specs.Answers.{Gives, GivesAnswer, IsAnswer, answer_of};
-ghost use Rattle.formula_reader.specs.Sorts.{clash, policy_refusal, rule_refusal};
+ghost use Rattle.std.specs.Prelude.{Some, IfErr, IfOk, OnErr, OnOk};
+ghost use Rattle.policy_syntax.specs.machine.StoredTrees.{syntax_tree_of, policy_rule_of as syntax_rule_of};
+ghost use Rattle.policy_syntax.specs.machine.StoredTrees.{policy_syntax_rules as syntax_rules_of};
+ghost use Rattle.formula_reader.specs.machine.PointPasses.{BindsQuantified, PassesPoints, IsRefusedPass, body_in};
+ghost use Rattle.formula_reader.specs.machine.PointPasses.{both_in, arguments_with, binders_with, formula_with};
+ghost use Rattle.formula_reader.specs.machine.PointPasses.{pass_with, points_with, points_of_atom, points_of_both};
+ghost use Rattle.formula_reader.specs.machine.PointPasses.{points_of_bound, points_of_equal, points_of_ordered};
+ghost use Rattle.formula_reader.specs.machine.PointPasses.{term_with, terms_with, use_with};
+ghost use Rattle.formula_reader.specs.meaning.Resolution.{ThisSort, entry_named, bound_names, binding_names};
+ghost use Rattle.formula_reader.specs.meaning.Resolution.{bound_variables_from, name_in, rule_in, rules_in};
+ghost use Rattle.formula_reader.specs.meaning.Resolution.{Rule as PureRule};
+ghost use Rattle.formula_reader.specs.machine.StoredRules.{rule_of};
+ghost use Rattle.formula_reader.specs.machine.CallAnswers.{CallGivesPolicy, GivesResolutionAnswer, policy_answer_of};
+ghost use Rattle.formula_reader.specs.meaning.PolicyAnswers.{IsResolutionAnswer};
+ghost use Rattle.formula_reader.specs.meaning.SortRefusals.{sort_clash, policy_refusal, rule_refusal};
 ghost use Rattle.formula_reader.specs.declared.policies.PolicyRefusal.{PolicyRefusal as RefusalOfPolicy};
 ghost use Rattle.formula_reader.specs.declared.policies.PolicyRefusal.TheVariants.{NoMemory as OutOfMemory};
 ghost use Rattle.formula_reader.specs.declared.policies.PolicyRefusal.TheVariants.{UnknownName as Unknown};
+ghost use Rattle.enf_formula.specs.machine.FormulaViews as tree;
+ghost use Rattle.formula_reader.specs.meaning.Resolution as want;
 
 use crate::policies::{Policy, PolicyRefusal, Rule, Rules, VarNames};
 use crate::variables::Variables;
+use enf_data::{Duplicate, NameId, Place, Term, TextValue, Vars};
 use enf_formula::Formula;
-use enf_value::{Duplicate, NameId, Place, Term, Terms, TextValue, Vars};
+use enf_value::Terms;
 use policy_syntax::{Binding, SyntaxFormula, SyntaxPolicy, SyntaxRule, SyntaxTerm};
 use signature::{NameEntry, Signature, Sort};
 use std::alloc::Global;
@@ -35,8 +39,8 @@ struct Resolver<'a> {
 
 // The refusal of a sort that is not the one wanted.
 fn check_sort(place: Place, known: Option<Sort>, wanted: Option<Sort>) -> Result<(), PolicyRefusal>
-    ensures ok { OnOk result (clash place known wanted ≡ None) }
-    ensures err { IfErr result (λ refusal. clash place known wanted ≡ Some refusal) }
+    ensures ok { OnOk result (sort_clash place known wanted ≡ None) }
+    ensures err { IfErr result (λ refusal. sort_clash place known wanted ≡ Some refusal) }
 {
     match (known, wanted) {
         (Some(Sort::Int), Some(Sort::Text)) | (Some(Sort::Text), Some(Sort::Int)) => {
@@ -47,7 +51,7 @@ fn check_sort(place: Place, known: Option<Sort>, wanted: Option<Sort>) -> Result
 }
 
 fn place_of(term: &SyntaxTerm) -> Place
-    ensures { result ≡ want.place_of term.now }
+    ensures { result ≡ want.syntax_term_place term.now }
 {
     match term {
         SyntaxTerm::Variable(place, _) | SyntaxTerm::Constant(place, _) => *place,
@@ -63,10 +67,10 @@ impl Resolver<'_> {
         sort: Sort,
     ) -> Result<Term, PolicyRefusal>
         ensures value { IfOk result (λ resolved. term_with variables.old term.now ≡ Some resolved) }
-        ensures ok { OnOk result (Passes self.now.signature.now variables.old variables.new
-            (use_with variables.old term.now (This sort) ∷ []) []) }
-        ensures err { IfErr result (λ refusal. Refuses refusal (pass_with self.now.signature.now variables.old
-            (use_with variables.old term.now (This sort) ∷ []))) }
+        ensures ok { OnOk result (PassesPoints self.now.signature.now variables.old variables.new
+            (use_with variables.old term.now (ThisSort sort) ∷ []) []) }
+        ensures err { IfErr result (λ refusal. IsRefusedPass refusal (pass_with self.now.signature.now variables.old
+            (use_with variables.old term.now (ThisSort sort) ∷ []))) }
     {
         let resolved = variables.resolve(self.alloc, term)?;
         check_sort(place_of(term), variables.sort_of(&resolved), Some(sort))?;
@@ -83,9 +87,9 @@ impl Resolver<'_> {
     ) -> Result<(Term, Term), PolicyRefusal>
         ensures left { IfOk result (λ sides. term_with variables.old left.now ≡ Some sides.0) }
         ensures right { IfOk result (λ sides. term_with variables.old right.now ≡ Some sides.1) }
-        ensures ok { OnOk result (Passes self.now.signature.now variables.old variables.new
+        ensures ok { OnOk result (PassesPoints self.now.signature.now variables.old variables.new
             (points_of_ordered variables.old left.now right.now) []) }
-        ensures err { IfErr result (λ refusal. Refuses refusal (pass_with self.now.signature.now variables.old
+        ensures err { IfErr result (λ refusal. IsRefusedPass refusal (pass_with self.now.signature.now variables.old
             (points_of_ordered variables.old left.now right.now))) }
     {
         let left = self.resolve_term(variables, left, Sort::Int)?;
@@ -102,9 +106,9 @@ impl Resolver<'_> {
     ) -> Result<(Term, Term), PolicyRefusal>
         ensures left { IfOk result (λ sides. term_with variables.old left.now ≡ Some sides.0) }
         ensures right { IfOk result (λ sides. term_with variables.old right.now ≡ Some sides.1) }
-        ensures ok { OnOk result (Passes self.now.signature.now variables.old variables.new
+        ensures ok { OnOk result (PassesPoints self.now.signature.now variables.old variables.new
             (points_of_equal variables.old left.now right.now) []) }
-        ensures err { IfErr result (λ refusal. Refuses refusal (pass_with self.now.signature.now variables.old
+        ensures err { IfErr result (λ refusal. IsRefusedPass refusal (pass_with self.now.signature.now variables.old
             (points_of_equal variables.old left.now right.now))) }
     {
         let resolved_left = variables.resolve(self.alloc, left)?;
@@ -126,9 +130,9 @@ impl Resolver<'_> {
     ) -> Result<Terms, PolicyRefusal>
         requires { length sorts.now ≡ length terms.now }
         ensures value { IfOk result (λ resolved. terms_with variables.old terms.now ≡ Some resolved) }
-        ensures ok { OnOk result (Passes self.now.signature.now variables.old variables.new
+        ensures ok { OnOk result (PassesPoints self.now.signature.now variables.old variables.new
             (arguments_with variables.old sorts.now terms.now) []) }
-        ensures err { IfErr result (λ refusal. Refuses refusal (pass_with self.now.signature.now variables.old
+        ensures err { IfErr result (λ refusal. IsRefusedPass refusal (pass_with self.now.signature.now variables.old
             (arguments_with variables.old sorts.now terms.now))) }
     {
         let mut resolved = Vec::with_capacity(self.alloc, terms.len())?;
@@ -148,9 +152,9 @@ impl Resolver<'_> {
     ) -> Result<(NameId, Terms), PolicyRefusal>
         ensures name { IfOk result (λ atom. name_in self.now.signature.now name.now ≡ Some atom.0) }
         ensures terms { IfOk result (λ atom. terms_with variables.old terms.now ≡ Some atom.1) }
-        ensures ok { OnOk result (Passes self.now.signature.now variables.old variables.new
+        ensures ok { OnOk result (PassesPoints self.now.signature.now variables.old variables.new
             (points_of_atom self.now.signature.now variables.old place name.now terms.now) []) }
-        ensures err { IfErr result (λ refusal. Refuses refusal (pass_with self.now.signature.now variables.old
+        ensures err { IfErr result (λ refusal. IsRefusedPass refusal (pass_with self.now.signature.now variables.old
             (points_of_atom self.now.signature.now variables.old place name.now terms.now))) }
     {
         let (number, entry) = self.find_name(place, name)?;
@@ -188,9 +192,9 @@ impl Resolver<'_> {
         bindings: &[Binding],
     ) -> Result<Vars, PolicyRefusal>
         ensures value { IfOk result
-            (λ bound. bound ≡ variables_from (length variables.old.names.items) bindings.now) }
-        ensures ok { OnOk result (Binds self.now.signature.now variables.old variables.new bindings.now) }
-        ensures err { IfErr result (λ refusal. Refuses refusal (pass_with self.now.signature.now variables.old
+            (λ bound. bound ≡ bound_variables_from (length variables.old.names.items) bindings.now) }
+        ensures ok { OnOk result (BindsQuantified self.now.signature.now variables.old variables.new bindings.now) }
+        ensures err { IfErr result (λ refusal. IsRefusedPass refusal (pass_with self.now.signature.now variables.old
             (binders_with variables.old bindings.now))) }
     {
         let mut bound = Vec::with_capacity(self.alloc, bindings.len())?;
@@ -207,13 +211,13 @@ impl Resolver<'_> {
         formula: &SyntaxFormula,
     ) -> Result<Formula, PolicyRefusal>
         ensures value { IfOk result (λ resolved.
-            formula_with self.now.signature.now variables.old (formula_of formula.now)
+            formula_with self.now.signature.now variables.old (syntax_tree_of formula.now)
             ≡ Some (tree.tree_of resolved)) }
-        ensures ok { OnOk result (Passes self.now.signature.now variables.old variables.new
-            (points_with self.now.signature.now variables.old (formula_of formula.now))
-            (bound_names (formula_of formula.now))) }
-        ensures err { IfErr result (λ refusal. Refuses refusal (pass_with self.now.signature.now variables.old
-            (points_with self.now.signature.now variables.old (formula_of formula.now)))) }
+        ensures ok { OnOk result (PassesPoints self.now.signature.now variables.old variables.new
+            (points_with self.now.signature.now variables.old (syntax_tree_of formula.now))
+            (bound_names (syntax_tree_of formula.now))) }
+        ensures err { IfErr result (λ refusal. IsRefusedPass refusal (pass_with self.now.signature.now variables.old
+            (points_with self.now.signature.now variables.old (syntax_tree_of formula.now)))) }
     {
         match formula {
             SyntaxFormula::True(place) => Ok(Formula::True(*place)),
@@ -300,13 +304,13 @@ impl Resolver<'_> {
         formula: &SyntaxFormula,
     ) -> Result<Box<Formula>, PolicyRefusal>
         ensures value { IfOk result (λ resolved.
-            formula_with self.now.signature.now variables.old (formula_of formula.now) ≡ Some
+            formula_with self.now.signature.now variables.old (syntax_tree_of formula.now) ≡ Some
             (tree.tree_of resolved.value)) }
-        ensures ok { OnOk result (Passes self.now.signature.now variables.old variables.new
-            (points_with self.now.signature.now variables.old (formula_of formula.now))
-            (bound_names (formula_of formula.now))) }
-        ensures err { IfErr result (λ refusal. Refuses refusal (pass_with self.now.signature.now variables.old
-            (points_with self.now.signature.now variables.old (formula_of formula.now)))) }
+        ensures ok { OnOk result (PassesPoints self.now.signature.now variables.old variables.new
+            (points_with self.now.signature.now variables.old (syntax_tree_of formula.now))
+            (bound_names (syntax_tree_of formula.now))) }
+        ensures err { IfErr result (λ refusal. IsRefusedPass refusal (pass_with self.now.signature.now variables.old
+            (points_with self.now.signature.now variables.old (syntax_tree_of formula.now)))) }
     {
         let resolved = self.resolve_formula(variables, formula)?;
         Ok(Box::new(self.alloc, resolved)?)
@@ -314,7 +318,7 @@ impl Resolver<'_> {
 
     // Two operands in turn.
     #[cycle(formulas)]
-    #[tactic(auto, using(crate::proofs::Operands::both_operands))]
+    #[tactic(auto, using(crate::proofs::PointsInTurn::both_operands))]
     fn resolve_both(
         &self,
         variables: &mut Variables,
@@ -322,13 +326,14 @@ impl Resolver<'_> {
         right: &SyntaxFormula,
     ) -> Result<(Box<Formula>, Box<Formula>), PolicyRefusal>
         ensures value { IfOk result (λ operands.
-            both_in self.now.signature.now variables.old (formula_of left.now) (formula_of right.now)
+            both_in self.now.signature.now variables.old (syntax_tree_of left.now) (syntax_tree_of right.now)
             ≡ Some (tree.tree_of operands.0.value, tree.tree_of operands.1.value)) }
-        ensures ok { OnOk result (Passes self.now.signature.now variables.old variables.new
-            (points_of_both self.now.signature.now variables.old (formula_of left.now) (formula_of right.now))
-            (bound_names (formula_of left.now) ++ bound_names (formula_of right.now))) }
-        ensures err { IfErr result (λ refusal. Refuses refusal (pass_with self.now.signature.now variables.old
-            (points_of_both self.now.signature.now variables.old (formula_of left.now) (formula_of right.now)))) }
+        ensures ok { OnOk result (PassesPoints self.now.signature.now variables.old variables.new
+            (points_of_both self.now.signature.now variables.old (syntax_tree_of left.now) (syntax_tree_of right.now))
+            (bound_names (syntax_tree_of left.now) ++ bound_names (syntax_tree_of right.now))) }
+        ensures err { IfErr result (λ refusal. IsRefusedPass refusal (pass_with self.now.signature.now variables.old
+            (points_of_both self.now.signature.now variables.old (syntax_tree_of left.now)
+            (syntax_tree_of right.now)))) }
     {
         let left = self.resolve_boxed(variables, left)?;
         let right = self.resolve_boxed(variables, right)?;
@@ -337,7 +342,7 @@ impl Resolver<'_> {
 
     // A quantifier's variables, and the formula in which they are in scope.
     #[cycle(formulas)]
-    #[tactic(auto, using(crate::proofs::Operands::bound_operand))]
+    #[tactic(auto, using(crate::proofs::PointsInTurn::bound_operand))]
     fn resolve_bound(
         &self,
         variables: &mut Variables,
@@ -345,15 +350,15 @@ impl Resolver<'_> {
         formula: &SyntaxFormula,
     ) -> Result<(Vars, Box<Formula>), PolicyRefusal>
         ensures vars { IfOk result
-            (λ bound. bound.0 ≡ variables_from (length variables.old.names.items) bindings.now) }
+            (λ bound. bound.0 ≡ bound_variables_from (length variables.old.names.items) bindings.now) }
         ensures value { IfOk result
-            (λ bound. body_in self.now.signature.now variables.old bindings.now (formula_of formula.now)
+            (λ bound. body_in self.now.signature.now variables.old bindings.now (syntax_tree_of formula.now)
             ≡ Some (tree.tree_of bound.1.value)) }
-        ensures ok { OnOk result (Passes self.now.signature.now variables.old variables.new
-            (points_of_bound self.now.signature.now variables.old bindings.now (formula_of formula.now))
-            (names_of bindings.now ++ bound_names (formula_of formula.now))) }
-        ensures err { IfErr result (λ refusal. Refuses refusal (pass_with self.now.signature.now variables.old
-            (points_of_bound self.now.signature.now variables.old bindings.now (formula_of formula.now)))) }
+        ensures ok { OnOk result (PassesPoints self.now.signature.now variables.old variables.new
+            (points_of_bound self.now.signature.now variables.old bindings.now (syntax_tree_of formula.now))
+            (binding_names bindings.now ++ bound_names (syntax_tree_of formula.now))) }
+        ensures err { IfErr result (λ refusal. IsRefusedPass refusal (pass_with self.now.signature.now variables.old
+            (points_of_bound self.now.signature.now variables.old bindings.now (syntax_tree_of formula.now)))) }
     {
         let outside = variables.scope.len();
         let vars = self.bind_all(variables, bindings)?;
@@ -363,7 +368,7 @@ impl Resolver<'_> {
     }
 
     // A rule, whose variables are numbered anew.
-    #[tactic(auto, using(crate::proofs::Rules::one_rule))]
+    #[tactic(auto, using(crate::proofs::PassedRules::one_rule))]
     fn resolve_rule(&self, rule: &SyntaxRule) -> Result<Rule, PolicyRefusal>
         ensures value { IfOk result
             (λ resolved. rule_in self.now.signature.now (syntax_rule_of rule.now) ≡ Some (rule_of resolved)) }
@@ -400,18 +405,18 @@ impl Resolver<'_> {
 }
 
 /// The policy of a syntax tree under a signature, or the first refusal in the order of the text.
-#[tactic(auto, using(crate::proofs::Answering::all_rules))]
+#[tactic(auto, using(crate::proofs::CallAnswers::all_rules))]
 pub fn resolve(
     alloc: Global,
     signature: &Signature,
     policy: &SyntaxPolicy,
 ) -> Result<Policy, PolicyRefusal>
     // The tree's answer, unless there is no memory.
-    ensures answer { GivesAnswer signature.now (syntax_rules_of policy.now) (answer_of result) }
+    ensures answer { GivesResolutionAnswer signature.now (syntax_rules_of policy.now) (policy_answer_of result) }
     // No other answer than the tree's.
-    ensures only { (answer : Result (List PureRule) RefusalOfPolicy) → IsAnswer signature.now
+    ensures only { (answer : Result (List PureRule) RefusalOfPolicy) → IsResolutionAnswer signature.now
         (syntax_rules_of policy.now) answer
-        → Gives (answer_of result) answer }
+        → CallGivesPolicy (policy_answer_of result) answer }
 {
     let resolver = Resolver { alloc, signature };
     let rules = resolver.resolve_rules(policy.rules.as_slice())?;

@@ -1,14 +1,15 @@
 //! The variables of a rule, as far as the rule was read.
 ghost use Rattle.std.specs.Prelude.{◌≡◌, ◌≢◌, ◌∷◌, ◌++◌, [], length, slice_get, None, Some};
 ghost use Rattle.std.specs.Prelude.{IfErr, IfOk, OnOk};
-ghost use Rattle.formula_reader.specs.Passing.{IsFresh, known_in, term_with, variable_with, with_sort};
-ghost use Rattle.formula_reader.specs.Points.{is_named, numbered, place_of};
-ghost use Rattle.formula_reader.specs.Sorts.{binder_refusal, sort_of};
+ghost use Rattle.formula_reader.specs.machine.PointPasses.{IsFreshVariables, known_in, term_with, variable_with};
+ghost use Rattle.formula_reader.specs.machine.PointPasses.{with_sort};
+ghost use Rattle.formula_reader.specs.meaning.Resolution.{is_named, variable_numbered, syntax_term_place};
+ghost use Rattle.formula_reader.specs.meaning.SortRefusals.{binder_refusal, sort_of_term};
 ghost use Rattle.formula_reader.specs.declared.policies.PolicyRefusal.TheVariants.{FreeVariable as Free};
 ghost use Rattle.formula_reader.specs.declared.policies.PolicyRefusal.TheVariants.{NoMemory as OutOfMemory};
 
 use crate::policies::PolicyRefusal;
-use enf_value::{Duplicate, NoMemory, Term, TextValue, Value, VarId};
+use enf_data::{Duplicate, NoMemory, Term, TextValue, Value, VarId};
 use policy_syntax::{Binding, SyntaxTerm};
 use signature::Sort;
 use std::alloc::Global;
@@ -24,7 +25,7 @@ pub struct Variables {
 impl Variables {
     /// No variables.
     pub fn new(alloc: Global) -> Variables
-        ensures { IsFresh result }
+        ensures { IsFreshVariables result }
     {
         Variables {
             names: Vec::new(alloc),
@@ -56,7 +57,8 @@ impl Variables {
     pub fn resolve(&self, alloc: Global, term: &SyntaxTerm) -> Result<Term, PolicyRefusal>
         ensures value { IfOk result (λ resolved. term_with self.now term.now ≡ Some resolved) }
         ensures free { IfErr result (λ refusal. refusal ≢ OutOfMemory → term_with self.now term.now ≡ None) }
-        ensures refused { IfErr result (λ refusal. refusal ≢ OutOfMemory → refusal ≡ Free (place_of term.now)) }
+        ensures refused { IfErr result (λ refusal. refusal ≢ OutOfMemory → refusal
+            ≡ Free (syntax_term_place term.now)) }
     {
         match term {
             SyntaxTerm::Variable(place, name) => match self.find(name) {
@@ -69,7 +71,7 @@ impl Variables {
 
     /// The sort of a term, where it is known.
     pub fn sort_of(&self, term: &Term) -> Option<Sort>
-        ensures { result ≡ sort_of (known_in self.now.sorts.items) (Some term.now) }
+        ensures { result ≡ sort_of_term (known_in self.now.sorts.items) (Some term.now) }
     {
         match term {
             Term::Var(variable) => self.sorts.get(variable.0 as usize).copied().flatten(),
@@ -95,12 +97,12 @@ impl Variables {
 
     /// Binds a variable, which is in scope from then on.
     pub fn bind(&mut self, alloc: Global, binding: &Binding) -> Result<VarId, PolicyRefusal>
-        ensures value { IfOk result (λ variable. variable ≡ numbered (length self.old.names.items)) }
+        ensures value { IfOk result (λ variable. variable ≡ variable_numbered (length self.old.names.items)) }
         ensures new { OnOk result (variable_with self.old binding.now.name ≡ None) }
         ensures names { OnOk result (self.new.names.items ≡ self.old.names.items ++ binding.now.name ∷ []) }
         ensures sorts { OnOk result (self.new.sorts.items ≡ self.old.sorts.items ++ None ∷ []) }
         ensures scope { OnOk result
-            (self.new.scope.items ≡ self.old.scope.items ++ numbered (length self.old.names.items) ∷ []) }
+            (self.new.scope.items ≡ self.old.scope.items ++ variable_numbered (length self.old.names.items) ∷ []) }
         ensures refused { IfErr result (λ refusal. refusal ≢ OutOfMemory
             → binder_refusal binding.now.place (variable_with self.old binding.now.name) ≡ Some refusal) }
     {
@@ -118,7 +120,7 @@ impl Variables {
 
     // The next variable's number. Names of 2^32 variables fit no memory.
     fn next(&self) -> Result<VarId, NoMemory>
-        ensures { IfOk result (λ variable. variable ≡ numbered (length self.now.names.items)) }
+        ensures { IfOk result (λ variable. variable ≡ variable_numbered (length self.now.names.items)) }
     {
         match u32::try_from(self.names.len()) {
             Ok(number) => Ok(VarId(number)),

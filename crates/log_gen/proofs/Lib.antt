@@ -1,6 +1,8 @@
-pub mod Sample
+pub mod GeneratedTexts
+pub mod PutEvents
 pub mod SamplePolicy
-pub mod Puts
-pub mod Texts
-pub mod Limits
-pub mod Lines
+pub mod SampleSignature
+pub mod StepLaws
+pub mod StepLimits
+pub mod StepLines
+pub mod TextLaws

@@ -1,5 +1,2 @@
-pub mod Draws
-pub mod Samples
-pub mod Generated
-pub mod StepLaws
-pub mod TextLaws
+pub mod meaning
+pub mod machine

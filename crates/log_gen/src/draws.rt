@@ -1,6 +1,7 @@
 //! The draws that a generated log is made of.
 ghost use Rattle.std.specs.Prelude.{◌≡◌, ◌+◌, ◌<◌, ◌^◌};
-ghost use Rattle.log_gen.specs.Draws.{Drawn, draw, state_after};
+ghost use Rattle.log_gen.specs.machine.Generators.{Drawn};
+ghost use Rattle.log_gen.specs.meaning.GeneratedLogs.{draw, state_after};
 
 use std::marker::Model;
 
@@ -13,7 +14,8 @@ pub(crate) struct Draws {
 }
 
 impl Model for Draws {
-    ghost use Rattle.log_gen.specs.Draws.{Drawn, state_after};
+    ghost use Rattle.log_gen.specs.machine.Generators.{Drawn};
+    ghost use Rattle.log_gen.specs.meaning.GeneratedLogs.{state_after};
     ghost use Rattle.std.specs.Prelude.{◌≡◌, ◌<◌};
 
     ghost Value = { Drawn };
@@ -35,7 +37,7 @@ impl Draws {
         }
     }
 
-    // The same draws again.
+    // A copy of the draws, which goes on as they do.
     pub(crate) fn again(&self) -> Draws
         ensures { result ≡ self.now }
     {

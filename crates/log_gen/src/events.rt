@@ -1,21 +1,21 @@
 //! The events of a generated step.
-ghost use Rattle.std.specs.Prelude.{◌≡◌, ◌+◌, ◌*◌, ◌<◌, ◌^◌, ◌%◌, ◌++◌, IfOk};
-ghost use Rattle.std.specs.Prelude.{OnOk, [], codes, decimal};
-ghost use Rattle.log_gen.specs.Draws.{Drawn, draw};
-ghost use Rattle.log_gen.specs.Generated.{drawn_event, drawn_events, drawn_number, event_count};
-ghost use Rattle.log_stream.specs.Judgement.{put, put_all};
+ghost use Rattle.std.specs.Prelude.{◌≡◌, ◌+◌, ◌*◌, ◌<◌, ◌^◌, ◌%◌, ◌++◌, IfOk, OnOk, []};
+ghost use Rattle.std.specs.Prelude.{codes, decimal};
+ghost use Rattle.log_gen.specs.machine.Generators.{Drawn};
+ghost use Rattle.log_gen.specs.meaning.GeneratedLogs.{draw, drawn_event, drawn_events, drawn_number, event_count};
+ghost use Rattle.log_stream.specs.meaning.LogGrammar.{with_event_put, with_events_put};
 
 use crate::draws::Draws;
-use enf_value::{
-    Event, EventSet, NameId, NoMemory, Row, TextValue, Value, print_bytes, print_number,
-};
+use enf_data::{Event, EventSet, NameId, NoMemory, Row, TextValue, Value};
+use enf_value::{print_bytes, print_number};
 use std::alloc::Global;
 
 // A step's events: a draw says how many are drawn, and a repeat is left out.
 pub(crate) fn draw_events(alloc: Global, draws: &mut Draws) -> Result<EventSet, NoMemory>
     requires { draws.old.made + 1 < 2 ^ 31 }
     ensures events { IfOk result (λ events. events
-        ≡ put_all [] (drawn_events draws.old.start (draws.old.made + 1) (draw draws.old.start draws.old.made % 4))) }
+        ≡ with_events_put [] (drawn_events draws.old.start (draws.old.made + 1)
+        (draw draws.old.start draws.old.made % 4))) }
     ensures after { OnOk result (draws.new ≡ record {
       start = draws.old.start;
       made = draws.old.made + 1 + 2 * (draw draws.old.start draws.old.made % 4);
@@ -31,7 +31,7 @@ pub(crate) fn draw_events(alloc: Global, draws: &mut Draws) -> Result<EventSet, 
 }
 
 fn put_event(events: &mut EventSet, event: Event) -> Result<(), NoMemory>
-    ensures { OnOk result (events.new ≡ put events.old event) }
+    ensures { OnOk result (events.new ≡ with_event_put events.old event) }
 {
     match events.insert(event) {
         Ok(_is_new) => Ok(()),

@@ -1,15 +1,15 @@
 //! A generated log, step by step.
-ghost use Rattle.std.specs.Prelude.{◌≡◌, ◌++◌, ◌+◌, ◌<◌, ◌≤◌, IfOk, OnOk};
-ghost use Rattle.std.specs.Prelude.{OnErr, Ok, true, false};
-ghost use Rattle.enf_value.specs.Spelling.{AppendsPart};
-ghost use Rattle.log_gen.specs.Generated.{AnswersStep, Progress, first_draw, generated_line, generated_step};
-ghost use Rattle.log_gen.specs.Generated.{generated_text, time_before};
-ghost use Rattle.log_gen.specs.Samples.{sample_entries};
+ghost use Rattle.std.specs.Prelude.{◌≡◌, ◌++◌, ◌+◌, ◌<◌, ◌≤◌, IfOk, OnOk, OnErr, Ok, true};
+ghost use Rattle.std.specs.Prelude.{false};
+ghost use Rattle.enf_value.specs.machine.ValueCalls.{AppendsPart};
+ghost use Rattle.log_gen.specs.machine.Generators.{AnswersStep, Progress, generated_line};
+ghost use Rattle.log_gen.specs.meaning.GeneratedLogs.{first_draw, generated_step, generated_text, time_before};
+ghost use Rattle.log_gen.specs.meaning.Samples.{sample_entries};
 
 use crate::draws::Draws;
 use crate::events::draw_events;
 use crate::samples::sample_signature;
-use enf_value::{NoMemory, Step};
+use enf_data::{NoMemory, Step};
 use log_stream::write_step;
 use signature::Signature;
 use std::alloc::Global;
@@ -22,7 +22,7 @@ pub const MOST_START: u32 = 2_147_483_647;
 /// The greatest number of steps.
 pub const MOST_STEPS: u32 = 1_000_000;
 
-// A step that was drawn, and the draws that come behind it.
+// A step that was drawn, and the draws that come after it.
 #[derive(Drop)]
 struct Ahead {
     step: Step,
@@ -42,7 +42,7 @@ pub struct Generator {
 }
 
 impl Model for Generator {
-    ghost use Rattle.log_gen.specs.Generated.{Progress, IsUnderWay};
+    ghost use Rattle.log_gen.specs.machine.Generators.{Progress, IsUnderWay};
 
     ghost Value = { Progress };
 
@@ -76,7 +76,7 @@ impl Generator {
         &self.signature
     }
 
-    /// Makes the next step, where there is one. For want of memory it is still the next.
+    /// Makes the next step, where there is one. Where memory runs out, it is still the next.
     pub fn next_step(&mut self) -> Result<Option<Step>, NoMemory>
         ensures answer { IfOk result (λ step. AnswersStep self.old step self.new) }
         ensures left { OnErr result (self.old.made < self.old.steps) }
@@ -90,8 +90,8 @@ impl Generator {
         Ok(Some(step))
     }
 
-    /// Makes the next step and appends its line, and answers whether there was one. For want of memory a front of the
-    /// line is appended, and the step is still the next.
+    /// Makes the next step and appends its line, and answers whether there was one. Where memory runs out, a front of
+    /// the line is appended, and the step is still the next.
     pub fn append_line(&mut self, out: &mut Vec<u8>) -> Result<bool, NoMemory>
         ensures line { result ≡ Ok true
             → out.new.items ≡ out.old.items ++ generated_line self.old.start self.old.made }
@@ -136,7 +136,7 @@ impl Generator {
         })
     }
 
-    // One step more was made, at this time, and these draws come behind it.
+    // One step more was made, at this time, and these draws come after it.
     fn go_on(&mut self, time: u64, draws: Draws)
         requires more { self.old.made < self.old.steps }
         requires time { time ≡ time_before self.old.start (self.old.made + 1) }
@@ -150,7 +150,7 @@ impl Generator {
     }
 }
 
-/// Appends the log of so many steps; for want of memory a front of it is appended.
+/// Appends the log of so many steps; where memory runs out, a front of it is appended.
 pub fn generate(alloc: Global, start: u32, steps: u32, out: &mut Vec<u8>) -> Result<(), NoMemory>
     requires start { start ≤ MOST_START }
     requires steps { steps ≤ MOST_STEPS }

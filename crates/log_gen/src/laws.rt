@@ -1,5 +1,5 @@
 //! What holds of generated logs, as the contract of a function.
-ghost use Rattle.log_gen.specs.Generated.{IsReadAsGenerated};
+ghost use Rattle.log_gen.specs.machine.Laws.{IsReadAsGenerated};
 
 /// The text of a generated log is a log without a refusal under the sample signature, and is read as its steps.
 pub fn text_is_read()

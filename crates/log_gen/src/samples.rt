@@ -1,13 +1,14 @@
 //! A signature and a policy to go with generated logs.
 ghost use Rattle.std.specs.Prelude.{◌≡◌, Ok};
-ghost use Rattle.formula_reader.specs.Reading.{IsTextAnswer};
-ghost use Rattle.log_gen.specs.Samples.{policy_text, sample_entries, sample_rules, signature_text};
-ghost use Rattle.signature.specs.Refusals.{IsAnswer};
+ghost use Rattle.formula_reader.specs.meaning.PolicyAnswers.{IsPolicyAnswer};
+ghost use Rattle.log_gen.specs.machine.SampleTexts.{policy_text, signature_text};
+ghost use Rattle.log_gen.specs.meaning.Samples.{sample_entries, sample_rules};
+ghost use Rattle.signature.specs.meaning.Refusals.{AnswersSignature};
 
 /// The text of the sample signature.
 pub fn sample_signature() -> &'static [u8]
     ensures text { result.now ≡ signature_text }
-    ensures read { IsAnswer signature_text (Ok sample_entries) }
+    ensures read { AnswersSignature signature_text (Ok sample_entries) }
 {
     b"request(text); consent(text); use(text) -; delete(text) +; unlock(text) +;\n\
       lock(text); note(text) +-; alarm() +; ping() +; pong() +;\n"
@@ -16,7 +17,7 @@ pub fn sample_signature() -> &'static [u8]
 /// The text of the sample policy.
 pub fn sample_policy() -> &'static [u8]
     ensures text { result.now ≡ policy_text }
-    ensures read { IsTextAnswer sample_entries policy_text (Ok sample_rules) }
+    ensures read { IsPolicyAnswer sample_entries policy_text (Ok sample_rules) }
 {
     b"rule consent: forall u. use(u) -> once[0,*] consent(u);\n\
       rule erase: forall u. request(u) -> eventually[0,30] delete(u);\n\

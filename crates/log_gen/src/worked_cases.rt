@@ -1,7 +1,7 @@
 //! Cases of the definitions that the eye can check, each the contract of a function with an empty body.
 ghost use Rattle.std.specs.Prelude.{◌≡◌, ◌∷◌, [], codes, map};
-ghost use Rattle.log_gen.specs.Draws.{draw};
-ghost use Rattle.log_gen.specs.Generated.{generated_line, generated_step};
+ghost use Rattle.log_gen.specs.meaning.GeneratedLogs.{draw, generated_step};
+ghost use Rattle.log_gen.specs.machine.Generators.{generated_line};
 
 /// The first draws from 1.
 pub fn first_draws()

@@ -1,24 +1,17 @@
 -- The tokens of a step's line, each at its place.
-use Rattle.std.proofs.Common.{◌≡◌, ℕ, ◌+◌, ◌<◌, ◌≤◌, ◌&&◌, Bool, true, false, List, [], ◌∷◌, ◌++◌, length, take_while, drop, slice_index, slice_index_or, IsTrue, if◌then◌else◌, inl, inr, ◌⊎◌, refl, sym, ap, subst, ◌∙◌, arith, append_assoc, length-append, length-drop, add-zero}
-use Rattle.std.specs.List.{flat_map, list_all}
-use Rattle.std.proofs.lemmas.Bool.{cases_lt}
-use Rattle.std.proofs.lemmas.Bool.Decides.{nat_tests}
-use Rattle.std.proofs.lemmas.List.{drop-drop, drop_all, drop_at, get_or-drop}
-use Rattle.std.proofs.lemmas.List.Sums.{take_while-cons}
-use Rattle.enf_value.specs.Names.{is_word, is_word_byte, is_word_start}
-use Rattle.enf_value.specs.Spelling.{spelled}
-use Rattle.enf_value.specs.Tokens.{is_blank}
-use Rattle.enf_value.specs.ValueTokens.{EndsBefore, IsValue, PrintedIsToken, TokenAt}
-use Rattle.enf_value.specs.declared.events.Event.{Event}
-use Rattle.enf_value.specs.declared.values.Value.{Value}
-use Rattle.enf_value.specs.declared.values.Value.TheVariants.{Num, Text}
-use Rattle.log_stream.specs.Lines.{spelled_event, spelled_row}
-use Rattle.log_stream.specs.States.{argument_at, event_at}
-use Rattle.log_stream.specs.Tokens.{Mark, IsGap, StandsAt, Leads}
-use Rattle.log_stream.specs.Written.{WrittenArgument, WrittenEvent, argument_token, event_tokens, row_tokens}
-use Rattle.log_stream.proofs.Names.{BeginsValue, value_first}
-use Rattle.log_stream.proofs.Plain.{word_bytes}
-use Rattle.log_stream.proofs.Reading.{leads-append}
+use Rattle.log_stream.proofs.Vocabulary.{◌≡◌, ℕ, ◌+◌, ◌<◌, ◌≤◌, ◌&&◌, Bool, true, false, List}
+use Rattle.log_stream.proofs.Vocabulary.{[], ◌∷◌, ◌++◌, length, take_while, drop, slice_index, slice_index_or}
+use Rattle.log_stream.proofs.Vocabulary.{IsTrue, if◌then◌else◌, inl, inr, ◌⊎◌, refl, sym, ap, subst}
+use Rattle.log_stream.proofs.Vocabulary.{◌∙◌, arith, append_assoc, length-append, length-drop, add-zero, flat_map}
+use Rattle.log_stream.proofs.Vocabulary.{list_all, cases_lt, nat_tests, drop-drop, drop_all, drop_at, get_or-drop}
+use Rattle.log_stream.proofs.Vocabulary.{take_while-cons, is_word, is_word_byte, is_word_start, spelled, EndsBefore}
+use Rattle.log_stream.proofs.Vocabulary.{ValueTokenAt, is_blank, IsValue, PrintedIsToken, Event, Value, Num, Text}
+use Rattle.log_stream.proofs.Vocabulary.{spelled_event, spelled_row, LogMark, IsLogGap, IsLogTokenAt, LogTokensLead}
+use Rattle.log_stream.proofs.Vocabulary.{WrittenArgument, WrittenEvent, argument_token, event_tokens, row_tokens}
+use Rattle.log_stream.proofs.Vocabulary.{argument_at, event_at}
+use Rattle.log_stream.proofs.TokensByFirstByte.{BeginsValue, value_first}
+use Rattle.log_stream.proofs.PlainBytes.{word_bytes}
+use Rattle.log_stream.proofs.ReadParts.{leads-append}
 
 -- the arguments at their places, with a comma between two
 abbrev pub written_args : (place : ℕ) → List Value → List WrittenArgument
@@ -53,10 +46,10 @@ within_front bytes p byte rest e = by (cases_lt p (length bytes))
     by (inl h) = h
     by (inr h) = absurd (never (sym (drop_all p bytes h) ∙ e))
 
-pub gap_none : (bytes : List ℕ) (p : ℕ) → is_blank (slice_index bytes p) ≡ false → IsGap bytes p p
+pub gap_none : (bytes : List ℕ) (p : ℕ) → is_blank (slice_index bytes p) ≡ false → IsLogGap bytes p p
 gap_none bytes p e = record { onward = omega arith; blanks = λ k from to. absurd (omega arith); ends = e }
 
-pub gap_space : (bytes : List ℕ) (p : ℕ) (rest : List ℕ) → drop p bytes ≡ 32 ∷ rest → is_blank (slice_index bytes (p + 1)) ≡ false → IsGap bytes p (p + 1)
+pub gap_space : (bytes : List ℕ) (p : ℕ) (rest : List ℕ) → drop p bytes ≡ 32 ∷ rest → is_blank (slice_index bytes (p + 1)) ≡ false → IsLogGap bytes p (p + 1)
 gap_space bytes p rest e ends = record {
   onward = omega arith;
   blanks = λ k from to. ap is_blank (ap (λ n. slice_index bytes n) (only k from to) ∙ at_place bytes p (32 ∷ rest) e);
@@ -66,7 +59,7 @@ gap_space bytes p rest e ends = record {
     only : (k : ℕ) → p ≤ k → k < p + 1 → k ≡ p
     only k from to = omega arith
 
-pub mark_stands : (bytes : List ℕ) (p byte : ℕ) (rest : List ℕ) → drop p bytes ≡ byte ∷ rest → StandsAt bytes p (p + 1) (Mark byte)
+pub mark_stands : (bytes : List ℕ) (p byte : ℕ) (rest : List ℕ) → drop p bytes ≡ byte ∷ rest → IsLogTokenAt bytes p (p + 1) (LogMark byte)
 mark_stands bytes p byte rest e = (within_front bytes p byte rest e, at_place bytes p (byte ∷ rest) e, refl)
 
 -- the first byte of a value is no blank
@@ -75,7 +68,8 @@ value_not_blank byte (Num number) (inl h) = let a = h.0 in let b = h.1 in grind 
 value_not_blank byte (Num number) (inr h) = ap is_blank h
 value_not_blank byte (Text text) h = ap is_blank h
 
-pub value_stands : PrintedIsToken → (bytes : List ℕ) (p : ℕ) (value : Value) (rest : List ℕ) → IsValue value → EndsBefore value rest → drop p bytes ≡ spelled value ++ rest → TokenAt bytes p (p + length (spelled value)) value
+pub value_stands : PrintedIsToken → (bytes : List ℕ) (p : ℕ) (value : Value) (rest : List ℕ) → IsValue value → EndsBefore value rest → drop p bytes ≡ spelled value ++ rest
+    → ValueTokenAt bytes p (p + length (spelled value)) value
 value_stands printed bytes p value rest fits ends e = printed bytes p value rest fits ends e
 
 -- a comma or a parenthesis ends a value
@@ -99,9 +93,10 @@ row_not_blank : (values : List Value) (more : List ℕ) → is_blank (slice_inde
 row_not_blank [] more = refl
 row_not_blank (next ∷ values) more = refl
 
-commas_lead : PrintedIsToken → (bytes : List ℕ) (q : ℕ) (values : List Value) (more : List ℕ) (end to : ℕ) → AreValues values → drop q bytes ≡ commas values ++ 41 ∷ more → end ≡ q + length (commas values) + 1 → IsGap bytes end to →
-    Leads bytes q (flat_map (λ next. Mark 44 ∷ argument_token next ∷ []) (written_args (q + 1) values) ++ Mark 41 ∷ []) to
-commas_lead printed bytes q [] more end to are e is gap = (q + 1, to, mark_stands bytes q 41 more e, subst (λ n. IsGap bytes n to) (is ∙ omega arith) gap, refl)
+commas_lead : PrintedIsToken → (bytes : List ℕ) (q : ℕ) (values : List Value) (more : List ℕ) (end to : ℕ) → AreValues values → drop q bytes ≡ commas values ++ 41 ∷ more
+    → end ≡ q + length (commas values) + 1 → IsLogGap bytes end to →
+    LogTokensLead bytes q (flat_map (λ next. LogMark 44 ∷ argument_token next ∷ []) (written_args (q + 1) values) ++ LogMark 41 ∷ []) to
+commas_lead printed bytes q [] more end to are e is gap = (q + 1, to, mark_stands bytes q 41 more e, subst (λ n. IsLogGap bytes n to) (is ∙ omega arith) gap, refl)
 commas_lead printed bytes q (value ∷ values) more end to are e is gap =
     let rest = commas values ++ 41 ∷ more in
     let e1 : drop q bytes ≡ 44 ∷ (spelled value ++ rest) = e ∙ ap (λ l. 44 ∷ l) (append_assoc (spelled value) (commas values) (41 ∷ more)) in
@@ -122,10 +117,11 @@ commas_lead printed bytes q (value ∷ values) more end to are e is gap =
       ),
     )
 
-pub row_leads : PrintedIsToken → (bytes : List ℕ) (q : ℕ) (values : List Value) (more : List ℕ) (end to : ℕ) → AreValues values → drop q bytes ≡ spelled_row values ++ 41 ∷ more → end ≡ q + length (spelled_row values) + 1 → IsGap bytes end to →
-    (is_blank (slice_index bytes q) ≡ false) × Leads bytes q (row_tokens (written_args q values) ++ Mark 41 ∷ []) to
+pub row_leads : PrintedIsToken → (bytes : List ℕ) (q : ℕ) (values : List Value) (more : List ℕ) (end to : ℕ) → AreValues values → drop q bytes
+    ≡ spelled_row values ++ 41 ∷ more → end ≡ q + length (spelled_row values) + 1 → IsLogGap bytes end to →
+    (is_blank (slice_index bytes q) ≡ false) × LogTokensLead bytes q (row_tokens (written_args q values) ++ LogMark 41 ∷ []) to
 row_leads printed bytes q [] more end to are e is gap =
-    (ap is_blank (at_place bytes q (41 ∷ more) e), (q + 1, to, mark_stands bytes q 41 more e, subst (λ n. IsGap bytes n to) (is ∙ omega arith) gap, refl))
+    (ap is_blank (at_place bytes q (41 ∷ more) e), (q + 1, to, mark_stands bytes q 41 more e, subst (λ n. IsLogGap bytes n to) (is ∙ omega arith) gap, refl))
 row_leads printed bytes q (value ∷ values) more end to are e is gap =
     let rest = commas values ++ 41 ∷ more in
     let e1 : drop q bytes ≡ spelled value ++ rest = e ∙ append_assoc (spelled value) (commas values) (41 ∷ more) in
@@ -165,12 +161,14 @@ word_not_blank (x ∷ xs) rest word = start x (first (is_word_start x) (list_all
     first false b e = cc
 
 -- an event, from the place of its name on
-pub event_leads : PrintedIsToken → (names : List (List ℕ)) (bytes : List ℕ) (p : ℕ) (event : Event) (more : List ℕ) (to : ℕ) → IsTrue (is_word (name_of names event)) → AreValues event.args → drop p bytes ≡ spelled_event names event ++ more → IsGap bytes (p + length (spelled_event names event)) to →
-    (is_blank (slice_index bytes p) ≡ false) × Leads bytes p (event_tokens (written_event names p event)) to
+pub event_leads : PrintedIsToken → (names : List (List ℕ)) (bytes : List ℕ) (p : ℕ) (event : Event) (more : List ℕ) (to : ℕ) → IsTrue (is_word (name_of names event))
+    → AreValues event.args → drop p bytes ≡ spelled_event names event ++ more → IsLogGap bytes (p + length (spelled_event names event)) to →
+    (is_blank (slice_index bytes p) ≡ false) × LogTokensLead bytes p (event_tokens (written_event names p event)) to
 event_leads printed names bytes p event more to word are e gap =
     let name = name_of names event in
     let row = spelled_row event.args in
-    let e0 : drop p bytes ≡ name ++ 40 ∷ (row ++ 41 ∷ more) = e ∙ ap (λ l. l ++ more) (append_assoc name (40 ∷ row) (41 ∷ [])) ∙ append_assoc name (40 ∷ row ++ 41 ∷ []) more ∙ ap (λ l. name ++ 40 ∷ l) (append_assoc row (41 ∷ []) more) in
+    let e0 : drop p bytes ≡ name ++ 40 ∷ (row ++ 41 ∷ more) = e ∙ ap (λ l. l ++ more) (append_assoc name (40 ∷ row) (41 ∷ [])) ∙ append_assoc name (40 ∷ row ++ 41 ∷ [])
+    more ∙ ap (λ l. name ++ 40 ∷ l) (append_assoc row (41 ∷ []) more) in
     let next = p + length name in
     let e1 : drop next bytes ≡ 40 ∷ (row ++ 41 ∷ more) = behind_front bytes p name (40 ∷ (row ++ 41 ∷ more)) e0 in
     let e2 : drop (next + 1) bytes ≡ row ++ 41 ∷ more = behind_front bytes next (40 ∷ []) (row ++ 41 ∷ more) e1 in
@@ -186,7 +184,7 @@ event_leads printed names bytes p event more to word are e gap =
       ),
     )
 
--- events, each behind a space
+-- events, each after a space
 abbrev pub spaced : List (List ℕ) → List Event → List ℕ
 spaced names events = flat_map (λ event. 32 ∷ spelled_event names event) events
 
@@ -200,14 +198,14 @@ ArePrintable names [] = Unit {0}
 ArePrintable names (event ∷ events) = IsTrue (is_word (name_of names event)) × AreValues event.args × ArePrintable names events
 
 pub events_lead : PrintedIsToken → (names : List (List ℕ)) (bytes : List ℕ) (e : ℕ) (events : List Event) → ArePrintable names events → drop e bytes ≡ spaced names events ++ 59 ∷ [] →
-    IsGap bytes e (e + space_before events) × Leads bytes (e + space_before events) (flat_map event_tokens (written_events names (e + 1) events) ++ Mark 59 ∷ []) (length bytes)
+    IsLogGap bytes e (e + space_before events) × LogTokensLead bytes (e + space_before events) (flat_map event_tokens (written_events names (e + 1) events) ++ LogMark 59 ∷ []) (length bytes)
 events_lead printed names bytes e [] are is =
     let here : e + 0 ≡ e = add-zero e in
     let after : drop (e + 1) bytes ≡ [] = behind_front bytes e (59 ∷ []) [] is in
     let at : slice_index bytes e ≡ 59 = at_place bytes e (59 ∷ []) is in
     let within = within_front bytes e 59 [] is in
     let last : e + 1 ≡ length bytes = omega (arith, within, ap length after, length-drop (e + 1) bytes) in
-    subst (λ n. IsGap bytes e n × Leads bytes n (Mark 59 ∷ []) (length bytes)) (sym here) (
+    subst (λ n. IsLogGap bytes e n × LogTokensLead bytes n (LogMark 59 ∷ []) (length bytes)) (sym here) (
       gap_none bytes e (ap is_blank at),
       (e + 1, e + 1, mark_stands bytes e 59 [] is, gap_none bytes (e + 1) (ap is_blank (at_place bytes (e + 1) [] after)), sym last),
     )
@@ -220,6 +218,8 @@ events_lead printed names bytes e (event ∷ events) are is =
     let later = events_lead printed names bytes (e + 1 + length text) events are.2 e2 in
     let here = event_leads printed names bytes (e + 1) event rest (e + 1 + length text + space_before events) are.0 are.1 e1 later.0 in (
       gap_space bytes e (text ++ rest) e0 here.0,
-      subst (λ ts. Leads bytes (e + 1) ts (length bytes)) (sym (append_assoc (event_tokens (written_event names (e + 1) event)) (flat_map event_tokens (written_events names (e + 1 + length text + 1) events)) (Mark 59 ∷ [])))
-          (leads-append bytes (e + 1) (e + 1 + length text + space_before events) (length bytes) (event_tokens (written_event names (e + 1) event)) (flat_map event_tokens (written_events names (e + 1 + length text + 1) events) ++ Mark 59 ∷ []) here.1 later.1),
+      subst (λ ts. LogTokensLead bytes (e + 1) ts (length bytes)) (sym (append_assoc (event_tokens (written_event names (e + 1) event))
+          (flat_map event_tokens (written_events names (e + 1 + length text + 1) events)) (LogMark 59 ∷ [])))
+          (leads-append bytes (e + 1) (e + 1 + length text + space_before events) (length bytes) (event_tokens (written_event names (e + 1) event))
+          (flat_map event_tokens (written_events names (e + 1 + length text + 1) events) ++ LogMark 59 ∷ []) here.1 later.1),
     )

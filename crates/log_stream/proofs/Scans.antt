@@ -1,13 +1,11 @@
 -- A scan for the end of a record: it stays where it is up to the bytes at which it can turn.
-use Rattle.std.proofs.Common.{◌≡◌, ℕ, ◌+◌, ◌-◌, ◌<◌, ◌≤◌, ◌==◌, ◌&&◌, ◌||◌, suc, zero, Bool, true, false, List, [], ◌∷◌, length, drop, slice_index, Option, None, Some, if◌then◌else◌, refl, sym, ap, ◌∙◌, arith, length-drop}
-use Rattle.std.specs.Option.{option_map}
-use Rattle.std.proofs.lemmas.Bool.{eqb-true}
-use Rattle.std.proofs.lemmas.List.{drop_all, drop_more, drop-drop}
-use Rattle.memchr.specs.Find.{Passes, NoneBefore, Nowhere, is_byte2}
-use Rattle.log_stream.specs.Logs.{is_outside, length_to_end, scan_behind}
-use Rattle.log_stream.specs.Scanning.{GoesOn, scan_after}
-use Rattle.log_stream.specs.declared.scanning.Scan.{Scan}
-use Rattle.log_stream.specs.declared.scanning.Scan.TheVariants.{Outside, Inside, Escaped}
+use Rattle.log_stream.proofs.Vocabulary.{◌≡◌, ℕ, ◌+◌, ◌-◌, ◌<◌, ◌≤◌, ◌==◌, ◌&&◌}
+use Rattle.log_stream.proofs.Vocabulary.{◌||◌, suc, zero, Bool, true, false, List, [], ◌∷◌, length, drop}
+use Rattle.log_stream.proofs.Vocabulary.{slice_index, Option, None, Some, if◌then◌else◌, refl, sym, ap, ◌∙◌}
+use Rattle.log_stream.proofs.Vocabulary.{arith, length-drop, option_map, eqb-true, false_from_ne_true, drop_all}
+use Rattle.log_stream.proofs.Vocabulary.{drop_more, drop-drop, Passes, NoneBefore, Nowhere, is_byte2, is_outside}
+use Rattle.log_stream.proofs.Vocabulary.{length_to_end, scan_behind, ScanGoesOn, scan_after, Scan, Outside, Inside}
+use Rattle.log_stream.proofs.Vocabulary.{Escaped}
 
 pub map_more : (m n k : ℕ) (o : Option ℕ) → m + n ≡ k → option_map (λ x. x + n) (option_map (λ x. x + m) o) ≡ option_map (λ x. x + k) o
 map_more m n k None e = refl
@@ -21,21 +19,19 @@ map_none (Some x) n e = ap Some (omega arith)
 abbrev pub StaysBut : Scan → (ℕ → Bool) → Type 0
 StaysBut scan test = (byte : ℕ) → test byte ≡ false → (scan_behind scan byte ≡ scan) × ((is_outside scan && (byte == 59)) ≡ false)
 
-step_end : (scan : Scan) (byte : ℕ) (bytes : List ℕ) → (is_outside scan && (byte == 59)) ≡ false → length_to_end scan (byte ∷ bytes) ≡ option_map (λ n. n + 1) (length_to_end (scan_behind scan byte) bytes)
+step_end : (scan : Scan) (byte : ℕ) (bytes : List ℕ) → (is_outside scan && (byte == 59)) ≡ false → length_to_end scan (byte ∷ bytes)
+    ≡ option_map (λ n. n + 1) (length_to_end (scan_behind scan byte) bytes)
 step_end scan byte bytes e = ap (λ b. if b then Some 1 else option_map (λ n. n + 1) (length_to_end (scan_behind scan byte) bytes)) e
-
-not_true : (b : Bool) → (b ≡ true → ⊥) → b ≡ false
-not_true true h = absurd (h refl)
-not_true false h = refl
 
 pub stays : (scan : Scan) (test : ℕ → Bool) → StaysBut scan test → (bytes : List ℕ) (n : ℕ) → n ≤ length bytes → ((k : ℕ) → k < n → test (slice_index bytes k) ≡ true → ⊥) →
     (length_to_end scan bytes ≡ option_map (λ m. m + n) (length_to_end scan (drop n bytes))) × (scan_after scan bytes ≡ scan_after scan (drop n bytes))
 stays scan test h bytes zero within none = (map_none (length_to_end scan bytes) 0 refl, refl)
 stays scan test h [] (suc n) within none = absurd (omega arith)
 stays scan test h (byte ∷ bytes) (suc n) within none =
-    let here = h byte (not_true (test byte) (none 0 (omega arith))) in
+    let here = h byte (false_from_ne_true (test byte) (none 0 (omega arith))) in
     let later = stays scan test h bytes n (omega arith) (λ k below. none (suc k) (omega arith)) in (
-      step_end scan byte bytes here.1 ∙ ap (λ s. option_map (λ m. m + 1) (length_to_end s bytes)) here.0 ∙ ap (option_map (λ m. m + 1)) later.0 ∙ map_more n 1 (suc n) (length_to_end scan (drop n bytes)) (omega arith),
+      step_end scan byte bytes here.1 ∙ ap (λ s. option_map (λ m. m + 1) (length_to_end s bytes)) here.0 ∙ ap (option_map (λ m. m + 1)) later.0 ∙ map_more n 1 (suc n)
+          (length_to_end scan (drop n bytes)) (omega arith),
       ap (λ s. scan_after s bytes) here.0 ∙ later.1,
     )
 
@@ -56,7 +52,8 @@ inside_stays byte e = by (byte == 34) (byte == 92) refl refl e
     by false false p q e = (ap (λ b. if b then Outside else (if byte == 92 then Escaped else Inside)) p ∙ ap (λ b. if b then Escaped else Inside) q, refl)
 
 -- a turn at the first byte that passes the test
-pub turns_to : (scan : Scan) (test : ℕ → Bool) → StaysBut scan test → (bytes : List ℕ) (n : ℕ) → NoneBefore (Passes test bytes) 0 (length bytes) n → (is_outside scan && (slice_index bytes n == 59)) ≡ false → (after : Scan) → scan_behind scan (slice_index bytes n) ≡ after → GoesOn scan bytes after (n + 1)
+pub turns_to : (scan : Scan) (test : ℕ → Bool) → StaysBut scan test → (bytes : List ℕ) (n : ℕ) → NoneBefore (Passes test bytes) 0 (length bytes) n
+    → (is_outside scan && (slice_index bytes n == 59)) ≡ false → (after : Scan) → scan_behind scan (slice_index bytes n) ≡ after → ScanGoesOn scan bytes after (n + 1)
 turns_to scan test h bytes n first no_end after is =
     let s = stays scan test h bytes n (omega (arith, first.high)) (λ k below passes. first.before k (omega arith) below passes) in
     let front = drop_more bytes n 0 first.high in
@@ -64,7 +61,8 @@ turns_to scan test h bytes n first no_end after is =
       some = omega arith;
       within = omega (arith, first.high);
       end = s.0 ∙ ap (λ l. option_map (λ m. m + n) (length_to_end scan l)) front ∙ ap (option_map (λ m. m + n)) (step_end scan (slice_index bytes n) (drop (n + 1) bytes) no_end)
-          ∙ map_more 1 n (n + 1) (length_to_end (scan_behind scan (slice_index bytes n)) (drop (n + 1) bytes)) (omega arith) ∙ ap (λ x. option_map (λ m. m + (n + 1)) (length_to_end x (drop (n + 1) bytes))) is;
+          ∙ map_more 1 n (n + 1) (length_to_end (scan_behind scan (slice_index bytes n)) (drop (n + 1) bytes)) (omega arith) ∙ ap
+          (λ x. option_map (λ m. m + (n + 1)) (length_to_end x (drop (n + 1) bytes))) is;
       scan_is = s.1 ∙ ap (scan_after scan) front ∙ ap (λ x. scan_after x (drop (n + 1) bytes)) is;
     }
 
@@ -74,7 +72,8 @@ turns_end bytes n first is =
     let front = drop_more bytes n 0 first.high in
     s.0 ∙ ap (λ l. option_map (λ m. m + n) (length_to_end Outside l)) (front ∙ ap (λ b. b ∷ drop (n + 1) bytes) is) ∙ ap Some (omega arith)
 
-pub turns_nowhere : (scan : Scan) (test : ℕ → Bool) → StaysBut scan test → (bytes : List ℕ) → Nowhere (Passes test bytes) 0 (length bytes) → (length_to_end scan bytes ≡ None) × (scan_after scan bytes ≡ scan)
+pub turns_nowhere : (scan : Scan) (test : ℕ → Bool) → StaysBut scan test → (bytes : List ℕ) → Nowhere (Passes test bytes) 0 (length bytes)
+    → (length_to_end scan bytes ≡ None) × (scan_after scan bytes ≡ scan)
 turns_nowhere scan test h bytes none =
     let s = stays scan test h bytes (length bytes) (omega arith) (λ k below passes. none k (omega arith) below passes) in
     let nothing = drop_all (length bytes) bytes (omega arith) in
@@ -104,7 +103,8 @@ scanning_start bytes from scan within = record {
   scan_is = refl;
 }
 
-pub scanning_more : (bytes : List ℕ) (from : ℕ) (scan : Scan) (at : ℕ) (place after : Scan) (passed : ℕ) → IsScanning bytes from scan at place → GoesOn place (drop at bytes) after passed → IsScanning bytes from scan (at + passed) after
+pub scanning_more : (bytes : List ℕ) (from : ℕ) (scan : Scan) (at : ℕ) (place after : Scan) (passed : ℕ) → IsScanning bytes from scan at place
+    → ScanGoesOn place (drop at bytes) after passed → IsScanning bytes from scan (at + passed) after
 scanning_more bytes from scan at place after passed so on =
     let rest = drop-drop passed at bytes in
     record {
@@ -115,10 +115,12 @@ scanning_more bytes from scan at place after passed so on =
       scan_is = so.scan_is ∙ on.scan_is ∙ ap (scan_after after) rest;
     }
 
-pub scanning_ends : (bytes : List ℕ) (from : ℕ) (scan : Scan) (at : ℕ) (place : Scan) (passed : ℕ) → IsScanning bytes from scan at place → length_to_end place (drop at bytes) ≡ Some passed → (n : ℕ) × (length_to_end scan (drop from bytes) ≡ Some n) × (at + passed ≡ from + n)
+pub scanning_ends : (bytes : List ℕ) (from : ℕ) (scan : Scan) (at : ℕ) (place : Scan) (passed : ℕ) → IsScanning bytes from scan at place → length_to_end place (drop at bytes)
+    ≡ Some passed → (n : ℕ) × (length_to_end scan (drop from bytes) ≡ Some n) × (at + passed ≡ from + n)
 scanning_ends bytes from scan at place passed so e = (passed + (at - from), so.end ∙ ap (option_map (λ n. n + (at - from))) e, omega (arith, so.onward))
 
-pub scanning_open : (bytes : List ℕ) (from : ℕ) (scan : Scan) (at : ℕ) (place after : Scan) → IsScanning bytes from scan at place → length_to_end place (drop at bytes) ≡ None → scan_after place (drop at bytes) ≡ after → (length_to_end scan (drop from bytes) ≡ None) × (after ≡ scan_after scan (drop from bytes))
+pub scanning_open : (bytes : List ℕ) (from : ℕ) (scan : Scan) (at : ℕ) (place after : Scan) → IsScanning bytes from scan at place → length_to_end place (drop at bytes) ≡ None
+    → scan_after place (drop at bytes) ≡ after → (length_to_end scan (drop from bytes) ≡ None) × (after ≡ scan_after scan (drop from bytes))
 scanning_open bytes from scan at place after so e is = (so.end ∙ ap (option_map (λ n. n + (at - from))) e, sym (so.scan_is ∙ is))
 
 pub nothing_open : (scan : Scan) (bytes : List ℕ) → bytes ≡ [] → (length_to_end scan bytes ≡ None) × (scan_after scan bytes ≡ scan)

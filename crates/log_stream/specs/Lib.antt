@@ -1,11 +1,2 @@
-pub mod Tokens
-pub mod Written
-pub mod Judgement
-pub mod Logs
-pub mod Lines
-pub mod States
-pub mod Scanning
-pub mod Readers
-pub mod LogLaws
-pub mod RoundTrip
-pub mod Cases
+pub mod meaning
+pub mod machine

@@ -2,7 +2,7 @@
 ghost use Rattle.std.specs.Prelude.{◌≡◌};
 ghost use Rattle.log_stream.specs.declared.items.LogRefusal.TheVariants.{NoMemory as OutOfMemory};
 
-use enf_value::{EventSet, NoMemory, Place};
+use enf_data::{EventSet, NoMemory, Place};
 use trace_meaning::kinds::StepKind;
 
 /// A record of a log: a step, or a tick, which says that all times below its own are over.

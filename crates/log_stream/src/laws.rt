@@ -1,9 +1,9 @@
 //! Laws of the grammar of logs, each the contract of a function.
 ghost use Rattle.std.specs.Prelude.{◌≡◌, ℕ, List, Option, Result};
 ghost use Rattle.signature.specs.declared.entries.NameEntry.{NameEntry};
-ghost use Rattle.log_stream.specs.Judgement.{IsAnswer};
-ghost use Rattle.log_stream.specs.Logs.{AreWholeRecords, IsLog};
-ghost use Rattle.log_stream.specs.RoundTrip.{IsReadAgain};
+ghost use Rattle.log_stream.specs.meaning.LogGrammar.{IsRecordAnswer, IsLog};
+ghost use Rattle.log_stream.specs.machine.LogReaders.{AreWholeRecords};
+ghost use Rattle.log_stream.specs.machine.Laws.{StepLineIsRead};
 ghost use Rattle.log_stream.specs.declared.items.LogItem.{LogItem};
 ghost use Rattle.log_stream.specs.declared.items.LogMode.{LogMode};
 ghost use Rattle.log_stream.specs.declared.items.LogRefusal.{LogRefusal};
@@ -13,7 +13,7 @@ use enf_value::laws::{one_token_at_place, printed_is_token};
 /// The bytes of a record have one answer at most: one item or one refusal.
 pub fn one_answer()
     ensures { (entries : List NameEntry) (mode : LogMode) (bytes : List ℕ) (answer other : Result LogItem LogRefusal)
-        → IsAnswer entries mode bytes answer → IsAnswer entries mode bytes other → answer ≡ other }
+        → IsRecordAnswer entries mode bytes answer → IsRecordAnswer entries mode bytes other → answer ≡ other }
 {
     one_token_at_place();
 }
@@ -38,7 +38,7 @@ pub fn one_log()
 
 /// The line of a step within the limits is read again as that step, whatever follows it.
 pub fn line_is_read_again()
-    ensures { IsReadAgain }
+    ensures { StepLineIsRead }
 {
     printed_is_token();
 }

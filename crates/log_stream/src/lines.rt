@@ -1,18 +1,17 @@
 //! The canonical lines of steps.
 ghost use Rattle.std.specs.Prelude.{◌≡◌, ◌++◌, ◌∷◌, [], OnErr, OnOk, decimal, slice_index_or};
 ghost use Rattle.std.specs.List.{flat_map};
-ghost use Rattle.enf_value.specs.Spelling.{AppendsPart, spelled};
-ghost use Rattle.log_stream.specs.Lines.{spelled_event, spelled_row, step_line};
-ghost use Rattle.log_stream.specs.Written.{mark_of};
-ghost use Rattle.signature.specs.Grammar.{names as names_of};
+ghost use Rattle.enf_value.specs.machine.ValueCalls.{AppendsPart};
+ghost use Rattle.enf_value.specs.meaning.Tokens.{spelled};
+ghost use Rattle.log_stream.specs.meaning.LogGrammar.{spelled_event, spelled_row, step_line, mark_of};
+ghost use Rattle.signature.specs.meaning.Grammar.{entry_names as names_of};
 
-use enf_value::{
-    Event, EventSet, NameId, NoMemory, Value, print_byte, print_bytes, print_number, print_value,
-};
+use enf_data::{Event, EventSet, NameId, NoMemory, Value};
+use enf_value::{print_byte, print_bytes, print_number, print_value};
 use signature::Signature;
 use trace_meaning::StepKind;
 
-/// Appends the step's line; for want of memory a front of it is appended. Of a name that the signature lacks
+/// Appends the step's line; where memory runs out, a front of it is appended. Of a name that the signature lacks
 /// nothing is printed.
 #[inline(always)]
 pub fn write_step(
@@ -56,8 +55,8 @@ fn print_events(signature: &Signature, events: &[Event], out: &mut Vec<u8>) -> R
     Ok(())
 }
 
-/// Appends an event behind a space; for want of memory a front of it is appended. Of a name that the signature lacks
-/// nothing is printed.
+/// Appends an event after a space; where memory runs out, a front of it is appended. Of a name that the signature
+/// lacks nothing is printed.
 #[inline(always)]
 pub fn print_event(signature: &Signature, event: &Event, out: &mut Vec<u8>) -> Result<(), NoMemory>
     ensures ok { OnOk result (out.new.items
@@ -100,7 +99,7 @@ fn print_row(row: &[Value], out: &mut Vec<u8>) -> Result<(), NoMemory>
     Ok(())
 }
 
-// A value behind a comma.
+// A value after a comma.
 fn print_next(value: &Value, out: &mut Vec<u8>) -> Result<(), NoMemory>
     ensures ok { OnOk result (out.new.items ≡ out.old.items ++ 44 ∷ spelled value.now) }
     ensures err { OnErr result (AppendsPart (44 ∷ spelled value.now) out.old.items out.new.items) }

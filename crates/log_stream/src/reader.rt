@@ -1,9 +1,9 @@
 //! A log that comes in pieces, read record by record.
-ghost use Rattle.std.specs.Prelude.{◌≡◌, ◌≤◌, ◌++◌, [], IfNone, IfSome, None, Ok};
-ghost use Rattle.std.specs.Prelude.{OnErr, OnOk, drop, length};
-ghost use Rattle.log_stream.specs.Logs.{IsPending};
-ghost use Rattle.log_stream.specs.Readers.{EndsAt, ReadsNext, fed};
-ghost use Rattle.log_stream.specs.Scanning.{StandsWhole, lasting};
+ghost use Rattle.std.specs.Prelude.{◌≡◌, ◌≤◌, ◌++◌, [], IfNone, IfSome, None, Ok, OnErr, OnOk, drop};
+ghost use Rattle.std.specs.Prelude.{length};
+ghost use Rattle.log_stream.specs.meaning.LogGrammar.{IsPending};
+ghost use Rattle.log_stream.specs.machine.LogReaders.{EndsAt, ReadsNext, fed};
+ghost use Rattle.log_stream.specs.machine.EndScans.{StandsWhole, lasting};
 ghost use Rattle.log_stream.specs.declared.items.Found.TheVariants.{Item as FoundItem};
 
 use crate::cursor::skip_blanks;
@@ -12,13 +12,13 @@ use crate::items::{Found, LogItem, LogMode, LogRefusal};
 use crate::limits::MOST_RECORD_BYTES;
 use crate::records::read_record;
 use crate::scanning::Scan;
-use enf_value::{Event, NoMemory};
+use enf_data::{Event, NoMemory};
 use signature::Signature;
 use std::alloc::Global;
 use std::marker::Model;
 
 /// The records of a log that is fed in any pieces. It keeps the record that is not whole yet and what was fed
-/// behind it, and lets go what was handed out.
+/// after it, and lets go what was handed out.
 #[derive(Drop)]
 pub struct LogReader {
     signature: Signature,
@@ -34,11 +34,11 @@ pub struct LogReader {
 
 impl Model for LogReader {
     ghost use Rattle.std.specs.Prelude.{drop};
-    ghost use Rattle.log_stream.specs.Readers.{Reader};
+    ghost use Rattle.log_stream.specs.machine.LogReaders.{Reader};
 
     ghost Value = { Reader };
 
-    ghost use Rattle.log_stream.specs.Scanning.{IsReader};
+    ghost use Rattle.log_stream.specs.machine.EndScans.{IsReader};
 
     ghost view = { λ r. record {
       entries = r.signature;
@@ -63,7 +63,7 @@ fn let_go(bytes: &mut Vec<u8>, count: usize)
     bytes.truncate(left);
 }
 
-// The refusal that every later call answers again: want of memory is none.
+// The refusal that every later call answers again: running out of memory is none.
 fn lasting(refusal: LogRefusal) -> Option<LogRefusal>
     ensures { result ≡ lasting refusal }
 {
@@ -73,8 +73,8 @@ fn lasting(refusal: LogRefusal) -> Option<LogRefusal>
     }
 }
 
-// The record that begins behind the blanks at a place, read where it stands with no look for its end before, and the
-// place behind it. None says nothing: then its end is looked for.
+// The record that begins after the blanks at a place, read where it stands with no look for its end before, and the
+// place after it. None says nothing: then its end is looked for.
 fn read_ahead(
     alloc: Global,
     signature: &Signature,
@@ -118,7 +118,7 @@ impl LogReader {
         self.room = Some(room);
     }
 
-    /// Puts a piece behind what was fed. After a refusal nothing is kept.
+    /// Puts a piece after what was fed. After a refusal nothing is kept.
     pub fn feed(&mut self, piece: &[u8]) -> Result<(), NoMemory>
         ensures ok { OnOk result (self.new ≡ fed self.old piece.now) }
         ensures err { OnErr result (self.new ≡ self.old) }

@@ -1,28 +1,25 @@
 //! One record, read from its bytes.
-ghost use Rattle.std.specs.Prelude.{◌≡◌, ◌↔◌, ◌<◌, ◌≤◌, ◌+◌, ◌++◌, ◌∷◌};
-ghost use Rattle.std.specs.Prelude.{[], ℕ, List, IfErr};
-ghost use Rattle.std.specs.Prelude.{IfOk, IfSome, IsTrue, None};
-ghost use Rattle.std.specs.Prelude.{OnOk, Result, Some, length, slice_get};
+ghost use Rattle.std.specs.Prelude.{◌≡◌, ◌↔◌, ◌<◌, ◌≤◌, ◌+◌, ◌++◌, ◌∷◌, [], ℕ};
+ghost use Rattle.std.specs.Prelude.{List, IfErr, IfOk, IfSome, IsTrue, None, OnOk, Result, Some, length, slice_get};
 ghost use Rattle.std.specs.Option.{option_map, option_or};
-ghost use Rattle.signature.specs.Columns.{has_sort};
-ghost use Rattle.signature.specs.Grammar.{number_of};
+ghost use Rattle.signature.specs.meaning.Columns.{has_sort};
+ghost use Rattle.signature.specs.meaning.Grammar.{name_number};
 ghost use Rattle.signature.specs.declared.entries.NameEntry.{NameEntry as AnyEntry};
 ghost use Rattle.trace_meaning.specs.declared.kinds.StepKind.{StepKind as AnyKind};
 ghost use Rattle.log_stream.specs.declared.items.LogMode.{LogMode as AnyMode};
-ghost use Rattle.log_stream.specs.Judgement.{entry_with};
-ghost use Rattle.trace_meaning.specs.Records.{most_time};
-ghost use Rattle.enf_value.specs.declared.events.Event.{Event as AnyEvent};
-ghost use Rattle.enf_value.specs.declared.values.Value.{Value as AnyValue};
+ghost use Rattle.log_stream.specs.meaning.LogGrammar.{entry_of_name, LogTokensLead, LogMark, IsLogTokenAt, ModeReads};
+ghost use Rattle.log_stream.specs.meaning.LogGrammar.{WrittenEvent, mark_of};
+ghost use Rattle.trace_meaning.specs.meaning.Traces.{most_time};
+ghost use Rattle.enf_data.specs.declared.events.Event.{Event as AnyEvent};
+ghost use Rattle.enf_data.specs.declared.values.Value.{Value as AnyValue};
 ghost use Rattle.log_stream.specs.declared.items.LogRefusal.{LogRefusal as AnyRefusal};
-ghost use Rattle.log_stream.specs.States.{Events, Fails, Opened, PutsEvent, ReadsEvent, ReadsFront};
-ghost use Rattle.log_stream.specs.States.{ReadsRow, ReadsUpTo, clash_at, row_refusal, so_far};
-ghost use Rattle.log_stream.specs.Tokens.{Leads, Mark, StandsAt};
-ghost use Rattle.log_stream.specs.Written.{IsRead, WrittenEvent, mark_of};
+ghost use Rattle.log_stream.specs.machine.RecordStates.{Events, FailsReading, Opened, PutsEvent, ReadsEvent};
+ghost use Rattle.log_stream.specs.machine.RecordStates.{ReadsFront, ReadsRow, ReadsUpTo, clash_at, row_refusal, so_far};
 
 use crate::cursor::{behind_mark, name_at, put_value_at, time_at};
 use crate::items::{LogItem, LogMode, LogRefusal};
 use crate::limits::{MOST_EVENTS, MOST_RECORD_BYTES};
-use enf_value::{Event, EventSet, NameId, NoMemory, Place, Row, Value};
+use enf_data::{Event, EventSet, NameId, NoMemory, Place, Row, Value};
 use signature::{NameEntry, Signature, Sort};
 use std::alloc::Global;
 use trace_meaning::StepKind;
@@ -78,7 +75,7 @@ fn note_clash(clash: &mut Option<Place>, sorts: &[Sort], row: &Row, place: Place
     }
 }
 
-// Reads the arguments behind `(`, up to and with `)`, into an empty row, and where the first of another sort begins. It
+// Reads the arguments after `(`, up to and with `)`, into an empty row, and where the first of another sort begins. It
 // gives the place of the next token.
 fn read_row(
     alloc: Global,
@@ -95,7 +92,8 @@ fn read_row(
     ensures ok { IfOk result (λ next. ReadsRow sorts.now bytes.now from row.new clash.new next) }
     ensures within { IfOk result (λ next. (from < next) × (next ≤ length bytes.now)) }
     ensures err { IfErr result (λ refusal. (mode : AnyMode) (kind : AnyKind) (time : ℕ) (events : List WrittenEvent)
-        (place : ℕ) (name : List ℕ) → Fails mode bytes.now from (Opened kind time events place name) refusal) }
+        (place : ℕ) (name : List ℕ) → FailsReading mode bytes.now from (Opened kind time events place name)
+        refusal) }
 {
     if let Some(next) = behind_mark(bytes, from, b')') {
         return Ok(next);
@@ -118,8 +116,8 @@ fn read_row(
 
 // A name of the signature, with its entry.
 fn declared<'a>(signature: &'a Signature, name: &[u8]) -> Option<(NameId, &'a NameEntry)>
-    ensures entry { option_map (λ found. found.1.now) result ≡ entry_with signature.now name.now }
-    ensures number { IfSome result (λ found. number_of signature.now name.now ≡ Some found.0.0) }
+    ensures entry { option_map (λ found. found.1.now) result ≡ entry_of_name signature.now name.now }
+    ensures number { IfSome result (λ found. name_number signature.now name.now ≡ Some found.0.0) }
 {
     let number = signature.find(name)?;
     let entry = signature.entry(number)?;
@@ -170,8 +168,8 @@ fn read_event(
         × PutsEvent (so_far events.old.items refused.old) event (so_far events.new.items refused.new)) }
     ensures within { IfOk result (λ next. (from < next) × (next ≤ length bytes.now)) }
     ensures err { IfErr result (λ refusal. (mode : AnyMode) (kind : AnyKind) (time : ℕ) (events : List WrittenEvent)
-        → length events < MOST_EVENTS → ((end : ℕ) → StandsAt bytes.now from end (Mark 59) → ⊥)
-        → Fails mode bytes.now from (Events kind time events) refusal) }
+        → length events < MOST_EVENTS → ((end : ℕ) → IsLogTokenAt bytes.now from end (LogMark 59) → ⊥)
+        → FailsReading mode bytes.now from (Events kind time events) refusal) }
 {
     let Some((name, next)) = name_at(bytes, from) else {
         return Err(bad_at(from));
@@ -188,7 +186,7 @@ fn read_event(
                     place: from as Place,
                 },
             );
-            // behind a refusal an event counts for nothing, whatever its number
+            // after a refusal an event counts for nothing, whatever its number
             (NameId(0), &[])
         }
     };
@@ -208,13 +206,13 @@ fn read_event(
 
 // Whether a record ends here.
 fn ends_here(bytes: &[u8], at: usize) -> bool
-    ensures { IsTrue result ↔ StandsAt bytes.now at (at + 1) (Mark 59) }
+    ensures { IsTrue result ↔ IsLogTokenAt bytes.now at (at + 1) (LogMark 59) }
 {
     at < bytes.len() && bytes[at] == b';'
 }
 
-// Reads the events behind a time into an empty vector, repeats included, or keeps the first refusal. It gives the place
-// of the semicolon behind them.
+// Reads the events after a time into an empty vector, repeats included, or keeps the first refusal. It gives the place
+// of the semicolon after them.
 fn read_events(
     alloc: Global,
     signature: &Signature,
@@ -229,7 +227,7 @@ fn read_events(
     requires clear { refused.old ≡ None }
     ensures ok { IfOk result (λ at. ReadsUpTo signature.now bytes.now from (so_far events.new.items refused.new) at) }
     ensures err { IfErr result (λ refusal. (mode : AnyMode) (kind : AnyKind) (time : ℕ)
-        → Fails mode bytes.now from (Events kind time []) refusal) }
+        → FailsReading mode bytes.now from (Events kind time []) refusal) }
 {
     let mut place = from;
     for _count in 0..MOST_EVENTS {
@@ -258,7 +256,7 @@ fn emptied(alloc: Global, room: &mut Option<Vec<Event>>) -> Vec<Event>
     events
 }
 
-// Reads what is behind the mark of a step, and gives how many bytes the record has.
+// Reads what is after the mark of a step, and gives how many bytes the record has.
 fn read_step(
     alloc: Global,
     signature: &Signature,
@@ -269,7 +267,8 @@ fn read_step(
 ) -> Result<(LogItem, usize), LogRefusal>
     requires within { from ≤ length bytes.now }
     requires short { length bytes.now ≤ MOST_RECORD_BYTES }
-    ensures { (mode : AnyMode) → IsRead mode kind → Leads bytes.now 0 (Mark (mark_of kind) ∷ []) from
+    ensures { (mode : AnyMode) → ModeReads mode kind → LogTokensLead bytes.now 0 (LogMark (mark_of kind) ∷ [])
+        from
         → ReadsFront signature.now mode bytes.now result }
 {
     let Some((time, next)) = time_at(bytes, from) else {
@@ -288,12 +287,12 @@ fn read_step(
     Ok((LogItem::Step { kind, time, events }, at + 1))
 }
 
-// Reads what is behind the mark of a tick, and gives how many bytes the record has.
+// Reads what is after the mark of a tick, and gives how many bytes the record has.
 #[inline(never)]
 fn read_tick(bytes: &[u8], from: usize) -> Result<(LogItem, usize), LogRefusal>
     requires within { from ≤ length bytes.now }
     requires short { length bytes.now ≤ MOST_RECORD_BYTES }
-    ensures { (entries : List AnyEntry) (mode : AnyMode) → Leads bytes.now 0 (Mark 62 ∷ []) from
+    ensures { (entries : List AnyEntry) (mode : AnyMode) → LogTokensLead bytes.now 0 (LogMark 62 ∷ []) from
         → ReadsFront entries mode bytes.now result }
 {
     let Some((time, next)) = time_at(bytes, from) else {
@@ -308,7 +307,7 @@ fn read_tick(bytes: &[u8], from: usize) -> Result<(LogItem, usize), LogRefusal>
     Ok((LogItem::Tick { time }, next + 1))
 }
 
-// Reads the record at the front of bytes, and gives how many it has; what is behind it counts for nothing. A refusal is
+// Reads the record at the front of bytes, and gives how many it has; what is after it counts for nothing. A refusal is
 // that of the record where the bytes are those of one record alone.
 #[inline(always)]
 pub(crate) fn read_record(

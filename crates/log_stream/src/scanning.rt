@@ -1,10 +1,10 @@
 //! Where a record ends: at the first semicolon outside of texts.
 ghost use Rattle.std.specs.Prelude.{◌<◌, ◌≤◌, drop, length};
-ghost use Rattle.log_stream.specs.Scanning.{Scans, Moves};
+ghost use Rattle.log_stream.specs.machine.EndScans.{Scans, ScanMoves};
 
 use memchr::memchr2;
 
-/// Where a scan stands: outside of texts, inside one, or behind a backslash in one.
+/// Where a scan stands: outside of texts, inside one, or after a backslash in one.
 #[derive(Clone, Copy, Debug, PartialEq, Eq)]
 pub enum Scan {
     Outside,
@@ -12,7 +12,7 @@ pub enum Scan {
     Escaped,
 }
 
-// What a scan found: the place behind the end of the record, or where the scan stands at the end of the bytes.
+// What a scan found: the place after the end of the record, or where the scan stands at the end of the bytes.
 #[derive(Clone, Copy, Debug)]
 pub(crate) enum Scanned {
     Ends(usize),
@@ -30,7 +30,7 @@ pub(crate) enum Move {
 
 fn first_move(bytes: &[u8], scan: Scan) -> Move
     requires { 0 < length bytes.now }
-    ensures { Moves scan bytes.now result }
+    ensures { ScanMoves scan bytes.now result }
 {
     match scan {
         Scan::Outside => match memchr2(b';', b'"', bytes) {

@@ -1,12 +1,10 @@
 //! Cases of the definitions that the eye can check, each the contract of a function with an empty body.
 ghost use Rattle.std.specs.Prelude.{◌≡◌, ◌∷◌, [], codes, pos, Err, None, Ok, Some};
-ghost use Rattle.enf_value.specs.declared.values.Value.TheVariants.{Num, Text};
+ghost use Rattle.enf_data.specs.declared.values.Value.TheVariants.{Num, Text};
 ghost use Rattle.trace_meaning.specs.declared.kinds.StepKind.TheVariants.{System, Inserted};
-ghost use Rattle.log_stream.specs.Cases.{arg, event, sample, written};
-ghost use Rattle.log_stream.specs.Judgement.{judged};
-ghost use Rattle.log_stream.specs.Lines.{step_line};
-ghost use Rattle.log_stream.specs.Logs.{IsPending, IsTruncated, behind_blanks, record_length};
-ghost use Rattle.log_stream.specs.Written.{IsBad, IsSpelled, Line, TickLine};
+ghost use Rattle.log_stream.specs.machine.Cases.{arg, event, sample, written};
+ghost use Rattle.log_stream.specs.meaning.LogGrammar.{judged_record, step_line, IsPending, IsTruncated, behind_blanks};
+ghost use Rattle.log_stream.specs.meaning.LogGrammar.{record_length, IsBadRecord, IsRecordSpelled, Line, TickLine};
 ghost use Rattle.log_stream.specs.declared.items.LogItem.TheVariants.{Step, Tick};
 ghost use Rattle.log_stream.specs.declared.items.LogMode.TheVariants.{Input};
 ghost use Rattle.log_stream.specs.declared.items.LogRefusal.TheVariants.{Arity, SortClash, TimeTooLarge, UnknownName};
@@ -33,31 +31,34 @@ pub fn ends()
 /// What is written passes, with its repeats left out, or has a first refusal: the time before the events, each event
 /// before the next, and in an event its name before the number of its arguments before their sorts.
 pub fn judgement()
-    ensures passes { judged sample (Line System 7 (written 3 (codes "ping") [] ∷ []))
+    ensures passes { judged_record sample (Line System 7 (written 3 (codes "ping") [] ∷ []))
         ≡ Ok (Step System 7 (event 0 [] ∷ [])) }
-    ensures repeats { judged sample
+    ensures repeats { judged_record sample
         (Line System 7 (written 3 (codes "ping") [] ∷ written 10 (codes "ping") [] ∷ []))
         ≡ Ok (Step System 7 (event 0 [] ∷ [])) }
-    ensures unknown { judged sample (Line System 7 (written 3 (codes "pong") [] ∷ written 10 (codes "two") [] ∷ []))
+    ensures unknown { judged_record sample (Line System 7
+        (written 3 (codes "pong") [] ∷ written 10 (codes "two") [] ∷ []))
         ≡ Err (UnknownName 3) }
-    ensures reserved { judged sample (Line System 7 (written 3 (codes "int") [] ∷ [])) ≡ Err (UnknownName 3) }
-    ensures arity { judged sample (Line System 7 (written 3 (codes "two") (arg 7 (Text []) ∷ []) ∷ []))
+    ensures reserved { judged_record sample (Line System 7 (written 3 (codes "int") [] ∷ []))
+        ≡ Err (UnknownName 3) }
+    ensures arity { judged_record sample (Line System 7 (written 3 (codes "two") (arg 7 (Text []) ∷ []) ∷ []))
         ≡ Err (Arity 3) }
-    ensures sort { judged sample (Line System 7 (written 3 (codes "two")
+    ensures sort { judged_record sample (Line System 7 (written 3 (codes "two")
         (arg 7 (Num (pos 1)) ∷ arg 9 (Num (pos 2)) ∷ []) ∷ []))
         ≡ Err (SortClash 9) }
-    ensures late { judged sample (Line System 1000000000000001 (written 3 (codes "pong") [] ∷ []))
+    ensures late { judged_record sample (Line System 1000000000000001 (written 3 (codes "pong") [] ∷ []))
         ≡ Err TimeTooLarge }
-    ensures inserted { judged sample (Line Inserted 1000000000000001 []) ≡ Ok (Step Inserted 1000000000000001 []) }
-    ensures tick { judged sample (TickLine 1000000000000000) ≡ Ok (Tick 1000000000000000) }
-    ensures late_tick { judged sample (TickLine 1000000000000001) ≡ Err TimeTooLarge }
+    ensures inserted { judged_record sample (Line Inserted 1000000000000001 [])
+        ≡ Ok (Step Inserted 1000000000000001 []) }
+    ensures tick { judged_record sample (TickLine 1000000000000000) ≡ Ok (Tick 1000000000000000) }
+    ensures late_tick { judged_record sample (TickLine 1000000000000001) ≡ Err TimeTooLarge }
 {}
 
 /// Blanks stand between tokens, and a token that cannot continue a record is bad at its place.
 pub fn syntax()
-    ensures spelled { IsSpelled Input (codes "@1 ;") (Line System 1 []) }
-    ensures inserted { IsBad Input (codes "+1;") 0 }
-    ensures no_time { IsBad Input (codes "@;") 1 }
+    ensures spelled { IsRecordSpelled Input (codes "@1 ;") (Line System 1 []) }
+    ensures inserted { IsBadRecord Input (codes "+1;") 0 }
+    ensures no_time { IsBadRecord Input (codes "@;") 1 }
 {}
 
 /// The canonical line of a step.

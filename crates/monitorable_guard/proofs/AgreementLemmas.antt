@@ -1,22 +1,17 @@
 -- What holds depends on the values of the free variables alone.
-use Rattle.std.proofs.Common.{◌≡◌, ◌+◌, ◌<ℤ◌, ◌≤ℤ◌, ◌⊎◌, ◌↔◌, inl, inr, ⊎_elim, List, [], ◌∷◌, ◌++◌, length, take, drop, Contains, refl, sym, subst, ◌∙◌, arith, length-append, length-take, length-drop, take-append-drop}
+use Rattle.monitorable_guard.proofs.Vocabulary.{◌≡◌, ◌+◌, ◌<ℤ◌, ◌≤ℤ◌, ◌⊎◌, ◌↔◌, inl}
+use Rattle.monitorable_guard.proofs.Vocabulary.{inr, ⊎_elim, List, [], ◌∷◌, ◌++◌, length, take, drop}
+use Rattle.monitorable_guard.proofs.Vocabulary.{Contains, refl, sym, subst, ◌∙◌, arith, length-append}
+use Rattle.monitorable_guard.proofs.Vocabulary.{length-take, length-drop, take-append-drop, Valuation, value_at}
+use Rattle.monitorable_guard.proofs.Vocabulary.{value_of_term, with_values, Event, VarId, Value, value_alike}
+use Rattle.monitorable_guard.proofs.Vocabulary.{values_alike, Formula, True, False, Atom, Equal, Less, AtMost, Not, And}
+use Rattle.monitorable_guard.proofs.Vocabulary.{Or, Implies, Exists, Forall, Prev, Next, Once, Historically, Since}
+use Rattle.monitorable_guard.proofs.Vocabulary.{Eventually, Always, Until, IsFree, IsEventAmong, AreSameValues}
+use Rattle.monitorable_guard.proofs.Vocabulary.{AreNumbersInOrder, AgreeOnFreeVariables, agree_back as turn, later}
+use Rattle.monitorable_guard.proofs.Vocabulary.{first_or_later, none_in_nil, among_or_not, value_at-bound}
+use Rattle.monitorable_guard.proofs.Vocabulary.{value_at-other, same_or_other, Relation, HasValuation, FitOperators}
+use Rattle.monitorable_guard.proofs.Vocabulary.{HoldsNow, FirstHas, outermost, tables_beyond}
 use Rattle.std.specs.FinMap as finite
-use Rattle.enf_value.specs.Valuations.{Valuation, value_at, value_of, values_of, onto_values, with_values}
-use Rattle.enf_value.specs.declared.events.Event.{Event}
-use Rattle.enf_value.specs.declared.terms.Term.{Term}
-use Rattle.enf_value.specs.declared.terms.Term.TheVariants.{Var, Const}
-use Rattle.enf_value.specs.declared.terms.VarId.{VarId}
-use Rattle.enf_value.specs.declared.values.Value.{Value}
-use Rattle.enf_formula.specs.Formulas.{Formula, True, False, Atom, Equal, Less, AtMost, Not, And, Or, Implies}
-use Rattle.enf_formula.specs.Formulas.{Exists, Forall, Prev, Next, Once, Historically, Since, Eventually, Always, Until}
-use Rattle.enf_formula.specs.FreeVariables.{IsFree, AgreeOn}
-use Rattle.enf_formula.specs.Satisfaction.{IsAmong, AreSame, AreOrdered}
-use Rattle.valuations.specs.Columns.{later, first_or_later, none_in_nil, among_or_not}
-use Rattle.valuations.specs.RowLaws.{value_at-bound, value_at-other}
-use Rattle.valuations.specs.ScopeLaws.{same_or_other}
-use Rattle.valuations.specs.Tables.{Relation, Has}
-use Rattle.monitorable_guard.specs.Evaluation.{FitOperators}
-use Rattle.monitorable_guard.specs.Present.{HoldsNow, FirstHas, outermost, behind}
 
 pub fit_front : (fs gs : List Formula) (tables : List Relation) → FitOperators (fs ++ gs) tables → FitOperators fs tables
 fit_front [] gs tables fit = tt
@@ -29,7 +24,8 @@ fit_back (f ∷ fs) gs [] fit = absurd fit
 fit_back (f ∷ fs) gs (t ∷ tables) fit = fit_back fs gs tables fit.1
 
 -- with the same values for some variables, two valuations agree on these, and where they did
-pub with_same : (xs : List VarId) (values : List Value) (v w : Valuation) (x : VarId) → length values ≡ length xs → Contains xs x ⊎ (value_at v x ≡ value_at w x) → value_at (with_values xs values v) x ≡ value_at (with_values xs values w) x
+pub with_same : (xs : List VarId) (values : List Value) (v w : Valuation) (x : VarId) → length values ≡ length xs → Contains xs x ⊎ (value_at v x ≡ value_at w x)
+    → value_at (with_values xs values v) x ≡ value_at (with_values xs values w) x
 with_same [] values v w x long either = ⊎_elim (λ there. absurd (none_in_nil x there)) (λ e. e) either
 with_same (y ∷ xs) [] v w x long either = absurd (omega (arith, long))
 with_same (y ∷ xs) (value ∷ values) v w x long either =
@@ -43,7 +39,8 @@ with_same (y ∷ xs) (value ∷ values) v w x long either =
     (same_or_other y x))
 
 -- the values of some variables, and those of others
-with_both : (xs : List VarId) (front : List Value) (ys : List VarId) (back : List Value) (v : Valuation) → length front ≡ length xs → with_values (xs ++ ys) (front ++ back) v ≡ with_values ys back (with_values xs front v)
+with_both : (xs : List VarId) (front : List Value) (ys : List VarId) (back : List Value) (v : Valuation) → length front ≡ length xs → with_values (xs ++ ys) (front ++ back) v
+    ≡ with_values ys back (with_values xs front v)
 with_both [] [] ys back v long = refl
 with_both [] (value ∷ front) ys back v long = absurd (omega (arith, long))
 with_both (x ∷ xs) [] ys back v long = absurd (omega (arith, long))
@@ -61,48 +58,47 @@ nested_alike P xs ys v = (
       (subst P (sym (with_both xs (take (length xs) values) ys (drop (length xs) values) v front_long)) (each (take (length xs) values) front_long (drop (length xs) values) back_long)),
 )
 
-pub term_agrees : (v w : Valuation) (t : Term) → ((x : VarId) → t ≡ Var x → value_at v x ≡ value_at w x) → value_of v t ≡ value_of w t
-term_agrees v w (Var x) agree = agree x refl
-term_agrees v w (Const value) agree = refl
-
-pub terms_agree : (v w : Valuation) (terms : List Term) → ((x : VarId) → Contains terms (Var x) → value_at v x ≡ value_at w x) → values_of v terms ≡ values_of w terms
-terms_agree v w [] agree = refl
-terms_agree v w (t ∷ terms) agree = λ i. onto_values (term_agrees v w t (λ x is. agree x (0, omega arith, is)) i) (terms_agree v w terms (λ x there. agree x (later (Var x) t terms there)) i)
-
-pub has_agrees : (t : Relation) (v w : Valuation) → ((x : VarId) → Contains t.columns x → value_at v x ≡ value_at w x) → Has t v → Has t w
+pub has_agrees : (t : Relation) (v w : Valuation) → ((x : VarId) → Contains t.columns x → value_at v x ≡ value_at w x) → HasValuation t v → HasValuation t w
 has_agrees t v w agree has = (has.0, has.1, λ x there. sym (agree x there) ∙ has.2 x there)
 
-pub first_agrees : (f : Formula) (tables : List Relation) (v w : Valuation) → FitOperators (f ∷ []) tables → AgreeOn f v w → FirstHas tables v → FirstHas tables w
+pub first_agrees : (f : Formula) (tables : List Relation) (v w : Valuation) → FitOperators (f ∷ []) tables → AgreeOnFreeVariables f v w → FirstHas tables v → FirstHas tables w
 first_agrees f [] v w fit agree has = absurd has
 first_agrees f (t ∷ tables) v w fit agree has = has_agrees t v w (λ x there. agree x ((fit.0 x).0 there)) has
 
-turn : (f : Formula) (v w : Valuation) → AgreeOn f v w → AgreeOn f w v
-turn f v w agree x free = sym (agree x free)
-
-below : (xs : List VarId) (values : List Value) (v w : Valuation) (g : Formula) → length values ≡ length xs → ((x : VarId) → IsFree x g × (Contains xs x → ⊥) → value_at v x ≡ value_at w x) → AgreeOn g (with_values xs values v) (with_values xs values w)
+below : (xs : List VarId) (values : List Value) (v w : Valuation) (g : Formula) → length values ≡ length xs
+    → ((x : VarId) → IsFree x g × (Contains xs x → ⊥) → value_at v x ≡ value_at w x) → AgreeOnFreeVariables g (with_values xs values v) (with_values xs values w)
 below xs values v w g long agree x free = with_same xs values v w x long (⊎_elim (λ there. inl there) (λ absent. inr (agree x (free, absent))) (among_or_not xs x))
 
 module _ (events : List Event) where
-  pub now_agrees : (tables : List Relation) (f : Formula) (v w : Valuation) → FitOperators (outermost f) tables → AgreeOn f v w → HoldsNow events tables v f → HoldsNow events tables w f
+  pub now_agrees : (tables : List Relation) (f : Formula) (v w : Valuation) → FitOperators (outermost f) tables → AgreeOnFreeVariables f v w → HoldsNow events tables v f → HoldsNow events tables w f
   now_agrees tables (True place) v w fit agree h = h
   now_agrees tables (False place) v w fit agree h = h
-  now_agrees tables (Atom place name terms) v w fit agree h = subst (IsAmong events name) (terms_agree v w terms agree) h
-  now_agrees tables (Equal place s t) v w fit agree h = subst (λ a. AreSame a (value_of w t)) (term_agrees v w s (λ x is. agree x (inl is))) (subst (AreSame (value_of v s)) (term_agrees v w t (λ x is. agree x (inr is))) h)
-  now_agrees tables (Less place s t) v w fit agree h = subst (λ a. AreOrdered ◌<ℤ◌ a (value_of w t)) (term_agrees v w s (λ x is. agree x (inl is))) (subst (AreOrdered ◌<ℤ◌ (value_of v s)) (term_agrees v w t (λ x is. agree x (inr is))) h)
-  now_agrees tables (AtMost place s t) v w fit agree h = subst (λ a. AreOrdered ◌≤ℤ◌ a (value_of w t)) (term_agrees v w s (λ x is. agree x (inl is))) (subst (AreOrdered ◌≤ℤ◌ (value_of v s)) (term_agrees v w t (λ x is. agree x (inr is))) h)
+  now_agrees tables (Atom place name terms) v w fit agree h = subst (IsEventAmong events name) (values_alike v w terms agree) h
+  now_agrees tables (Equal place s t) v w fit agree h = subst (λ a. AreSameValues a (value_of_term w t)) (value_alike v w s (λ x is. agree x (inl is)))
+      (subst (AreSameValues (value_of_term v s)) (value_alike v w t (λ x is. agree x (inr is))) h)
+  now_agrees tables (Less place s t) v w fit agree h = subst (λ a. AreNumbersInOrder ◌<ℤ◌ a (value_of_term w t)) (value_alike v w s (λ x is. agree x (inl is)))
+      (subst (AreNumbersInOrder ◌<ℤ◌ (value_of_term v s)) (value_alike v w t (λ x is. agree x (inr is))) h)
+  now_agrees tables (AtMost place s t) v w fit agree h = subst (λ a. AreNumbersInOrder ◌≤ℤ◌ a (value_of_term w t)) (value_alike v w s (λ x is. agree x (inl is)))
+      (subst (AreNumbersInOrder ◌≤ℤ◌ (value_of_term v s)) (value_alike v w t (λ x is. agree x (inr is))) h)
   now_agrees tables (Not place g) v w fit agree h = λ n. h (now_agrees tables g w v fit (turn g v w agree) n)
   now_agrees tables (And place g h) v w fit agree both = (
     now_agrees tables g v w (fit_front (outermost g) (outermost h) tables fit) (λ x free. agree x (inl free)) both.0,
-    now_agrees (behind g tables) h v w (fit_back (outermost g) (outermost h) tables fit) (λ x free. agree x (inr free)) both.1,
+    now_agrees (tables_beyond g tables) h v w (fit_back (outermost g) (outermost h) tables fit) (λ x free. agree x (inr free)) both.1,
   )
   now_agrees tables (Or place g h) v w fit agree either = λ l r. either
       (λ n. l (now_agrees tables g v w (fit_front (outermost g) (outermost h) tables fit) (λ x free. agree x (inl free)) n))
-      (λ n. r (now_agrees (behind g tables) h v w (fit_back (outermost g) (outermost h) tables fit) (λ x free. agree x (inr free)) n))
+      (λ n. r (now_agrees (tables_beyond g tables) h v w (fit_back (outermost g) (outermost h) tables fit) (λ x free. agree x (inr free)) n))
   now_agrees tables (Implies place g h) v w fit agree each = λ n.
-      now_agrees (behind g tables) h v w (fit_back (outermost g) (outermost h) tables fit) (λ x free. agree x (inr free))
+      now_agrees (tables_beyond g tables) h v w (fit_back (outermost g) (outermost h) tables fit) (λ x free. agree x (inr free))
       (each (now_agrees tables g w v (fit_front (outermost g) (outermost h) tables fit) (λ x free. sym (agree x (inl free))) n))
-  now_agrees tables (Exists place xs g) v w fit agree h = λ none. h (λ some. none (some.0, some.1, now_agrees tables g (with_values xs some.0 v) (with_values xs some.0 w) fit (below xs some.0 v w g some.1 agree) some.2))
-  now_agrees tables (Forall place xs g) v w fit agree each = λ values long. now_agrees tables g (with_values xs values v) (with_values xs values w) fit (below xs values v w g long agree) (each values long)
+  now_agrees tables (Exists place xs g) v w fit agree h = λ none. h (λ some. none (
+    some.0,
+    some.1,
+    now_agrees tables g (with_values xs some.0 v) (with_values xs some.0 w) fit
+        (below xs some.0 v w g some.1 agree) some.2,
+  ))
+  now_agrees tables (Forall place xs g) v w fit agree each = λ values long. now_agrees tables g (with_values xs values v) (with_values xs values w) fit (below xs values v w g long agree)
+      (each values long)
   now_agrees tables (Prev place interval g) v w fit agree h = first_agrees (Prev place interval g) tables v w fit agree h
   now_agrees tables (Once place interval g) v w fit agree h = first_agrees (Once place interval g) tables v w fit agree h
   now_agrees tables (Historically place interval g) v w fit agree h = λ has. h (first_agrees (Historically place interval g) tables w v fit (λ x free. sym (agree x free)) has)

@@ -1,17 +1,11 @@
 -- What it takes to evaluate a formula, from what its parts ask.
-use Rattle.std.proofs.Common.{◌≡◌, ⊎_elim, Bool, List, [], ◌∷◌, ◌++◌, drop, length, slice_get, Some, All, Contains, IsTrue, ◌↔◌, ◌⊎◌, sym, subst}
-use Rattle.std.proofs.lemmas.List.Elements.{All-contains, Contains-append_left, Contains-append_right}
-use Rattle.enf_value.specs.declared.terms.VarId.{VarId}
-use Rattle.enf_formula.specs.Formulas.{Formula}
-use Rattle.enf_formula.specs.FreeVariables.{AreFreeVariables}
-use Rattle.valuations.specs.Columns.{Contains-append}
-use Rattle.valuations.specs.Tables.{Relation}
-use Rattle.monitorable_guard.specs.Evaluation.{FitOperators}
-use Rattle.monitorable_guard.specs.Present.{outermost, behind}
-use Rattle.monitorable_guard.specs.Safety.{BindsFresh}
+use Rattle.monitorable_guard.proofs.Vocabulary.{◌≡◌, ⊎_elim, Bool, List, [], ◌∷◌, ◌++◌, drop, length}
+use Rattle.monitorable_guard.proofs.Vocabulary.{slice_get, Some, All, Contains, IsTrue, ◌↔◌, ◌⊎◌, sym}
+use Rattle.monitorable_guard.proofs.Vocabulary.{subst, All-contains, Contains-append_left, Contains-append_right, VarId}
+use Rattle.monitorable_guard.proofs.Vocabulary.{all_from, Formula, AreFreeVariables, Contains-append, Relation}
+use Rattle.monitorable_guard.proofs.Vocabulary.{FitOperators, outermost, tables_beyond, BindsFresh}
 use Rattle.monitorable_guard.proofs.AgreementLemmas.{fit_front, fit_back}
-use Rattle.monitorable_guard.proofs.AskLemmas.{fresh_within}
-use Rattle.monitorable_guard.proofs.ScopeLemmas.{all_from}
+use Rattle.monitorable_guard.proofs.PartLemmas.{fresh_within}
 
 pub fresh_alike : (f : Formula) (S T : VarId → Type 0) → ((x : VarId) → S x ↔ T x) → BindsFresh f S ↔ BindsFresh f T
 fresh_alike f S T same = (fresh_within f S T (λ x. (same x).1), fresh_within f T S (λ x. (same x).0))
@@ -27,14 +21,15 @@ fit_join [] gs tables front back = back
 fit_join (f ∷ fs) gs [] front back = absurd front
 fit_join (f ∷ fs) gs (t ∷ tables) front back = (front.0, fit_join fs gs tables front.1 back)
 
-pub fit_alike : (g h : Formula) (tables : List Relation) → (FitOperators (outermost g) tables × FitOperators (outermost h) (behind g tables)) ↔ FitOperators (outermost g ++ outermost h) tables
+pub fit_alike : (g h : Formula) (tables : List Relation) → (FitOperators (outermost g) tables × FitOperators (outermost h) (tables_beyond g tables)) ↔ FitOperators (outermost g ++ outermost h) tables
 fit_alike g h tables = (
   λ both. fit_join (outermost g) (outermost h) tables both.0 both.1,
   λ all. (fit_front (outermost g) (outermost h) tables all, fit_back (outermost g) (outermost h) tables all),
 )
 
 -- the first of the tables has these columns, and the same variables are free
-pub first_decided : (f : Formula) (tables : List Relation) (first : Relation) (free : List VarId) (b : Bool) → Some first ≡ slice_get tables 0 → AreFreeVariables f free → IsTrue b ↔ (All (Contains first.columns) free × All (Contains free) first.columns) → IsTrue b ↔ FitOperators (f ∷ []) tables
+pub first_decided : (f : Formula) (tables : List Relation) (first : Relation) (free : List VarId) (b : Bool) → Some first ≡ slice_get tables 0 → AreFreeVariables f free
+    → IsTrue b ↔ (All (Contains first.columns) free × All (Contains free) first.columns) → IsTrue b ↔ FitOperators (f ∷ []) tables
 first_decided f [] first free b there are told = absurd (cc)
 first_decided f (t ∷ tables) first free b there are told =
     let same : first ≡ t = cc in (
@@ -46,7 +41,7 @@ first_decided f (t ∷ tables) first free b there are told =
         tt,
       ),
       λ fit. told.1 (
-        all_from free (Contains first.columns) (λ x at. subst (λ r. Contains r.columns x) (sym same) ((fit.0 x).1 ((are.exact x).0 at))),
-        all_from first.columns (Contains free) (λ x at. (are.exact x).1 ((fit.0 x).0 (subst (λ r. Contains r.columns x) same at))),
+        all_from (Contains first.columns) free (λ x at. subst (λ r. Contains r.columns x) (sym same) ((fit.0 x).1 ((are.exact x).0 at))),
+        all_from (Contains free) first.columns (λ x at. (are.exact x).1 ((fit.0 x).0 (subst (λ r. Contains r.columns x) same at))),
       ),
     )

@@ -1,11 +1,8 @@
 -- What is so or not so.
-use Rattle.std.proofs.Common.{◌≡◌, ℕ, zero, suc, ◌<◌, ◌≤◌, ◌⊎◌, inl, inr, ⊎_elim, Bool, true, false, List, Contains, refl, subst, arith}
-use Rattle.std.proofs.lemmas.Bool.{cases_lt}
-use Rattle.std.proofs.lemmas.Bool.Decides.{not_from_Decides}
-use Rattle.std.specs.Bool.{Decides}
-use Rattle.enf_formula.specs.Satisfaction.{Classically}
-use Rattle.enf_value.specs.declared.values.Value.{Value}
-use Rattle.valuations.specs.ScopeLaws.{same_value_or_not, some_or_not}
+use Rattle.monitorable_guard.proofs.Vocabulary.{◌≡◌, ℕ, zero, suc, ◌<◌, ◌≤◌, ◌⊎◌, inl, inr}
+use Rattle.monitorable_guard.proofs.Vocabulary.{⊎_elim, Bool, true, false, List, Contains, refl, subst, arith}
+use Rattle.monitorable_guard.proofs.Vocabulary.{cases_lt, not_from_Decides, Decides, Classically, Value}
+use Rattle.monitorable_guard.proofs.Vocabulary.{same_value_or_not, some_or_not}
 
 abbrev pub Decided : Type 0 → Type 0
 Decided P = P ⊎ (P → ⊥)
@@ -40,7 +37,8 @@ pub stable_from : (P : Type 0) → Decided P → Classically P → P
 stable_from P p c = ⊎_elim (λ yes. yes) (λ n. absurd (c n)) p
 
 pub contains_decided : (xs : List Value) (value : Value) → Decided (Contains xs value)
-contains_decided xs value = decided_as _ (Contains xs value) (λ some. subst (Contains xs) some.2 some.1) (λ there. (value, there, refl)) (some_or_not (λ x. x ≡ value) xs (λ x. same_value_or_not x value))
+contains_decided xs value = decided_as _ (Contains xs value) (λ some. subst (Contains xs) some.2 some.1) (λ there. (value, there, refl))
+    (some_or_not (λ x. x ≡ value) xs (λ x. same_value_or_not x value))
 
 pub decided_at_most : (a b : ℕ) → Decided (a ≤ b)
 decided_at_most a b = ⊎_elim (λ (above : b < a). inr (λ (le : a ≤ b). omega (arith, above, le))) (λ le. inl le) (cases_lt b a)

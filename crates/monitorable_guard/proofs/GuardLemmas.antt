@@ -1,25 +1,16 @@
 -- What a guard's evaluation gives, from that of its formula under the bound variables.
-use Rattle.std.proofs.Common.{◌↔◌, Bool, IsTrue, ◌⊎◌, inl, inr, ⊎_elim, List, None, Result, Ok, Err, IfOk, Contains, refl, sym, ◌∙◌}
-use Rattle.std.proofs.lemmas.Option.{none-some}
-use Rattle.enf_value.specs.Valuations.{Valuation}
-use Rattle.enf_value.specs.declared.events.Event.{Event}
-use Rattle.enf_value.specs.declared.terms.VarId.{VarId}
-use Rattle.enf_formula.specs.Formulas.{Formula}
-use Rattle.enf_formula.specs.FreeVariables.{IsFree}
-use Rattle.valuations.specs.Columns.{among_or_not}
-use Rattle.valuations.specs.Just.{Binds}
-use Rattle.valuations.specs.Scopes.{IsPartOf}
-use Rattle.valuations.specs.Tables.{Relation}
-use Rattle.monitorable_guard.specs.Answers.{AreOpenUnder, CanAsk, HasAnswers, IsBoundBy, IsInScope}
-use Rattle.monitorable_guard.specs.Evaluation.{AreOpen, CanEvaluate, FitOperators, HoldsFor}
-use Rattle.monitorable_guard.specs.Present.{HoldsNow, outermost}
-use Rattle.monitorable_guard.specs.Safety.{FreeWithin, Safe}
+use Rattle.monitorable_guard.proofs.Vocabulary.{◌↔◌, Bool, IsTrue, ◌⊎◌, inl, inr, ⊎_elim, List, None}
+use Rattle.monitorable_guard.proofs.Vocabulary.{Result, Ok, Err, IfOk, Contains, refl, sym, ◌∙◌, none-some}
+use Rattle.monitorable_guard.proofs.Vocabulary.{Valuation, BindsColumns, Event, VarId, Formula, IsFree, among_or_not}
+use Rattle.monitorable_guard.proofs.Vocabulary.{IsPartOfValuation, Relation, AreOpenUnder, CanAskFormula, HasAnswers}
+use Rattle.monitorable_guard.proofs.Vocabulary.{IsBoundBy, IsBoundOrFree, AreOpen, CanEvaluate, FitOperators}
+use Rattle.monitorable_guard.proofs.Vocabulary.{AreHoldingRows, HoldsNow, outermost, FreeWithin, Safe}
 use Rattle.monitorable_guard.proofs.AgreementLemmas.{now_agrees}
-use Rattle.monitorable_guard.proofs.AskLemmas.{fresh_within}
+use Rattle.monitorable_guard.proofs.PartLemmas.{fresh_within}
 use Rattle.monitorable_guard.proofs.EvaluationLemmas.{value_from, bound_from, bound_as, same_on}
 use Rattle.monitorable_guard.proofs.SafetyLemmas.{Same, safe_same}
 
-module _ (f : Formula) (bound : List VarId) (v scope : Valuation) (part : IsPartOf v bound scope) (binds : Binds v bound) where
+module _ (f : Formula) (bound : List VarId) (v scope : Valuation) (part : IsPartOfValuation v bound scope) (binds : BindsColumns v bound) where
   -- the scope has values for just the bound variables
   scope_bound : Same (Contains bound) (IsBoundBy scope)
   scope_bound x = (
@@ -27,10 +18,10 @@ module _ (f : Formula) (bound : List VarId) (v scope : Valuation) (part : IsPart
     λ has. ⊎_elim (λ there. there) (λ absent. let known = value_from scope x has in absurd (none-some known.0 (sym (part.outside x absent) ∙ known.1))) (among_or_not bound x),
   )
 
-  pub can_ask : (tables : List Relation) → Safe f (Contains bound) → CanEvaluate f bound tables v → CanAsk scope tables f
+  pub can_ask : (tables : List Relation) → Safe f (Contains bound) → CanEvaluate f bound tables v → CanAskFormula scope tables f
   can_ask tables safe can = record {
     safe = safe_same None f (Contains bound) (IsBoundBy scope) scope_bound safe;
-    fresh = fresh_within f (λ x. Contains bound x ⊎ IsFree x f) (IsInScope scope f) (λ x in_scope. ⊎_elim (λ has. inl ((scope_bound x).1 has)) (λ free. inr free) in_scope) can.fresh;
+    fresh = fresh_within f (λ x. Contains bound x ⊎ IsFree x f) (IsBoundOrFree scope f) (λ x in_scope. ⊎_elim (λ has. inl ((scope_bound x).1 has)) (λ free. inr free) in_scope) can.fresh;
     tabled = can.tabled;
   }
 
@@ -60,7 +51,7 @@ module _ (f : Formula) (bound : List VarId) (v scope : Valuation) (part : IsPart
   ok_columns (Err e) opens = tt
 
   module _ (events : List Event) (tables : List Relation) (fit : FitOperators (outermost f) tables) where
-    holds_for : (t : Relation) → AreOpenUnder scope f t.columns → HasAnswers events tables scope f t → HoldsFor events tables f bound v t
+    holds_for : (t : Relation) → AreOpenUnder scope f t.columns → HasAnswers events tables scope f t → AreHoldingRows events tables f bound v t
     holds_for t opens answers w agree columns = (
       λ has.
           let found = (answers w).0 has in
@@ -84,7 +75,7 @@ module _ (f : Formula) (bound : List VarId) (v scope : Valuation) (part : IsPart
       ),
     )
 
-    pub ok_rows : {E : Type 0} (r : Result Relation E) → IfOk r (λ t. AreOpenUnder scope f t.columns) → IfOk r (HasAnswers events tables scope f) → IfOk r (HoldsFor events tables f bound v)
+    pub ok_rows : {E : Type 0} (r : Result Relation E) → IfOk r (λ t. AreOpenUnder scope f t.columns) → IfOk r (HasAnswers events tables scope f) → IfOk r (AreHoldingRows events tables f bound v)
     ok_rows (Ok t) opens answers = holds_for t opens answers
     ok_rows (Err e) opens answers = tt
 

@@ -1,14 +1,8 @@
 -- The kinds of formulas that remain.
-use Rattle.std.proofs.Common.{◌≡◌, ℕ, ⊎_elim, List, Some, Box, refl}
-use Rattle.std.specs.declared.alloc.Global.{Global}
-use Rattle.enf_value.specs.declared.events.NameId.{NameId}
-use Rattle.enf_value.specs.declared.intervals.Interval.{Interval}
-use Rattle.enf_value.specs.declared.terms.Term.{Term}
-use Rattle.enf_value.specs.declared.terms.VarId.{VarId}
-use Rattle.enf_formula.specs.Formulas.{tree_of}
+use Rattle.monitorable_guard.proofs.Vocabulary.{◌≡◌, ℕ, ⊎_elim, List, Some, Box, refl, Global, NameId}
+use Rattle.monitorable_guard.proofs.Vocabulary.{Interval, Term, VarId, tree_of, Safe, SafeBelow, FreeWithin}
+use Rattle.monitorable_guard.proofs.SafetyLaws.{below_within, historically_within}
 use Rattle.enf_formula.specs.declared.formulas.Formula as stored
-use Rattle.monitorable_guard.specs.Safety.{Safe, SafeBelow, FreeWithin}
-use Rattle.monitorable_guard.specs.SafetyLaws.{below_within, historically_within}
 
 -- what is safe and none of these has no open variable
 pub closed_kind : (f : stored.Formula)
@@ -36,7 +30,8 @@ closed_kind (stored.Forall' place xs r g) a e n o x p q s B safe = λ y free. be
 closed_kind (stored.Prev' place interval r g) a e n o x p q s B safe = absurd (p place interval (record { ptr = r.ptr; alloc = r.alloc; value = g }) refl)
 closed_kind (stored.Once' place interval r g) a e n o x p q s B safe = absurd (q place interval (record { ptr = r.ptr; alloc = r.alloc; value = g }) refl)
 closed_kind (stored.Historically' place interval r g) a e n o x p q s B safe = historically_within place interval (tree_of g) B safe
-closed_kind (stored.Since' place interval r g t h) a e n o x p q s B safe = absurd (s place interval (record { ptr = r.ptr; alloc = r.alloc; value = g }) (record { ptr = t.ptr; alloc = t.alloc; value = h }) refl)
+closed_kind (stored.Since' place interval r g t h) a e n o x p q s B safe = absurd (s place interval (record { ptr = r.ptr; alloc = r.alloc; value = g })
+    (record { ptr = t.ptr; alloc = t.alloc; value = h }) refl)
 closed_kind (stored.Next' place interval r g) a e n o x p q s B safe = absurd safe
 closed_kind (stored.Eventually' place interval r g) a e n o x p q s B safe = absurd safe
 closed_kind (stored.Always' place interval r g) a e n o x p q s B safe = absurd safe

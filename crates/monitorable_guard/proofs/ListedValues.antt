@@ -1,28 +1,18 @@
 -- Finitely many values: those that a safe formula's rows can have, and the rows over them.
-use Rattle.std.proofs.Common.{◌≡◌, ℕ, zero, suc, ◌<◌, ◌≤◌, ◌⊎◌, inl, inr, ⊎_elim, pos, Bool, true, false, cond, List, [], ◌∷◌, ◌++◌, length, map, Some, Contains, refl, sym, ap, subst, ◌∙◌, arith}
-use Rattle.std.proofs.lemmas.Bool.{cases_lt}
-use Rattle.std.proofs.lemmas.List.Elements.{Contains-append_left, Contains-append_right}
-use Rattle.std.proofs.lemmas.Option.{same_Some, none-some}
-use Rattle.std.specs.FinMap as finite
-use Rattle.std.specs.List.{AllByRecursion}
-use Rattle.std.specs.Ordering.{eq_by_cmp}
-use Rattle.enf_value.specs.Data.{step_at}
-use Rattle.enf_value.specs.Valuations.{Valuation, value_at, with_values, variable_cmp}
-use Rattle.enf_value.specs.declared.events.Event.{Event}
-use Rattle.enf_value.specs.declared.steps.Step.{Step}
-use Rattle.enf_value.specs.declared.terms.Term.{Term}
-use Rattle.enf_value.specs.declared.terms.Term.TheVariants.{Var, Const}
-use Rattle.enf_value.specs.declared.terms.VarId.{VarId}
-use Rattle.enf_value.specs.declared.values.Value.{Value}
-use Rattle.enf_value.specs.declared.values.Value.TheVariants.{Num}
-use Rattle.enf_formula.specs.Formulas.{Formula, True, False, Atom, Equal, Less, AtMost, Not, And, Or, Implies}
-use Rattle.enf_formula.specs.Formulas.{Exists, Forall, Prev, Next, Once, Historically, Since, Eventually, Always, Until}
-use Rattle.valuations.specs.Columns.{here, later, first_or_later, none_in_nil, among_or_not}
-use Rattle.valuations.specs.RowLaws.{value_at-bound, value_at-other, value_at-with_outside}
-use Rattle.valuations.specs.ScopeLaws.{same_or_other}
-use Rattle.valuations.specs.SearchLaws.{Contains-map}
-use Rattle.monitorable_guard.specs.Sources.{IsArgument, IsArgumentUpTo, IsConstant}
+use Rattle.monitorable_guard.proofs.Vocabulary.{◌≡◌, ℕ, zero, suc, ◌<◌, ◌≤◌, ◌⊎◌, inl, inr}
+use Rattle.monitorable_guard.proofs.Vocabulary.{⊎_elim, pos, Bool, true, false, cond, List, [], ◌∷◌, ◌++◌}
+use Rattle.monitorable_guard.proofs.Vocabulary.{length, map, Some, Contains, refl, sym, ap, subst, ◌∙◌, arith}
+use Rattle.monitorable_guard.proofs.Vocabulary.{cases_lt, Contains-append_left, Contains-append_right, same_Some}
+use Rattle.monitorable_guard.proofs.Vocabulary.{none-some, AllByRecursion, eq_by_cmp, step_at, Valuation, value_at}
+use Rattle.monitorable_guard.proofs.Vocabulary.{with_values, variable_cmp, Event, Step, Term, Var, Const, VarId, Value}
+use Rattle.monitorable_guard.proofs.Vocabulary.{Num, Formula, True, False, Atom, Equal, Less, AtMost, Not, And, Or}
+use Rattle.monitorable_guard.proofs.Vocabulary.{Implies, Exists, Forall, Prev, Next, Once, Historically, Since}
+use Rattle.monitorable_guard.proofs.Vocabulary.{Eventually, Always, Until, here, later, first_or_later, none_in_nil}
+use Rattle.monitorable_guard.proofs.Vocabulary.{Contains-map, among_or_not, value_at-bound, value_at-other}
+use Rattle.monitorable_guard.proofs.Vocabulary.{value_at-with_outside, same_or_other, IsArgument, IsArgumentUpTo}
+use Rattle.monitorable_guard.proofs.Vocabulary.{IsFormulaConstant}
 use Rattle.monitorable_guard.proofs.Decided.{Decided}
+use Rattle.std.specs.FinMap as finite
 
 -- some list has each value with the property
 abbrev pub Listed : (Value → Type 0) → Type 0
@@ -48,32 +38,33 @@ listed_term (Const a) = (a ∷ [], λ value e. (0, omega arith, same_constant a 
 
 listed_terms : (terms : List Term) → Listed (λ value. Contains terms (Const value))
 listed_terms [] = listed_none (λ value. Contains [] (Const value)) (λ value there. none_in_nil (Const value) there)
-listed_terms (t ∷ terms) = listed_as (λ value. (t ≡ Const value) ⊎ Contains terms (Const value)) (λ value. Contains (t ∷ terms) (Const value)) (λ value there. first_or_later (Const value) t terms there) (listed_either (λ value. t ≡ Const value) (λ value. Contains terms (Const value)) (listed_term t) (listed_terms terms))
+listed_terms (t ∷ terms) = listed_as (λ value. (t ≡ Const value) ⊎ Contains terms (Const value)) (λ value. Contains (t ∷ terms) (Const value))
+    (λ value there. first_or_later (Const value) t terms there) (listed_either (λ value. t ≡ Const value) (λ value. Contains terms (Const value)) (listed_term t) (listed_terms terms))
 
 listed_two : (s t : Term) → Listed (λ value. (s ≡ Const value) ⊎ (t ≡ Const value))
 listed_two s t = listed_either (λ value. s ≡ Const value) (λ value. t ≡ Const value) (listed_term s) (listed_term t)
 
-listed_constants : (f : Formula) → Listed (λ value. IsConstant value f)
-listed_constants (True place) = listed_none (λ value. IsConstant value (True place)) (λ value is. is)
-listed_constants (False place) = listed_none (λ value. IsConstant value (False place)) (λ value is. is)
+listed_constants : (f : Formula) → Listed (λ value. IsFormulaConstant value f)
+listed_constants (True place) = listed_none (λ value. IsFormulaConstant value (True place)) (λ value is. is)
+listed_constants (False place) = listed_none (λ value. IsFormulaConstant value (False place)) (λ value is. is)
 listed_constants (Atom place name terms) = listed_terms terms
 listed_constants (Equal place s t) = listed_two s t
 listed_constants (Less place s t) = listed_two s t
 listed_constants (AtMost place s t) = listed_two s t
 listed_constants (Not place g) = listed_constants g
-listed_constants (And place g h) = listed_either (λ value. IsConstant value g) (λ value. IsConstant value h) (listed_constants g) (listed_constants h)
-listed_constants (Or place g h) = listed_either (λ value. IsConstant value g) (λ value. IsConstant value h) (listed_constants g) (listed_constants h)
-listed_constants (Implies place g h) = listed_either (λ value. IsConstant value g) (λ value. IsConstant value h) (listed_constants g) (listed_constants h)
+listed_constants (And place g h) = listed_either (λ value. IsFormulaConstant value g) (λ value. IsFormulaConstant value h) (listed_constants g) (listed_constants h)
+listed_constants (Or place g h) = listed_either (λ value. IsFormulaConstant value g) (λ value. IsFormulaConstant value h) (listed_constants g) (listed_constants h)
+listed_constants (Implies place g h) = listed_either (λ value. IsFormulaConstant value g) (λ value. IsFormulaConstant value h) (listed_constants g) (listed_constants h)
 listed_constants (Exists place xs g) = listed_constants g
 listed_constants (Forall place xs g) = listed_constants g
 listed_constants (Prev place interval g) = listed_constants g
 listed_constants (Next place interval g) = listed_constants g
 listed_constants (Once place interval g) = listed_constants g
 listed_constants (Historically place interval g) = listed_constants g
-listed_constants (Since place interval g h) = listed_either (λ value. IsConstant value g) (λ value. IsConstant value h) (listed_constants g) (listed_constants h)
+listed_constants (Since place interval g h) = listed_either (λ value. IsFormulaConstant value g) (λ value. IsFormulaConstant value h) (listed_constants g) (listed_constants h)
 listed_constants (Eventually place interval g) = listed_constants g
 listed_constants (Always place interval g) = listed_constants g
-listed_constants (Until place interval g h) = listed_either (λ value. IsConstant value g) (λ value. IsConstant value h) (listed_constants g) (listed_constants h)
+listed_constants (Until place interval g h) = listed_either (λ value. IsFormulaConstant value g) (λ value. IsFormulaConstant value h) (listed_constants g) (listed_constants h)
 
 -- ---- arguments
 
@@ -84,7 +75,8 @@ listed_events (event ∷ events) = listed_as (λ value. Contains event.args valu
     (listed_either (λ value. Contains event.args value) (λ value. IsArgument events value) (event.args, λ value there. there) (listed_events events))
 
 listed_arguments : (trace : List Step) (i : ℕ) → Listed (λ value. IsArgumentUpTo trace i value)
-listed_arguments trace zero = listed_as (λ value. IsArgument (step_at trace 0).events value) (λ value. IsArgumentUpTo trace 0 value) (λ value some. subst (λ j. IsArgument (step_at trace j).events value) (nothing some.0 some.1) some.2) (listed_events (step_at trace 0).events)
+listed_arguments trace zero = listed_as (λ value. IsArgument (step_at trace 0).events value) (λ value. IsArgumentUpTo trace 0 value)
+    (λ value some. subst (λ j. IsArgument (step_at trace j).events value) (nothing some.0 some.1) some.2) (listed_events (step_at trace 0).events)
   where
     nothing : (j : ℕ) → j ≤ 0 → j ≡ 0
     nothing j le = omega (arith, le)
@@ -107,7 +99,8 @@ found_in : (entries : List (VarId × Value)) (x : VarId) (value : Value) → fin
 found_in [] x value is = absurd (none-some value is)
 found_in (e ∷ entries) x value is = by (eq_by_cmp variable_cmp x e.0) is (found_in entries x value)
   where
-    by : (b : Bool) → cond b (Some e.1) (finite.find variable_cmp x entries) ≡ Some value → (finite.find variable_cmp x entries ≡ Some value → Contains (map (λ e. e.1) entries) value) → Contains (e.1 ∷ map (λ e. e.1) entries) value
+    by : (b : Bool) → cond b (Some e.1) (finite.find variable_cmp x entries) ≡ Some value
+        → (finite.find variable_cmp x entries ≡ Some value → Contains (map (λ e. e.1) entries) value) → Contains (e.1 ∷ map (λ e. e.1) entries) value
     by true is rest = (0, omega arith, same_Some e.1 value is)
     by false is rest = later value e.1 (map (λ e. e.1) entries) (rest is)
 
@@ -120,25 +113,27 @@ abbrev pub some_value : Value
 some_value = Num (pos 0)
 
 abbrev pub IsListed : List Step → ℕ → Valuation → Formula → Value → Type 0
-IsListed trace i v f value = (some_value ≡ value) ⊎ (IsArgumentUpTo trace i value ⊎ (IsConstant value f ⊎ IsValueOf v value))
+IsListed trace i v f value = (some_value ≡ value) ⊎ (IsArgumentUpTo trace i value ⊎ (IsFormulaConstant value f ⊎ IsValueOf v value))
 
 pub listed_all : (trace : List Step) (i : ℕ) (v : Valuation) (f : Formula) → Listed (IsListed trace i v f)
 listed_all trace i v f =
     listed_either (λ value. some_value ≡ value) _ (some_value ∷ [], λ value same. (0, omega arith, same))
     (listed_either (IsArgumentUpTo trace i) _ (listed_arguments trace i)
-    (listed_either (λ value. IsConstant value f) (IsValueOf v) (listed_constants f) (listed_valuation v)))
+    (listed_either (λ value. IsFormulaConstant value f) (IsValueOf v) (listed_constants f) (listed_valuation v)))
 
 -- ---- the rows over a list of values
 
 module _ (values : List Value) where
   -- with each of some values in front of each of some rows
-  fronts : (some : List Value) (behind : List (List Value)) → (rows : List (List Value)) × ((value : Value) (row : List Value) → Contains some value → Contains behind row → Contains rows (value ∷ row))
+  fronts : (some : List Value) (behind : List (List Value)) → (rows : List (List Value))
+      × ((value : Value) (row : List Value) → Contains some value → Contains behind row → Contains rows (value ∷ row))
   fronts [] behind = ([], λ value row there in_behind. absurd (none_in_nil value there))
   fronts (first ∷ some) behind =
       let rest = fronts some behind in (
         map (λ row. first ∷ row) behind ++ rest.0,
         λ value row there in_behind. ⊎_elim
-            (λ same. Contains-append_left (map (λ row. first ∷ row) behind) rest.0 (value ∷ row) (subst (λ a. Contains (map (λ row. first ∷ row) behind) (a ∷ row)) same (Contains-map (λ row. first ∷ row) behind row in_behind)))
+            (λ same. Contains-append_left (map (λ row. first ∷ row) behind) rest.0 (value ∷ row)
+            (subst (λ a. Contains (map (λ row. first ∷ row) behind) (a ∷ row)) same (Contains-map (λ row. first ∷ row) behind row in_behind)))
             (λ after. Contains-append_right (map (λ row. first ∷ row) behind) rest.0 (value ∷ row) (rest.1 value row after in_behind))
             (first_or_later value first some there),
       )
@@ -163,7 +158,9 @@ module _ (values : List Value) where
 -- ---- a row with a value of the list in the place of each that is none
 
 module _ (r : Value → Value) where
-  pub replaced_at : (xs : List VarId) (row : List Value) (v w : Valuation) (x : VarId) → length row ≡ length xs → ((a : Value) → value_at (with_values xs row v) x ≡ Some a → r a ≡ a) → Contains xs x ⊎ (value_at v x ≡ value_at w x) → value_at (with_values xs row v) x ≡ value_at (with_values xs (map r row) w) x
+  pub replaced_at : (xs : List VarId) (row : List Value) (v w : Valuation) (x : VarId) → length row ≡ length xs
+      → ((a : Value) → value_at (with_values xs row v) x ≡ Some a → r a ≡ a) → Contains xs x ⊎ (value_at v x ≡ value_at w x) → value_at (with_values xs row v) x
+      ≡ value_at (with_values xs (map r row) w) x
   replaced_at [] row v w x long stays either = ⊎_elim (λ there. absurd (none_in_nil x there)) (λ e. e) either
   replaced_at (y ∷ xs) [] v w x long stays either = absurd (omega (arith, long))
   replaced_at (y ∷ xs) (value ∷ row) v w x long stays either =
@@ -171,7 +168,8 @@ module _ (r : Value → Value) where
       (⊎_elim
       (λ there. inl there)
       (λ absent. inr (⊎_elim
-      (λ same. value_at-bound v y x value same ∙ ap Some (sym (stays value (value_at-with_outside xs row (finite.insert v y value) x absent ∙ value_at-bound v y x value same))) ∙ sym (value_at-bound w y x (r value) same))
+      (λ same. value_at-bound v y x value same ∙ ap Some (sym (stays value (value_at-with_outside xs row (finite.insert v y value) x absent ∙ value_at-bound v y x value same))) ∙ sym
+      (value_at-bound w y x (r value) same))
       (λ other. value_at-other v y x value other
       ∙ ⊎_elim (λ there. ⊎_elim (λ same. absurd (other same)) (λ behind. absurd (absent behind)) (first_or_later x y xs there)) (λ e. e) either
       ∙ sym (value_at-other w y x (r value) other))

@@ -1,17 +1,9 @@
 -- The operators on the past that are told by a table of the valuations under which they hold.
-use Rattle.std.proofs.Common.{◌≡◌, ℕ, ◌⊎◌, ⊎_elim, List, [], ◌∷◌, Box, Contains, ◌↔◌, sym, subst}
-use Rattle.std.specs.declared.alloc.Global.{Global}
-use Rattle.enf_value.specs.declared.events.Event.{Event}
-use Rattle.enf_value.specs.declared.intervals.Interval.{Interval}
-use Rattle.enf_value.specs.declared.terms.VarId.{VarId}
-use Rattle.enf_value.specs.Valuations.{Valuation}
-use Rattle.enf_formula.specs.Formulas.{Formula, tree_of}
-use Rattle.enf_formula.specs.FreeVariables.{IsFree}
+use Rattle.monitorable_guard.proofs.Vocabulary.{◌≡◌, ℕ, ◌⊎◌, ⊎_elim, List, [], ◌∷◌, Box, Contains}
+use Rattle.monitorable_guard.proofs.Vocabulary.{◌↔◌, sym, subst, Global, Event, Interval, VarId, Valuation}
+use Rattle.monitorable_guard.proofs.Vocabulary.{Formula, IsFree, tree_of, Relation, FirstGivesUnder, FitOperators}
+use Rattle.monitorable_guard.proofs.Vocabulary.{HoldsNow, FirstHas, outermost}
 use Rattle.enf_formula.specs.declared.formulas.Formula as stored
-use Rattle.valuations.specs.Tables.{Relation}
-use Rattle.monitorable_guard.specs.Asking.{FirstGivesUnder}
-use Rattle.monitorable_guard.specs.Evaluation.{FitOperators}
-use Rattle.monitorable_guard.specs.Present.{HoldsNow, FirstHas, outermost}
 
 -- it is a `prev`, a `once` or a `since`
 abbrev pub IsTold : stored.Formula → Type 0
@@ -39,6 +31,7 @@ module _ (tables : List Relation) where
       told
 
 -- the free variables of the operator are columns of what is given
-pub given_columns : (v : Valuation) (f : Formula) (tables : List Relation) → FitOperators (f ∷ []) tables → (given : Relation) → FirstGivesUnder tables v given → (x : VarId) → IsFree x f → Contains given.columns x
+pub given_columns : (v : Valuation) (f : Formula) (tables : List Relation) → FitOperators (f ∷ []) tables → (given : Relation) → FirstGivesUnder tables v given → (x : VarId)
+    → IsFree x f → Contains given.columns x
 given_columns v f [] fit given gives x free = absurd gives
 given_columns v f (t ∷ tables) fit given gives x free = subst (λ l. Contains l x) (sym gives.0) ((fit.0 x).1 free)

@@ -1,29 +1,16 @@
 -- Rising lists of rows: of those of a list that pass, and of those under which a safe formula is satisfied.
-use Rattle.std.proofs.Common.{◌≡◌, ℕ, ◌⊎◌, inl, inr, ⊎_elim, List, [], ◌∷◌, length, None, Contains, ◌↔◌, refl, sym, ap, subst, ◌∙◌, arith}
-use Rattle.std.specs.Cmp.{IsTotalOrder}
-use Rattle.std.specs.FinMap.{IsAntisymmetric}
-use Rattle.std.specs.List.{AllByRecursion}
+use Rattle.monitorable_guard.proofs.Vocabulary.{◌≡◌, ℕ, ◌⊎◌, inl, inr, ⊎_elim, List, [], ◌∷◌}
+use Rattle.monitorable_guard.proofs.Vocabulary.{length, None, Contains, ◌↔◌, refl, sym, ap, subst, ◌∙◌}
+use Rattle.monitorable_guard.proofs.Vocabulary.{arith, IsTotalOrder, IsAntisymmetric, AllByRecursion, ordering_reverse}
+use Rattle.monitorable_guard.proofs.Vocabulary.{Ordering, Greater, AllByRecursion-contains}
+use Rattle.monitorable_guard.proofs.Vocabulary.{AllByRecursion-from_contains, later, first_or_later, none_in_nil}
+use Rattle.monitorable_guard.proofs.Vocabulary.{Valuation, with_values, Step, VarId, Value, all_from, Formula, IsFree}
+use Rattle.monitorable_guard.proofs.Vocabulary.{Sat, FreeVariablesDecide, row_cmp_total, row_cmp_exact, same_row}
+use Rattle.monitorable_guard.proofs.Vocabulary.{value_at-with_inside, AreRowsAt, AreTold, Safe, BindsFresh}
 use Rattle.std.specs.List.Sorted.{IsStrictlySortedBy}
-use Rattle.std.specs.Ordering.{ordering_reverse}
-use Rattle.std.specs.declared.cmp.Ordering.{Ordering}
-use Rattle.std.specs.declared.cmp.Ordering.TheVariants.{Less, Equal, Greater}
-use Rattle.enf_value.specs.ListLaws.{AllByRecursion-contains, AllByRecursion-from_contains}
-use Rattle.enf_value.specs.Valuations.{Valuation, with_values}
-use Rattle.enf_value.specs.declared.steps.Step.{Step}
-use Rattle.enf_value.specs.declared.terms.VarId.{VarId}
-use Rattle.enf_value.specs.declared.values.Value.{Value}
-use Rattle.enf_formula.specs.Formulas.{Formula}
-use Rattle.enf_formula.specs.FreeVariables.{IsFree}
-use Rattle.enf_formula.specs.Laws.{FreeVariablesDecide}
-use Rattle.enf_formula.specs.Satisfaction.{Sat}
-use Rattle.valuations.specs.Columns.{later, first_or_later, none_in_nil}
-use Rattle.valuations.specs.KeyLaws.{row_cmp_total, row_cmp_exact}
-use Rattle.valuations.specs.RowLaws.{same_row, value_at-with_inside}
-use Rattle.monitorable_guard.specs.Rows.{AreRowsAt, AreTold}
-use Rattle.monitorable_guard.specs.Safety.{Safe, BindsFresh}
+use Rattle.std.specs.declared.cmp.Ordering.TheVariants.{Less, Equal}
 use Rattle.monitorable_guard.proofs.Decided.{Decided, decided_both}
 use Rattle.monitorable_guard.proofs.DecidedLemmas.{candidates, decided, decided_length, shrink}
-use Rattle.monitorable_guard.proofs.ScopeLemmas.{all_from}
 
 module _ {K : Type 0} {R : K → K → Ordering} (total : IsTotalOrder R) (exact : IsAntisymmetric R) where
   -- a rising list of just the keys with a property
@@ -57,17 +44,20 @@ module _ {K : Type 0} {R : K → K → Ordering} (total : IsTotalOrder R) (exact
       by Greater e rest = (
         first ∷ rest.0,
         (
-          AllByRecursion-from_contains (λ z. R first z ≡ Less) rest.0 (λ z there. ⊎_elim (λ same. subst (λ w. R first w ≡ Less) same (turned x first e)) (λ behind. AllByRecursion-contains (λ w. R first w ≡ Less) xs z rise.0 behind) ((rest.2 z).0 there)),
+          AllByRecursion-from_contains (λ z. R first z ≡ Less) rest.0 (λ z there. ⊎_elim (λ same. subst (λ w. R first w ≡ Less) same (turned x first e))
+              (λ behind. AllByRecursion-contains (λ w. R first w ≡ Less) xs z rise.0 behind) ((rest.2 z).0 there)),
           rest.1,
         ),
         λ y. (
-          λ there. ⊎_elim (λ same. inr (0, omega arith, same)) (λ behind. ⊎_elim (λ same. inl same) (λ other. inr (later y first xs other)) ((rest.2 y).0 behind)) (first_or_later y first rest.0 there),
-          λ either. ⊎_elim (λ same. later y first rest.0 ((rest.2 y).1 (inl same))) (λ there. ⊎_elim (λ same. (0, omega arith, same)) (λ behind. later y first rest.0 ((rest.2 y).1 (inr behind))) (first_or_later y first xs there)) either,
+          λ there. ⊎_elim (λ same. inr (0, omega arith, same)) (λ behind. ⊎_elim (λ same. inl same) (λ other. inr (later y first xs other)) ((rest.2 y).0 behind))
+              (first_or_later y first rest.0 there),
+          λ either. ⊎_elim (λ same. later y first rest.0 ((rest.2 y).1 (inl same))) (λ there.
+              ⊎_elim (λ same. (0, omega arith, same)) (λ behind. later y first rest.0 ((rest.2 y).1 (inr behind))) (first_or_later y first xs there)) either,
         ),
       )
 
   module _ (P : K → Type 0) (each : (x : K) → Decided (P x)) where
-    -- those of a list that have the property
+    -- the items of a list that have the property
     passing : (xs : List K) → RisingOf (λ y. Contains xs y × P y)
     unfolding IsStrictlySortedBy
     passing [] = ([], tt, λ y. (λ there. absurd (none_in_nil y there), λ both. both.0))
@@ -92,7 +82,8 @@ module _ {K : Type 0} {R : K → K → Ordering} (total : IsTotalOrder R) (exact
           ),
         )
 
-module _ (decides : FreeVariablesDecide) (trace : List Step) (i : ℕ) (v : Valuation) (f : Formula) (bound xs : List VarId) (safe : Safe f (Contains bound)) (fresh : BindsFresh f (λ x. Contains bound x ⊎ IsFree x f)) where
+module _ (decides : FreeVariablesDecide) (trace : List Step) (i : ℕ) (v : Valuation) (f : Formula) (bound xs : List VarId) (safe : Safe f (Contains bound))
+    (fresh : BindsFresh f (λ x. Contains bound x ⊎ IsFree x f)) where
   pub decided_at : (w : Valuation) → Decided (Sat trace i w f)
   decided_at w = decided decides trace None i w f (Contains bound) (λ x. Contains bound x ⊎ IsFree x f) safe fresh (λ x b. inl b) (λ x free. inr free) tt
 
@@ -112,10 +103,11 @@ module _ (decides : FreeVariablesDecide) (trace : List Step) (i : ℕ) (v : Valu
 
     pub rows_at : (rows : List (List Value)) × AreRowsAt trace i v xs f rows
     rows_at =
-        let rising = passing row_cmp_total row_cmp_exact Passes (λ row. decided_both (length row ≡ length xs) (Sat trace i (with_values xs row v) f) (decided_length row xs) (decided_at (with_values xs row v))) among in (
+        let rising = passing row_cmp_total row_cmp_exact Passes (λ row. decided_both (length row ≡ length xs) (Sat trace i (with_values xs row v) f) (decided_length row xs)
+        (decided_at (with_values xs row v))) among in (
           rising.0,
           record {
-            fit = all_from rising.0 (λ row. length row ≡ length xs) (λ row there. ((rising.2 row).0 there).1.0);
+            fit = all_from (λ row. length row ≡ length xs) rising.0 (λ row there. ((rising.2 row).0 there).1.0);
             rise = rising.1;
             are = λ row long. (
               λ there. ((rising.2 row).0 there).1.1,

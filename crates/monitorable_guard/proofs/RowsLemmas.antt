@@ -1,17 +1,12 @@
 -- Rows that are added, one set of valuations after another.
-use Rattle.std.proofs.Common.{◌≡◌, ℕ, ◌+◌, ◌<◌, ◌⊎◌, inl, inr, ⊎_elim, List, [], ◌∷◌, ◌++◌, length, get_or, take, drop, map, Some, Result, Ok, Err, OnOk, Contains, sym, ap, subst, ◌∙◌}
-use Rattle.std.proofs.lemmas.List.{take_more, length-map}
-use Rattle.std.proofs.lemmas.List.Elements.{Contains-append_left, Contains-append_right, Contains-push, Contains-push_cases, All-contains}
-use Rattle.enf_value.specs.Valuations.{Valuation, value_at}
-use Rattle.enf_value.specs.declared.terms.VarId.{VarId}
-use Rattle.enf_value.specs.declared.values.Value.{Value}
-use Rattle.enf_formula.specs.Satisfaction.{Classically}
-use Rattle.valuations.specs.Columns.{here, first_or_later, none_in_nil, Contains-append}
-use Rattle.valuations.specs.RowLaws.{cell_here, cell_later}
-use Rattle.valuations.specs.ScopeLaws.{has_or_not, same_or_other}
-use Rattle.valuations.specs.Tables.{Agrees, AgreeOn, cell}
-use Rattle.monitorable_guard.specs.Answers.{AddsRows}
-use Rattle.monitorable_guard.proofs.ScopeLemmas.{all_from}
+use Rattle.monitorable_guard.proofs.Vocabulary.{◌≡◌, ℕ, ◌+◌, ◌<◌, ◌⊎◌, inl, inr, ⊎_elim, List}
+use Rattle.monitorable_guard.proofs.Vocabulary.{[], ◌∷◌, ◌++◌, length, get_or, take, drop, map, Some, Result}
+use Rattle.monitorable_guard.proofs.Vocabulary.{Ok, Err, OnOk, Contains, sym, ap, subst, ◌∙◌, take_more}
+use Rattle.monitorable_guard.proofs.Vocabulary.{length-map, Contains-append_left, Contains-append_right, Contains-push}
+use Rattle.monitorable_guard.proofs.Vocabulary.{Contains-push_cases, All-contains, Valuation, value_at, VarId, Value}
+use Rattle.monitorable_guard.proofs.Vocabulary.{all_from, Classically, here, first_or_later, none_in_nil}
+use Rattle.monitorable_guard.proofs.Vocabulary.{Contains-append, cell_here, cell_later, has_or_not, same_or_other}
+use Rattle.monitorable_guard.proofs.Vocabulary.{AgreesWithRow, AgreeOnColumns, row_cell, AddsRows}
 
 module _ (columns : List VarId) where
   pub adds_nothing : (rows : List (List Value)) (P : Valuation → Type 0) → ((w : Valuation) → P w → ⊥) → AddsRows columns rows rows P
@@ -22,7 +17,8 @@ module _ (columns : List VarId) where
     only = λ w has. inl has;
   }
 
-  pub adds_both : (before between after : List (List Value)) (P Q : Valuation → Type 0) → AddsRows columns before between P → AddsRows columns between after Q → AddsRows columns before after (λ w. P w ⊎ Q w)
+  pub adds_both : (before between after : List (List Value)) (P Q : Valuation → Type 0) → AddsRows columns before between P → AddsRows columns between after Q
+      → AddsRows columns before after (λ w. P w ⊎ Q w)
   adds_both before between after P Q first second = record {
     fit = λ fit. second.fit (first.fit fit);
     kept = λ w has. second.kept w (first.kept w has);
@@ -31,7 +27,8 @@ module _ (columns : List VarId) where
   }
 
   -- rows of one set are those of another where each of the one is of the other, and not none of the other of the one
-  pub adds_as : (before after : List (List Value)) (P Q : Valuation → Type 0) → ((w : Valuation) → P w → Q w) → ((w : Valuation) → Q w → Classically (P w)) → AddsRows columns before after P → AddsRows columns before after Q
+  pub adds_as : (before after : List (List Value)) (P Q : Valuation → Type 0) → ((w : Valuation) → P w → Q w) → ((w : Valuation) → Q w → Classically (P w))
+      → AddsRows columns before after P → AddsRows columns before after Q
   adds_as before after P Q to from adds = record {
     fit = adds.fit;
     kept = adds.kept;
@@ -60,22 +57,20 @@ module _ {X : Type 0} (columns : List VarId) (xs : List X) (P : X → Valuation 
       (Contains-append (take i xs) (get_or xs i x ∷ []) some.0 (subst (λ l. Contains l some.0) (take_more xs i x within) some.1))
 
   -- a loop over the items adds the rows of one after another
-  pub adds_more : (i : ℕ) (x : X) (before between after : List (List Value)) → i < length xs → AddsRows columns before between (λ w. SomeOf (take i xs) (λ y. P y w)) → AddsRows columns between after (P (get_or xs i x)) → AddsRows columns before after (λ w. SomeOf (take (i + 1) xs) (λ y. P y w))
+  pub adds_more : (i : ℕ) (x : X) (before between after : List (List Value)) → i < length xs → AddsRows columns before between (λ w. SomeOf (take i xs) (λ y. P y w))
+      → AddsRows columns between after (P (get_or xs i x)) → AddsRows columns before after (λ w. SomeOf (take (i + 1) xs) (λ y. P y w))
   adds_more i x before between after within first second =
       adds_as columns before after (λ w. SomeOf (take i xs) (λ y. P y w) ⊎ P (get_or xs i x) w) (λ w. SomeOf (take (i + 1) xs) (λ y. P y w))
       (λ w either. some_more i x w within either)
       (λ w some none. none (some_before i x w within some))
       (adds_both columns before between after (λ w. SomeOf (take i xs) (λ y. P y w)) (P (get_or xs i x)) first second)
 
-  pub adds_none_yet : (rows : List (List Value)) → AddsRows columns rows rows (λ w. SomeOf [] (λ y. P y w))
-  adds_none_yet rows = adds_nothing columns rows (λ w. SomeOf [] (λ y. P y w)) (λ w some. none_in_nil some.0 some.1)
-
 -- ---- a row of values
 
 row_long : (v : Valuation) (columns : List VarId) (row : List Value) → map Some row ≡ map (value_at v) columns → length row ≡ length columns
 row_long v columns row e = sym (length-map row Some) ∙ ap length e ∙ length-map columns (value_at v)
 
-row_agrees : (v : Valuation) (columns : List VarId) (row : List Value) → map Some row ≡ map (value_at v) columns → Agrees v columns row
+row_agrees : (v : Valuation) (columns : List VarId) (row : List Value) → map Some row ≡ map (value_at v) columns → AgreesWithRow v columns row
 row_agrees v [] row e x there = absurd (none_in_nil x there)
 row_agrees v (column ∷ columns) [] e x there = absurd (cc)
 row_agrees v (column ∷ columns) (value ∷ row) e x there =
@@ -86,9 +81,10 @@ row_agrees v (column ∷ columns) (value ∷ row) e x there =
     (λ other. row_agrees v columns row rest x (⊎_elim (λ same. absurd (other same)) (λ behind. behind) (first_or_later x column columns there)) ∙ sym (cell_later column x columns value row other))
     (same_or_other column x)
 
-pub adds_row : (v : Valuation) (columns : List VarId) (before : List (List Value)) (row : List Value) → map Some row ≡ map (value_at v) columns → AddsRows columns before (before ++ row ∷ []) (λ w. AgreeOn columns w v)
+pub adds_row : (v : Valuation) (columns : List VarId) (before : List (List Value)) (row : List Value) → map Some row ≡ map (value_at v) columns
+    → AddsRows columns before (before ++ row ∷ []) (λ w. AgreeOnColumns columns w v)
 adds_row v columns before row e = record {
-  fit = λ fit. all_from (before ++ row ∷ []) (λ r. length r ≡ length columns) (λ r there. ⊎_elim
+  fit = λ fit. all_from (λ r. length r ≡ length columns) (before ++ row ∷ []) (λ r there. ⊎_elim
       (λ front. All-contains (λ r. length r ≡ length columns) before r fit front)
       (λ same. ap length (sym same) ∙ row_long v columns row e)
       (Contains-push_cases before row r there));
@@ -96,7 +92,7 @@ adds_row v columns before row e = record {
   added = λ w agree. (row, Contains-push before row, λ x there. agree x there ∙ row_agrees v columns row e x there);
   only = λ w has. ⊎_elim
       (λ front. inl (has.0, front, has.2))
-      (λ same. inr (λ x there. has.2 x there ∙ ap (λ r. cell columns r x) (sym same) ∙ sym (row_agrees v columns row e x there)))
+      (λ same. inr (λ x there. has.2 x there ∙ ap (λ r. row_cell columns r x) (sym same) ∙ sym (row_agrees v columns row e x there)))
       (Contains-push_cases before row has.0 has.1);
 }
 

@@ -1,15 +1,2 @@
-pub mod Safety
-pub mod SafetyLaws
-pub mod Sources
-pub mod Guards
-pub mod Listed
-pub mod Refusals
-pub mod Present
-pub mod Asking
-pub mod SafetyCases
-pub mod Matching
-pub mod Evaluation
-pub mod Rows
-pub mod Answers
-pub mod Events
-pub mod Standing
+pub mod meaning
+pub mod machine

@@ -1,21 +1,22 @@
 //! Atoms and comparisons: the valuations under which they hold, and whether they hold under one.
-ghost use Rattle.std.specs.Prelude.{◌≡◌, ◌↔◌, ◌⊎◌, ◌<ℤ◌, ◌≤ℤ◌, OnOk};
-ghost use Rattle.std.specs.Prelude.{IsSome, IsTrue, Contains};
-ghost use Rattle.enf_value.specs.Valuations.{value_of};
-ghost use Rattle.enf_value.specs.declared.terms.Term.TheVariants.{Var as Variable};
-ghost use Rattle.enf_value.specs.declared.terms.VarId.{VarId as AnyVariable};
-ghost use Rattle.enf_formula.specs.Satisfaction.{AreSame, AreOrdered};
-ghost use Rattle.monitorable_guard.specs.Answers.{AddsRows, IsBoundBy, IsEquated, IsMatchAmong, IsMatchOf, IsValued};
-ghost use Rattle.monitorable_guard.specs.Events.{shown};
-ghost use Rattle.valuations.specs.Scopes.{bound_in};
+ghost use Rattle.std.specs.Prelude.{◌≡◌, ◌↔◌, ◌⊎◌, ◌<ℤ◌, ◌≤ℤ◌, OnOk, IsSome, IsTrue};
+ghost use Rattle.std.specs.Prelude.{Contains};
+ghost use Rattle.enf_data.specs.meaning.Valuations.{value_of_term};
+ghost use Rattle.enf_data.specs.declared.terms.Term.TheVariants.{Var as Variable};
+ghost use Rattle.enf_data.specs.declared.terms.VarId.{VarId as AnyVariable};
+ghost use Rattle.enf_formula.specs.meaning.Satisfaction.{AreSameValues, AreNumbersInOrder};
+ghost use Rattle.monitorable_guard.specs.machine.Answers.{AddsRows, IsBoundBy, IsEquated, IsMatchAmong, IsMatchOf};
+ghost use Rattle.monitorable_guard.specs.machine.Answers.{IsValued};
+ghost use Rattle.monitorable_guard.specs.machine.EventOrder.{shown_events};
+ghost use Rattle.valuations.specs.machine.Bindings.{bound_in};
 
-use crate::matching::{matched, matched_term};
-use crate::pushing::push_row;
-use enf_value::events::Event;
-use enf_value::memory::NoMemory;
-use enf_value::rows::Row;
-use enf_value::terms::{Term, VarId};
-use enf_value::values::Value;
+use crate::atom_matches::{matched, matched_term};
+use crate::scope_rows::push_row;
+use enf_data::events::Event;
+use enf_data::memory::NoMemory;
+use enf_data::rows::Row;
+use enf_data::terms::{Term, VarId};
+use enf_data::values::Value;
 use std::alloc::Global;
 use valuations::arguments::value_in;
 use valuations::{Frame, Scope};
@@ -32,7 +33,7 @@ pub fn gather_events<'a>(
     requires { (x : AnyVariable) → Contains columns.now x
         → IsBoundBy (bound_in scope.now) x ⊎ Contains terms.now (Variable x) }
     ensures { OnOk result (AddsRows columns.now out.old.items out.new.items
-        (IsMatchAmong (shown events.now) terms.now (bound_in scope.now) columns.now)) }
+        (IsMatchAmong (shown_events events.now) terms.now (bound_in scope.now) columns.now)) }
 {
     for event in events {
         gather_match(alloc, terms, event.args.as_slice(), scope, columns, out)?;
@@ -69,7 +70,8 @@ pub fn gather_equal<'a>(
     columns: &[VarId],
     out: &mut Vec<Row>,
 ) -> Result<(), NoMemory>
-    requires one { IsSome (value_of (bound_in scope.now) s.now) ⊎ IsSome (value_of (bound_in scope.now) t.now) }
+    requires one { IsSome (value_of_term (bound_in scope.now) s.now)
+        ⊎ IsSome (value_of_term (bound_in scope.now) t.now) }
     requires within { (x : AnyVariable) → Contains columns.now x
         → IsBoundBy (bound_in scope.now) x ⊎ ((s.now ≡ Variable x) ⊎ (t.now ≡ Variable x)) }
     ensures { OnOk result (AddsRows columns.now out.old.items out.new.items
@@ -103,7 +105,8 @@ fn gather_value<'a>(
 
 // Whether both terms have values, which are the same.
 pub fn is_equal<'a>(s: &'a Term, t: &'a Term, scope: &'a Frame<'a>) -> bool
-    ensures { IsTrue result ↔ AreSame (value_of (bound_in scope.now) s.now) (value_of (bound_in scope.now) t.now) }
+    ensures { IsTrue result ↔ AreSameValues (value_of_term (bound_in scope.now) s.now)
+        (value_of_term (bound_in scope.now) t.now) }
 {
     match (value_in(s, scope), value_in(t, scope)) {
         (Some(a), Some(b)) => a == b,
@@ -114,7 +117,8 @@ pub fn is_equal<'a>(s: &'a Term, t: &'a Term, scope: &'a Frame<'a>) -> bool
 // Whether both terms are numbers, of which the first is less.
 pub fn is_less<'a>(s: &'a Term, t: &'a Term, scope: &'a Frame<'a>) -> bool
     ensures { IsTrue result
-        ↔ AreOrdered ◌<ℤ◌ (value_of (bound_in scope.now) s.now) (value_of (bound_in scope.now) t.now) }
+        ↔ AreNumbersInOrder ◌<ℤ◌ (value_of_term (bound_in scope.now) s.now)
+        (value_of_term (bound_in scope.now) t.now) }
 {
     match (value_in(s, scope), value_in(t, scope)) {
         (Some(Value::Num(a)), Some(Value::Num(b))) => *a < *b,
@@ -125,7 +129,8 @@ pub fn is_less<'a>(s: &'a Term, t: &'a Term, scope: &'a Frame<'a>) -> bool
 // Whether both terms are numbers, of which the first is at most the second.
 pub fn is_at_most<'a>(s: &'a Term, t: &'a Term, scope: &'a Frame<'a>) -> bool
     ensures { IsTrue result
-        ↔ AreOrdered ◌≤ℤ◌ (value_of (bound_in scope.now) s.now) (value_of (bound_in scope.now) t.now) }
+        ↔ AreNumbersInOrder ◌≤ℤ◌ (value_of_term (bound_in scope.now) s.now)
+        (value_of_term (bound_in scope.now) t.now) }
 {
     match (value_in(s, scope), value_in(t, scope)) {
         (Some(Value::Num(a)), Some(Value::Num(b))) => *a <= *b,

@@ -1,17 +1,17 @@
 //! What it takes to evaluate a formula, decided.
-ghost use Rattle.std.specs.Prelude.{◌≡◌, ◌≤◌, ◌↔◌, ◌⊎◌, [], ◌∷◌};
-ghost use Rattle.std.specs.Prelude.{length, IfOk, IsTrue, Contains};
-ghost use Rattle.enf_formula.specs.Formulas.{tree_of};
-ghost use Rattle.enf_value.specs.declared.terms.VarId.{VarId as Variable};
-ghost use Rattle.monitorable_guard.specs.Evaluation.{FitOperators};
-ghost use Rattle.monitorable_guard.specs.Present.{behind, outermost};
-ghost use Rattle.monitorable_guard.specs.Safety.{BindsFresh};
+ghost use Rattle.std.specs.Prelude.{◌≡◌, ◌≤◌, ◌↔◌, ◌⊎◌, [], ◌∷◌, length, IfOk, IsTrue};
+ghost use Rattle.std.specs.Prelude.{Contains};
+ghost use Rattle.enf_formula.specs.machine.FormulaViews.{tree_of};
+ghost use Rattle.enf_data.specs.declared.terms.VarId.{VarId as Variable};
+ghost use Rattle.monitorable_guard.specs.machine.Evaluation.{FitOperators};
+ghost use Rattle.monitorable_guard.specs.machine.PresentMeaning.{tables_beyond, outermost};
+ghost use Rattle.enf_formula.specs.meaning.FormulaShape.{BindsFresh};
 
 use crate::operators::operators;
 use crate::scopes::{are_same, is_in, joined};
+use enf_data::memory::NoMemory;
+use enf_data::terms::VarId;
 use enf_formula::Formula;
-use enf_value::memory::NoMemory;
-use enf_value::terms::VarId;
 use std::alloc::Global;
 use valuations::Table;
 
@@ -124,7 +124,7 @@ pub fn fits(alloc: Global, formula: &Formula, tables: &[Table]) -> Result<bool, 
 fn fit_both(alloc: Global, g: &Formula, h: &Formula, tables: &[Table]) -> Result<bool, NoMemory>
     ensures { IfOk result (λ fit. IsTrue fit
         ↔ (FitOperators (outermost (tree_of g.now)) tables.now
-        × FitOperators (outermost (tree_of h.now)) (behind (tree_of g.now) tables.now))) }
+        × FitOperators (outermost (tree_of h.now)) (tables_beyond (tree_of g.now) tables.now))) }
 {
     if fits(alloc, g, tables)? {
         fits(alloc, h, tables_behind(g, tables))
@@ -133,10 +133,10 @@ fn fit_both(alloc: Global, g: &Formula, h: &Formula, tables: &[Table]) -> Result
     }
 }
 
-// The tables behind those of the formula.
+// The tables after those of the formula.
 fn tables_behind<'t>(formula: &Formula, tables: &'t [Table]) -> &'t [Table]
     requires { length (outermost (tree_of formula.now)) ≤ length tables.now }
-    ensures { result.now ≡ behind (tree_of formula.now) tables.now }
+    ensures { result.now ≡ tables_beyond (tree_of formula.now) tables.now }
 {
     &tables[operators(formula)..]
 }

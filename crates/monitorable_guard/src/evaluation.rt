@@ -1,27 +1,27 @@
 //! The valuations under which a formula holds at a step, and whether it holds under one.
 ghost use Rattle.std.specs.Prelude.{◌≡◌, ◌↔◌, ◌<◌, ◌^◌, ◌⊎◌, ℕ, List, [], OnOk, IfOk};
 ghost use Rattle.std.specs.Prelude.{IsTrue, Contains, drop, length};
-ghost use Rattle.enf_formula.specs.Formulas as tree;
-ghost use Rattle.enf_formula.specs.Formulas.{tree_of};
-ghost use Rattle.enf_value.specs.Valuations.{Valuation as Bound};
-ghost use Rattle.enf_value.specs.declared.terms.VarId.{VarId as Variable};
-ghost use Rattle.enf_value.specs.declared.values.Value.{Value as AnyValue};
-ghost use Rattle.valuations.specs.Scopes.{bound_in, filled};
-ghost use Rattle.valuations.specs.Tables.{IsTable};
-ghost use Rattle.monitorable_guard.specs.Answers.{AddsRows, IsSolution, AreInScope, AreOpenUnder, CanAsk, HasAnswers};
-ghost use Rattle.monitorable_guard.specs.Answers.{IsAnswer, IsBoundBy};
-ghost use Rattle.monitorable_guard.specs.Present.{HoldsNow, behind};
-ghost use Rattle.monitorable_guard.specs.Safety.{FreeWithin};
+ghost use Rattle.enf_formula.specs.machine.FormulaViews.{tree_of};
+ghost use Rattle.enf_data.specs.meaning.Valuations.{Valuation as Bound};
+ghost use Rattle.enf_data.specs.declared.terms.VarId.{VarId as Variable};
+ghost use Rattle.enf_data.specs.declared.values.Value.{Value as AnyValue};
+ghost use Rattle.valuations.specs.machine.Bindings.{bound_in, filled_from_row};
+ghost use Rattle.valuations.specs.machine.Tables.{IsTable};
+ghost use Rattle.monitorable_guard.specs.machine.Answers.{AddsRows, IsSolution, AreBoundOrFree, AreOpenUnder};
+ghost use Rattle.monitorable_guard.specs.machine.Answers.{CanAskFormula, HasAnswers, IsGuardAnswer, IsBoundBy};
+ghost use Rattle.monitorable_guard.specs.machine.PresentMeaning.{HoldsNow, tables_beyond};
+ghost use Rattle.monitorable_guard.specs.meaning.Safety.{FreeWithin};
+ghost use Rattle.enf_formula.specs.meaning.Satisfaction as tree;
 
 use crate::atoms::{gather_equal, gather_events, is_at_most, is_equal, is_less};
 use crate::events::StepEvents;
 use crate::operators::{is_closed, is_closed_under, open_variables, operators};
-use crate::past::Past;
-use crate::pushing::{push_if, push_rows};
+use crate::past_tables::Past;
+use crate::scope_rows::{push_if, push_rows};
+use enf_data::memory::NoMemory;
+use enf_data::rows::Row;
+use enf_data::terms::{VarId, Vars};
 use enf_formula::Formula;
-use enf_value::memory::NoMemory;
-use enf_value::rows::Row;
-use enf_value::terms::{VarId, Vars};
 use std::alloc::Global;
 use valuations::{Frame, Table};
 
@@ -42,7 +42,8 @@ fn rows<'a, P: Past>(
     scope: &'a Frame<'a>,
 ) -> Result<Table, NoMemory>
     requires few { length (P.tables present.now.past.now) < 2 ^ 64 }
-    requires ask { CanAsk (bound_in scope.now) (drop first (P.tables present.now.past.now)) (tree_of formula.now) }
+    requires ask { CanAskFormula (bound_in scope.now) (drop first (P.tables present.now.past.now))
+        (tree_of formula.now) }
     ensures table { IfOk result IsTable }
     ensures columns { IfOk result (λ t. AreOpenUnder (bound_in scope.now) (tree_of formula.now) t.columns) }
     ensures rows { IfOk result (HasAnswers present.now.events.now
@@ -52,7 +53,7 @@ fn rows<'a, P: Past>(
     rows_over(alloc, present, formula, first, scope, columns)
 }
 
-// The same where it is known which free variables have no value.
+// The table of the valuations under which the formula holds, where it is known which free variables have no value.
 #[cycle(evaluation)]
 pub fn rows_over<'a, P: Past>(
     alloc: Global,
@@ -63,7 +64,8 @@ pub fn rows_over<'a, P: Past>(
     columns: Vars,
 ) -> Result<Table, NoMemory>
     requires few { length (P.tables present.now.past.now) < 2 ^ 64 }
-    requires ask { CanAsk (bound_in scope.now) (drop first (P.tables present.now.past.now)) (tree_of formula.now) }
+    requires ask { CanAskFormula (bound_in scope.now) (drop first (P.tables present.now.past.now))
+        (tree_of formula.now) }
     requires open { AreOpenUnder (bound_in scope.now) (tree_of formula.now) columns }
     ensures table { IfOk result IsTable }
     ensures columns { IfOk result (λ t. AreOpenUnder (bound_in scope.now) (tree_of formula.now) t.columns) }
@@ -97,17 +99,19 @@ fn gather<'a, P: Past>(
     out: &mut Vec<Row>,
 ) -> Result<(), NoMemory>
     requires few { length (P.tables present.now.past.now) < 2 ^ 64 }
-    requires ask { CanAsk (bound_in scope.now) (drop first (P.tables present.now.past.now)) (tree_of formula.now) }
-    requires within { AreInScope columns.now (bound_in scope.now) (tree_of formula.now) }
+    requires ask { CanAskFormula (bound_in scope.now) (drop first (P.tables present.now.past.now))
+        (tree_of formula.now) }
+    requires within { AreBoundOrFree columns.now (bound_in scope.now) (tree_of formula.now) }
     ensures { OnOk result (AddsRows columns.now out.old.items out.new.items
-        (IsAnswer present.now.events.now (drop first (P.tables present.now.past.now)) (bound_in scope.now)
+        (IsGuardAnswer present.now.events.now (drop first (P.tables present.now.past.now)) (bound_in scope.now)
         (tree_of formula.now) columns.now)) }
 {
     let closed = is_closed(alloc, formula, scope)?;
     gather_known(alloc, present, formula, first, scope, columns, closed, out)
 }
 
-// The same where it is known whether each free variable has a value.
+// Adds the row of each valuation under which the formula holds, where it is known whether each free variable has a
+// value.
 #[cycle(evaluation)]
 fn gather_known<'a, P: Past>(
     alloc: Global,
@@ -120,11 +124,12 @@ fn gather_known<'a, P: Past>(
     out: &mut Vec<Row>,
 ) -> Result<(), NoMemory>
     requires few { length (P.tables present.now.past.now) < 2 ^ 64 }
-    requires ask { CanAsk (bound_in scope.now) (drop first (P.tables present.now.past.now)) (tree_of formula.now) }
-    requires within { AreInScope columns.now (bound_in scope.now) (tree_of formula.now) }
+    requires ask { CanAskFormula (bound_in scope.now) (drop first (P.tables present.now.past.now))
+        (tree_of formula.now) }
+    requires within { AreBoundOrFree columns.now (bound_in scope.now) (tree_of formula.now) }
     requires known { IsTrue closed ↔ FreeWithin (tree_of formula.now) (IsBoundBy (bound_in scope.now)) }
     ensures { OnOk result (AddsRows columns.now out.old.items out.new.items
-        (IsAnswer present.now.events.now (drop first (P.tables present.now.past.now)) (bound_in scope.now)
+        (IsGuardAnswer present.now.events.now (drop first (P.tables present.now.past.now)) (bound_in scope.now)
         (tree_of formula.now) columns.now)) }
 {
     if closed {
@@ -135,7 +140,7 @@ fn gather_known<'a, P: Past>(
     }
 }
 
-// The same of a formula with a free variable that has no value.
+// Adds the row of each valuation under which a formula with a free variable that has no value holds.
 #[cycle(evaluation)]
 fn gather_open<'a, P: Past>(
     alloc: Global,
@@ -147,11 +152,12 @@ fn gather_open<'a, P: Past>(
     out: &mut Vec<Row>,
 ) -> Result<(), NoMemory>
     requires few { length (P.tables present.now.past.now) < 2 ^ 64 }
-    requires ask { CanAsk (bound_in scope.now) (drop first (P.tables present.now.past.now)) (tree_of formula.now) }
-    requires within { AreInScope columns.now (bound_in scope.now) (tree_of formula.now) }
+    requires ask { CanAskFormula (bound_in scope.now) (drop first (P.tables present.now.past.now))
+        (tree_of formula.now) }
+    requires within { AreBoundOrFree columns.now (bound_in scope.now) (tree_of formula.now) }
     requires open { FreeWithin (tree_of formula.now) (IsBoundBy (bound_in scope.now)) → ⊥ }
     ensures { OnOk result (AddsRows columns.now out.old.items out.new.items
-        (IsAnswer present.now.events.now (drop first (P.tables present.now.past.now)) (bound_in scope.now)
+        (IsGuardAnswer present.now.events.now (drop first (P.tables present.now.past.now)) (bound_in scope.now)
         (tree_of formula.now) columns.now)) }
 {
     match formula {
@@ -185,11 +191,11 @@ fn gather_both<'a, P: Past>(
     out: &mut Vec<Row>,
 ) -> Result<(), NoMemory>
     requires few { length (P.tables present.now.past.now) < 2 ^ 64 }
-    requires ask { (place : ℕ) × CanAsk (bound_in scope.now) (drop first (P.tables present.now.past.now))
+    requires ask { (place : ℕ) × CanAskFormula (bound_in scope.now) (drop first (P.tables present.now.past.now))
         (tree.And place (tree_of g.now) (tree_of h.now)) }
-    requires within { AreInScope columns.now (bound_in scope.now) (tree.And 0 (tree_of g.now) (tree_of h.now)) }
+    requires within { AreBoundOrFree columns.now (bound_in scope.now) (tree.And 0 (tree_of g.now) (tree_of h.now)) }
     ensures { (place : ℕ) → OnOk result (AddsRows columns.now out.old.items out.new.items
-        (IsAnswer present.now.events.now (drop first (P.tables present.now.past.now)) (bound_in scope.now)
+        (IsGuardAnswer present.now.events.now (drop first (P.tables present.now.past.now)) (bound_in scope.now)
         (tree.And place (tree_of g.now) (tree_of h.now)) columns.now)) }
 {
     let left = rows(alloc, present, g, first, scope)?;
@@ -212,14 +218,15 @@ fn gather_under<'a, P: Past>(
     requires few { length (P.tables present.now.past.now) < 2 ^ 64 }
     requires table { IsTable table.now }
     requires ask { (row : List AnyValue) → Contains table.now.rows row
-        → CanAsk (filled (bound_in scope.now) table.now.columns row)
+        → CanAskFormula (filled_from_row (bound_in scope.now) table.now.columns row)
         (drop first (P.tables present.now.past.now)) (tree_of formula.now) }
     requires within { (row : List AnyValue) → Contains table.now.rows row
-        → AreInScope columns.now (filled (bound_in scope.now) table.now.columns row) (tree_of formula.now) }
+        → AreBoundOrFree columns.now (filled_from_row (bound_in scope.now) table.now.columns row)
+        (tree_of formula.now) }
     ensures { OnOk result (AddsRows columns.now out.old.items out.new.items
         (λ w. (row : List AnyValue) × Contains table.now.rows row
-        × IsAnswer present.now.events.now (drop first (P.tables present.now.past.now))
-        (filled (bound_in scope.now) table.now.columns row) (tree_of formula.now) columns.now w)) }
+        × IsGuardAnswer present.now.events.now (drop first (P.tables present.now.past.now))
+        (filled_from_row (bound_in scope.now) table.now.columns row) (tree_of formula.now) columns.now w)) }
 {
     let closed = is_closed_under(alloc, formula, table, &*scope)?;
     for row in table.rows() {
@@ -241,11 +248,11 @@ fn gather_either<'a, P: Past>(
     out: &mut Vec<Row>,
 ) -> Result<(), NoMemory>
     requires few { length (P.tables present.now.past.now) < 2 ^ 64 }
-    requires ask { (place : ℕ) × CanAsk (bound_in scope.now) (drop first (P.tables present.now.past.now))
+    requires ask { (place : ℕ) × CanAskFormula (bound_in scope.now) (drop first (P.tables present.now.past.now))
         (tree.Or place (tree_of g.now) (tree_of h.now)) }
-    requires within { AreInScope columns.now (bound_in scope.now) (tree.Or 0 (tree_of g.now) (tree_of h.now)) }
+    requires within { AreBoundOrFree columns.now (bound_in scope.now) (tree.Or 0 (tree_of g.now) (tree_of h.now)) }
     ensures { (place : ℕ) → OnOk result (AddsRows columns.now out.old.items out.new.items
-        (IsAnswer present.now.events.now (drop first (P.tables present.now.past.now)) (bound_in scope.now)
+        (IsGuardAnswer present.now.events.now (drop first (P.tables present.now.past.now)) (bound_in scope.now)
         (tree.Or place (tree_of g.now) (tree_of h.now)) columns.now)) }
 {
     gather(alloc, present, g, first, scope, columns, out)?;
@@ -262,7 +269,8 @@ fn has_answer<'a, P: Past>(
     scope: &'a Frame<'a>,
 ) -> Result<bool, NoMemory>
     requires few { length (P.tables present.now.past.now) < 2 ^ 64 }
-    requires ask { CanAsk (bound_in scope.now) (drop first (P.tables present.now.past.now)) (tree_of formula.now) }
+    requires ask { CanAskFormula (bound_in scope.now) (drop first (P.tables present.now.past.now))
+        (tree_of formula.now) }
     ensures { IfOk result (λ there. IsTrue there ↔ ((u : Bound) × IsSolution present.now.events.now
         (drop first (P.tables present.now.past.now)) (bound_in scope.now) (tree_of formula.now) u)) }
 {
@@ -281,7 +289,8 @@ pub fn holds<'a, P: Past>(
     scope: &'a Frame<'a>,
 ) -> Result<bool, NoMemory>
     requires few { length (P.tables present.now.past.now) < 2 ^ 64 }
-    requires ask { CanAsk (bound_in scope.now) (drop first (P.tables present.now.past.now)) (tree_of formula.now) }
+    requires ask { CanAskFormula (bound_in scope.now) (drop first (P.tables present.now.past.now))
+        (tree_of formula.now) }
     requires closed { FreeWithin (tree_of formula.now) (IsBoundBy (bound_in scope.now)) }
     ensures { IfOk result (λ holds. IsTrue holds ↔ HoldsNow present.now.events.now
         (drop first (P.tables present.now.past.now)) (bound_in scope.now) (tree_of formula.now)) }
@@ -322,15 +331,15 @@ fn hold_both<'a, P: Past>(
     scope: &'a Frame<'a>,
 ) -> Result<bool, NoMemory>
     requires few { length (P.tables present.now.past.now) < 2 ^ 64 }
-    requires left { CanAsk (bound_in scope.now) (drop first (P.tables present.now.past.now)) (tree_of g.now) }
-    requires right { CanAsk (bound_in scope.now)
-        (behind (tree_of g.now) (drop first (P.tables present.now.past.now))) (tree_of h.now) }
+    requires left { CanAskFormula (bound_in scope.now) (drop first (P.tables present.now.past.now)) (tree_of g.now) }
+    requires right { CanAskFormula (bound_in scope.now)
+        (tables_beyond (tree_of g.now) (drop first (P.tables present.now.past.now))) (tree_of h.now) }
     requires closed { FreeWithin (tree_of g.now) (IsBoundBy (bound_in scope.now)) }
     requires closed_right { FreeWithin (tree_of h.now) (IsBoundBy (bound_in scope.now)) }
     ensures { IfOk result (λ hold. IsTrue hold
         ↔ (HoldsNow present.now.events.now (drop first (P.tables present.now.past.now)) (bound_in scope.now)
         (tree_of g.now) × HoldsNow present.now.events.now
-        (behind (tree_of g.now) (drop first (P.tables present.now.past.now))) (bound_in scope.now)
+        (tables_beyond (tree_of g.now) (drop first (P.tables present.now.past.now))) (bound_in scope.now)
         (tree_of h.now))) }
 {
     if holds(alloc, present, g, first, scope)? {
@@ -350,15 +359,15 @@ fn holds_either<'a, P: Past>(
     scope: &'a Frame<'a>,
 ) -> Result<bool, NoMemory>
     requires few { length (P.tables present.now.past.now) < 2 ^ 64 }
-    requires left { CanAsk (bound_in scope.now) (drop first (P.tables present.now.past.now)) (tree_of g.now) }
-    requires right { CanAsk (bound_in scope.now)
-        (behind (tree_of g.now) (drop first (P.tables present.now.past.now))) (tree_of h.now) }
+    requires left { CanAskFormula (bound_in scope.now) (drop first (P.tables present.now.past.now)) (tree_of g.now) }
+    requires right { CanAskFormula (bound_in scope.now)
+        (tables_beyond (tree_of g.now) (drop first (P.tables present.now.past.now))) (tree_of h.now) }
     requires closed { FreeWithin (tree_of g.now) (IsBoundBy (bound_in scope.now)) }
     requires closed_right { FreeWithin (tree_of h.now) (IsBoundBy (bound_in scope.now)) }
     ensures { IfOk result (λ holds. IsTrue holds
         ↔ (HoldsNow present.now.events.now (drop first (P.tables present.now.past.now)) (bound_in scope.now)
         (tree_of g.now) ⊎ HoldsNow present.now.events.now
-        (behind (tree_of g.now) (drop first (P.tables present.now.past.now))) (bound_in scope.now)
+        (tables_beyond (tree_of g.now) (drop first (P.tables present.now.past.now))) (bound_in scope.now)
         (tree_of h.now))) }
 {
     if holds(alloc, present, g, first, scope)? {
@@ -378,15 +387,15 @@ fn holds_where<'a, P: Past>(
     scope: &'a Frame<'a>,
 ) -> Result<bool, NoMemory>
     requires few { length (P.tables present.now.past.now) < 2 ^ 64 }
-    requires left { CanAsk (bound_in scope.now) (drop first (P.tables present.now.past.now)) (tree_of g.now) }
-    requires right { CanAsk (bound_in scope.now)
-        (behind (tree_of g.now) (drop first (P.tables present.now.past.now))) (tree_of h.now) }
+    requires left { CanAskFormula (bound_in scope.now) (drop first (P.tables present.now.past.now)) (tree_of g.now) }
+    requires right { CanAskFormula (bound_in scope.now)
+        (tables_beyond (tree_of g.now) (drop first (P.tables present.now.past.now))) (tree_of h.now) }
     requires closed { FreeWithin (tree_of g.now) (IsBoundBy (bound_in scope.now)) }
     requires closed_right { FreeWithin (tree_of h.now) (IsBoundBy (bound_in scope.now)) }
     ensures { IfOk result (λ holds. IsTrue holds
         ↔ (HoldsNow present.now.events.now (drop first (P.tables present.now.past.now)) (bound_in scope.now)
         (tree_of g.now) → HoldsNow present.now.events.now
-        (behind (tree_of g.now) (drop first (P.tables present.now.past.now))) (bound_in scope.now)
+        (tables_beyond (tree_of g.now) (drop first (P.tables present.now.past.now))) (bound_in scope.now)
         (tree_of h.now))) }
 {
     if holds(alloc, present, g, first, scope)? {
@@ -406,9 +415,9 @@ fn holds_for_all<'a, P: Past>(
     scope: &'a Frame<'a>,
 ) -> Result<bool, NoMemory>
     requires few { length (P.tables present.now.past.now) < 2 ^ 64 }
-    requires ask { (place : ℕ) × (xs : List Variable) × CanAsk (bound_in scope.now)
+    requires ask { (place : ℕ) × (xs : List Variable) × CanAskFormula (bound_in scope.now)
         (drop first (P.tables present.now.past.now)) (tree.Forall place xs (tree_of body.now)) }
-    ensures { IfOk result (λ holds. (place : ℕ) (xs : List Variable) → CanAsk (bound_in scope.now)
+    ensures { IfOk result (λ holds. (place : ℕ) (xs : List Variable) → CanAskFormula (bound_in scope.now)
         (drop first (P.tables present.now.past.now)) (tree.Forall place xs (tree_of body.now))
         → FreeWithin (tree.Forall place xs (tree_of body.now)) (IsBoundBy (bound_in scope.now))
         → IsTrue holds ↔ HoldsNow present.now.events.now
@@ -435,10 +444,10 @@ fn holds_for_each<'a, P: Past>(
     scope: &'a Frame<'a>,
 ) -> Result<bool, NoMemory>
     requires few { length (P.tables present.now.past.now) < 2 ^ 64 }
-    requires ask { (places : ℕ × ℕ) × (xs : List Variable) × CanAsk (bound_in scope.now)
+    requires ask { (places : ℕ × ℕ) × (xs : List Variable) × CanAskFormula (bound_in scope.now)
         (drop first (P.tables present.now.past.now))
         (tree.Forall places.0 xs (tree.Implies places.1 (tree_of g.now) (tree_of h.now))) }
-    ensures { IfOk result (λ holds. (p q : ℕ) (xs : List Variable) → CanAsk (bound_in scope.now)
+    ensures { IfOk result (λ holds. (p q : ℕ) (xs : List Variable) → CanAskFormula (bound_in scope.now)
         (drop first (P.tables present.now.past.now))
         (tree.Forall p xs (tree.Implies q (tree_of g.now) (tree_of h.now)))
         → IsTrue holds ↔ HoldsNow present.now.events.now
@@ -462,13 +471,13 @@ fn holds_under<'a, P: Past>(
 ) -> Result<bool, NoMemory>
     requires few { length (P.tables present.now.past.now) < 2 ^ 64 }
     requires ask { (row : List AnyValue) → Contains table.now.rows row
-        → CanAsk (filled (bound_in scope.now) table.now.columns row)
+        → CanAskFormula (filled_from_row (bound_in scope.now) table.now.columns row)
         (drop first (P.tables present.now.past.now)) (tree_of formula.now) }
     requires closed { (row : List AnyValue) → Contains table.now.rows row
-        → FreeWithin (tree_of formula.now) (IsBoundBy (filled (bound_in scope.now) table.now.columns row)) }
+        → FreeWithin (tree_of formula.now) (IsBoundBy (filled_from_row (bound_in scope.now) table.now.columns row)) }
     ensures { IfOk result (λ holds. IsTrue holds
         ↔ ((row : List AnyValue) → Contains table.now.rows row → HoldsNow present.now.events.now
-        (drop first (P.tables present.now.past.now)) (filled (bound_in scope.now) table.now.columns row)
+        (drop first (P.tables present.now.past.now)) (filled_from_row (bound_in scope.now) table.now.columns row)
         (tree_of formula.now))) }
 {
     for row in table.rows() {

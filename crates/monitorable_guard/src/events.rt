@@ -2,17 +2,17 @@
 ghost use Rattle.std.specs.Prelude.{◌≡◌, ◌↔◌, ◌≤◌, IfOk, IsTrue, Contains, Some, length, map, take};
 ghost use Rattle.std.specs.List.Sorted.{IsSortedByKey};
 ghost use Rattle.std.specs.Ordering.{nat_cmp, ordering_then};
-ghost use Rattle.enf_formula.specs.Satisfaction.{IsAmong};
-ghost use Rattle.enf_value.specs.Order.{row_cmp};
-ghost use Rattle.enf_value.specs.Valuations.{value_of, values_of};
-ghost use Rattle.enf_value.specs.declared.events.Event.{Event as AnyEvent};
-ghost use Rattle.monitorable_guard.specs.Events.{HasItsEvents, IsByName, listed, name_of, shown};
-ghost use Rattle.valuations.specs.Cells.{key_cmp};
+ghost use Rattle.enf_formula.specs.meaning.Satisfaction.{IsEventAmong};
+ghost use Rattle.enf_data.specs.meaning.Values.{row_cmp};
+ghost use Rattle.enf_data.specs.meaning.Valuations.{value_of_term, values_of_terms};
+ghost use Rattle.enf_data.specs.declared.events.Event.{Event as AnyEvent};
+ghost use Rattle.monitorable_guard.specs.machine.EventOrder.{HasItsEvents, IsByName, listed, name_of, shown_events};
+ghost use Rattle.valuations.specs.machine.RowParts.{key_cmp};
 
-use enf_value::event_sets::EventSet;
-use enf_value::events::{Event, NameId};
-use enf_value::memory::NoMemory;
-use enf_value::terms::Term;
+use enf_data::event_sets::EventSet;
+use enf_data::events::{Event, NameId};
+use enf_data::memory::NoMemory;
+use enf_data::terms::Term;
 use std::alloc::Global;
 use std::cmp::Ordering;
 use std::marker::Model;
@@ -45,8 +45,8 @@ pub(crate) struct FewEvents<'a> {
 
 impl<'a> Model for StepEvents<'a> {
     ghost use Rattle.std.specs.Prelude.{List};
-    ghost use Rattle.enf_value.specs.declared.events.Event.{Event};
-    ghost use Rattle.monitorable_guard.specs.Events.{HasItsEvents, IsByName, listed};
+    ghost use Rattle.enf_data.specs.declared.events.Event.{Event};
+    ghost use Rattle.monitorable_guard.specs.machine.EventOrder.{HasItsEvents, IsByName, listed};
 
     ghost Value = { List Event };
 
@@ -73,7 +73,7 @@ impl<'a> StepEvents<'a> {
 
     /// The events of a name.
     pub fn named(&self, name: NameId) -> &[&'a Event]
-        ensures { (event : AnyEvent) → Contains (shown result.now) event
+        ensures { (event : AnyEvent) → Contains (shown_events result.now) event
             ↔ (Contains self.now event × (event.name ≡ name)) }
     {
         of_name(order_of(&self.by_name), name)
@@ -82,7 +82,7 @@ impl<'a> StepEvents<'a> {
     /// Whether the terms are the arguments of an event of the name; it takes no memory.
     pub fn has_event<V: Lookup>(&self, name: NameId, terms: &[Term], v: &V) -> bool
         ensures { IsTrue result
-            ↔ IsAmong self.now name (values_of (V.valuation v.now) terms.now) }
+            ↔ IsEventAmong self.now name (values_of_terms (V.valuation v.now) terms.now) }
     {
         order_of(&self.by_name)
             .binary_search_by(|event| compare_to_event(event, name, terms, v))
@@ -114,7 +114,7 @@ fn in_order<'a>(alloc: Global, events: &'a [Event]) -> Result<ByName<'a>, NoMemo
     }
 }
 
-// The same of a few, in places that any event fills.
+// A few events in the order of their names and arguments, in places that any event fills.
 fn few_in_order<'a>(any: &'a Event, events: &'a [Event]) -> FewEvents<'a>
     requires { length events.now ≤ 4 }
     ensures few { result.count ≤ 4 }
@@ -131,7 +131,7 @@ fn few_in_order<'a>(any: &'a Event, events: &'a [Event]) -> FewEvents<'a>
     }
 }
 
-// The same of many.
+// Many events in the order of their names and arguments.
 fn many_in_order<'a>(alloc: Global, events: &'a [Event]) -> Result<Vec<&'a Event>, NoMemory>
     ensures { IfOk result (λ order. IsByName events.now order.items) }
 {
@@ -156,7 +156,7 @@ fn compare_events(a: &Event, b: &Event) -> Ordering
 // The order of an event and one of the name whose arguments are the values of the terms.
 fn compare_to_event<V: Lookup>(event: &Event, name: NameId, terms: &[Term], v: &V) -> Ordering
     ensures { result ≡ ordering_then (nat_cmp event.now.name.0 name.0)
-        (key_cmp (map Some event.now.args) (map (value_of (V.valuation v.now)) terms.now)) }
+        (key_cmp (map Some event.now.args) (map (value_of_term (V.valuation v.now)) terms.now)) }
 {
     match event.name.0.cmp(&name.0) {
         Ordering::Equal => compare_to_terms(event.args.as_slice(), terms, v),
@@ -167,8 +167,8 @@ fn compare_to_event<V: Lookup>(event: &Event, name: NameId, terms: &[Term], v: &
 // Those of the events in order that have the name.
 fn of_name<'s, 'a>(order: &'s [&'a Event], name: NameId) -> &'s [&'a Event]
     requires { IsSortedByKey name_of nat_cmp order.now }
-    ensures { (event : AnyEvent) → Contains (shown result.now) event
-        ↔ (Contains (shown order.now) event × (event.name ≡ name)) }
+    ensures { (event : AnyEvent) → Contains (shown_events result.now) event
+        ↔ (Contains (shown_events order.now) event × (event.name ≡ name)) }
 {
     let from = order.partition_point(|event| event.name.0.cmp(&name.0).is_lt());
     let rest = &order[from..];

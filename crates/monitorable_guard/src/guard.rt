@@ -1,29 +1,30 @@
 //! Guards: formulas that can be evaluated over finite tables, with the variables that are bound.
 ghost use Rattle.std.specs.Prelude.{◌≡◌, ◌↔◌, ◌⊎◌, List, IfOk, IfErr, IfSome, OnOk, IsTrue, Contains};
-ghost use Rattle.enf_value.specs.Valuations.{Valuation as Bound};
-ghost use Rattle.valuations.specs.Scopes.{bound_in};
-ghost use Rattle.valuations.specs.Tables.{IsTable, Relation};
-ghost use Rattle.monitorable_guard.specs.Evaluation.{AreOpen, CanEvaluate, HasKnownValues, HoldsFor};
-ghost use Rattle.enf_formula.specs.Formulas.{tree_of};
-ghost use Rattle.enf_formula.specs.FreeVariables.{IsFree};
-ghost use Rattle.monitorable_guard.specs.Safety.{BindsFresh, FreeWithin, Safe, IsTest};
-ghost use Rattle.monitorable_guard.specs.Present.{HoldsNow};
-ghost use Rattle.monitorable_guard.specs.Refusals.{RefusesGuard};
+ghost use Rattle.enf_data.specs.meaning.Valuations.{Valuation as Bound};
+ghost use Rattle.valuations.specs.machine.Bindings.{bound_in};
+ghost use Rattle.valuations.specs.machine.Tables.{IsTable, Relation};
+ghost use Rattle.monitorable_guard.specs.machine.Evaluation.{AreOpen, CanEvaluate, HasKnownValues, AreHoldingRows};
+ghost use Rattle.enf_formula.specs.machine.FormulaViews.{tree_of};
+ghost use Rattle.enf_formula.specs.meaning.Satisfaction.{IsFree};
+ghost use Rattle.enf_formula.specs.meaning.FormulaShape.{BindsFresh};
+ghost use Rattle.monitorable_guard.specs.meaning.Safety.{FreeWithin, Safe, IsTest};
+ghost use Rattle.monitorable_guard.specs.machine.PresentMeaning.{HoldsNow};
+ghost use Rattle.monitorable_guard.specs.machine.Guards.{RefusesGuard};
 
 use crate::conditions::{fits, is_fresh};
 use crate::evaluation::{Present, holds, rows_over};
 use crate::events::StepEvents;
+use crate::guard_rows::{Rows, are_variables, told};
 use crate::operators::{are_bound, open_beside};
-use crate::past::{Past, PastTables};
-use crate::rows::{Rows, are_variables, told};
+use crate::past_tables::{Past, PastTables};
 use crate::safety::is_safe;
 use crate::scopes::{is_free_within, with_free};
+use enf_data::event_sets::EventSet;
+use enf_data::items::Duplicate;
+use enf_data::memory::NoMemory;
+use enf_data::places::Place;
+use enf_data::terms::Vars;
 use enf_formula::Formula;
-use enf_value::event_sets::EventSet;
-use enf_value::items::Duplicate;
-use enf_value::memory::NoMemory;
-use enf_value::places::Place;
-use enf_value::terms::Vars;
 use std::alloc::Global;
 use std::marker::Model;
 use valuations::{Frame, Table, Valuation};
@@ -57,10 +58,10 @@ pub struct Guard {
 
 impl Model for Guard {
     ghost use Rattle.std.specs.Prelude.{Contains};
-    ghost use Rattle.enf_formula.specs.Formulas.{tree_of};
-    ghost use Rattle.monitorable_guard.specs.Evaluation.{AreOpen};
-    ghost use Rattle.monitorable_guard.specs.Guards.{BoundFormula, bound_formula_code};
-    ghost use Rattle.monitorable_guard.specs.Safety.{Safe};
+    ghost use Rattle.enf_formula.specs.machine.FormulaViews.{tree_of};
+    ghost use Rattle.monitorable_guard.specs.machine.Evaluation.{AreOpen};
+    ghost use Rattle.monitorable_guard.specs.machine.Guards.{BoundFormula, bound_formula_code};
+    ghost use Rattle.monitorable_guard.specs.meaning.Safety.{Safe};
 
     ghost Value = { BoundFormula };
 
@@ -159,7 +160,7 @@ impl Guard {
         ensures columns { IfOk result (λ t. AreOpen (tree_of self.now.formula) self.now.bound
             t.columns) }
         ensures rows { IfOk result
-            (HoldsFor events.now past.now (tree_of self.now.formula) self.now.bound v.now) }
+            (AreHoldingRows events.now past.now (tree_of self.now.formula) self.now.bound v.now) }
         ensures known { IfOk result
             (HasKnownValues events.now past.now (tree_of self.now.formula) self.now.bound v.now) }
     {
@@ -167,7 +168,7 @@ impl Guard {
         self.evaluate_at(alloc, &events, &PastTables { tables: past }, v)
     }
 
-    /// The same of any past, at events that were put in order once for a step.
+    /// The rows of the formula over any past, at events that were put in order once for a step.
     pub fn evaluate_at<P: Past>(
         &self,
         alloc: Global,
@@ -179,7 +180,7 @@ impl Guard {
         ensures table { IfOk result IsTable }
         ensures columns { IfOk result (λ t. AreOpen (tree_of self.now.formula) self.now.bound
             t.columns) }
-        ensures rows { IfOk result (HoldsFor events.now (P.tables past.now)
+        ensures rows { IfOk result (AreHoldingRows events.now (P.tables past.now)
             (tree_of self.now.formula) self.now.bound v.now) }
         ensures known { IfOk result (HasKnownValues events.now (P.tables past.now)
             (tree_of self.now.formula) self.now.bound v.now) }
@@ -187,7 +188,7 @@ impl Guard {
         self.evaluate_under(alloc, events, past, &Frame::Whole(v))
     }
 
-    /// The same under a frame.
+    /// The rows of the formula over any past, under a frame of values.
     pub fn evaluate_under<P: Past>(
         &self,
         alloc: Global,
@@ -200,7 +201,7 @@ impl Guard {
         ensures table { IfOk result IsTable }
         ensures columns { IfOk result (λ t. AreOpen (tree_of self.now.formula) self.now.bound
             t.columns) }
-        ensures rows { IfOk result (HoldsFor events.now (P.tables past.now)
+        ensures rows { IfOk result (AreHoldingRows events.now (P.tables past.now)
             (tree_of self.now.formula) self.now.bound (bound_in v.now)) }
         ensures known { IfOk result (HasKnownValues events.now (P.tables past.now)
             (tree_of self.now.formula) self.now.bound (bound_in v.now)) }
@@ -213,7 +214,8 @@ impl Guard {
         rows_over(alloc, &present, self.formula(), 0, &scope, columns)
     }
 
-    /// The same, where the arguments of the events of an atom stay where they are, if its terms are the columns.
+    /// The rows of the formula under a frame, where the arguments of the events of an atom stay where they are, if
+    /// its terms are the columns.
     pub fn rows_under<'r, P: Past>(
         &'r self,
         alloc: Global,
@@ -226,7 +228,7 @@ impl Guard {
         ensures table { IfOk result IsTable }
         ensures columns { IfOk result (λ t. AreOpen (tree_of self.now.formula) self.now.bound
             t.columns) }
-        ensures rows { IfOk result (HoldsFor events.now (P.tables past.now)
+        ensures rows { IfOk result (AreHoldingRows events.now (P.tables past.now)
             (tree_of self.now.formula) self.now.bound (bound_in v.now)) }
         ensures known { IfOk result (HasKnownValues events.now (P.tables past.now)
             (tree_of self.now.formula) self.now.bound (bound_in v.now)) }
@@ -243,7 +245,7 @@ impl Guard {
         ensures columns { IfSome result (λ t. AreOpen (tree_of self.now.formula) self.now.bound
             t.columns) }
         ensures rows { IfSome result (λ t. (tables : List Relation) (v : Bound)
-            → HoldsFor events.now tables (tree_of self.now.formula) self.now.bound v t) }
+            → AreHoldingRows events.now tables (tree_of self.now.formula) self.now.bound v t) }
         ensures known { IfSome result (λ t. (tables : List Relation) (v : Bound)
             → HasKnownValues events.now tables (tree_of self.now.formula) self.now.bound v t) }
     {

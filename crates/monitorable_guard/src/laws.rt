@@ -1,10 +1,8 @@
 //! What safety is for: a law over the definitions, the contract of a function with an empty body.
-ghost use Rattle.monitorable_guard.specs.Evaluation.{EvaluatedIsSatisfied, FreeVariablesDecideNow};
-ghost use Rattle.monitorable_guard.specs.Listed.{SafeWithFreeListed, SafeWithNoneListed};
-ghost use Rattle.monitorable_guard.specs.Present.{PresentIsSatisfied};
-ghost use Rattle.monitorable_guard.specs.Rows.{EvaluatedAreRows, SafeHasRows, SafeIsDecided};
-ghost use Rattle.monitorable_guard.specs.Safety.{HistoricallyAsksDenial};
-ghost use Rattle.monitorable_guard.specs.Sources.{SafeValuesAreKnown};
+ghost use Rattle.monitorable_guard.specs.machine.Laws.{EvaluatedIsSatisfied, FreeVariablesDecideNow};
+ghost use Rattle.monitorable_guard.specs.machine.Laws.{SafeWithFreeListed, SafeWithNoneListed, PresentIsSatisfied};
+ghost use Rattle.monitorable_guard.specs.machine.Laws.{EvaluatedAreRows, SafeHasRows, SafeIsDecided};
+ghost use Rattle.monitorable_guard.specs.machine.Laws.{HistoricallyAsksDenial, SafeValuesAreKnown};
 
 use enf_formula::laws::{dependence, is_classical};
 

@@ -2,24 +2,24 @@
 //! they hold. It stands on `valuations` and `enf_formula`.
 #![tactic(auto)]
 
+mod atom_matches;
 mod atoms;
 mod conditions;
 mod evaluation;
 pub mod events;
 pub mod guard;
+pub mod guard_rows;
 pub mod laws;
-mod matching;
 mod operators;
-pub mod past;
-mod pushing;
-pub mod rows;
+pub mod past_tables;
 mod safety;
+mod scope_rows;
 mod scopes;
 pub mod worked_cases;
 
 pub use events::StepEvents;
 pub use guard::{Guard, GuardRefusal, is_test};
-pub use past::{Past, PastTables};
-pub use rows::Rows;
+pub use guard_rows::Rows;
+pub use past_tables::{Past, PastTables};
 pub use safety::is_safe;
 pub use scopes::are_free_in;

@@ -1,20 +1,20 @@
 //! The outermost operators on the past, and the variables that are open.
-ghost use Rattle.std.specs.Prelude.{◌≡◌, ◌<◌, ◌^◌, ◌↔◌, IfOk, IsTrue, Contains};
-ghost use Rattle.std.specs.Prelude.{filter, is_none, length, List};
-ghost use Rattle.enf_value.specs.Valuations.{value_at};
-ghost use Rattle.enf_formula.specs.Formulas.{tree_of};
-ghost use Rattle.enf_value.specs.declared.terms.VarId.{VarId as Variable};
-ghost use Rattle.monitorable_guard.specs.Answers.{AreOpenUnder, IsBoundBy};
-ghost use Rattle.monitorable_guard.specs.Evaluation.{AreOpen};
-ghost use Rattle.monitorable_guard.specs.Present.{outermost};
-ghost use Rattle.monitorable_guard.specs.Safety.{FreeWithin};
-ghost use Rattle.enf_value.specs.declared.values.Value.{Value as AnyValue};
-ghost use Rattle.valuations.specs.Scopes.{bound_in, filled};
-ghost use Rattle.valuations.specs.Tables.{IsTable};
+ghost use Rattle.std.specs.Prelude.{◌≡◌, ◌<◌, ◌^◌, ◌↔◌, IfOk, IsTrue, Contains, filter, is_none};
+ghost use Rattle.std.specs.Prelude.{length, List};
+ghost use Rattle.enf_data.specs.meaning.Valuations.{value_at};
+ghost use Rattle.enf_formula.specs.machine.FormulaViews.{tree_of};
+ghost use Rattle.enf_data.specs.declared.terms.VarId.{VarId as Variable};
+ghost use Rattle.monitorable_guard.specs.machine.Answers.{AreOpenUnder, IsBoundBy};
+ghost use Rattle.monitorable_guard.specs.machine.Evaluation.{AreOpen};
+ghost use Rattle.monitorable_guard.specs.machine.PresentMeaning.{outermost};
+ghost use Rattle.monitorable_guard.specs.meaning.Safety.{FreeWithin};
+ghost use Rattle.enf_data.specs.declared.values.Value.{Value as AnyValue};
+ghost use Rattle.valuations.specs.machine.Bindings.{bound_in, filled_from_row};
+ghost use Rattle.valuations.specs.machine.Tables.{IsTable};
 
+use enf_data::memory::NoMemory;
+use enf_data::terms::{VarId, Vars};
 use enf_formula::Formula;
-use enf_value::memory::NoMemory;
-use enf_value::terms::{VarId, Vars};
 use std::alloc::Global;
 use valuations::{Frame, Lookup, Table};
 
@@ -99,7 +99,7 @@ pub fn is_closed_under(
     requires { IsTable table.now }
     ensures { IfOk result (λ closed. (row : List AnyValue) → Contains table.now.rows row → IsTrue closed
         ↔ FreeWithin (tree_of formula.now)
-        (IsBoundBy (filled (bound_in scope.now) table.now.columns row))) }
+        (IsBoundBy (filled_from_row (bound_in scope.now) table.now.columns row))) }
 {
     let Some(first) = table.rows().first() else {
         return Ok(true);

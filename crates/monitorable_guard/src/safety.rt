@@ -1,15 +1,16 @@
 //! Whether a formula can be evaluated over finite tables.
 ghost use Rattle.std.specs.Prelude.{◌≡◌, ◌↔◌, ◌⊎◌, IfOk, IsTrue, Contains, None, Some};
-ghost use Rattle.enf_formula.specs.Formulas.{tree_of};
-ghost use Rattle.enf_formula.specs.FreeVariables.{IsFree};
-ghost use Rattle.enf_value.specs.declared.terms.VarId.{VarId as Variable};
-ghost use Rattle.monitorable_guard.specs.Safety.{Safe, SafeBelow, With, Nothing, FreeWithin, FreeAlike, FreeUnder};
-ghost use Rattle.monitorable_guard.specs.Safety.{Assigns, IsBoundIn, denial};
+ghost use Rattle.enf_formula.specs.machine.FormulaViews.{tree_of};
+ghost use Rattle.enf_formula.specs.meaning.Satisfaction.{IsFree};
+ghost use Rattle.enf_data.specs.declared.terms.VarId.{VarId as Variable};
+ghost use Rattle.monitorable_guard.specs.meaning.Safety.{Safe, SafeBelow, BoundOrFreeIn, NoneBound, FreeWithin};
+ghost use Rattle.monitorable_guard.specs.meaning.Safety.{FreeAlike, FreeUnder, Assigns, denial};
+ghost use Rattle.monitorable_guard.specs.machine.Answers.{IsBoundIn};
 
 use crate::scopes::{are_free_in, is_free_alike, is_free_under, is_free_within, joined, with_free};
+use enf_data::memory::NoMemory;
+use enf_data::terms::{Term, VarId};
 use enf_formula::Formula;
-use enf_value::memory::NoMemory;
-use enf_value::terms::{Term, VarId};
 use std::alloc::Global;
 
 // Whether the formula can be evaluated with these variables bound.
@@ -55,7 +56,7 @@ fn is_safe_test(alloc: Global, g: &Formula, bound: &[VarId]) -> Result<bool, NoM
 #[cycle(safety)]
 fn is_safe_both(alloc: Global, g: &Formula, h: &Formula, bound: &[VarId]) -> Result<bool, NoMemory>
     ensures { IfOk result (λ safe. IsTrue safe ↔ (Safe (tree_of g.now) (Contains bound.now)
-        × Safe (tree_of h.now) (With (Contains bound.now) (tree_of g.now)))) }
+        × Safe (tree_of h.now) (BoundOrFreeIn (Contains bound.now) (tree_of g.now)))) }
 {
     if is_safe(alloc, g, bound)? {
         let all = with_free(alloc, bound, g)?;
@@ -143,8 +144,8 @@ fn is_safe_range(
         × FreeUnder xs.now (tree_of h.now) (Contains bound.now)
         × ((x : Variable) → Contains xs.now x → IsFree x (tree_of g.now))
         × Safe (tree_of g.now) (Contains bound.now)
-        × Safe (tree_of h.now) (With (Contains bound.now) (tree_of g.now))
-        × FreeWithin (tree_of h.now) (With (Contains bound.now) (tree_of g.now)))) }
+        × Safe (tree_of h.now) (BoundOrFreeIn (Contains bound.now) (tree_of g.now))
+        × FreeWithin (tree_of h.now) (BoundOrFreeIn (Contains bound.now) (tree_of g.now)))) }
 {
     if is_free_under(alloc, xs, g, bound)?
         && is_free_under(alloc, xs, h, bound)?
@@ -164,8 +165,8 @@ fn is_safe_test_with(
     bound: &[VarId],
 ) -> Result<bool, NoMemory>
     ensures { IfOk result (λ safe. IsTrue safe ↔ (Safe (tree_of g.now) (Contains bound.now)
-        × (FreeWithin (tree_of h.now) (With (Contains bound.now) (tree_of g.now))
-        × Safe (tree_of h.now) (With (Contains bound.now) (tree_of g.now))))) }
+        × (FreeWithin (tree_of h.now) (BoundOrFreeIn (Contains bound.now) (tree_of g.now))
+        × Safe (tree_of h.now) (BoundOrFreeIn (Contains bound.now) (tree_of g.now))))) }
 {
     if is_safe(alloc, g, bound)? {
         let all = with_free(alloc, bound, g)?;
@@ -178,7 +179,7 @@ fn is_safe_test_with(
 #[cycle(safety)]
 fn is_safe_history(alloc: Global, g: &Formula, bound: &[VarId]) -> Result<bool, NoMemory>
     ensures { IfOk result (λ safe. IsTrue safe ↔ (FreeWithin (tree_of g.now) (Contains bound.now)
-        × Safe (denial (tree_of g.now)) Nothing)) }
+        × Safe (denial (tree_of g.now)) NoneBound)) }
 {
     if is_free_within(alloc, g, bound)? {
         is_safe_denial(alloc, g)
@@ -189,7 +190,7 @@ fn is_safe_history(alloc: Global, g: &Formula, bound: &[VarId]) -> Result<bool, 
 
 #[cycle(safety)]
 fn is_safe_denial(alloc: Global, g: &Formula) -> Result<bool, NoMemory>
-    ensures { IfOk result (λ safe. IsTrue safe ↔ Safe (denial (tree_of g.now)) Nothing) }
+    ensures { IfOk result (λ safe. IsTrue safe ↔ Safe (denial (tree_of g.now)) NoneBound) }
 {
     match g {
         Formula::Not(_, h) => is_safe(alloc, h, &[]),

@@ -1,13 +1,13 @@
 //! The free variables of formulas, against those that are bound.
 ghost use Rattle.std.specs.Prelude.{◌≡◌, ◌↔◌, ◌++◌, IfOk, IsTrue, All, Contains};
-ghost use Rattle.enf_formula.specs.Formulas.{tree_of};
-ghost use Rattle.enf_formula.specs.FreeVariables.{IsFree};
-ghost use Rattle.enf_value.specs.declared.terms.VarId.{VarId as Variable};
-ghost use Rattle.monitorable_guard.specs.Safety.{With, FreeWithin, FreeAlike, FreeUnder};
+ghost use Rattle.enf_formula.specs.machine.FormulaViews.{tree_of};
+ghost use Rattle.enf_formula.specs.meaning.Satisfaction.{IsFree};
+ghost use Rattle.enf_data.specs.declared.terms.VarId.{VarId as Variable};
+ghost use Rattle.monitorable_guard.specs.meaning.Safety.{BoundOrFreeIn, FreeWithin, FreeAlike, FreeUnder};
 
+use enf_data::memory::NoMemory;
+use enf_data::terms::VarId;
 use enf_formula::Formula;
-use enf_value::memory::NoMemory;
-use enf_value::terms::VarId;
 use std::alloc::Global;
 
 pub fn is_free_within(alloc: Global, formula: &Formula, bound: &[VarId]) -> Result<bool, NoMemory>
@@ -59,7 +59,7 @@ pub fn is_free_alike(
 // The variables that are bound, and those that are free in the formula.
 pub fn with_free(alloc: Global, bound: &[VarId], formula: &Formula) -> Result<Vec<VarId>, NoMemory>
     ensures { IfOk result (λ all. (x : Variable) → Contains all.items x
-        ↔ With (Contains bound.now) (tree_of formula.now) x) }
+        ↔ BoundOrFreeIn (Contains bound.now) (tree_of formula.now) x) }
 {
     let free = formula.free_vars(alloc)?;
     joined(alloc, bound, free.as_slice())

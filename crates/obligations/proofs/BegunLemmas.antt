@@ -1,40 +1,22 @@
 -- What the parts of a plan begin is what its whole begins.
-use Rattle.std.proofs.Common.{◌≡◌, ℕ, zero, suc, ◌+◌, ◌<◌, Bool, true, false, List, [], ◌∷◌, ◌++◌, length, length-append, Contains, None, refl, sym, ap, append_assoc, subst, arith, inl, inr, ◌⊎◌, ◌∙◌, true≢false}
-use Rattle.std.specs.Prelude.{IsFalse, IsTrue}
-use Rattle.std.specs.List.{AllByRecursion}
-use Rattle.std.proofs.lemmas.List.{append-nil, nil_from_length}
-use Rattle.enf_value.specs.ListLaws.{AllByRecursion-append, AllByRecursion-contains, AllByRecursion-from_contains, here}
-use Rattle.enf_value.specs.declared.values.Value.{Value}
-use Rattle.enf_value.specs.Valuations.{Valuation, with_values}
-use Rattle.enf_value.specs.declared.steps.Step.{Step}
-use Rattle.enf_value.specs.declared.terms.VarId.{VarId}
-use Rattle.enf_formula.specs.Formulas.{Formula}
-use Rattle.enf_formula.specs.Scopes.{AreNew}
-use Rattle.monitorable_guard.specs.Evaluation.{AreOpen}
-use Rattle.monitorable_guard.specs.Safety.{FreeWithin}
-use Rattle.past_state.specs.Past.{AreEvaluated, HasOpenColumns, IsEvaluated}
-use Rattle.plan_terms.specs.Guards.{GuardLooksBack}
-use Rattle.plan_terms.specs.Limits.{EndsInTime}
-use Rattle.plan_terms.specs.Nodes.{is_future, nodes, number_of}
-use Rattle.plan_terms.specs.Plans.{Plan, Both, Either, TestOr, Guarded, Eventually, Always}
-use Rattle.plan_terms.specs.Plans.{Until, Next}
-use Rattle.plan_terms.specs.Standing.{IsNamed, StandsIn}
-use Rattle.valuations.specs.Just.{Binds}
-use Rattle.valuations.specs.Scopes.{filled}
-use Rattle.valuations.specs.Tables.{IsTable, Relation}
-use Rattle.obligations.specs.Adding.{AddsAsked, IsBegunHere, TellsNothing, begun_by}
-use Rattle.obligations.specs.Asked.{CanAsk, FitsScope, IsGuardAt, IsNowOf, guards_at}
-use Rattle.obligations.specs.Begun.{BeginsOrWaits, Begun, LacksNothing, LacksSome, WithBehind, begun_now}
-use Rattle.obligations.specs.Reaching.{IsReachedBy}
-use Rattle.obligations.specs.Rows.{Gathers}
-use Rattle.obligations.specs.Sides.{IsSideTaken, TakesSide}
-use Rattle.obligations.specs.Waiting.{CanAskOf}
-use Rattle.obligations.specs.declared.instances.Instance.{Instance}
-use Rattle.obligations.specs.declared.now.Now.{Now}
-use Rattle.obligations.proofs.AddingLemmas.{gathers_as, row_is}
-use Rattle.obligations.proofs.AskLemmas.{rows_are, test_is}
-use Rattle.obligations.proofs.ReachingLemmas.{row_met}
-use Rattle.obligations.proofs.WantedLemmas.{in_body, in_left, in_right}
+use Rattle.obligations.proofs.Vocabulary.{◌≡◌, ℕ, zero, suc, ◌+◌, ◌<◌, Bool, true, false, List, []}
+use Rattle.obligations.proofs.Vocabulary.{◌∷◌, ◌++◌, length, length-append, Contains, None, refl, sym, ap}
+use Rattle.obligations.proofs.Vocabulary.{append_assoc, subst, arith, inl, inr, ◌⊎◌, ◌∙◌, true≢false}
+use Rattle.obligations.proofs.Vocabulary.{IsFalse, AllByRecursion, append-nil, nil_from_length, AllByRecursion-append}
+use Rattle.obligations.proofs.Vocabulary.{AllByRecursion-contains, AllByRecursion-from_contains, here, Value, Valuation}
+use Rattle.obligations.proofs.Vocabulary.{with_values, BindsColumns, Step, VarId, Formula, AreNewVariables, AreOpen}
+use Rattle.obligations.proofs.Vocabulary.{FreeWithin, AreEvaluated, HasOpenColumns, IsEvaluated, GuardLooksBack}
+use Rattle.obligations.proofs.Vocabulary.{EndsInTime, is_future, nodes, node_number, Plan, Both, Either, TestOr}
+use Rattle.obligations.proofs.Vocabulary.{Guarded, EventuallyPlan, AlwaysPlan, UntilPlan, NextPlan, IsNodeByNumber}
+use Rattle.obligations.proofs.Vocabulary.{StandsIn, filled_from_row, IsTable, Relation, AddsAsked, IsBegunHere}
+use Rattle.obligations.proofs.Vocabulary.{TellsNothing, begun_at_now, IsNowOf, IsSideTaken, TakesSide, CanAskPlan}
+use Rattle.obligations.proofs.Vocabulary.{IsGuardAt, CanAskOf, FitsScope, guards_at, BeginsOrWaits, Begun, LacksNothing}
+use Rattle.obligations.proofs.Vocabulary.{LacksSome, WithBehind, begun_now, Gathers, IsReachedBy, Instance, Now}
+use Rattle.std.specs.Prelude.{IsTrue}
+use Rattle.obligations.proofs.AdditionLemmas.{gathers_as, row_is}
+use Rattle.obligations.proofs.AskablePlanLemmas.{rows_are, test_is}
+use Rattle.obligations.proofs.TriggeredGuardLemmas.{row_met}
+use Rattle.obligations.proofs.WantedLiteralLemmas.{in_body, in_left, in_right}
 
 -- each node of one plan is one of another
 abbrev pub IsInside : Plan → Plan → Type 0
@@ -49,7 +31,7 @@ pub stands_inside : (plans : List Plan) (rule : ℕ) (part whole : Plan) → IsI
     → StandsIn plans rule part
 stands_inside plans rule part whole inside stands = record {
   back = all_inside GuardLooksBack part whole inside stands.back;
-  named = all_inside (IsNamed plans rule) part whole inside stands.named;
+  named = all_inside (IsNodeByNumber plans rule) part whole inside stands.named;
 }
 
 pub left_smaller : (node : Plan) (left right : Plan) → length (nodes left) < length (node ∷ nodes left ++ nodes right)
@@ -115,27 +97,27 @@ module _ (now : Now) (rule : ℕ) where
   IsBegun node low high v trace instances = instances ≡ begun_now trace rule node low high v ∷ []
 
   pub begun_is : (trace : List Step) → IsNowOf now trace → (node low high : ℕ) (v : Valuation)
-      → begun_by now rule node low high v ≡ begun_now trace rule node low high v
+      → begun_at_now now rule node low high v ≡ begun_now trace rule node low high v
   begun_is trace is node low high v =
       ap (λ (times : ℕ × ℕ). record { rule = rule; node = node; valuation = v; origin = times.0; low = times.1 + low; high = times.1 + high })
       (λ i. (sym is.position i, sym is.time i))
 
   pub asked_instance : (plan : Plan) (low high : ℕ) (v : Valuation) → is_future plan ≡ true
-      → ((plans : List Plan) → StandsIn plans rule plan → IsNamed plans rule plan) → CanAsk (guards_at now.tables.now) plan v
-      → AllByRecursion EndsInTime (nodes plan) → IsBegunHere now rule plan (begun_by now rule (number_of plan) low high v)
-      → (before after : List Instance) → after ≡ before ++ begun_by now rule (number_of plan) low high v ∷ []
-      → AddsAsked now rule plan (IsBegun (number_of plan) low high v) before after
+      → ((plans : List Plan) → StandsIn plans rule plan → IsNodeByNumber plans rule plan) → CanAskPlan (guards_at now.tables.now) plan v
+      → AllByRecursion EndsInTime (nodes plan) → IsBegunHere now rule plan (begun_at_now now rule (node_number plan) low high v)
+      → (before after : List Instance) → after ≡ before ++ begun_at_now now rule (node_number plan) low high v ∷ []
+      → AddsAsked now rule plan (IsBegun (node_number plan) low high v) before after
   asked_instance plan low high v future named can ends begins before after grown = record {
     adds = record {
-      more = begun_by now rule (number_of plan) low high v ∷ [];
+      more = begun_at_now now rule (node_number plan) low high v ∷ [];
       grown = grown;
-      are = λ trace is. ap (λ i. i ∷ []) (begun_is trace is (number_of plan) low high v);
+      are = λ trace is. ap (λ i. i ∷ []) (begun_is trace is (node_number plan) low high v);
     };
     asked = λ plans stands. (record { node = plan; found = named plans stands; future = future; can = can; ends = ends }, tt);
     begun = (begins, tt);
   }
 
-  -- an instance, and what is begun with it behind
+  -- an instance, and what is begun with it after
   pub asked_behind : (part whole : Plan) → IsInside part whole → IsBelow now part whole → (node low high : ℕ) (v : Valuation)
       → (P : List Step → List Instance → Type 0) (before between after : List Instance)
       → AddsAsked now rule whole (IsBegun node low high v) before between → AddsAsked now rule part P between after
@@ -153,7 +135,7 @@ module _ (now : Now) (rule : ℕ) (v : Valuation) where
   Puts plan before after = AddsAsked now rule plan (λ trace. Begun trace rule plan v) before after
 
   abbrev pub MayAsk : Plan → Type 0
-  MayAsk plan = CanAsk (guards_at now.tables.now) plan v
+  MayAsk plan = CanAskPlan (guards_at now.tables.now) plan v
 
   pub both_begun : (node : ℕ) (left right : Plan) (before between after : List Instance) → Puts left before between
       → Puts right between after → Puts (Both node left right) before after
@@ -209,78 +191,78 @@ module _ (now : Now) (rule : ℕ) (v : Valuation) where
   waits_begun (suc low) side trace Begins Waits some waits = waits
 
   pub eventually_at_once : (node place low high : ℕ) (body : Plan) → low ≡ 0 → TellsNothing now body v true
-      → (before after : List Instance) → Puts body before after → Puts (Eventually node place low high body) before after
+      → (before after : List Instance) → Puts body before after → Puts (EventuallyPlan node place low high body) before after
   eventually_at_once node place low high body is told before after puts =
-      asked_as now rule body (Eventually node place low high body) (in_body (Eventually node place low high body) body) (λ end is. inr is)
-      (λ trace. Begun trace rule body v) (λ trace. Begun trace rule (Eventually node place low high body) v)
+      asked_as now rule body (EventuallyPlan node place low high body) (in_body (EventuallyPlan node place low high body) body) (λ end is. inr is)
+      (λ trace. Begun trace rule body v) (λ trace. Begun trace rule (EventuallyPlan node place low high body) v)
       (λ trace here xs begun. at_once_begun low body trace (Begun trace rule body v xs) (xs ≡ begun_now trace rule node low high v ∷ []) is (told trace here) begun)
       before after puts
 
   pub eventually_waits : (node place low high : ℕ) (body : Plan) → (low ≡ 0 → TellsNothing now body v false)
-      → MayAsk (Eventually node place low high body) → AllByRecursion EndsInTime (nodes (Eventually node place low high body))
-      → (before after : List Instance) → after ≡ before ++ begun_by now rule node low high v ∷ []
-      → Puts (Eventually node place low high body) before after
+      → MayAsk (EventuallyPlan node place low high body) → AllByRecursion EndsInTime (nodes (EventuallyPlan node place low high body))
+      → (before after : List Instance) → after ≡ before ++ begun_at_now now rule node low high v ∷ []
+      → Puts (EventuallyPlan node place low high body) before after
   eventually_waits node place low high body told can ends before after grown =
-      asked_as now rule (Eventually node place low high body) (Eventually node place low high body) (λ n there. there) (λ end is. is)
-      (IsBegun now rule node low high v) (λ trace. Begun trace rule (Eventually node place low high body) v)
+      asked_as now rule (EventuallyPlan node place low high body) (EventuallyPlan node place low high body) (λ n there. there) (λ end is. is)
+      (IsBegun now rule node low high v) (λ trace. Begun trace rule (EventuallyPlan node place low high body) v)
       (λ trace here xs begun. waits_begun low body trace (Begun trace rule body v xs) (xs ≡ begun_now trace rule node low high v ∷ []) (λ is. told is trace here) begun)
       before after
-      (asked_instance now rule (Eventually node place low high body) low high v refl (λ plans stands. stands.named.0) can ends
-      (Eventually node place low high body, inl refl, (v, refl)) before after grown)
+      (asked_instance now rule (EventuallyPlan node place low high body) low high v refl (λ plans stands. stands.named.0) can ends
+      (EventuallyPlan node place low high body, inl refl, (v, refl)) before after grown)
 
   pub until_at_once : (node place low high : ℕ) (left right : Plan) → low ≡ 0 → TellsNothing now right v true
-      → (before after : List Instance) → Puts right before after → Puts (Until node place low high left right) before after
+      → (before after : List Instance) → Puts right before after → Puts (UntilPlan node place low high left right) before after
   until_at_once node place low high left right is told before after puts =
-      asked_as now rule right (Until node place low high left right) (in_right (Until node place low high left right) left right) (λ end is. inr (inr is))
-      (λ trace. Begun trace rule right v) (λ trace. Begun trace rule (Until node place low high left right) v)
+      asked_as now rule right (UntilPlan node place low high left right) (in_right (UntilPlan node place low high left right) left right) (λ end is. inr (inr is))
+      (λ trace. Begun trace rule right v) (λ trace. Begun trace rule (UntilPlan node place low high left right) v)
       (λ trace here xs begun. at_once_begun low right trace (Begun trace rule right v xs)
       (WithBehind (begun_now trace rule node low high v) (Begun trace rule left v) xs) is (told trace here) begun)
       before after puts
 
   pub until_waits : (node place low high : ℕ) (left right : Plan) → (low ≡ 0 → TellsNothing now right v false)
-      → MayAsk (Until node place low high left right) → AllByRecursion EndsInTime (nodes (Until node place low high left right))
-      → (before between after : List Instance) → between ≡ before ++ begun_by now rule node low high v ∷ [] → Puts left between after
-      → Puts (Until node place low high left right) before after
+      → MayAsk (UntilPlan node place low high left right) → AllByRecursion EndsInTime (nodes (UntilPlan node place low high left right))
+      → (before between after : List Instance) → between ≡ before ++ begun_at_now now rule node low high v ∷ [] → Puts left between after
+      → Puts (UntilPlan node place low high left right) before after
   until_waits node place low high left right told can ends before between after grown puts =
-      asked_as now rule (Until node place low high left right) (Until node place low high left right) (λ n there. there) (λ end is. is)
-      (λ trace. WithBehind (begun_now trace rule node low high v) (Begun trace rule left v)) (λ trace. Begun trace rule (Until node place low high left right) v)
+      asked_as now rule (UntilPlan node place low high left right) (UntilPlan node place low high left right) (λ n there. there) (λ end is. is)
+      (λ trace. WithBehind (begun_now trace rule node low high v) (Begun trace rule left v)) (λ trace. Begun trace rule (UntilPlan node place low high left right) v)
       (λ trace here xs begun. waits_begun low right trace (Begun trace rule right v xs)
       (WithBehind (begun_now trace rule node low high v) (Begun trace rule left v) xs) (λ is. told is trace here) begun)
       before after
-      (asked_behind now rule left (Until node place low high left right) (in_left (Until node place low high left right) left right) (λ end is. inr (inl is)) node low high v
+      (asked_behind now rule left (UntilPlan node place low high left right) (in_left (UntilPlan node place low high left right) left right) (λ end is. inr (inl is)) node low high v
       (λ trace. Begun trace rule left v) before between after
-      (asked_instance now rule (Until node place low high left right) low high v refl (λ plans stands. stands.named.0) can ends
-      (Until node place low high left right, inl refl, (v, refl)) before between grown) puts)
+      (asked_instance now rule (UntilPlan node place low high left right) low high v refl (λ plans stands. stands.named.0) can ends
+      (UntilPlan node place low high left right, inl refl, (v, refl)) before between grown) puts)
 
-  pub always_later : (node place low high : ℕ) (body : Plan) → 0 < low → MayAsk (Always node place low high body)
-      → AllByRecursion EndsInTime (nodes (Always node place low high body)) → (before after : List Instance)
-      → after ≡ before ++ begun_by now rule node low high v ∷ [] → Puts (Always node place low high body) before after
+  pub always_later : (node place low high : ℕ) (body : Plan) → 0 < low → MayAsk (AlwaysPlan node place low high body)
+      → AllByRecursion EndsInTime (nodes (AlwaysPlan node place low high body)) → (before after : List Instance)
+      → after ≡ before ++ begun_at_now now rule node low high v ∷ [] → Puts (AlwaysPlan node place low high body) before after
   always_later node place zero high body later can ends before after grown = absurd (omega (arith, later))
   always_later node place (suc low) high body later can ends before after grown =
-      asked_instance now rule (Always node place (suc low) high body) (suc low) high v refl (λ plans stands. stands.named.0) can ends
-      (Always node place (suc low) high body, inl refl, (v, refl)) before after grown
+      asked_instance now rule (AlwaysPlan node place (suc low) high body) (suc low) high v refl (λ plans stands. stands.named.0) can ends
+      (AlwaysPlan node place (suc low) high body, inl refl, (v, refl)) before after grown
 
-  pub always_at_once : (node place low high : ℕ) (body : Plan) → (0 < low → ⊥) → MayAsk (Always node place low high body)
-      → AllByRecursion EndsInTime (nodes (Always node place low high body)) → (before between after : List Instance)
-      → between ≡ before ++ begun_by now rule node low high v ∷ [] → Puts body between after
-      → Puts (Always node place low high body) before after
+  pub always_at_once : (node place low high : ℕ) (body : Plan) → (0 < low → ⊥) → MayAsk (AlwaysPlan node place low high body)
+      → AllByRecursion EndsInTime (nodes (AlwaysPlan node place low high body)) → (before between after : List Instance)
+      → between ≡ before ++ begun_at_now now rule node low high v ∷ [] → Puts body between after
+      → Puts (AlwaysPlan node place low high body) before after
   always_at_once node place zero high body at_once can ends before between after grown puts =
-      asked_behind now rule body (Always node place 0 high body) (in_body (Always node place 0 high body) body) (λ end is. inr is) node 0 high v
+      asked_behind now rule body (AlwaysPlan node place 0 high body) (in_body (AlwaysPlan node place 0 high body) body) (λ end is. inr is) node 0 high v
       (λ trace. Begun trace rule body v) before between after
-      (asked_instance now rule (Always node place 0 high body) 0 high v refl (λ plans stands. stands.named.0) can ends
-      (Always node place 0 high body, inl refl, (v, refl)) before between grown) puts
+      (asked_instance now rule (AlwaysPlan node place 0 high body) 0 high v refl (λ plans stands. stands.named.0) can ends
+      (AlwaysPlan node place 0 high body, inl refl, (v, refl)) before between grown) puts
   always_at_once node place (suc low) high body at_once can ends before between after grown puts = absurd (at_once (omega arith))
 
-  pub next_begun : (node place high : ℕ) (body : Plan) → MayAsk (Next node place high body)
-      → AllByRecursion EndsInTime (nodes (Next node place high body)) → (before after : List Instance)
-      → after ≡ before ++ begun_by now rule node 0 high v ∷ [] → Puts (Next node place high body) before after
+  pub next_begun : (node place high : ℕ) (body : Plan) → MayAsk (NextPlan node place high body)
+      → AllByRecursion EndsInTime (nodes (NextPlan node place high body)) → (before after : List Instance)
+      → after ≡ before ++ begun_at_now now rule node 0 high v ∷ [] → Puts (NextPlan node place high body) before after
   next_begun node place high body can ends before after grown =
-      asked_instance now rule (Next node place high body) 0 high v refl (λ plans stands. stands.named.0) can ends
-      (Next node place high body, inl refl, (v, refl)) before after grown
+      asked_instance now rule (NextPlan node place high body) 0 high v refl (λ plans stands. stands.named.0) can ends
+      (NextPlan node place high body, inl refl, (v, refl)) before after grown
 
   -- ---- tests
 
-  module _ (n : ℕ) (f : Formula) (scope : List VarId) (at : IsGuardAt (guards_at now.tables.now) n f scope) (binds : Binds v scope)
+  module _ (n : ℕ) (f : Formula) (scope : List VarId) (at : IsGuardAt (guards_at now.tables.now) n f scope) (binds : BindsColumns v scope)
       (free : FreeWithin f (Contains scope)) (holds : Bool) (told : IsEvaluated now.tables.now n now.ordered.now v holds) (node : ℕ) (body : Plan) where
     pub test_begins_nothing : IsTrue holds → (out : List Instance) → Puts (TestOr node n f body) out out
     test_begins_nothing is_true out =
@@ -299,7 +281,7 @@ module _ (now : Now) (rule : ℕ) (v : Valuation) where
 -- ---- rows
 
 module _ (now : Now) (n : ℕ) (f : Formula) (scope xs : List VarId) (at : IsGuardAt (guards_at now.tables.now) n f scope)
-    (opening : AreOpen f scope xs) (new : AreNew scope xs) (v : Valuation) (fit : FitsScope scope v) (t : Relation)
+    (opening : AreOpen f scope xs) (new : AreNewVariables scope xs) (v : Valuation) (fit : FitsScope scope v) (t : Relation)
     (table : IsTable t) (columns : HasOpenColumns now.tables.now n t)
     (evaluated : AreEvaluated now.tables.now n now.ordered.now v t) where
   -- what is begun is so under a row
@@ -317,7 +299,7 @@ module _ (now : Now) (n : ℕ) (f : Formula) (scope xs : List VarId) (at : IsGua
           (λ end is. inr (row_met now n f scope xs at opening new v fit t table columns evaluated row (subst (λ l. Contains l row) (sym are) (here row rows)), is)) more each
 
   pub rows_begun : (rule node : ℕ) (body : Plan) (before after : List Instance)
-      → AddsAsked now rule body (λ trace. Gathers (λ row. Begun trace rule body (filled v t.columns row)) t.rows) before after
+      → AddsAsked now rule body (λ trace. Gathers (λ row. Begun trace rule body (filled_from_row v t.columns row)) t.rows) before after
       → (t.rows ≡ [] → after ≡ before) → Puts now rule v (Guarded node xs n f body) before after
   rows_begun rule node body before after puts none = record {
     adds = record {
@@ -326,7 +308,7 @@ module _ (now : Now) (n : ℕ) (f : Formula) (scope xs : List VarId) (at : IsGua
       are = λ trace is. (
         t.rows,
         rows_are now n f scope xs at opening new v fit t table columns evaluated trace is,
-        gathers_as (λ row. Begun trace rule body (filled v t.columns row)) (λ row. Begun trace rule body (with_values xs row v)) t.rows puts.adds.more
+        gathers_as (λ row. Begun trace rule body (filled_from_row v t.columns row)) (λ row. Begun trace rule body (with_values xs row v)) t.rows puts.adds.more
             (λ row there ys one. subst (λ w. Begun trace rule body w ys) (row_is now n f scope xs at opening new v fit t table columns evaluated row there) one)
             (puts.adds.are trace is),
       );

@@ -1,33 +1,25 @@
 -- The laws of what is missed, begun and pending, over whole traces.
-use Rattle.std.proofs.Common.{◌≡◌, ℕ, ◌<◌, ◌≤◌, true, false, List, [], ◌++◌, length, Option, Some, refl, sym, subst, arith}
-use Rattle.std.specs.List.{AllByRecursion}
-use Rattle.enf_value.specs.Data.{IsTrace, step_at}
-use Rattle.enf_value.specs.declared.steps.Step.{Step}
-use Rattle.enf_formula.specs.Laws.{PastDecides}
-use Rattle.plan_terms.specs.Nodes.{nodes}
-use Rattle.plan_terms.specs.Plans.{Plan, Cause, Suppress, Both, Either, TestOr, Guarded, Eventually, Always}
-use Rattle.plan_terms.specs.Plans.{Until, Next}
-use Rattle.obligations.specs.Begun.{time_now}
-use Rattle.plan_terms.specs.Guards.{GuardLooksBack}
-use Rattle.plan_terms.specs.Standing.{IsNamed, StandsIn}
-use Rattle.obligations.specs.Enough.{NothingMissedIsEnough, NothingMissedIsEnoughPending, SomethingMissedIsLost}
-use Rattle.obligations.specs.Pending.{AtNode, BecomesAt, MissesAt, node_of}
-use Rattle.plan_terms.specs.Nodes.{has_deadline}
-use Rattle.obligations.specs.Residuals.{OwesAt, Residual}
-use Rattle.obligations.specs.Rows.{last_position}
-use Rattle.obligations.specs.declared.instances.Instance.{Instance}
-use Rattle.obligations.proofs.EnoughLemmas.{all_left, all_right, enough, lost, meets_always, meets_eventually, meets_next, meets_until}
-use Rattle.obligations.proofs.OneLemmas.{missing_is_one}
+use Rattle.obligations.proofs.Vocabulary.{◌≡◌, ℕ, ◌<◌, ◌≤◌, true, false, List, [], ◌++◌, length}
+use Rattle.obligations.proofs.Vocabulary.{Option, Some, refl, sym, subst, arith, AllByRecursion, IsTrace, step_at, Step}
+use Rattle.obligations.proofs.Vocabulary.{PastDecides, nodes, has_deadline, Plan, CausePlan, SuppressPlan, Both, Either}
+use Rattle.obligations.proofs.Vocabulary.{TestOr, Guarded, EventuallyPlan, AlwaysPlan, UntilPlan, NextPlan, time_now}
+use Rattle.obligations.proofs.Vocabulary.{last_position, GuardLooksBack, IsNodeByNumber, StandsIn}
+use Rattle.obligations.proofs.Vocabulary.{NothingMissedIsEnough, NothingMissedIsEnoughPending, SomethingMissedIsLost}
+use Rattle.obligations.proofs.Vocabulary.{AtNode, BecomesAt, MissesAt, node_of, OwesAt, Residual, Instance}
+use Rattle.obligations.proofs.SoundnessLemmas.{all_left, all_right, enough, lost, meets_always, meets_eventually}
+use Rattle.obligations.proofs.SoundnessLemmas.{meets_next, meets_until}
+use Rattle.obligations.proofs.UniquenessLemmas.{missing_is_one}
 use Rattle.obligations.proofs.RowsLemmas.{rows_are_one}
 
--- the times of a trace do not fall behind a position
+-- the times of a trace do not fall after a position
 in_order : (longer : List Step) (now : ℕ) → IsTrace longer → (j : ℕ) → now ≤ j → j < length longer
     → (step_at longer now).time ≤ (step_at longer j).time
 in_order longer now is j from below = is.ordered now j from below
 
 pub nothing_missed_is_enough : PastDecides → NothingMissedIsEnough
 nothing_missed_is_enough past plans rule plan trace more v begun stands is_trace some missing begins owed =
-    enough past rows_are_one (missing_is_one rows_are_one) plans rule trace more some (in_order (trace ++ more) (last_position trace) is_trace) plan stands.back stands.named v begun missing begins owed
+    enough past rows_are_one (missing_is_one rows_are_one) plans rule trace more some (in_order (trace ++ more) (last_position trace) is_trace) plan stands.back stands.named v begun missing
+    begins owed
 
 pub something_missed_is_lost : PastDecides → SomethingMissedIsLost
 something_missed_is_lost past plan trace more v l ls back some missing holds =
@@ -43,22 +35,24 @@ module _ (past : PastDecides) (plans : List Plan) (trace more : List Step) (i : 
       → MissesAt trace node i false [] → (has_deadline node ≡ true → time_now trace ≤ i.high)
       → BecomesAt trace node i after → AllByRecursion (Residual plans (trace ++ more) (length trace)) after
       → OwesAt (trace ++ more) (last_position trace) node i
-  pending_at (Cause node place name terms) after found stands misses in_time becomes owed = absurd misses
-  pending_at (Suppress node place name terms) after found stands misses in_time becomes owed = absurd misses
+  pending_at (CausePlan node place name terms) after found stands misses in_time becomes owed = absurd misses
+  pending_at (SuppressPlan node place name terms) after found stands misses in_time becomes owed = absurd misses
   pending_at (Both node left right) after found stands misses in_time becomes owed = absurd misses
   pending_at (Either node left right) after found stands misses in_time becomes owed = absurd misses
   pending_at (TestOr node guard test body) after found stands misses in_time becomes owed = absurd misses
   pending_at (Guarded node xs guard test body) after found stands misses in_time becomes owed = absurd misses
-  pending_at (Eventually node place low high body) after found stands misses in_time becomes owed =
-      meets_eventually past rows_are_one (missing_is_one rows_are_one) plans i.rule trace more some ordered i refl node place low high body found stands.back.1 stands.named.1 after misses in_time becomes owed
-  pending_at (Always node place low high body) after found stands misses in_time becomes owed =
-      meets_always past rows_are_one (missing_is_one rows_are_one) plans i.rule trace more some ordered i refl node place low high body found stands.back.1 stands.named.1 after misses in_time becomes owed
-  pending_at (Until node place low high left right) after found stands misses in_time becomes owed =
+  pending_at (EventuallyPlan node place low high body) after found stands misses in_time becomes owed =
+      meets_eventually past rows_are_one (missing_is_one rows_are_one) plans i.rule trace more some ordered i refl node place low high body found stands.back.1 stands.named.1 after misses
+      in_time becomes owed
+  pending_at (AlwaysPlan node place low high body) after found stands misses in_time becomes owed =
+      meets_always past rows_are_one (missing_is_one rows_are_one) plans i.rule trace more some ordered i refl node place low high body found stands.back.1 stands.named.1 after misses
+      in_time becomes owed
+  pending_at (UntilPlan node place low high left right) after found stands misses in_time becomes owed =
       meets_until past rows_are_one (missing_is_one rows_are_one) plans i.rule trace more some ordered i refl node place low high left right found
-      (all_left GuardLooksBack (nodes left) (nodes right) stands.back.1) (all_left (IsNamed plans i.rule) (nodes left) (nodes right) stands.named.1)
-      (all_right GuardLooksBack (nodes left) (nodes right) stands.back.1) (all_right (IsNamed plans i.rule) (nodes left) (nodes right) stands.named.1)
+      (all_left GuardLooksBack (nodes left) (nodes right) stands.back.1) (all_left (IsNodeByNumber plans i.rule) (nodes left) (nodes right) stands.named.1)
+      (all_right GuardLooksBack (nodes left) (nodes right) stands.back.1) (all_right (IsNodeByNumber plans i.rule) (nodes left) (nodes right) stands.named.1)
       after misses in_time becomes owed
-  pending_at (Next node place high body) after found stands misses in_time becomes owed =
+  pending_at (NextPlan node place high body) after found stands misses in_time becomes owed =
       meets_next past rows_are_one (missing_is_one rows_are_one) plans i.rule trace more some ordered i refl node place high body stands.back.1 stands.named.1 after misses in_time becomes owed
 
 pub nothing_missed_is_enough_pending : PastDecides → NothingMissedIsEnoughPending

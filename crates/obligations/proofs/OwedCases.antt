@@ -1,23 +1,11 @@
 -- Small traces with p() within ten units: what continues them, and what is owed.
-use Rattle.std.proofs.Common.{◌≡◌, ◌⊎◌, ℕ, zero, suc, ◌<◌, ◌≤◌, List, [], ◌∷◌, ◌++◌, length, Contains, Some, inl, inr, ⊎_elim, refl, sym, ap, subst, ◌∙◌, arith}
-use Rattle.std.specs.Prelude.{slice_get}
-use Rattle.std.proofs.lemmas.List.Elements.{All-nil, All-from_recursion}
-use Rattle.enf_value.specs.Data.{IsTrace, step_at}
-use Rattle.enf_value.specs.ListLaws.{first_or_later, none_in_nil, there_from_get}
-use Rattle.enf_value.specs.Membership.{HasNoRepeats, IsIn}
-use Rattle.enf_value.specs.Valuations.{Valuation}
-use Rattle.enf_value.specs.declared.events.Event.{Event}
-use Rattle.enf_value.specs.declared.steps.Step.{Step}
-use Rattle.enf_formula.specs.Cases.{at_time, event_p}
-use Rattle.enf_formula.specs.Satisfaction.{elapsed}
-use Rattle.trace_meaning.specs.Continuation.{Continuation}
-use Rattle.plan_terms.specs.Owed.{LeadsThrough, LeadsTo, Obligation, obligation}
-use Rattle.plan_terms.specs.PlanFormula.{from_to}
-use Rattle.plan_terms.specs.Plans.{Plan}
-use Rattle.obligations.specs.Cases.{at_5, cause_p, soon_p}
-
-pub one_event : (event : Event) → HasNoRepeats (event ∷ [])
-one_event event = (none_in_nil event, tt)
+use Rattle.obligations.proofs.Vocabulary.{◌≡◌, ◌⊎◌, ℕ, zero, suc, ◌<◌, ◌≤◌, List, [], ◌∷◌}
+use Rattle.obligations.proofs.Vocabulary.{◌++◌, length, Contains, Some, inl, inr, ⊎_elim, refl, sym, ap, subst}
+use Rattle.obligations.proofs.Vocabulary.{◌∙◌, arith, slice_get, All-nil, All-from_recursion, IsTrace, step_at}
+use Rattle.obligations.proofs.Vocabulary.{first_or_later, none_in_nil, there_from_get, HasNoRepeats, IsIn, Valuation}
+use Rattle.obligations.proofs.Vocabulary.{Event, Step, one_event, at_time, event_p, elapsed, Continuation, LeadsThrough}
+use Rattle.obligations.proofs.Vocabulary.{LeadsTo, Obligation, obligation, interval_from_to, Plan, at_5, soon_p}
+use Rattle.obligations.proofs.Vocabulary.{cause_p}
 
 -- ---- continuations
 
@@ -63,7 +51,7 @@ pub as_it_is : (trace : List Step) (clock : ℕ) → trace ≡ trace ++ [] → I
 as_it_is trace clock same is =
     record { more = []; begins = same; later = All-nil (λ (step : Step). clock ≤ step.time); is_trace = is }
 
--- and a step at 5 and one at a time behind it with p() at the clock
+-- and a step at 5 and one at a time after it with p() at the clock
 pub then_p : (time clock : ℕ) → 5 ≤ time → time ≤ clock
     → Continuation (at_time 5 [] ∷ at_time time [] ∷ []) clock (at_time 5 [] ∷ at_time time [] ∷ at_time clock (event_p ∷ []) ∷ [])
 then_p time clock first second = record {
@@ -82,17 +70,17 @@ then_p time clock first second = record {
 
 -- ---- too late
 
--- behind a step at 5 without events, what comes at 16 or later is too late
+-- after a step at 5 without events, what comes at 16 or later is too late
 pub too_late : (more : List Step) → ((i : ℕ) → i < length more → 16 ≤ (step_at more i).time) → (j : ℕ)
-    → j < length (at_5 [] ++ more) → IsIn (from_to 0 10) (elapsed (at_5 [] ++ more) 0 j)
+    → j < length (at_5 [] ++ more) → IsIn (interval_from_to 0 10) (elapsed (at_5 [] ++ more) 0 j)
     → Contains (step_at (at_5 [] ++ more) j).events event_p → ⊥
 too_late more later zero below near has = none_in_nil event_p has
 too_late more later (suc j) below near has =
     let far : 16 ≤ (step_at more j).time = later j (omega (arith, below)) in let upper = near.1 in omega (arith, far, upper)
 
--- so is it behind one at 15 more
+-- so is it after one at 15 more
 pub also_too_late : (more : List Step) → ((i : ℕ) → i < length more → 16 ≤ (step_at more i).time) → (j : ℕ)
-    → j < length (at_5 [] ++ at_time 15 [] ∷ more) → IsIn (from_to 0 10) (elapsed (at_5 [] ++ at_time 15 [] ∷ more) 0 j)
+    → j < length (at_5 [] ++ at_time 15 [] ∷ more) → IsIn (interval_from_to 0 10) (elapsed (at_5 [] ++ at_time 15 [] ∷ more) 0 j)
     → Contains (step_at (at_5 [] ++ at_time 15 [] ∷ more) j).events event_p → ⊥
 also_too_late more later zero below near has = none_in_nil event_p has
 also_too_late more later (suc zero) below near has = none_in_nil event_p has
@@ -101,7 +89,7 @@ also_too_late more later (suc (suc j)) below near has =
 
 -- ---- what leads where
 
--- nothing is behind what leads to nothing
+-- nothing is after what leads to nothing
 pub nowhere : (trace : List Step) (clock : ℕ) (from : Obligation) (moves : List Obligation) (to : Obligation)
     → ((next : Obligation) → LeadsTo trace clock from.node from.valuation from.position next → ⊥)
     → LeadsThrough trace clock from moves to → from ≡ to
@@ -112,7 +100,7 @@ nowhere trace clock from (next ∷ moves) to none leads = absurd (none next lead
 abbrev pub IsSoon : Obligation → Obligation → Type 0
 IsSoon from to = (from ≡ to) ⊎ (cause_p 1 ≡ to.node)
 
--- behind what leads to p() alone
+-- after what leads to p() alone
 pub behind_body : (trace : List Step) (clock : ℕ) (from next : Obligation) (moves : List Obligation) (to : Obligation)
     → cause_p 1 ≡ next.node → LeadsThrough trace clock next moves to → IsSoon from to
 behind_body trace clock from next moves to is leads =

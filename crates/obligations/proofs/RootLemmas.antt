@@ -1,34 +1,11 @@
 -- What stays in front, and what roots begin, one after another.
-use Rattle.std.proofs.Common.{◌≡◌, Contains, ⊎_elim, ℕ, zero, suc, ◌+◌, ◌<◌, List, [], ◌∷◌, ◌++◌, length, map, take, get_or, Some, refl, sym, ap, subst, arith, ◌∙◌, append_assoc}
-use Rattle.std.specs.Prelude.{slice_get}
-use Rattle.std.specs.List.{AllByRecursion}
-use Rattle.std.proofs.lemmas.List.{append-nil, length-map, length-take-le, map_more}
-use Rattle.enf_value.specs.ListLaws.{AllByRecursion-append, AllByRecursion-contains, Contains-append}
-use Rattle.enf_value.specs.Valuations.{no_values}
-use Rattle.enf_value.specs.declared.steps.Step.{Step}
-use Rattle.plan_terms.specs.Plans.{Plan}
-use Rattle.plan_terms.specs.Standing.{StandsIn}
-use Rattle.obligations.specs.Adding.{AddsAsked, IsBegunHere}
-use Rattle.obligations.specs.Asked.{IsNowOf, guards_at}
-use Rattle.obligations.specs.Begun.{Begun}
-use Rattle.obligations.specs.Carrying.{ComesOfRoot}
-use Rattle.obligations.specs.Pending.{BegunByRoots}
-use Rattle.obligations.specs.Waiting.{CanAskOf}
-use Rattle.obligations.specs.declared.instances.Instance.{Instance}
-use Rattle.obligations.specs.declared.now.Now.{Now}
-
--- what stands at a place of a list
-pub all_at : {X Y : Type 0} (P : Y → Type 0) (f : X → Y) (xs : List X) (k : ℕ) (x : X) → k < length xs → x ≡ get_or xs k x
-    → AllByRecursion P (map f xs) → P (f x)
-all_at P f [] k x within at all = absurd (omega (arith, within))
-all_at P f (y ∷ ys) zero x within at all = subst (λ z. P (f z)) (sym at) all.0
-all_at P f (y ∷ ys) (suc k) x within at all = all_at P f ys k x (omega (arith, within)) at all.1
-
-pub get_at : {X Y : Type 0} (f : X → Y) (xs : List X) (k : ℕ) (x : X) → k < length xs → x ≡ get_or xs k x
-    → slice_get (map f xs) k ≡ Some (f x)
-get_at f [] k x within at = absurd (omega (arith, within))
-get_at f (y ∷ ys) zero x within at = ap (λ z. Some (f z)) (sym at)
-get_at f (y ∷ ys) (suc k) x within at = get_at f ys k x (omega (arith, within)) at
+use Rattle.obligations.proofs.Vocabulary.{◌≡◌, Contains, ⊎_elim, ℕ, suc, ◌+◌, ◌<◌, List, []}
+use Rattle.obligations.proofs.Vocabulary.{◌∷◌, ◌++◌, length, map, take, get_or, Some, refl, sym, ap, subst}
+use Rattle.obligations.proofs.Vocabulary.{arith, ◌∙◌, append_assoc, slice_get, AllByRecursion, append-nil}
+use Rattle.obligations.proofs.Vocabulary.{length-map, length-take-le, map_more, AllByRecursion-append}
+use Rattle.obligations.proofs.Vocabulary.{AllByRecursion-contains, Contains-append, no_values, Step, Plan, StandsIn}
+use Rattle.obligations.proofs.Vocabulary.{AddsAsked, IsBegunHere, IsNowOf, guards_at, Begun, ComesOfRoot, BegunByRoots}
+use Rattle.obligations.proofs.Vocabulary.{CanAskOf, Instance, Now}
 
 -- one root more
 roots_more : (trace : List Step) (rule : ℕ) (ps : List Plan) (p : Plan) (xs ys : List Instance) → BegunByRoots trace rule ps xs

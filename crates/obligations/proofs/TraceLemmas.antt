@@ -1,37 +1,23 @@
--- That it is enough to meet what is pending behind a clean trace: from its last step to its first.
-use Rattle.std.proofs.Common.{◌≡◌, ℕ, zero, suc, ◌+◌, ◌<◌, ◌≤◌, ◌||◌, Bool, false, List, [], ◌∷◌, ◌++◌, length, take, drop, Option, None, Some, slice_get, length-append, refl, sym, ap, subst, ◌∙◌, arith, ⊎_elim, append_assoc}
-use Rattle.std.specs.List.{AllByRecursion, find, list_any}
-use Rattle.std.specs.Option.{option_map}
-use Rattle.std.proofs.lemmas.Bool.{cases_lt, false≢true}
-use Rattle.std.proofs.lemmas.List.{length-take-le, take-append-drop, take-append-le, take_all}
-use Rattle.std.proofs.lemmas.List.Elements.{All-cons, All-nil, recursion_from_All}
-use Rattle.std.proofs.lemmas.Option.{none-some, same_Some}
-use Rattle.enf_value.specs.Data.{IsTrace}
-use Rattle.enf_value.specs.Valuations.{Valuation, no_values, with_values}
-use Rattle.enf_value.specs.declared.steps.Step.{Step}
-use Rattle.enf_value.specs.declared.terms.VarId.{VarId}
-use Rattle.enf_value.specs.declared.values.Value.{Value}
-use Rattle.enf_formula.specs.Laws.{PastDecides}
-use Rattle.enf_formula.specs.Satisfaction.{Sat}
-use Rattle.plan_terms.specs.Nodes.{has_future, has_number, is_future, nodes}
-use Rattle.plan_terms.specs.PlanFormula.{formula_for}
-use Rattle.plan_terms.specs.Plans.{Plan, Cause, Suppress, Both, Either, TestOr, Guarded, Eventually, Always}
-use Rattle.plan_terms.specs.Plans.{Until, Next}
-use Rattle.plan_terms.specs.ScopeLaws.{AtEach-found, AtEach-from_nodes, AtEach-nodes, FoundIsFirst}
-use Rattle.plan_terms.specs.Scopes.{scoped_at}
-use Rattle.trace_meaning.specs.Continuation.{last_time}
-use Rattle.trace_meaning.specs.Laws.{LastIsAtTheEnd}
-use Rattle.obligations.specs.Begun.{Begun, LacksNothing, time_now}
-use Rattle.plan_terms.specs.Guards.{GuardLooksBack}
-use Rattle.plan_terms.specs.Standing.{IsNamed, StandsIn, nodes_of}
-use Rattle.obligations.specs.Pending.{After, AtNode, BecomesAt, BegunByRoots, Goes, HasDeadline, IsClean, IsCleanAt, MissingOf, PendsBehind, node_of}
-use Rattle.obligations.specs.Residuals.{Residual}
-use Rattle.obligations.specs.Rows.{Gathers, last_position}
-use Rattle.obligations.specs.Traces.{AllHold, CleanGrows, LooksAtNow, NothingIsPending, PendGrows, PendingIsEnough, PlansStand}
-use Rattle.obligations.specs.declared.instances.Instance.{Instance}
-use Rattle.obligations.proofs.EnoughLemmas.{all_left, all_right, taken}
+-- That it is enough to meet what is pending after a clean trace: from its last step to its first.
+use Rattle.obligations.proofs.Vocabulary.{◌≡◌, ℕ, zero, suc, ◌+◌, ◌<◌, ◌≤◌, false, List, []}
+use Rattle.obligations.proofs.Vocabulary.{◌∷◌, ◌++◌, length, take, drop, Option, None, Some, length-append}
+use Rattle.obligations.proofs.Vocabulary.{refl, sym, ap, subst, ◌∙◌, arith, ⊎_elim, append_assoc}
+use Rattle.obligations.proofs.Vocabulary.{AllByRecursion, find, option_map, cases_lt, false≢true, length-take-le}
+use Rattle.obligations.proofs.Vocabulary.{take-append-drop, take-append-le, take_all, All-cons, All-nil}
+use Rattle.obligations.proofs.Vocabulary.{recursion_from_All, none-some, same_Some, IsTrace, Valuation, no_values}
+use Rattle.obligations.proofs.Vocabulary.{with_values, Step, VarId, Value, PastDecides, Sat, has_future, has_number}
+use Rattle.obligations.proofs.Vocabulary.{nodes, nodes_of, formula_for, Plan, CausePlan, SuppressPlan, Both, Either}
+use Rattle.obligations.proofs.Vocabulary.{TestOr, Guarded, EventuallyPlan, AlwaysPlan, UntilPlan, NextPlan}
+use Rattle.obligations.proofs.Vocabulary.{AtEach-found, AtEach-from_nodes, AtEach-nodes, FoundIsFirst, scoped_at}
+use Rattle.obligations.proofs.Vocabulary.{last_time, LastIsAtTheEnd, Begun, LacksNothing, time_now, Gathers}
+use Rattle.obligations.proofs.Vocabulary.{last_position, GuardLooksBack, IsNodeByNumber, StandsIn, After, AtNode}
+use Rattle.obligations.proofs.Vocabulary.{BecomesAt, BegunByRoots, PendingAfter, HasDeadline, IsClean, IsCleanAt}
+use Rattle.obligations.proofs.Vocabulary.{MissingOf, PendsBehind, node_of, Residual, AllHold, PendingIsEnough}
+use Rattle.obligations.proofs.Vocabulary.{CleanGrows, NothingIsPending, PendGrows, LooksAtNow, PlansStand, Instance}
+use Rattle.std.proofs.Common.{slice_get}
+use Rattle.obligations.proofs.SoundnessLemmas.{all_left, all_right, taken}
 use Rattle.obligations.proofs.LawLemmas.{nothing_missed_is_enough, nothing_missed_is_enough_pending}
-use Rattle.obligations.proofs.OneLemmas.{pends_one}
+use Rattle.obligations.proofs.UniquenessLemmas.{pends_one}
 use Rattle.obligations.proofs.RowsLemmas.{rows_are_one}
 
 -- what holds of each node of a plan holds of each node of one of them
@@ -57,7 +43,7 @@ stands_found first plans stand i node is = by (slice_get plans i.rule) refl is
         let all : StandsIn plans i.rule plan = stand i.rule plan at in
         record {
           back = below GuardLooksBack first plan node i.node found all.back;
-          named = below (IsNamed plans i.rule) first plan node i.node found all.named;
+          named = below (IsNodeByNumber plans i.rule) first plan node i.node found all.named;
         }
 
 module _ (past : PastDecides) (first : FoundIsFirst) (last : LastIsAtTheEnd) (plans : List Plan) (stand : PlansStand plans)
@@ -91,8 +77,10 @@ module _ (past : PastDecides) (first : FoundIsFirst) (last : LastIsAtTheEnd) (pl
     roots_hold rule [] begun stands lacks begins owed = tt
     roots_hold rule (plan ∷ others) begun stands lacks (begun1, begun2, begins, behind, are) owed =
         let owed' : Meets (length front) (begun1 ++ begun2) = subst (Meets (length front)) are owed in (
-          root_holds rule plan begun1 (subst (λ (r : ℕ). StandsIn plans r plan) {x = rule + 0} {y = rule} (omega arith) (stands 0 plan refl)) lacks.0 begins (all_left (Residual plans longer (length front)) begun1 begun2 owed'),
-          roots_hold (suc rule) others begun2 (λ k p at. subst (λ (r : ℕ). StandsIn plans r p) {x = rule + suc k} {y = suc rule + k} (omega arith) (stands (suc k) p at)) lacks.1 behind (all_right (Residual plans longer (length front)) begun1 begun2 owed'),
+          root_holds rule plan begun1 (subst (λ (r : ℕ). StandsIn plans r plan) {x = rule + 0} {y = rule} (omega arith) (stands 0 plan refl)) lacks.0 begins
+              (all_left (Residual plans longer (length front)) begun1 begun2 owed'),
+          roots_hold (suc rule) others begun2 (λ k p at. subst (λ (r : ℕ). StandsIn plans r p) {x = rule + suc k} {y = suc rule + k} (omega arith) (stands (suc k) p at)) lacks.1 behind
+              (all_right (Residual plans longer (length front)) begun1 begun2 owed'),
         )
 
     instance_met : (i : Instance) (after : List Instance) → MissingOf plans front i false []
@@ -106,7 +94,8 @@ module _ (past : PastDecides) (first : FoundIsFirst) (last : LastIsAtTheEnd) (pl
         by (Some node) is becomes' =
             subst (λ (steps : List Step). Residual plans steps (last_position front) i) splits
             (nothing_missed_is_enough_pending past plans node front rest i after is (stands_found first plans stand i node is) is_too some missing
-            (All-cons (λ (j : Instance). (deadline : ℕ) → HasDeadline plans j deadline → time_now front ≤ deadline) i [] in_time (All-nil (λ (j : Instance). (deadline : ℕ) → HasDeadline plans j deadline → time_now front ≤ deadline)))
+            (All-cons (λ (j : Instance). (deadline : ℕ) → HasDeadline plans j deadline → time_now front ≤ deadline) i [] in_time
+            (All-nil (λ (j : Instance). (deadline : ℕ) → HasDeadline plans j deadline → time_now front ≤ deadline)))
             becomes (meets_too after owed))
 
     instances_met : (before kept : List Instance) → Gathers (After plans front) before kept
@@ -146,7 +135,8 @@ module _ (past : PastDecides) (first : FoundIsFirst) (last : LastIsAtTheEnd) (pl
         (subst (λ (t : ℕ). AllByRecursion (λ i. (deadline : ℕ) → HasDeadline plans i deadline → t ≤ deadline) before) now (recursion_from_All _ before c.in_time))
         (all_left (Residual plans longer (length (take (suc n) trace))) kept begun owed')) in
         let held : AllHold longer n plans = subst (λ (m : ℕ). AllHold longer m plans) at
-        (roots_hold (take (suc n) trace) (drop (suc n) trace ++ more) splits some 0 plans begun (λ k plan found. subst (λ (r : ℕ). StandsIn plans r plan) {x = k} {y = 0 + k} (omega arith) (stand k plan found)) (recursion_from_All _ plans c.roots) begins
+        (roots_hold (take (suc n) trace) (drop (suc n) trace ++ more) splits some 0 plans begun
+        (λ k plan found. subst (λ (r : ℕ). StandsIn plans r plan) {x = k} {y = 0 + k} (omega arith) (stand k plan found)) (recursion_from_All _ plans c.roots) begins
         (all_right (Residual plans longer (length (take (suc n) trace))) kept begun owed')) in
         ⊎_elim
         (λ (l : position < n). met_behind n (omega (arith, le)) before pend met position l)
@@ -159,13 +149,6 @@ pending_is_enough past first last plans trace more pending stand is_trace clean 
 
 -- ---- plans that do not look ahead
 
-no_future : (plan : Plan) → LooksAtNow plan → has_future plan ≡ false
-no_future plan all = over (nodes plan) all
-  where
-    over : (ps : List Plan) → AllByRecursion (λ p. is_future p ≡ false) ps → list_any is_future ps ≡ false
-    over [] all = refl
-    over (p ∷ ps) all = subst (λ (b : Bool). (b || list_any is_future ps) ≡ false) (sym all.0) (over ps all.1)
-
 module _ (trace : List Step) (rule : ℕ) where
   none_at_rows : (body : Plan) → ((v : Valuation) (begun : List Instance) → Begun trace rule body v begun → begun ≡ [])
       → (v : Valuation) (xs : List VarId) (rows : List (List Value)) (begun : List Instance)
@@ -176,8 +159,8 @@ module _ (trace : List Step) (rule : ℕ) where
 
   pub none_begun : (plan : Plan) → LooksAtNow plan → (v : Valuation) (begun : List Instance) → Begun trace rule plan v begun
       → begun ≡ []
-  none_begun (Cause node place name terms) all v begun begins = begins
-  none_begun (Suppress node place name terms) all v begun begins = begins
+  none_begun (CausePlan node place name terms) all v begun begins = begins
+  none_begun (SuppressPlan node place name terms) all v begun begins = begins
   none_begun (Both node left right) all v begun (begun1, begun2, begins, behind, are) =
       are ∙ ap (λ (l : List Instance). l ++ begun2) (none_begun left (all_left _ (nodes left) (nodes right) all.1) v begun1 begins)
       ∙ none_begun right (all_right _ (nodes left) (nodes right) all.1) v begun2 behind
@@ -193,10 +176,10 @@ module _ (trace : List Step) (rule : ℕ) where
       ⊎_elim (λ met. met.1) (λ fails. none_begun body all.1 v begun fails.1) begins
   none_begun (Guarded node xs guard test body) all v begun (rows, are, gathered) =
       none_at_rows body (none_begun body all.1) v xs rows begun gathered
-  none_begun (Eventually node place low high body) all v begun begins = absurd (false≢true (sym all.0))
-  none_begun (Always node place low high body) all v begun begins = absurd (false≢true (sym all.0))
-  none_begun (Until node place low high left right) all v begun begins = absurd (false≢true (sym all.0))
-  none_begun (Next node place high body) all v begun begins = absurd (false≢true (sym all.0))
+  none_begun (EventuallyPlan node place low high body) all v begun begins = absurd (false≢true (sym all.0))
+  none_begun (AlwaysPlan node place low high body) all v begun begins = absurd (false≢true (sym all.0))
+  none_begun (UntilPlan node place low high left right) all v begun begins = absurd (false≢true (sym all.0))
+  none_begun (NextPlan node place high body) all v begun begins = absurd (false≢true (sym all.0))
 
 none_by_roots : (trace : List Step) (rule : ℕ) (plans : List Plan) (begun : List Instance) → AllByRecursion LooksAtNow plans
     → BegunByRoots trace rule plans begun → begun ≡ []
@@ -216,14 +199,14 @@ nothing_is_pending plans trace pending all pend = none_behind plans trace all (l
 
 -- ---- one step more
 
--- what is pending behind the first steps is so on a longer trace
+-- what is pending after the first steps is so on a longer trace
 pub longer_pends : (plans : List Plan) (trace more : List Step) (n : ℕ) → n ≤ length trace → (pending : List Instance)
     → PendsBehind plans trace n pending → PendsBehind plans (trace ++ more) n pending
 longer_pends plans trace more zero le pending pend = pend
 longer_pends plans trace more (suc n) le pending (before, pend, goes) = (
   before,
   longer_pends plans trace more n (omega (arith, le)) before pend,
-  subst (λ (front : List Step). Goes plans front before pending) (sym (take-append-le (suc n) trace more le)) goes,
+  subst (λ (front : List Step). PendingAfter plans front before pending) (sym (take-append-le (suc n) trace more le)) goes,
 )
 
 -- and the other way round
@@ -233,7 +216,7 @@ shorter_pends plans trace more zero le pending pend = pend
 shorter_pends plans trace more (suc n) le pending (before, pend, goes) = (
   before,
   shorter_pends plans trace more n (omega (arith, le)) before pend,
-  subst (λ (front : List Step). Goes plans front before pending) (take-append-le (suc n) trace more le) goes,
+  subst (λ (front : List Step). PendingAfter plans front before pending) (take-append-le (suc n) trace more le) goes,
 )
 
 pub whole : (trace : List Step) (step : Step) → take (suc (length trace)) (trace ++ step ∷ []) ≡ trace ++ step ∷ []
@@ -244,7 +227,7 @@ pend_grows plans trace step before after pend goes =
     subst (λ (n : ℕ). PendsBehind plans (trace ++ step ∷ []) n after) {x = suc (length trace)} {y = length (trace ++ step ∷ [])} (omega (arith, length-append trace (step ∷ []))) (
       before,
       longer_pends plans trace (step ∷ []) (length trace) (omega arith) before pend,
-      subst (λ (front : List Step). Goes plans front before after) (sym (whole trace step)) goes,
+      subst (λ (front : List Step). PendingAfter plans front before after) (sym (whole trace step)) goes,
     )
 
 pub clean_grows : CleanGrows

@@ -1,6 +1,6 @@
 //! What is done at a step.
 use crate::literals::LiteralKind;
-use enf_value::Event;
+use enf_data::Event;
 use valuations::Valuation;
 
 /// An event that is added or taken out at a step: the step's time and its position in the output, the leaf that wants

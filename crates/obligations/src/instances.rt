@@ -1,6 +1,6 @@
 //! Nodes of plans that were begun.
-use enf_value::items::{Duplicate, Items};
-use enf_value::memory::NoMemory;
+use enf_data::items::{Duplicate, Items};
+use enf_data::memory::NoMemory;
 use std::alloc::Global;
 use valuations::Valuation;
 

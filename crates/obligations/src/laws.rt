@@ -1,21 +1,21 @@
 //! Laws of what plans miss and begin, each the contract of a function that does nothing.
-ghost use Rattle.obligations.specs.Bounds.{PendCanBePending};
-ghost use Rattle.obligations.specs.Enough.{NothingMissedIsEnough, NothingMissedIsEnoughPending, SomethingMissedIsLost};
-ghost use Rattle.obligations.specs.Existing.{AfterExists, BegunCanBeAsked, BegunExists, GoesCanBeAsked, GoesExists};
-ghost use Rattle.obligations.specs.Existing.{MissingExists, MissingOfExists, PendCanBeAsked, PendExists};
-ghost use Rattle.obligations.specs.Founding.{CanBeAsked, NowStands, WellFormedCanBeAsked, WellFormedStand};
-ghost use Rattle.obligations.specs.Losing.{DeadlineIsNeeded, MissedIsServed, MissedIsServedPending};
-ghost use Rattle.obligations.specs.Losing.{PendingIsEarlier, PendingIsOwed};
-ghost use Rattle.obligations.specs.Losing.{SomethingMissedIsLostPending};
-ghost use Rattle.obligations.specs.Missing.{MissingIsOne};
-ghost use Rattle.obligations.specs.Pending.{AfterIsOne, BegunIsOne, MissingOfIsOne, PendIsOne};
-ghost use Rattle.obligations.specs.Reached.{BegunIsNamed, BegunIsReached, MissedIsReached, PendCame};
-ghost use Rattle.obligations.specs.Reached.{PendingWasBegun, ReachedIsInside};
-ghost use Rattle.obligations.specs.Right.{MissedIsRight, MissedOfIsRight, PendingIsRight};
-ghost use Rattle.obligations.specs.Rows.{RowsAreOne};
-ghost use Rattle.obligations.specs.Sources.{MissedAreOwn, MissedOfAreOwn};
-ghost use Rattle.obligations.specs.Traces.{CleanGrows, NothingIsPending, PendGrows, PendingIsEnough};
-ghost use Rattle.obligations.specs.Unread.{UnreadInstanceStaysMet, UnreadLeavesRest, UnreadStaysMet};
+ghost use Rattle.obligations.specs.machine.TraceLaws.{PendCanBePending, PendCame, PendingWasBegun, CleanGrows};
+ghost use Rattle.obligations.specs.machine.TraceLaws.{NothingIsPending, PendGrows};
+ghost use Rattle.obligations.specs.machine.SoundnessLaws.{NothingMissedIsEnough, NothingMissedIsEnoughPending};
+ghost use Rattle.obligations.specs.machine.SoundnessLaws.{PendingIsEnough};
+ghost use Rattle.obligations.specs.machine.LossLaws.{SomethingMissedIsLost, DeadlineIsNeeded, MissedIsServed};
+ghost use Rattle.obligations.specs.machine.LossLaws.{MissedIsServedPending, PendingIsEarlier, PendingIsOwed};
+ghost use Rattle.obligations.specs.machine.LossLaws.{SomethingMissedIsLostPending};
+ghost use Rattle.obligations.specs.machine.ExistenceLaws.{AfterExists, BegunExists, PendingAfterExists, MissingExists};
+ghost use Rattle.obligations.specs.machine.ExistenceLaws.{MissingOfExists, PendExists};
+ghost use Rattle.obligations.specs.machine.AskingLaws.{BegunCanBeAsked, PendingAfterCanBeAsked, PendCanBeAsked};
+ghost use Rattle.obligations.specs.machine.AskingLaws.{CanBeAsked, NowStands, WellFormedCanBeAsked, WellFormedStand};
+ghost use Rattle.obligations.specs.machine.UniquenessLaws.{MissingIsOne, AfterIsOne, BegunIsOne, MissingOfIsOne};
+ghost use Rattle.obligations.specs.machine.UniquenessLaws.{PendIsOne, RowsAreOne};
+ghost use Rattle.obligations.specs.machine.TriggerLaws.{BegunIsNamed, BegunIsReached, MissedIsReached, ReachedIsInside};
+ghost use Rattle.obligations.specs.machine.ValueLaws.{MissedIsRight, MissedOfIsRight, PendingIsRight, MissedAreOwn};
+ghost use Rattle.obligations.specs.machine.ValueLaws.{MissedOfAreOwn};
+ghost use Rattle.obligations.specs.machine.UnreadLaws.{UnreadInstanceStaysMet, UnreadLeavesRest, UnreadStaysMet};
 
 use enf_formula::laws;
 use monitorable_guard::laws::{safe_has_rows, safe_values_are_known};
@@ -30,7 +30,7 @@ pub fn missing_is_one()
     ensures missing { MissingIsOne }
 {}
 
-/// What is begun, what an instance misses and becomes, and what is pending behind a trace, is one list at most.
+/// What is begun, what an instance misses and becomes, and what is pending after a trace, is one list at most.
 pub fn pending_is_one()
     ensures begun { BegunIsOne }
     ensures missing { MissingOfIsOne }
@@ -54,7 +54,7 @@ pub fn something_missed_is_lost()
     laws::dependence();
 }
 
-/// What is pending behind a clean trace is owed there, and where it misses something at a step more, it is lost.
+/// What is pending after a clean trace is owed there, and where it misses something at a step more, it is lost.
 pub fn pending_is_owed()
     ensures owed { PendingIsOwed }
     ensures earlier { PendingIsEarlier }
@@ -80,7 +80,7 @@ pub fn missed_is_served()
     owed_stays_owed();
 }
 
-/// Where nothing was missed along a trace, it is enough to meet what is pending behind it; plans that do not look ahead
+/// Where nothing was missed along a trace, it is enough to meet what is pending after it; plans that do not look ahead
 /// leave nothing pending.
 pub fn pending_is_enough()
     ensures enough { PendingIsEnough }
@@ -106,22 +106,22 @@ pub fn missing_exists()
     safe_has_rows();
 }
 
-/// What a pending instance misses that can be asked, and what it becomes, is a list; so is what is pending behind a
-/// step, and behind a trace.
+/// What a pending instance misses that can be asked, and what it becomes, is a list; so is what is pending after a
+/// step, and after a trace.
 pub fn pending_exists()
     ensures missing { MissingOfExists }
     ensures after { AfterExists }
-    ensures goes { GoesExists }
+    ensures goes { PendingAfterExists }
     ensures pending { PendExists }
 {
     missing_exists();
     pending_can_be_asked();
 }
 
-/// Of plans that can be asked, what is begun can be asked, and what is pending behind a step and behind a trace.
+/// Of plans that can be asked, what is begun can be asked, and what is pending after a step and after a trace.
 pub fn pending_can_be_asked()
     ensures begun { BegunCanBeAsked }
-    ensures goes { GoesCanBeAsked }
+    ensures goes { PendingAfterCanBeAsked }
     ensures pending { PendCanBeAsked }
 {
     nodes_have_scopes();
@@ -173,7 +173,7 @@ pub fn steps_reach()
     triggers_are_met();
 }
 
-/// What is pending behind a trace was begun at one of its steps; what is pending behind one step more was led there by
+/// What is pending after a trace was begun at one of its steps; what is pending after one step more was led there by
 /// it.
 pub fn pending_was_begun()
     ensures came { PendCame }
@@ -183,7 +183,7 @@ pub fn pending_was_begun()
     nodes_have_scopes();
 }
 
-/// Where guards give right values, what is pending behind a trace has such, and what is missed is of such.
+/// Where guards give right values, what is pending after a trace has such, and what is missed is of such.
 pub fn pending_is_right()
     ensures pending { PendingIsRight }
     ensures missed { MissedIsRight }
@@ -192,7 +192,7 @@ pub fn pending_is_right()
     nodes_have_scopes();
 }
 
-/// What is pending behind a trace can be so, at a clock at which no deadline is over.
+/// What is pending after a trace can be so, at a clock at which no deadline is over.
 pub fn pending_can_be()
     ensures { PendCanBePending }
 {

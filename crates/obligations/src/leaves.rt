@@ -1,21 +1,21 @@
 //! What leaves of plans miss.
-ghost use Rattle.std.specs.Prelude.{◌≡◌, ◌↔◌, ◌++◌, ◌∷◌, [], IfOk, IsSome, IsTrue};
-ghost use Rattle.std.specs.Prelude.{OnOk, Option, Some, Contains};
+ghost use Rattle.std.specs.Prelude.{◌≡◌, ◌↔◌, ◌++◌, ◌∷◌, [], IfOk, IsSome, IsTrue, OnOk, Option};
+ghost use Rattle.std.specs.Prelude.{Some, Contains};
 ghost use Rattle.std.specs.Option.{option_to_list};
-ghost use Rattle.enf_formula.specs.Satisfaction.{IsAmong};
-ghost use Rattle.enf_value.specs.Valuations.{value_at, values_of};
-ghost use Rattle.enf_value.specs.declared.terms.Term.TheVariants.{Var as Variable};
-ghost use Rattle.enf_value.specs.declared.terms.VarId.{VarId as AnyVariable};
-ghost use Rattle.valuations.specs.Scopes.{bound_in};
-ghost use Rattle.obligations.specs.Missing.{LiteralUnless, OfEvent, cause, suppress};
+ghost use Rattle.enf_formula.specs.meaning.Satisfaction.{IsEventAmong};
+ghost use Rattle.enf_data.specs.meaning.Valuations.{value_at, values_of_terms};
+ghost use Rattle.enf_data.specs.declared.terms.Term.TheVariants.{Var as Variable};
+ghost use Rattle.enf_data.specs.declared.terms.VarId.{VarId as AnyVariable};
+ghost use Rattle.valuations.specs.machine.Bindings.{bound_in};
+ghost use Rattle.obligations.specs.meaning.Obligations.{LiteralUnless, OfEvent, cause_literal, suppress_literal};
 ghost use Rattle.obligations.specs.declared.literals.Literal.{Literal as AnyLiteral};
 
 use crate::literals::{Literal, LiteralKind};
-use enf_value::Event;
-use enf_value::event_sets::EventSet;
-use enf_value::events::NameId;
-use enf_value::memory::NoMemory;
-use enf_value::terms::{Term, Terms};
+use enf_data::Event;
+use enf_data::event_sets::EventSet;
+use enf_data::events::NameId;
+use enf_data::memory::NoMemory;
+use enf_data::terms::{Term, Terms};
 use std::alloc::Global;
 use valuations::Frame;
 use valuations::arguments::{arguments_in, compare_to_terms};
@@ -28,7 +28,7 @@ fn event_of(alloc: Global, name: NameId, terms: &Terms, v: &Frame<'_>) -> Result
     requires { (x : AnyVariable) → Contains terms.now (Variable x)
         → IsSome (value_at (bound_in v.now) x) }
     ensures name { IfOk result (λ event. event.name ≡ name) }
-    ensures args { IfOk result (λ event. values_of (bound_in v.now) terms.now ≡ Some event.args) }
+    ensures args { IfOk result (λ event. values_of_terms (bound_in v.now) terms.now ≡ Some event.args) }
 {
     let args = arguments_in(alloc, terms.as_slice(), v)?;
     Ok(Event { name, args })
@@ -46,7 +46,7 @@ pub fn is_there(
     requires { (x : AnyVariable) → Contains terms.now (Variable x)
         → IsSome (value_at (bound_in v.now) x) }
     ensures { IfOk result (λ there. IsTrue there
-        ↔ IsAmong events.now name (values_of (bound_in v.now) terms.now)) }
+        ↔ IsEventAmong events.now name (values_of_terms (bound_in v.now) terms.now)) }
 {
     if events.len() <= MOST_LOOKED_OVER {
         return Ok(is_among(events.as_slice(), name, terms.as_slice(), v));
@@ -54,7 +54,7 @@ pub fn is_there(
     is_in_set(alloc, name, terms, v, events)
 }
 
-// The same of many events, by a look into their table.
+// Whether the event that a leaf speaks of is one of many, by a look into their table.
 fn is_in_set(
     alloc: Global,
     name: NameId,
@@ -65,7 +65,7 @@ fn is_in_set(
     requires { (x : AnyVariable) → Contains terms.now (Variable x)
         → IsSome (value_at (bound_in v.now) x) }
     ensures { IfOk result (λ there. IsTrue there
-        ↔ IsAmong events.now name (values_of (bound_in v.now) terms.now)) }
+        ↔ IsEventAmong events.now name (values_of_terms (bound_in v.now) terms.now)) }
 {
     let event = event_of(alloc, name, terms, v)?;
     Ok(events.contains(&event))
@@ -73,7 +73,7 @@ fn is_in_set(
 
 // Whether the event of the name with the values of the terms is among the events; it takes no memory.
 fn is_among(events: &[Event], name: NameId, terms: &[Term], v: &Frame<'_>) -> bool
-    ensures { IsTrue result ↔ IsAmong events.now name (values_of (bound_in v.now) terms.now) }
+    ensures { IsTrue result ↔ IsEventAmong events.now name (values_of_terms (bound_in v.now) terms.now) }
 {
     for event in events {
         if is_event(event, name, terms, v) {
@@ -86,7 +86,7 @@ fn is_among(events: &[Event], name: NameId, terms: &[Term], v: &Frame<'_>) -> bo
 // Whether it is the event of the name with the values of the terms.
 fn is_event(event: &Event, name: NameId, terms: &[Term], v: &Frame<'_>) -> bool
     ensures { IsTrue result ↔ ((event.now.name ≡ name)
-        × (values_of (bound_in v.now) terms.now ≡ Some event.now.args)) }
+        × (values_of_terms (bound_in v.now) terms.now ≡ Some event.now.args)) }
 {
     event.name == name && has_arguments(event, terms, v)
 }
@@ -94,7 +94,7 @@ fn is_event(event: &Event, name: NameId, terms: &[Term], v: &Frame<'_>) -> bool
 // Whether its arguments are the values of the terms. It stands apart, as most events differ in their names.
 #[inline(never)]
 fn has_arguments(event: &Event, terms: &[Term], v: &Frame<'_>) -> bool
-    ensures { IsTrue result ↔ (values_of (bound_in v.now) terms.now ≡ Some event.now.args) }
+    ensures { IsTrue result ↔ (values_of_terms (bound_in v.now) terms.now ≡ Some event.now.args) }
 {
     compare_to_terms(event.args.as_slice(), terms, v).is_eq()
 }
@@ -110,8 +110,8 @@ pub fn cause_missing(
 ) -> Result<Option<Literal>, NoMemory>
     requires { (x : AnyVariable) → Contains terms.now (Variable x)
         → IsSome (value_at (bound_in v.now) x) }
-    ensures { IfOk result (λ found. OfEvent name (values_of (bound_in v.now) terms.now)
-        (λ event. LiteralUnless (Contains events.now event) (cause event node) (option_to_list found))) }
+    ensures { IfOk result (λ found. OfEvent name (values_of_terms (bound_in v.now) terms.now)
+        (λ event. LiteralUnless (Contains events.now event) (cause_literal event node) (option_to_list found))) }
 {
     if is_there(alloc, name, terms, v, events)? {
         return Ok(None);
@@ -135,8 +135,8 @@ pub fn suppress_missing(
 ) -> Result<Option<Literal>, NoMemory>
     requires { (x : AnyVariable) → Contains terms.now (Variable x)
         → IsSome (value_at (bound_in v.now) x) }
-    ensures { IfOk result (λ found. OfEvent name (values_of (bound_in v.now) terms.now)
-        (λ event. LiteralUnless (Contains events.now event → ⊥) (suppress event node)
+    ensures { IfOk result (λ found. OfEvent name (values_of_terms (bound_in v.now) terms.now)
+        (λ event. LiteralUnless (Contains events.now event → ⊥) (suppress_literal event node)
         (option_to_list found))) }
 {
     if !is_there(alloc, name, terms, v, events)? {
@@ -162,8 +162,8 @@ pub fn push_cause(
 ) -> Result<(), NoMemory>
     requires { (x : AnyVariable) → Contains terms.now (Variable x)
         → IsSome (value_at (bound_in v.now) x) }
-    ensures { OnOk result ((found : Option AnyLiteral) × OfEvent name (values_of (bound_in v.now) terms.now)
-        (λ event. LiteralUnless (Contains events.now event) (cause event node) (option_to_list found))
+    ensures { OnOk result ((found : Option AnyLiteral) × OfEvent name (values_of_terms (bound_in v.now) terms.now)
+        (λ event. LiteralUnless (Contains events.now event) (cause_literal event node) (option_to_list found))
         × (out.new.items ≡ out.old.items ++ option_to_list found)) }
 {
     if is_there(alloc, name, terms, v, events)? {
@@ -184,8 +184,9 @@ pub fn push_suppress(
 ) -> Result<(), NoMemory>
     requires { (x : AnyVariable) → Contains terms.now (Variable x)
         → IsSome (value_at (bound_in v.now) x) }
-    ensures { OnOk result ((found : Option AnyLiteral) × OfEvent name (values_of (bound_in v.now) terms.now)
-        (λ event. LiteralUnless (Contains events.now event → ⊥) (suppress event node) (option_to_list found))
+    ensures { OnOk result ((found : Option AnyLiteral) × OfEvent name (values_of_terms (bound_in v.now) terms.now)
+        (λ event. LiteralUnless (Contains events.now event → ⊥) (suppress_literal event node)
+        (option_to_list found))
         × (out.new.items ≡ out.old.items ++ option_to_list found)) }
 {
     if !is_there(alloc, name, terms, v, events)? {
@@ -206,7 +207,7 @@ fn push_literal(
 ) -> Result<(), NoMemory>
     requires { (x : AnyVariable) → Contains terms.now (Variable x)
         → IsSome (value_at (bound_in v.now) x) }
-    ensures { OnOk result (OfEvent name (values_of (bound_in v.now) terms.now)
+    ensures { OnOk result (OfEvent name (values_of_terms (bound_in v.now) terms.now)
         (λ event. out.new.items ≡ out.old.items ++ record { kind = kind; event = event; leaf = leaf } ∷ [])) }
 {
     let args = arguments_in(alloc, terms.as_slice(), v)?;

@@ -1,31 +1,27 @@
 //! What plans owe at a step of a trace, and what they leave pending. It stands on `deadline_queue`, `past_state`,
-//! `plan_terms`, `monitorable_guard`, `valuations`, `trace_meaning`, `enf_formula` and `enf_value`.
+//! `plan_terms`, `monitorable_guard`, `valuations`, `trace_meaning`, `enf_formula` and `enf_data`.
 #![tactic(auto)]
 
 pub mod actions;
-mod becoming;
-mod beginning;
-pub mod begun;
-pub mod bounds;
-pub mod carrying;
-pub mod deadlines;
-mod finding;
+pub mod begin;
+mod empty_guards;
 pub mod instances;
 pub mod laws;
 mod leaves;
-mod lists;
 pub mod literals;
-pub mod missing;
-pub mod now;
-mod patient;
+mod missing_all;
+mod missing_first;
+pub mod missing_literals;
+mod patient_plans;
+pub mod pending_parts;
+pub mod plain_plans;
+pub mod present_step;
+pub mod progress_one;
 pub mod scopes;
 mod sides;
-mod sleeping;
-pub mod unread;
-pub mod waiting;
 pub mod worked_cases;
 
 pub use actions::Action;
 pub use instances::{Instance, Instances};
 pub use literals::{Literal, LiteralKind};
-pub use now::Now;
+pub use present_step::Now;

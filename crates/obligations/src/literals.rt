@@ -1,5 +1,5 @@
 //! What a leaf of a plan misses.
-use enf_value::Event;
+use enf_data::Event;
 
 /// An event is missing, or one is there that must not be.
 #[derive(Clone, Copy, Debug, PartialEq, Eq)]

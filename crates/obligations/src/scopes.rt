@@ -1,12 +1,14 @@
 //! The variables in scope at nodes of plans.
 ghost use Rattle.std.specs.Prelude.{◌≡◌, ◌↔◌, IfOk, IsTrue, map, true};
 ghost use Rattle.std.specs.Option.{option_map};
-ghost use Rattle.plan_terms.specs.Nodes.{is_future as looks_ahead};
-ghost use Rattle.plan_terms.specs.Plans.{plan_of};
-ghost use Rattle.obligations.specs.Scopes.{FindsScope, future_in, node_with_scope};
+ghost use Rattle.plan_terms.specs.meaning.Plans.{is_future as looks_ahead};
+ghost use Rattle.plan_terms.specs.machine.StoredPlans.{plan_of};
+ghost use Rattle.plan_terms.specs.machine.NamedNodes.{FindsScope};
+ghost use Rattle.plan_terms.specs.meaning.Scopes.{future_in};
+ghost use Rattle.obligations.specs.machine.Parts.{node_with_scope};
 
-use enf_value::memory::NoMemory;
-use enf_value::terms::VarId;
+use enf_data::memory::NoMemory;
+use enf_data::terms::VarId;
 use plan_terms::Plan;
 use plan_terms::laws::nodes_have_scopes;
 use std::alloc::Global;
@@ -56,7 +58,7 @@ fn is_future(node: &Plan) -> bool
     }
 }
 
-/// Puts the variables that come into scope on the way to the first node with this number behind those in scope at the
+/// Puts the variables that come into scope on the way to the first node with this number after those in scope at the
 /// plan, and says whether there is such a node. Where there is none they stay.
 pub fn find_scope(plan: &Plan, node: u32, scope: &mut Vec<VarId>) -> Result<bool, NoMemory>
     ensures { IfOk result (FindsScope node (plan_of plan.now) scope.old.items scope.new.items) }

@@ -1,14 +1,15 @@
 //! Which of two sides is taken at a step.
 ghost use Rattle.std.specs.Prelude.{IfOk};
 ghost use Rattle.std.specs.Option.{option_copied, option_map};
-ghost use Rattle.plan_terms.specs.Plans.{plan_of};
-ghost use Rattle.valuations.specs.Scopes.{bound_in};
-ghost use Rattle.obligations.specs.Asked.{CanAsk, guards_at};
-ghost use Rattle.obligations.specs.Sides.{TakesSide};
+ghost use Rattle.plan_terms.specs.machine.StoredPlans.{plan_of};
+ghost use Rattle.valuations.specs.machine.Bindings.{bound_in};
+ghost use Rattle.obligations.specs.machine.AskablePlans.{CanAskPlan};
+ghost use Rattle.past_state.specs.machine.GuardPlaces.{guards_at};
+ghost use Rattle.obligations.specs.machine.PresentStep.{TakesSide};
 
-use crate::finding::misses_nothing;
-use crate::now::Now;
-use enf_value::memory::NoMemory;
+use crate::missing_first::misses_nothing;
+use crate::present_step::Now;
+use enf_data::memory::NoMemory;
 use plan_terms::Plan;
 use std::alloc::Global;
 use valuations::Frame;
@@ -22,8 +23,8 @@ pub fn side_taken<'a, 'b>(
     v: &'b Frame<'b>,
     now: &Now<'_>,
 ) -> Result<Option<&'a Plan>, NoMemory>
-    requires left { CanAsk (guards_at now.now.tables.now) (plan_of left.now) (bound_in v.now) }
-    requires right { CanAsk (guards_at now.now.tables.now) (plan_of right.now) (bound_in v.now) }
+    requires left { CanAskPlan (guards_at now.now.tables.now) (plan_of left.now) (bound_in v.now) }
+    requires right { CanAskPlan (guards_at now.now.tables.now) (plan_of right.now) (bound_in v.now) }
     ensures { IfOk result (λ side. TakesSide now.now (plan_of left.now) (plan_of right.now) (bound_in v.now)
         (option_map plan_of (option_copied side))) }
 {

@@ -1,33 +1,17 @@
 -- What has to be kept of a trace is within the bounds at its last time.
-use Rattle.std.proofs.Common.{◌≡◌, ◌∙◌, ℕ, List, [], ◌∷◌, length, Contains, None, Some, refl, sym, ap, subst, arith}
-use Rattle.std.specs.Prelude.{slice_get}
-use Rattle.std.proofs.lemmas.Option.{same_Some}
-use Rattle.enf_value.specs.Data.{IsTrace}
-use Rattle.enf_value.specs.Valuations.{Valuation}
-use Rattle.enf_value.specs.declared.intervals.Interval.{Interval}
-use Rattle.enf_value.specs.declared.steps.Step.{Step}
-use Rattle.enf_value.specs.declared.terms.VarId.{VarId}
-use Rattle.enf_formula.specs.Formulas.{Formula, Prev, Once, Historically, Since}
-use Rattle.enf_formula.specs.FreeLaws.{same_free}
-use Rattle.enf_formula.specs.FreeVariables.{AreFreeVariables}
-use Rattle.enf_formula.specs.Satisfaction.{Sat, Anywhere}
-use Rattle.monitorable_guard.specs.Safety.{denial}
-use Rattle.trace_meaning.specs.Continuation.{last_time}
-use Rattle.trace_meaning.specs.Laws.{NoneIsLater}
-use Rattle.valuations.specs.Columns.{here, none_in_nil}
-use Rattle.valuations.specs.Tables.{valuation_of}
-use Rattle.windows.specs.Kept.{ChosenBy}
-use Rattle.windows.specs.KeptPairs.{pair}
-use Rattle.past_state.specs.Kept.{HasPairAt, KeptAt}
-use Rattle.past_state.specs.Bounds.{HaveTime, IsKeepable, IsTimely, IsTimelyIn}
-use Rattle.past_state.specs.Restoring.{KeptAreWithinBounds}
-use Rattle.past_state.specs.Saved.{AreKeptOf, IsKept, KeptFor, kept_operand, kept_row}
-use Rattle.past_state.specs.declared.kept.KeptRow.{KeptRow}
+use Rattle.past_state.proofs.Vocabulary.{◌≡◌, ◌∙◌, ℕ, List, [], ◌∷◌, length, Contains, None, Some}
+use Rattle.past_state.proofs.Vocabulary.{refl, sym, ap, subst, arith, slice_get, same_Some, IsTrace, Valuation}
+use Rattle.past_state.proofs.Vocabulary.{valuation_of, Interval, Step, VarId, all_from, Formula, Prev, Once}
+use Rattle.past_state.proofs.Vocabulary.{Historically, Since, AreFreeVariables, Sat, HoldsAnywhere, same_free, denial}
+use Rattle.past_state.proofs.Vocabulary.{last_time, NoneIsLater, here, none_in_nil, ChosenBy, pair, HasPairAt, KeptAt}
+use Rattle.past_state.proofs.Vocabulary.{AreKeptOf, IsRowToKeep, KeptFor, kept_operand, kept_row, HaveTime, IsKeepable}
+use Rattle.past_state.proofs.Vocabulary.{IsTimely, IsTimelyIn, KeptAreWithinBounds, KeptRow}
 use Rattle.past_state.proofs.ChosenLemmas.{not_below}
-use Rattle.past_state.proofs.RestoringLemmas.{all_of, chosen_fewer}
+use Rattle.past_state.proofs.RestoredRowLemmas.{chosen_fewer}
 
 -- a row that has to be kept is so for the operator of its number, with the values of that one's columns
-pub kept_with : (trace : List Step) (fs : List Formula) (r : KeptRow) (f : Formula) (columns : List VarId) → slice_get fs r.window ≡ Some f → AreFreeVariables (kept_operand f) columns → IsKept trace fs r
+pub kept_with : (trace : List Step) (fs : List Formula) (r : KeptRow) (f : Formula) (columns : List VarId) → slice_get fs r.window ≡ Some f → AreFreeVariables (kept_operand f) columns
+    → IsRowToKeep trace fs r
     → KeptFor trace f (valuation_of columns r.row) r.time
 kept_with trace fs r f columns at free k =
     let is : k.operator ≡ f = same_Some k.operator f (sym k.numbered ∙ at) in
@@ -46,8 +30,8 @@ module _ (law : NoneIsLater) (trace : List Step) (is_trace : IsTrace trace) (las
 
   timely_for : (f : Formula) (v : Valuation) → ((other : ℕ) → P other → KeptFor trace f v other) → KeptFor trace f v time → IsTimely f last P time
   timely_for (Prev place interval g) v each held = held.1 ∙ sym at
-  timely_for (Once place interval g) v each held = timely_in interval Anywhere (λ i. Sat trace i v g) each held
-  timely_for (Historically place interval g) v each held = timely_in interval Anywhere (λ i. Sat trace i v (denial g)) each held
+  timely_for (Once place interval g) v each held = timely_in interval HoldsAnywhere (λ i. Sat trace i v g) each held
+  timely_for (Historically place interval g) v each held = timely_in interval HoldsAnywhere (λ i. Sat trace i v (denial g)) each held
   timely_for (Since place interval g h) v each held = timely_in interval (λ i. Sat trace i v g) (λ i. Sat trace i v h) each held
   timely_for f v each held = absurd held
 
@@ -72,7 +56,7 @@ kept_are_within law trace None fs [] is_trace at rising are = refl
 kept_are_within law trace None fs (r ∷ rows) is_trace at rising are =
     let k = (are r).0 (here r rows) in
     absurd (none_of_nothing k.operator (valuation_of k.columns r.row) r.time (subst (λ t. KeptFor t k.operator (valuation_of k.columns r.row) r.time) at k.kept))
-kept_are_within law trace (Some last) fs rows is_trace at rising are = (rising, all_of (IsKeepable fs last rows) rows keepable)
+kept_are_within law trace (Some last) fs rows is_trace at rising are = (rising, all_from (IsKeepable fs last rows) rows keepable)
   where
     keepable : (r : KeptRow) → Contains rows r → IsKeepable fs last rows r
     keepable r there =

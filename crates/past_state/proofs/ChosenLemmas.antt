@@ -1,9 +1,7 @@
 -- Which of the times at which a row held are kept, with one step more, and what those give later.
-use Rattle.std.proofs.Common.{◌≡◌, ◌∙◌, ◌↔◌, ◌⊎◌, inl, inr, ⊎_elim, ℕ, zero, suc, ◌+◌, ◌-◌, ◌<◌, ◌≤◌, Option, None, Some, refl, sym, subst, arith}
-use Rattle.std.proofs.lemmas.Bool.{cases_lt}
-use Rattle.enf_value.specs.Membership.{IsUpTo}
-use Rattle.windows.specs.Kept.{ChosenBy}
-use Rattle.windows.specs.Times.{IsEnded, IsServed}
+use Rattle.past_state.proofs.Vocabulary.{◌≡◌, ◌∙◌, ◌↔◌, ◌⊎◌, inl, inr, ⊎_elim, ℕ, zero, suc}
+use Rattle.past_state.proofs.Vocabulary.{◌+◌, ◌-◌, ◌<◌, ◌≤◌, Option, None, Some, refl, sym, subst}
+use Rattle.past_state.proofs.Vocabulary.{arith, cases_lt, IsUpTo, ChosenBy, IsEndedTime, IsServedTime}
 
 -- ---- classically there is a least time, and a greatest one
 
@@ -28,8 +26,8 @@ greatest end P bound j = greatest_within end end P bound j (omega arith)
 
 -- ---- of the times P at which a row held, up to some end, one that is kept serves in the place of each that is not past the interval
 
-pub chosen_serves : (high : Option ℕ) (low last end : ℕ) (P : ℕ → Type 0) → ((i : ℕ) → P i → i ≤ end) → (j : ℕ) → P j → (IsEnded high last j → ⊥)
-    → (IsServed high low last (λ k. P k × ChosenBy high low last P k) j → ⊥) → ⊥
+pub chosen_serves : (high : Option ℕ) (low last end : ℕ) (P : ℕ → Type 0) → ((i : ℕ) → P i → i ≤ end) → (j : ℕ) → P j → (IsEndedTime high last j → ⊥)
+    → (IsServedTime high low last (λ k. P k × ChosenBy high low last P k) j → ⊥) → ⊥
 chosen_serves None low last end P bound j here alive none = least P j here (λ k up_to at first. none (k, up_to, (at, first)))
 chosen_serves (Some high) low last end P bound j here alive none =
     ⊎_elim
@@ -40,32 +38,32 @@ chosen_serves (Some high) low last end P bound j here alive none =
 
 -- ---- with one step more
 
--- before it the times P held and the times H of them were kept; behind it the times Q held and the times A are kept
+-- before it the times P held and the times H of them were kept; after it the times Q held and the times A are kept
 module _ (high : Option ℕ) (low last now end : ℕ) (P H Q A : ℕ → Type 0) (F S R : Type 0) (later : last ≤ now) (bound : (i : ℕ) → P i → i ≤ end)
     (held : (j : ℕ) → H j ↔ (P j × ChosenBy high low last P j))
     (survives : (j : ℕ) → H j → S ↔ F)
     (more : (j : ℕ) → Q j → (((P j × F) ⊎ ((j ≡ now) × R)) → ⊥) → ⊥)
     (goes : (j : ℕ) → P j → F → Q j) (comes : R → Q now)
     (from : (j : ℕ) → A j → (H j × S) ⊎ ((j ≡ now) × R))
-    (serves : (j : ℕ) → (H j × S) ⊎ ((j ≡ now) × R) → IsServed high low now A j ⊎ IsEnded high now j)
+    (serves : (j : ℕ) → (H j × S) ⊎ ((j ≡ now) × R) → IsServedTime high low now A j ⊎ IsEndedTime high now j)
     (chosen : (j : ℕ) → A j → ChosenBy high low now A j)
     (stable : (j : ℕ) → ((A j → ⊥) → ⊥) → A j) where
   was : (j : ℕ) → A j → Q j
   was j there = ⊎_elim (λ old. goes j ((held j).0 old.0).0 ((survives j old.0).0 old.1)) (λ new. subst Q (sym new.0) (comes new.1)) (from j there)
 
   -- in the place of a time that held, and is not past the interval, one that is kept serves
-  served : (j : ℕ) → Q j → (IsEnded high now j → ⊥) → (IsServed high low now A j → ⊥) → ⊥
+  served : (j : ℕ) → Q j → (IsEndedTime high now j → ⊥) → (IsServedTime high low now A j → ⊥) → ⊥
   served j there alive none = more j there (λ either. ⊎_elim
       (λ old. chosen_serves high low last end P bound j old.0 (λ ended. alive (sooner high ended)) (λ by. again high by old.1 alive none serves held survives))
       (λ new. ⊎_elim none alive (serves j (inr new)))
       either)
     where
-      sooner : (h : Option ℕ) → IsEnded h last j → IsEnded h now j
+      sooner : (h : Option ℕ) → IsEndedTime h last j → IsEndedTime h now j
       sooner None ended = ended
       sooner (Some high) ended = omega (arith, ended)
 
-      again : (h : Option ℕ) → IsServed h low last (λ k. P k × ChosenBy h low last P k) j → F → (IsEnded h now j → ⊥) → (IsServed h low now A j → ⊥)
-          → ((k : ℕ) → (H k × S) ⊎ ((k ≡ now) × R) → IsServed h low now A k ⊎ IsEnded h now k)
+      again : (h : Option ℕ) → IsServedTime h low last (λ k. P k × ChosenBy h low last P k) j → F → (IsEndedTime h now j → ⊥) → (IsServedTime h low now A j → ⊥)
+          → ((k : ℕ) → (H k × S) ⊎ ((k ≡ now) × R) → IsServedTime h low now A k ⊎ IsEndedTime h now k)
           → ((k : ℕ) → H k ↔ (P k × ChosenBy h low last P k)) → ((k : ℕ) → H k → S ↔ F) → ⊥
       again None by f alive none serves held survives =
           let h = (held by.0).1 by.2 in
@@ -73,10 +71,16 @@ module _ (high : Option ℕ) (low last now end : ℕ) (P H Q A : ℕ → Type 0)
       again (Some high) by f alive none serves held survives =
           let h = (held by.0).1 by.3 in
           ⊎_elim
-          (λ s. none (s.0, omega (arith, s.1, by.1), ⊎_elim (λ same. ⊎_elim (λ first. inl (same ∙ first)) (λ far. inr (subst (λ t. low ≤ now - t) (sym same) (omega (arith, far)))) by.2) (λ far. inr far) s.2, s.3))
+          (λ s. none (
+            s.0,
+            omega (arith, s.1, by.1),
+            ⊎_elim (λ same. ⊎_elim (λ first. inl (same ∙ first))
+                (λ far. inr (subst (λ t. low ≤ now - t) (sym same) (omega (arith, far)))) by.2) (λ far. inr far) s.2,
+            s.3,
+          ))
           (λ ended. alive (omega (arith, ended, by.1))) (serves by.0 (inl (h, (survives by.0 h).1 f)))
 
-  is_chosen : (h : Option ℕ) (j : ℕ) → A j → ChosenBy h low now A j → ((i : ℕ) → Q i → (IsEnded h now i → ⊥) → (IsServed h low now A i → ⊥) → ⊥) → ChosenBy h low now Q j
+  is_chosen : (h : Option ℕ) (j : ℕ) → A j → ChosenBy h low now A j → ((i : ℕ) → Q i → (IsEndedTime h now i → ⊥) → (IsServedTime h low now A i → ⊥) → ⊥) → ChosenBy h low now Q j
   is_chosen None j there first served = λ i held_i. not_below j i (λ below. served i held_i (λ e. e) (λ s. omega (arith, below, s.1, first s.0 s.2)))
   is_chosen (Some high) j there last_far served = (
     last_far.0,
@@ -85,12 +89,12 @@ module _ (high : Option ℕ) (low last now end : ℕ) (P H Q A : ℕ → Type 0)
   )
 
   -- a time that is to be kept is kept, since what serves in its place can only be itself
-  itself : (h : Option ℕ) (j : ℕ) → ChosenBy h low now Q j → ((k : ℕ) → A k → Q k) → IsServed h low now A j → A j
+  itself : (h : Option ℕ) (j : ℕ) → ChosenBy h low now Q j → ((k : ℕ) → A k → Q k) → IsServedTime h low now A j → A j
   itself None j choice was s = subst A (omega (arith, s.1, choice s.0 (was s.0 s.2))) s.2
   itself (Some high) j choice was s = ⊎_elim (λ same. subst A same s.3) (λ far.
       subst A (omega (arith, s.1, choice.1 (omega (arith, far, s.1)) s.0 (was s.0 s.3) far)) s.3) s.2
 
-  not_ended : (h : Option ℕ) (j : ℕ) → ChosenBy h low now Q j → IsEnded h now j → ⊥
+  not_ended : (h : Option ℕ) (j : ℕ) → ChosenBy h low now Q j → IsEndedTime h now j → ⊥
   not_ended None j choice ended = ended
   not_ended (Some high) j choice ended = omega (arith, choice.0, ended)
 

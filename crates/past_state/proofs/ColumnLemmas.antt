@@ -1,28 +1,12 @@
 -- Columns of rows, and which rows under them survive.
-use Rattle.std.proofs.Common.{◌≡◌, ◌∙◌, ◌↔◌, inl, inr, ⊎_elim, ◌<◌, List, [], ◌∷◌, Contains, sym, subst}
-use Rattle.std.specs.Cmp.{ranks}
-use Rattle.std.specs.Ordering.{MatchOrdering}
-use Rattle.std.specs.List.Sorted.{IsStrictlySortedBy}
+use Rattle.past_state.proofs.Vocabulary.{◌≡◌, ◌∙◌, ◌↔◌, inl, inr, ⊎_elim, ◌<◌, List, []}
+use Rattle.past_state.proofs.Vocabulary.{◌∷◌, Contains, sym, subst, ranks, MatchOrdering, IsStrictlySortedBy}
+use Rattle.past_state.proofs.Vocabulary.{All-contains, All-after_first, Formula, AreFreeVariables, tree_of, same_free}
+use Rattle.past_state.proofs.Vocabulary.{Valuation, variable_cmp, BindsColumns, Event, VarId, AreOpen, HasKnownValues}
+use Rattle.past_state.proofs.Vocabulary.{BoundFormula, HoldsNow, none_in_nil, Relation, IsTable, HasValuation, Window}
+use Rattle.past_state.proofs.Vocabulary.{WindowKeeps, AnswersRows, AllComeFrom, AreSurvivors}
 use Rattle.std.specs.declared.cmp.Ordering.TheVariants.{Less}
-use Rattle.std.proofs.lemmas.List.Elements.{All-contains}
-use Rattle.std.proofs.lemmas.Map.Views.{All-after_first}
-use Rattle.enf_formula.specs.Formulas.{Formula, tree_of}
-use Rattle.enf_formula.specs.FreeLaws.{same_free}
-use Rattle.enf_formula.specs.FreeVariables.{AreFreeVariables}
-use Rattle.enf_value.specs.Valuations.{Valuation, variable_cmp}
-use Rattle.enf_value.specs.declared.events.Event.{Event}
-use Rattle.enf_value.specs.declared.terms.VarId.{VarId}
-use Rattle.monitorable_guard.specs.Evaluation.{AreOpen, HasKnownValues}
-use Rattle.monitorable_guard.specs.Guards.{BoundFormula}
-use Rattle.monitorable_guard.specs.Present.{HoldsNow}
-use Rattle.valuations.specs.Columns.{none_in_nil}
-use Rattle.valuations.specs.Just.{Binds}
-use Rattle.valuations.specs.Tables.{Relation, IsTable, Has}
-use Rattle.windows.specs.Windows.{Window, Keeps}
-use Rattle.past_state.specs.Asking.{AnswersAll}
-use Rattle.past_state.specs.Lefts.{AreSurvivors}
-use Rattle.past_state.specs.Sources.{AllComeFrom}
-use Rattle.past_state.specs.declared.left.Left.TheVariants as side
+use Rattle.past_state.specs.declared.left_sides.Left.TheVariants as side
 use Rattle.past_state.specs.declared.survivors.Survivors.TheVariants as told
 
 below : (x y : VarId) → variable_cmp x y ≡ Less → x.0 < y.0
@@ -40,13 +24,15 @@ open_free f bound xs none opened = record {
 
 pub answers_all : (events : List Event) (tables : List Relation) (guard : BoundFormula) (columns : List VarId) (t : Relation)
     → AreFreeVariables (tree_of guard.formula) columns → IsTable t → AreFreeVariables (tree_of guard.formula) t.columns
-    → ((v : Valuation) → Binds v t.columns → Has t v ↔ HoldsNow events tables v (tree_of guard.formula)) → AllComeFrom events tables (tree_of guard.formula) t → AnswersAll events tables guard columns t
+    → ((v : Valuation) → BindsColumns v t.columns → HasValuation t v ↔ HoldsNow events tables v (tree_of guard.formula)) → AllComeFrom events tables (tree_of guard.formula) t
+    → AnswersRows events tables guard columns t
 answers_all events tables guard columns t free table found rows known =
     let same : t.columns ≡ columns = same_free (tree_of guard.formula) t.columns columns found free in
-    record { table = table; columns_are = same; rows = λ v binds. rows v (subst (Binds v) (sym same) binds); known = known }
+    record { table = table; columns_are = same; rows = λ v binds. rows v (subst (BindsColumns v) (sym same) binds); known = known }
 
 -- with nothing bound no value is that of a bound variable
-pub known_from : (events : List Event) (tables : List Relation) (f : Formula) (bound : List VarId) (v : Valuation) (t : Relation) → bound ≡ [] → HasKnownValues events tables f bound v t → AllComeFrom events tables f t
+pub known_from : (events : List Event) (tables : List Relation) (f : Formula) (bound : List VarId) (v : Valuation) (t : Relation) → bound ≡ []
+    → HasKnownValues events tables f bound v t → AllComeFrom events tables f t
 known_from events tables f bound v t none known row there value inside =
     ⊎_elim (λ argument. inl argument)
     (λ either. inr (⊎_elim (λ tabled. inl tabled) (λ last. ⊎_elim (λ constant. inr constant) (λ of. absurd (none_in_nil of.0 (subst (λ l. Contains l of.0) none of.1))) last) either))
@@ -54,15 +40,16 @@ known_from events tables f bound v t none known row there value inside =
 
 -- the kept rows under which a guard holds are those that survive
 pub surviving_in : (events : List Event) (tables : List Relation) (guard : BoundFormula) (window : Window) (lasting surviving : Relation) → lasting.columns ≡ window.columns
-    → ((v : Valuation) → Has lasting v ↔ Keeps window window.last v) → surviving.columns ≡ lasting.columns
-    → ((v : Valuation) → Has surviving v ↔ (Has lasting v × HoldsNow events tables v (tree_of guard.formula))) → AreSurvivors events tables (side.ByRow guard) window (told.Only surviving)
+    → ((v : Valuation) → HasValuation lasting v ↔ WindowKeeps window window.last v) → surviving.columns ≡ lasting.columns
+    → ((v : Valuation) → HasValuation surviving v ↔ (HasValuation lasting v × HoldsNow events tables v (tree_of guard.formula)))
+    → AreSurvivors events tables (side.ByRow guard) window (told.Only surviving)
 surviving_in events tables guard window lasting surviving columns lasts surviving_columns survives = record {
   fit = surviving_columns ∙ columns;
   exact = λ v binds keeps. (λ h. ((survives v).0 h).1, λ holds. (survives v).1 ((lasts v).1 keeps, holds));
 }
 
 -- and all but those under which it is denied
-pub failing_in : (events : List Event) (tables : List Relation) (guard : BoundFormula) (window : Window) (failing : Relation) → AnswersAll events tables guard window.columns failing
+pub failing_in : (events : List Event) (tables : List Relation) (guard : BoundFormula) (window : Window) (failing : Relation) → AnswersRows events tables guard window.columns failing
     → AreSurvivors events tables (side.Denied guard) window (told.AllBut failing)
 failing_in events tables guard window failing answers = record {
   fit = answers.columns_are;

@@ -1,21 +1,20 @@
 -- Operators to which a step is committed one after another.
-use Rattle.std.proofs.Common.{◌≡◌, ◌∙◌, ℕ, zero, suc, ◌+◌, ◌<◌, ◌≤◌, List, [], ◌∷◌, ◌++◌, length, get_or, set, refl, sym, ap, subst, arith, length-append}
-use Rattle.std.proofs.lemmas.List.Elements.{All-get_or, All-nil, All-cons}
-use Rattle.past_state.specs.declared.memories.Memory.{Memory}
-use Rattle.past_state.specs.declared.memories.Memory.TheVariants as memories
-use Rattle.past_state.specs.Memories.{FitMemory, IsUpToTimeOf, IsCommittedTo, IsSameMemory}
-use Rattle.past_state.specs.Runs.{AllFit, AreUpToTimeOf, OneCommitted, AllCommitted, AreSameKinds}
-use Rattle.past_state.specs.declared.memories.StepTables.{StepTables}
-use Rattle.past_state.specs.declared.operators.OperatorState.{OperatorState}
+use Rattle.past_state.proofs.Vocabulary.{◌≡◌, ◌∙◌, ℕ, zero, suc, ◌+◌, ◌<◌, ◌≤◌, List, []}
+use Rattle.past_state.proofs.Vocabulary.{◌∷◌, ◌++◌, length, get_or, set, refl, sym, ap, subst, arith}
+use Rattle.past_state.proofs.Vocabulary.{length-append, All-get_or, All-nil, All-cons, Memory, FitMemory, IsUpToTimeOf}
+use Rattle.past_state.proofs.Vocabulary.{IsCommittedTo, IsSameMemory, AllMemoriesFit, AreUpToTimeOf, OneCommitted}
+use Rattle.past_state.proofs.Vocabulary.{AllCommitted, AreSameKinds, StepTables, OperatorState}
 use Rattle.past_state.proofs.MemoryLemmas.{same_itself, same_then}
+use Rattle.past_state.specs.declared.memories.Memory.TheVariants as memories
 
-pub within : (operators : List OperatorState) (front back : List StepTables) (t : StepTables) → AllFit operators (front ++ t ∷ back) → length front < length operators
+pub within : (operators : List OperatorState) (front back : List StepTables) (t : StepTables) → AllMemoriesFit operators (front ++ t ∷ back) → length front < length operators
 within [] [] back t fit = absurd fit
 within [] (s ∷ front) back t fit = absurd fit
 within (o ∷ operators) [] back t fit = omega arith
 within (o ∷ operators) (s ∷ front) back t fit = omega (arith, within operators front back t fit.1)
 
-pub fit_at : (operators : List OperatorState) (front back : List StepTables) (t : StepTables) (d : OperatorState) → AllFit operators (front ++ t ∷ back) → FitMemory (get_or operators (length front) d).memory t
+pub fit_at : (operators : List OperatorState) (front back : List StepTables) (t : StepTables) (d : OperatorState) → AllMemoriesFit operators (front ++ t ∷ back)
+    → FitMemory (get_or operators (length front) d).memory t
 fit_at [] [] back t d fit = absurd fit
 fit_at [] (s ∷ front) back t d fit = absurd fit
 fit_at (o ∷ operators) [] back t d fit = fit.0
@@ -32,7 +31,8 @@ uncommitted time (o ∷ operators) [] now d committed below = ap (λ l. get_or l
 uncommitted time (o ∷ operators) (s ∷ front) [] d committed below = absurd committed
 uncommitted time (o ∷ operators) (s ∷ front) (p ∷ now) d committed below = uncommitted time operators front now d committed.1 (omega (arith, below))
 
-pub commit_next : (time : ℕ) (operators : List OperatorState) (front : List StepTables) (t : StepTables) (now : List OperatorState) (after : OperatorState) (d : OperatorState) → length front < length operators
+pub commit_next : (time : ℕ) (operators : List OperatorState) (front : List StepTables) (t : StepTables) (now : List OperatorState) (after : OperatorState) (d : OperatorState)
+    → length front < length operators
     → AllCommitted time operators front now → OneCommitted time (get_or operators (length front) d) t after → AllCommitted time operators (front ++ t ∷ []) (set now (length front) after)
 commit_next time [] front t now after d below committed one = absurd (omega (arith, below))
 commit_next time (o ∷ operators) [] t now after d below committed one =
@@ -46,23 +46,22 @@ same_length time (o ∷ operators) [] now committed = ap length committed
 same_length time (o ∷ operators) (t ∷ front) [] committed = absurd committed
 same_length time (o ∷ operators) (t ∷ front) (p ∷ now) committed = ap suc (same_length time operators front now committed.1)
 
-pub up_to_at : (time : ℕ) (operators : List OperatorState) (front back : List StepTables) (t : StepTables) (d : OperatorState) → AllFit operators (front ++ t ∷ back) → AreUpToTimeOf time operators
+pub up_to_at : (time : ℕ) (operators : List OperatorState) (front back : List StepTables) (t : StepTables) (d : OperatorState) → AllMemoriesFit operators (front ++ t ∷ back)
+    → AreUpToTimeOf time operators
     → IsUpToTimeOf time (get_or operators (length front) d).memory
 up_to_at time operators front back t d fit up_to = All-get_or (λ o. IsUpToTimeOf time o.memory) operators (length front) d (within operators front back t fit) up_to
 
-pub below : (time : ℕ) (operators now : List OperatorState) (steps front back : List StepTables) (t : StepTables) (place : ℕ) → AllFit operators steps → steps ≡ front ++ t ∷ back → place ≡ length front
+pub below : (time : ℕ) (operators now : List OperatorState) (steps front back : List StepTables) (t : StepTables) (place : ℕ) → AllMemoriesFit operators steps → steps
+    ≡ front ++ t ∷ back → place ≡ length front
     → AllCommitted time operators front now → place < length now
 below time operators now steps front back t place fit split at committed_so_far =
-    omega (arith, at, within operators front back t (subst (AllFit operators) split fit), same_length time operators front now committed_so_far)
+    omega (arith, at, within operators front back t (subst (AllMemoriesFit operators) split fit), same_length time operators front now committed_so_far)
 
 -- the turn of the loop at the next step
 module _ (time : ℕ) (operators now : List OperatorState) (steps front back : List StepTables) (t : StepTables) (place : ℕ) (o : OperatorState)
-    (fit : AllFit operators steps) (split : steps ≡ front ++ t ∷ back) (at : place ≡ length front) (committed_so_far : AllCommitted time operators front now) where
-  fits : AllFit operators (front ++ t ∷ back)
-  fits = subst (AllFit operators) split fit
-
-  inside : place < length now
-  inside = below time operators now steps front back t place fit split at committed_so_far
+    (fit : AllMemoriesFit operators steps) (split : steps ≡ front ++ t ∷ back) (at : place ≡ length front) (committed_so_far : AllCommitted time operators front now) where
+  fits : AllMemoriesFit operators (front ++ t ∷ back)
+  fits = subst (AllMemoriesFit operators) split fit
 
   is_old : o ≡ get_or now place o → o ≡ get_or operators (length front) o
   is_old is = is ∙ ap (λ n. get_or now n o) at ∙ uncommitted time operators front now o committed_so_far (within operators front back t fits)
@@ -83,7 +82,8 @@ pub same_all : (operators : List OperatorState) → AreSameKinds operators opera
 same_all [] = refl
 same_all (o ∷ operators) = (refl, same_itself o.memory, same_all operators)
 
-pub same_set : (operators now : List OperatorState) (place : ℕ) (o after : OperatorState) → AreSameKinds operators now → place < length now → o ≡ get_or now place o → after.taken ≡ o.taken → IsSameMemory o.memory after.memory
+pub same_set : (operators now : List OperatorState) (place : ℕ) (o after : OperatorState) → AreSameKinds operators now → place < length now → o ≡ get_or now place o
+    → after.taken ≡ o.taken → IsSameMemory o.memory after.memory
     → AreSameKinds operators (set now place after)
 same_set [] now place o after same below is taken memory = absurd (omega (arith, below, ap length same))
 same_set (p ∷ operators) [] place o after same below is taken memory = absurd same
@@ -100,7 +100,8 @@ one_up_to time later (memories.Prev slot operand) t after within committed = sub
 one_up_to time later (memories.Once window right) t after within committed = subst (IsUpToTimeOf later) (sym committed.2) (omega (arith, committed.1.last_is))
 one_up_to time later (memories.Since window left left_tables right) t after within committed = subst (IsUpToTimeOf later) (sym committed.2) (omega (arith, committed.1.last_is))
 
-pub all_up_to : (time later : ℕ) (operators : List OperatorState) (steps : List StepTables) (after : List OperatorState) → time ≤ later → AllFit operators steps → AllCommitted time operators steps after → AreUpToTimeOf later after
+pub all_up_to : (time later : ℕ) (operators : List OperatorState) (steps : List StepTables) (after : List OperatorState) → time ≤ later → AllMemoriesFit operators steps
+    → AllCommitted time operators steps after → AreUpToTimeOf later after
 all_up_to time later [] steps after within fit committed = subst (AreUpToTimeOf later) (sym committed) (All-nil _)
 all_up_to time later (o ∷ operators) [] after within fit committed = absurd fit
 all_up_to time later (o ∷ operators) (t ∷ steps) [] within fit committed = absurd committed

@@ -1,14 +1,11 @@
 -- Formulas have no more operators on the past than nodes.
-use Rattle.std.proofs.Common.{◌≤◌, List, [], ◌∷◌, length, sym, subst, arith, length-append}
-use Rattle.std.specs.Prelude.{sum_by}
-use Rattle.std.proofs.lemmas.List.Sums.{sum-map, sum_by-cons}
-use Rattle.enf_formula.specs.Formulas.{Formula, True, False, Atom, Equal, Less, AtMost, Not, And, Or, Implies}
-use Rattle.enf_formula.specs.Formulas.{Exists, Forall, Prev, Next, Once, Historically, Since, Eventually, Always, Until}
-use Rattle.enf_formula.specs.Shape.{size_of}
-use Rattle.past_state.specs.Counts.{NoMoreThanNodes}
-use Rattle.past_state.specs.Operators.{all_operators, operators}
+use Rattle.past_state.proofs.Vocabulary.{◌≤◌, List, [], ◌∷◌, length, sym, subst, arith, length-append}
+use Rattle.past_state.proofs.Vocabulary.{sum_by, sum-map, sum_by-cons, Formula, True, False, Atom, Equal, Less, AtMost}
+use Rattle.past_state.proofs.Vocabulary.{Not, And, Or, Implies, Exists, Forall, Prev, Next, Once, Historically, Since}
+use Rattle.past_state.proofs.Vocabulary.{Eventually, Always, Until, formula_size, NoMoreThanNodes, all_operators}
+use Rattle.past_state.proofs.Vocabulary.{operators}
 
-of_one : (f : Formula) → length (operators f) ≤ size_of f
+of_one : (f : Formula) → length (operators f) ≤ formula_size f
 of_one (True place) = omega arith
 of_one (False place) = omega arith
 of_one (Atom place name terms) = omega arith
@@ -30,10 +27,10 @@ of_one (Eventually place interval g) = omega arith
 of_one (Always place interval g) = omega arith
 of_one (Until place interval g h) = omega arith
 
-of_each : (fs : List Formula) → length (all_operators fs) ≤ sum_by size_of fs
+of_each : (fs : List Formula) → length (all_operators fs) ≤ sum_by formula_size fs
 of_each [] = omega arith
 of_each (f ∷ fs) =
-    omega (arith, length-append (operators f) (all_operators fs), of_one f, of_each fs, sum_by-cons size_of f fs)
+    omega (arith, length-append (operators f) (all_operators fs), of_one f, of_each fs, sum_by-cons formula_size f fs)
 
 pub no_more : NoMoreThanNodes
-no_more fs = subst (λ n. length (all_operators fs) ≤ n) (sym (sum-map size_of fs)) (of_each fs)
+no_more fs = subst (λ n. length (all_operators fs) ≤ n) (sym (sum-map formula_size fs)) (of_each fs)

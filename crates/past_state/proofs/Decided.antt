@@ -1,19 +1,12 @@
 -- A table has a valuation or not, and a difference is in an interval or not.
-use Rattle.std.proofs.Common.{◌≡◌, ◌⊎◌, inl, inr, ⊎_elim, ℕ, ◌-◌, ◌≤◌, Bool, true, false, List, [], ◌∷◌, Contains, Option, None, Some, refl, sym, subst, arith}
-use Rattle.std.specs.Bool.{Decides}
-use Rattle.std.proofs.lemmas.Bool.{false≢true, cases_lt}
-use Rattle.std.proofs.lemmas.Option.{same_Some, none-some}
-use Rattle.enf_value.specs.Decided.{value_eq, value_eq-Decides}
-use Rattle.enf_value.specs.Membership.{IsIn, IsUpTo}
-use Rattle.enf_value.specs.Valuations.{Valuation, value_at}
-use Rattle.enf_value.specs.declared.intervals.Interval.{Interval}
-use Rattle.enf_value.specs.declared.terms.VarId.{VarId}
-use Rattle.enf_value.specs.declared.values.Value.{Value}
-use Rattle.valuations.specs.Columns.{here, later, first_or_later, none_in_nil}
-use Rattle.valuations.specs.Tables.{Relation, Has, Agrees, cell}
-use Rattle.windows.specs.Windows.{Window, HasRow, Remembers}
-use Rattle.past_state.specs.Survivors.{Survives}
-use Rattle.past_state.specs.declared.survivors.Survivors.{Survivors}
+use Rattle.past_state.proofs.Vocabulary.{◌≡◌, ◌⊎◌, inl, inr, ⊎_elim, ℕ, ◌-◌, ◌≤◌, true, false}
+use Rattle.past_state.proofs.Vocabulary.{List, [], ◌∷◌, Contains, Option, None, Some, refl, sym, subst, arith}
+use Rattle.past_state.proofs.Vocabulary.{Decides, false≢true, cases_lt, same_Some, none-some, value_eq}
+use Rattle.past_state.proofs.Vocabulary.{value_eq-Decides, IsIn, IsUpTo, Valuation, value_at, Interval, VarId, Value}
+use Rattle.past_state.proofs.Vocabulary.{here, later, first_or_later, none_in_nil, Relation, HasValuation}
+use Rattle.past_state.proofs.Vocabulary.{AgreesWithRow, row_cell, Window, HasRow, WindowRemembers, ValuationSurvives}
+use Rattle.past_state.proofs.Vocabulary.{Survivors}
+use Rattle.std.proofs.Common.{Bool}
 use Rattle.past_state.specs.declared.survivors.Survivors.TheVariants as told
 
 -- it holds or not
@@ -48,32 +41,32 @@ same_value (Some a) (Some b) = ⊎_elim (λ e. inl (λ i. Some (e i))) (λ no. i
 
 -- on each of the columns xs
 agrees : (v : Valuation) (columns : List VarId) (row : List Value) (xs : List VarId)
-    → IsDecided ((x : VarId) → Contains xs x → value_at v x ≡ cell columns row x)
+    → IsDecided ((x : VarId) → Contains xs x → value_at v x ≡ row_cell columns row x)
 agrees v columns row [] = inl (λ x there. absurd (none_in_nil x there))
 agrees v columns row (y ∷ xs) =
     ⊎_elim
     (λ first. ⊎_elim
-    (λ rest. inl (λ x there. ⊎_elim (λ same. subst (λ z. value_at v z ≡ cell columns row z) same first) (rest x) (first_or_later x y xs there)))
+    (λ rest. inl (λ x there. ⊎_elim (λ same. subst (λ z. value_at v z ≡ row_cell columns row z) same first) (rest x) (first_or_later x y xs there)))
     (λ no. inr (λ h. no (λ x there. h x (later x y xs there))))
     (agrees v columns row xs))
     (λ no. inr (λ h. no (h y (here y xs))))
-    (same_value (value_at v y) (cell columns row y))
+    (same_value (value_at v y) (row_cell columns row y))
 
 among : (v : Valuation) (columns : List VarId) (rows : List (List Value))
-    → IsDecided ((row : List Value) × Contains rows row × Agrees v columns row)
+    → IsDecided ((row : List Value) × Contains rows row × AgreesWithRow v columns row)
 among v columns [] = inr (λ h. none_in_nil h.0 h.1)
 among v columns (row ∷ rows) =
     ⊎_elim (λ yes. inl (row, here row rows, yes))
     (λ no. ⊎_elim (λ found. inl (found.0, later found.0 row rows found.1, found.2))
-    (λ none. inr (λ h. ⊎_elim (λ same. no (subst (Agrees v columns) (sym same) h.2)) (λ behind. none (h.0, behind, h.2)) (first_or_later h.0 row rows h.1)))
+    (λ none. inr (λ h. ⊎_elim (λ same. no (subst (AgreesWithRow v columns) (sym same) h.2)) (λ behind. none (h.0, behind, h.2)) (first_or_later h.0 row rows h.1)))
     (among v columns rows))
     (agrees v columns row columns)
 
-pub in_table : (t : Relation) (v : Valuation) → IsDecided (Has t v)
+pub in_table : (t : Relation) (v : Valuation) → IsDecided (HasValuation t v)
 in_table t v = among v t.columns t.rows
 
 -- what cannot fail to survive survives
-pub survives_stable : (survivors : Survivors) (v : Valuation) → ((Survives survivors v → ⊥) → ⊥) → Survives survivors v
+pub survives_stable : (survivors : Survivors) (v : Valuation) → ((ValuationSurvives survivors v → ⊥) → ⊥) → ValuationSurvives survivors v
 survives_stable told.All v h = tt
 survives_stable (told.Only rows) v h = stable (in_table rows v) h
 survives_stable (told.AllBut rows) v h = λ there. h (λ absent. absent there)
@@ -90,17 +83,19 @@ some_time Counts counts (time ∷ times) =
 
 -- a row with the valuation's values has one
 some_row : (Counts : ℕ → Type 0) → ((t : ℕ) → IsDecided (Counts t)) → (v : Valuation) (columns : List VarId) (kept : List (List Value × List ℕ))
-    → IsDecided ((e : List Value × List ℕ) × Contains kept e × ((t : ℕ) × Contains e.1 t × Counts t) × Agrees v columns e.0)
+    → IsDecided ((e : List Value × List ℕ) × Contains kept e × ((t : ℕ) × Contains e.1 t × Counts t) × AgreesWithRow v columns e.0)
 some_row Counts counts v columns [] = inr (λ h. none_in_nil h.0 h.1)
 some_row Counts counts v columns (e ∷ kept) =
     ⊎_elim (λ yes. inl (e, here e kept, yes.0, yes.1))
     (λ no. ⊎_elim (λ found. inl (found.0, later found.0 e kept found.1, found.2, found.3))
-    (λ none. inr (λ h. ⊎_elim (λ same. no (subst (λ f. ((t : ℕ) × Contains f.1 t × Counts t) × Agrees v columns f.0) (sym same) (h.2, h.3))) (λ behind. none (h.0, behind, h.2, h.3)) (first_or_later h.0 e kept h.1)))
+    (λ none. inr (λ h. ⊎_elim (λ same. no (subst (λ f. ((t : ℕ) × Contains f.1 t × Counts t) × AgreesWithRow v columns f.0) (sym same) (h.2, h.3)))
+    (λ behind. none (h.0, behind, h.2, h.3)) (first_or_later h.0 e kept h.1)))
     (some_row Counts counts v columns kept))
     (both (some_time Counts counts e.1) (agrees v columns e.0 columns))
 
 same_time : (time t : ℕ) → IsDecided (t ≡ time)
-same_time time t = ⊎_elim (λ below. ⊎_elim (λ above. inl (omega (arith, below, above))) (λ no. inr (λ e. no (omega (arith, e)))) (at_most time t)) (λ no. inr (λ e. no (omega (arith, e)))) (at_most t time)
+same_time time t = ⊎_elim (λ below. ⊎_elim (λ above. inl (omega (arith, below, above))) (λ no. inr (λ e. no (omega (arith, e)))) (at_most time t))
+    (λ no. inr (λ e. no (omega (arith, e)))) (at_most t time)
 
 pub in_window : (window : Window) (v : Valuation) (time : ℕ) → IsDecided (HasRow window v time)
 in_window window v time =
@@ -108,7 +103,7 @@ in_window window v time =
     (λ none. inr (λ h. none ((h.0, h.1), h.2, (time, h.3, refl), h.4)))
     (some_row (λ t. t ≡ time) (same_time time) v window.columns window.kept)
 
-pub is_remembered : (window : Window) (time : ℕ) (v : Valuation) → IsDecided (Remembers window time v)
+pub is_remembered : (window : Window) (time : ℕ) (v : Valuation) → IsDecided (WindowRemembers window time v)
 is_remembered window time v =
     ⊎_elim (λ found. inl (found.2.0, found.2.2, (found.0.0, found.0.1, found.1, found.2.1, found.3)))
     (λ none. inr (λ h. none ((h.2.0, h.2.1), h.2.2, (h.0, h.2.3, h.1), h.2.4)))

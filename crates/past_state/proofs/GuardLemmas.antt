@@ -1,22 +1,15 @@
 -- The guards of a past state, one after another.
-use Rattle.std.proofs.Common.{◌≡◌, ◌∙◌, ◌⊎◌, ℕ, zero, suc, ◌+◌, ◌-◌, ◌<◌, ◌≤◌, List, [], ◌∷◌, ◌++◌, length, map, take, drop, reverse, get_or, All, IsTrue, Contains, refl, sym, ap, subst, arith, drop-cons, append-nil, length-append}
-use Rattle.std.proofs.lemmas.List.{length-drop, length-map, length-reverse, map-append, reverse-append, take_more, take_all}
-use Rattle.std.proofs.lemmas.List.Elements.{All-cons, All-nil, All-head, All-tail, All-push}
-use Rattle.enf_formula.specs.Formulas.{Formula, tree_of}
-use Rattle.enf_formula.specs.Past.{is_past}
-use Rattle.monitorable_guard.specs.Guards.{BoundFormula}
-use Rattle.monitorable_guard.specs.Present.{outermost}
-use Rattle.past_state.specs.Guarded.{tree_in, count_in, AreCopies, IsFreshGuard, IsPastGuard}
-use Rattle.past_state.specs.GuardLaws.{copies_formulas}
-use Rattle.past_state.specs.Keeping.{PushesFor}
-use Rattle.past_state.specs.Operators.{operators, all_operators, all_outermost}
-use Rattle.past_state.specs.Past.{BeginAt, IsPast, IsSound, formulas, formula_of}
-use Rattle.past_state.specs.Runs.{AreFor}
-use Rattle.monitorable_guard.specs.Safety.{BindsFresh}
-use Rattle.enf_formula.specs.FreeVariables.{IsFree}
-use Rattle.past_state.specs.declared.guards.PlacedGuard.{PlacedGuard}
-use Rattle.past_state.specs.declared.operators.OperatorState.{OperatorState}
-use Rattle.past_state.proofs.BuildingLemmas.{pushes_both, pushes_none, outermost_fewer, pushed_long}
+use Rattle.past_state.proofs.Vocabulary.{◌≡◌, ◌∙◌, ◌⊎◌, ℕ, zero, suc, ◌+◌, ◌-◌, ◌<◌}
+use Rattle.past_state.proofs.Vocabulary.{◌≤◌, List, [], ◌∷◌, ◌++◌, length, map, take, drop, reverse}
+use Rattle.past_state.proofs.Vocabulary.{get_or, All, IsTrue, Contains, refl, sym, ap, subst, arith, drop-cons}
+use Rattle.past_state.proofs.Vocabulary.{append-nil, length-append, length-drop, length-map, length-reverse, map-append}
+use Rattle.past_state.proofs.Vocabulary.{reverse-append, take_more, take_all, All-cons, All-nil, All-head, All-tail}
+use Rattle.past_state.proofs.Vocabulary.{All-push, Formula, IsFree, tree_of, is_past, BindsFresh, BoundFormula}
+use Rattle.past_state.proofs.Vocabulary.{outermost, tree_in, count_in, AreCopies, IsFreshGuard, IsPastGuard, PushesFor}
+use Rattle.past_state.proofs.Vocabulary.{operators, all_operators, all_outermost, BeginAt, IsPast, IsSoundGuard}
+use Rattle.past_state.proofs.Vocabulary.{formulas_of_guards, guard_formula, AreFor, PlacedGuard, OperatorState}
+use Rattle.past_state.proofs.GuardLaws.{copies_formulas}
+use Rattle.past_state.proofs.FirstMemoryLemmas.{pushes_both, pushes_none, outermost_fewer, pushed_long}
 
 nothing_behind : {X : Type 0} (xs : List X) → drop (length xs) xs ≡ []
 nothing_behind [] = refl
@@ -44,7 +37,8 @@ pushed_none guards before =
     let all : length guards ≡ length guards - 0 = omega arith in
     subst (λ l. PushesFor (reverse (all_operators (map tree_in l))) before before) (sym (nothing_behind guards) ∙ ap (λ n. drop n guards) all) (pushes_none before)
 
-pub counted_more : (guards : List BoundFormula) (p : ℕ) (g : BoundFormula) (counts after : List ℕ) (count : ℕ) → p < length guards → g ≡ get_or guards (length guards - 1 - p) g → counts ≡ reverse (map count_in (drop (length guards - p) guards))
+pub counted_more : (guards : List BoundFormula) (p : ℕ) (g : BoundFormula) (counts after : List ℕ) (count : ℕ) → p < length guards → g ≡ get_or guards (length guards - 1 - p) g
+    → counts ≡ reverse (map count_in (drop (length guards - p) guards))
     → count ≡ count_in g → after ≡ counts ++ count ∷ [] → after ≡ reverse (map count_in (drop (length guards - (p + 1)) guards))
 counted_more guards p g counts after count below is so_far counted grown =
     grown ∙ (λ i. so_far i ++ counted i ∷ []) ∙ sym (reversed count_in g (drop (length guards - p) guards))
@@ -57,27 +51,18 @@ pushed_more guards p g before middle after below is so_far pushed =
     subst (λ l. PushesFor (reverse (all_operators (map tree_in l))) before after) (ap (λ h. h ∷ drop (length guards - p) guards) is ∙ sym (one_before guards p g below))
     (pushes_both (operators (tree_in g)) (all_operators (map tree_in (drop (length guards - p) guards))) before middle after so_far pushed)
 
--- where the last one was reached, all are there
-pub all_reached : {X : Type 0} (xs : List X) (p : ℕ) → length xs ≤ p → drop (length xs - p) xs ≡ xs
-all_reached xs p all = let none : length xs - p ≡ 0 = omega (arith, all) in ap (λ n. drop n xs) none ∙ drop_none xs
-  where
-    drop_none : {X : Type 0} (xs : List X) → drop 0 xs ≡ xs
-    drop_none [] = refl
-    drop_none (x ∷ xs) = refl
-
--- ---- the copies, each with the place of its tables
-
-pub copies_more : (guards : List BoundFormula) (placed : List PlacedGuard) (g : BoundFormula) (p : PlacedGuard) → AreCopies guards placed → tree_of p.guard.formula ≡ tree_in g → p.guard.bound ≡ g.bound
+pub copies_more : (guards : List BoundFormula) (placed : List PlacedGuard) (g : BoundFormula) (p : PlacedGuard) → AreCopies guards placed → tree_of p.guard.formula ≡ tree_in g
+    → p.guard.bound ≡ g.bound
     → AreCopies (guards ++ g ∷ []) (placed ++ p ∷ [])
 copies_more [] [] g p copies same bound = (same, bound, tt)
 copies_more [] (q ∷ placed) g p copies same bound = absurd copies
 copies_more (h ∷ guards) [] g p copies same bound = absurd copies
 copies_more (h ∷ guards) (q ∷ placed) g p copies same bound = (copies.0, copies.1, copies_more guards placed g p copies.2 same bound)
 
-begin_more : (n : ℕ) (placed : List PlacedGuard) (p : PlacedGuard) → BeginAt n placed → p.start ≡ n + length (all_outermost (formulas placed)) → BeginAt n (placed ++ p ∷ [])
+begin_more : (n : ℕ) (placed : List PlacedGuard) (p : PlacedGuard) → BeginAt n placed → p.start ≡ n + length (all_outermost (formulas_of_guards placed)) → BeginAt n (placed ++ p ∷ [])
 begin_more n [] p begin start = (start ∙ omega arith, tt)
 begin_more n (q ∷ placed) p begin start =
-    (begin.0, begin_more (n + length (outermost (formula_of q))) placed p begin.1 (start ∙ omega (arith, length-append (outermost (formula_of q)) (all_outermost (formulas placed)))))
+    (begin.0, begin_more (n + length (outermost (guard_formula q))) placed p begin.1 (start ∙ omega (arith, length-append (outermost (guard_formula q)) (all_outermost (formulas_of_guards placed)))))
 
 outermost_more : (fs : List Formula) (f : Formula) → length (all_outermost (fs ++ f ∷ [])) ≡ length (all_outermost fs) + length (outermost f)
 outermost_more [] f = ap length (append-nil (outermost f)) ∙ omega arith
@@ -97,26 +82,31 @@ pub record PlacedSoFar (guards : List BoundFormula) (i : ℕ) (counts : List ℕ
   pub begin : BeginAt 0 placed
   pub past : All IsPastGuard (take i guards)
 
-pub placed_next : (guards : List BoundFormula) (i : ℕ) (g : BoundFormula) (counts rest : List ℕ) (start count : ℕ) (placed after : List PlacedGuard) (p : PlacedGuard) → i < length guards → g ≡ get_or guards i g
-    → PlacedSoFar guards i counts start placed → after ≡ placed ++ p ∷ [] → tree_of p.guard.formula ≡ tree_in g → p.guard.bound ≡ g.bound → p.start ≡ start → counts ≡ rest ++ count ∷ [] → IsPastGuard g
+pub placed_next : (guards : List BoundFormula) (i : ℕ) (g : BoundFormula) (counts rest : List ℕ) (start count : ℕ) (placed after : List PlacedGuard) (p : PlacedGuard)
+    → i < length guards → g ≡ get_or guards i g
+    → PlacedSoFar guards i counts start placed → after ≡ placed ++ p ∷ [] → tree_of p.guard.formula ≡ tree_in g → p.guard.bound ≡ g.bound → p.start ≡ start → counts
+    ≡ rest ++ count ∷ [] → IsPastGuard g
     → PlacedSoFar guards (i + 1) rest (start + count) after
 placed_next guards i g counts rest start count placed after p below is so_far grown same bound begins popped looks_back =
     let behind : drop i guards ≡ g ∷ drop (i + 1) guards = drop-cons guards i g below ∙ (let n : suc i ≡ i + 1 = omega arith in λ j. (sym is) j ∷ drop (n j) guards) in
-    let split : rest ++ count ∷ [] ≡ reverse (map count_in (drop (i + 1) guards)) ++ count_in g ∷ [] = sym popped ∙ so_far.counts_are ∙ ap (λ l. reverse (map count_in l)) behind ∙ reversed count_in g (drop (i + 1) guards) in
+    let split : rest ++ count ∷ [] ≡ reverse (map count_in (drop (i + 1) guards)) ++ count_in g ∷ [] = sym popped ∙ so_far.counts_are ∙ ap (λ l. reverse (map count_in l)) behind
+    ∙ reversed count_in g (drop (i + 1) guards) in
     let front : take (i + 1) guards ≡ take i guards ++ g ∷ [] = take_more guards i g below ∙ ap (λ h. take i guards ++ h ∷ []) (sym is) in
     let both = last_same rest (reverse (map count_in (drop (i + 1) guards))) count (count_in g) split in
     record {
       counts_are = both.0;
       start_is = start_next both.1 front;
       copies = subst (λ l. AreCopies l after) (sym front) (subst (AreCopies (take i guards ++ g ∷ [])) (sym grown) (copies_more (take i guards) placed g p so_far.copies same bound));
-      begin = subst (BeginAt 0) (sym grown) (begin_more 0 placed p so_far.begin (begins ∙ so_far.start_is ∙ ap (λ l. length (all_outermost l)) (sym (copies_formulas (take i guards) placed so_far.copies)) ∙ omega arith));
+      begin = subst (BeginAt 0) (sym grown) (begin_more 0 placed p so_far.begin (begins ∙ so_far.start_is ∙ ap (λ l. length (all_outermost l))
+          (sym (copies_formulas (take i guards) placed so_far.copies)) ∙ omega arith));
       past = subst (All IsPastGuard) (sym front) (All-push IsPastGuard (take i guards) g so_far.past looks_back);
     }
   where
     start_next : count ≡ count_in g → take (i + 1) guards ≡ take i guards ++ g ∷ [] → start + count ≡ length (all_outermost (map tree_in (take (i + 1) guards)))
     start_next counted front =
         let total : length (all_outermost (map tree_in (take (i + 1) guards))) ≡ length (all_outermost (map tree_in (take i guards))) + count_in g =
-        ap (λ l. length (all_outermost (map tree_in l))) front ∙ ap (λ l. length (all_outermost l)) (map-append tree_in (take i guards) (g ∷ [])) ∙ outermost_more (map tree_in (take i guards)) (tree_in g) in
+        ap (λ l. length (all_outermost (map tree_in l))) front ∙ ap (λ l. length (all_outermost l)) (map-append tree_in (take i guards) (g ∷ [])) ∙ outermost_more
+        (map tree_in (take i guards)) (tree_in g) in
         omega (arith, total, counted, so_far.start_is)
 
 pub placed_none : (guards : List BoundFormula) (counts : List ℕ) (placed : List PlacedGuard) → counts ≡ reverse (map count_in guards) → placed ≡ [] → PlacedSoFar guards 0 counts 0 placed
@@ -133,13 +123,15 @@ start_fits (h ∷ guards) (suc i) start g below is begins =
     let split : start ≡ length (outermost (tree_in h)) + n = begins ∙ length-append (outermost (tree_in h)) (all_outermost (map tree_in (take i guards))) in
     omega (arith, split, start_fits guards i n g (omega (arith, below)) is refl, length-append (outermost (tree_in h)) (all_outermost (map tree_in guards)))
 
-next_counts : (guards : List BoundFormula) (i : ℕ) (g : BoundFormula) (counts : List ℕ) (start : ℕ) (placed : List PlacedGuard) → i < length guards → g ≡ get_or guards i g → PlacedSoFar guards i counts start placed
+next_counts : (guards : List BoundFormula) (i : ℕ) (g : BoundFormula) (counts : List ℕ) (start : ℕ) (placed : List PlacedGuard) → i < length guards → g ≡ get_or guards i g
+    → PlacedSoFar guards i counts start placed
     → counts ≡ reverse (map count_in (drop (i + 1) guards)) ++ count_in g ∷ []
 next_counts guards i g counts start placed below is so_far =
     let behind : drop i guards ≡ g ∷ drop (i + 1) guards = drop-cons guards i g below ∙ (let n : suc i ≡ i + 1 = omega arith in λ j. (sym is) j ∷ drop (n j) guards) in
     so_far.counts_are ∙ ap (λ l. reverse (map count_in l)) behind ∙ reversed count_in g (drop (i + 1) guards)
 
-pub last_count : (guards : List BoundFormula) (i : ℕ) (g : BoundFormula) (counts rest : List ℕ) (start count : ℕ) (placed : List PlacedGuard) → i < length guards → g ≡ get_or guards i g → PlacedSoFar guards i counts start placed
+pub last_count : (guards : List BoundFormula) (i : ℕ) (g : BoundFormula) (counts rest : List ℕ) (start count : ℕ) (placed : List PlacedGuard) → i < length guards → g
+    ≡ get_or guards i g → PlacedSoFar guards i counts start placed
     → counts ≡ rest ++ count ∷ [] → count ≡ count_in g
 last_count guards i g counts rest start count placed below is so_far popped =
     (last_same rest (reverse (map count_in (drop (i + 1) guards))) count (count_in g) (sym popped ∙ next_counts guards i g counts start placed below is so_far)).1
@@ -158,22 +150,24 @@ all_outermost_fewer (f ∷ fs) = omega (arith, outermost_fewer f, all_outermost_
 pub few_outermost : (fs : List Formula) (before after : List OperatorState) → before ≡ [] → PushesFor (reverse (all_operators fs)) before after → length (all_outermost fs) ≤ length after
 few_outermost fs before after none pushes = omega (arith, all_outermost_fewer fs, pushed_long (all_operators fs) before after pushes)
 
-copies_sound : (guards : List BoundFormula) (placed : List PlacedGuard) → AreCopies guards placed → All IsPastGuard guards → All IsFreshGuard guards → All IsSound placed
+copies_sound : (guards : List BoundFormula) (placed : List PlacedGuard) → AreCopies guards placed → All IsPastGuard guards → All IsFreshGuard guards → All IsSoundGuard placed
 copies_sound [] [] copies past fresh = All-nil _
 copies_sound [] (p ∷ placed) copies past fresh = absurd copies
 copies_sound (g ∷ guards) [] copies past fresh = absurd copies
 copies_sound (g ∷ guards) (p ∷ placed) copies past fresh =
-    let back : IsTrue (is_past (formula_of p)) = subst (λ f. IsTrue (is_past f)) (sym copies.0) (All-head IsPastGuard g guards past) in
-    let scoped : BindsFresh (formula_of p) (λ x. Contains p.guard.bound x ⊎ IsFree x (formula_of p)) =
-    subst (λ f. BindsFresh f (λ x. Contains p.guard.bound x ⊎ IsFree x f)) (sym copies.0) (subst (λ b. BindsFresh (tree_in g) (λ x. Contains b x ⊎ IsFree x (tree_in g))) (sym copies.1) (All-head IsFreshGuard g guards fresh)) in
-    All-cons IsSound p placed (back, scoped) (copies_sound guards placed copies.2 (All-tail IsPastGuard g guards past) (All-tail IsFreshGuard g guards fresh))
+    let back : IsTrue (is_past (guard_formula p)) = subst (λ f. IsTrue (is_past f)) (sym copies.0) (All-head IsPastGuard g guards past) in
+    let scoped : BindsFresh (guard_formula p) (λ x. Contains p.guard.bound x ⊎ IsFree x (guard_formula p)) =
+    subst (λ f. BindsFresh f (λ x. Contains p.guard.bound x ⊎ IsFree x f)) (sym copies.0)
+    (subst (λ b. BindsFresh (tree_in g) (λ x. Contains b x ⊎ IsFree x (tree_in g))) (sym copies.1) (All-head IsFreshGuard g guards fresh)) in
+    All-cons IsSoundGuard p placed (back, scoped) (copies_sound guards placed copies.2 (All-tail IsPastGuard g guards past) (All-tail IsFreshGuard g guards fresh))
 
-pub new_past : (guards : List BoundFormula) (placed : List PlacedGuard) (before after : List OperatorState) → AreCopies guards placed → BeginAt 0 placed → All IsPastGuard guards → All IsFreshGuard guards → before ≡ []
+pub new_past : (guards : List BoundFormula) (placed : List PlacedGuard) (before after : List OperatorState) → AreCopies guards placed → BeginAt 0 placed → All IsPastGuard guards
+    → All IsFreshGuard guards → before ≡ []
     → PushesFor (reverse (all_operators (map tree_in guards))) before after → IsPast (record { guards = placed; operators = after })
 new_past guards placed before after copies begin past fresh none pushes = record {
   sound = copies_sound guards placed copies past fresh;
   begin = begin;
-  kept = subst (AreFor (reverse (all_operators (formulas placed)))) (sym (pushes.grown ∙ ap (λ l. l ++ pushes.added) none))
+  kept = subst (AreFor (reverse (all_operators (formulas_of_guards placed)))) (sym (pushes.grown ∙ ap (λ l. l ++ pushes.added) none))
       (subst (λ fs. AreFor (reverse (all_operators fs)) pushes.added) (sym (copies_formulas guards placed copies)) pushes.are_for);
 }
 

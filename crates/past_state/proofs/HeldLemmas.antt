@@ -1,23 +1,13 @@
 -- What held on a trace, with one step more.
-use Rattle.std.proofs.Common.{◌≡◌, ◌↔◌, ◌⊎◌, inl, inr, ⊎_elim, ℕ, suc, ◌-◌, ◌<◌, List, [], ◌∷◌, ◌++◌, length, refl, sym, subst, arith, length-append}
-use Rattle.std.proofs.lemmas.Bool.{cases_lt}
-use Rattle.std.proofs.lemmas.List.{get_or_append_left, get_or_at}
-use Rattle.enf_value.specs.Data.{step_at, no_step}
-use Rattle.enf_value.specs.Membership.{IsIn}
-use Rattle.enf_value.specs.Valuations.{Valuation}
-use Rattle.enf_value.specs.declared.intervals.Interval.{Interval}
-use Rattle.enf_value.specs.declared.steps.Step.{Step}
-use Rattle.valuations.specs.Tables.{Relation, Has}
-use Rattle.past_state.specs.Held.{HeldAt, HeldWhere}
-use Rattle.past_state.specs.Survivors.{Survives}
-use Rattle.past_state.specs.declared.survivors.Survivors.{Survivors}
+use Rattle.past_state.proofs.Vocabulary.{◌≡◌, ◌↔◌, ◌⊎◌, inl, inr, ⊎_elim, ℕ, suc, ◌-◌}
+use Rattle.past_state.proofs.Vocabulary.{◌<◌, List, [], ◌∷◌, ◌++◌, length, sym, subst, arith}
+use Rattle.past_state.proofs.Vocabulary.{length-append, cases_lt, get_or_append_left, step_at, no_step, IsIn, Valuation}
+use Rattle.past_state.proofs.Vocabulary.{Interval, Step, step_at_end, Relation, HasValuation, HeldAt, HeldWhere}
+use Rattle.past_state.proofs.Vocabulary.{ValuationSurvives, Survivors}
 use Rattle.past_state.proofs.Decided.{IsDecided, in_interval, in_table, survives_stable}
 
 pub earlier_at : (trace : List Step) (step : Step) (i : ℕ) → i < length trace → step_at (trace ++ step ∷ []) i ≡ step_at trace i
 earlier_at trace step i below = get_or_append_left trace (step ∷ []) no_step i below
-
-pub new_at : (trace : List Step) (step : Step) → step_at (trace ++ step ∷ []) (length trace) ≡ step
-new_at trace step = get_or_at trace step [] no_step (length trace) refl
 
 -- what holds at each position of the trace, and at the new one
 module _ (trace : List Step) (step : Step) (Counts : ℕ → Type 0) (F G F' G' : ℕ → Type 0)
@@ -29,7 +19,7 @@ module _ (trace : List Step) (step : Step) (Counts : ℕ → Type 0) (F G F' G' 
   held_now within g = λ no. no (
     length trace,
     omega (arith, longer),
-    subst (λ s. Counts s.time) (sym (new_at trace step)) within,
+    subst (λ s. Counts s.time) (sym (step_at_end trace step)) within,
     g,
     λ k behind below. absurd (omega (arith, longer)),
   )
@@ -60,7 +50,7 @@ module _ (trace : List Step) (step : Step) (Counts : ℕ → Type 0) (F G F' G' 
       (λ from.
       let is : h.0 ≡ length trace = omega (arith, longer, h.1) in
       refused (inl (
-        subst (λ s. Counts s.time) (new_at trace step) (subst (λ j. Counts (step_at (trace ++ step ∷ []) j).time) is h.2),
+        subst (λ s. Counts s.time) (step_at_end trace step) (subst (λ j. Counts (step_at (trace ++ step ∷ []) j).time) is h.2),
         subst G' is h.3,
       )))
       (cases_lt h.0 (length trace)))
@@ -69,10 +59,10 @@ module _ (trace : List Step) (step : Step) (Counts : ℕ → Type 0) (F G F' G' 
 pub goes_on : (trace : List Step) (step : Step) (interval : Interval) (time : ℕ) (F G F' G' : ℕ → Type 0)
     → ((k : ℕ) → k < length trace → F k ↔ F' k) → ((k : ℕ) → k < length trace → G k ↔ G' k)
     → (survivors : Survivors) (right : Relation) (v : Valuation) (Before Kept Now : Type 0) → (Before → Kept)
-    → Now ↔ ((IsIn interval (time - step.time) × Has right v) ⊎ (Before × Survives survivors v))
+    → Now ↔ ((IsIn interval (time - step.time) × HasValuation right v) ⊎ (Before × ValuationSurvives survivors v))
     → Before ↔ HeldAt trace interval time F G
-    → (Kept → Survives survivors v ↔ F' (length trace))
-    → Has right v ↔ G' (length trace)
+    → (Kept → ValuationSurvives survivors v ↔ F' (length trace))
+    → HasValuation right v ↔ G' (length trace)
     → Now ↔ HeldAt (trace ++ step ∷ []) interval time F' G'
 goes_on trace step interval time F G F' G' same_F same_G survivors right v Before Kept Now is_kept unfolded answers survives is_right = (
   λ h. ⊎_elim
@@ -89,5 +79,5 @@ goes_on trace step interval time F G F' G' same_F same_G survivors right v Befor
       decided),
 )
   where
-    decided : IsDecided (IsIn interval (time - step.time) × Has right v)
+    decided : IsDecided (IsIn interval (time - step.time) × HasValuation right v)
     decided = ⊎_elim (λ within. ⊎_elim (λ has. inl (within, has)) (λ no. inr (λ h. no h.1)) (in_table right v)) (λ no. inr (λ h. no h.0)) (in_interval interval (time - step.time))

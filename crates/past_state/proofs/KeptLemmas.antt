@@ -1,21 +1,14 @@
 -- What a window keeps is what has to be kept of the trace, also with one step more.
-use Rattle.std.proofs.Common.{◌≡◌, ◌↔◌, inl, inr, ⊎_elim, ℕ, zero, suc, ◌+◌, ◌-◌, ◌<◌, ◌≤◌, List, [], ◌∷◌, ◌++◌, length, Option, None, Some, refl, sym, subst, arith}
-use Rattle.enf_value.specs.Data.{step_at}
-use Rattle.enf_value.specs.Membership.{IsIn, IsUpTo}
-use Rattle.enf_value.specs.Valuations.{Valuation}
-use Rattle.enf_value.specs.declared.steps.Step.{Step}
-use Rattle.trace_meaning.specs.Continuation.{last_time}
-use Rattle.valuations.specs.Tables.{Relation, Has}
-use Rattle.windows.specs.Kept.{ChosenBy}
-use Rattle.windows.specs.Laws.{LeastIsChosen}
-use Rattle.windows.specs.Windows.{Window, HasRow, IsCommittedBy, Keeps, Remembers}
-use Rattle.past_state.specs.Held.{HeldAt}
-use Rattle.past_state.specs.Kept.{HasPairAt, KeptAt}
+use Rattle.past_state.proofs.Vocabulary.{◌≡◌, ◌↔◌, inl, inr, ⊎_elim, ℕ, zero, suc, ◌+◌, ◌-◌}
+use Rattle.past_state.proofs.Vocabulary.{◌<◌, ◌≤◌, List, [], ◌∷◌, ◌++◌, length, Option, None, Some}
+use Rattle.past_state.proofs.Vocabulary.{refl, sym, subst, arith, step_at, IsIn, IsUpTo, Valuation, Step, last_time}
+use Rattle.past_state.proofs.Vocabulary.{Relation, HasValuation, ChosenBy, LeastIsChosen, Window, HasRow, IsCommittedBy}
+use Rattle.past_state.proofs.Vocabulary.{WindowKeeps, WindowRemembers, HeldAt, HasPairAt, KeptAt}
 use Rattle.past_state.proofs.ChosenLemmas.{not_below, chosen_on, serves_in}
 use Rattle.past_state.proofs.Decided.{stable, in_window, is_remembered}
 use Rattle.past_state.proofs.HeldLemmas.{held_from, held_now, held_on}
 
--- a time that no step is behind
+-- a time that no step is after
 end_of : List Step → ℕ
 end_of [] = 0
 end_of (step ∷ trace) = step.time + end_of trace
@@ -33,15 +26,16 @@ module _ (law : LeastIsChosen) (trace : List Step) (step : Step) (F G F' G' : �
     (same_F : (k : ℕ) → k < length trace → F k ↔ F' k) (same_G : (k : ℕ) → k < length trace → G k ↔ G' k)
     (last : last_time (trace ++ step ∷ []) ≡ step.time) (later : last_time trace ≤ step.time) (before after : Window) (S : Valuation → Type 0) (right : Relation) (v : Valuation)
     (committed : IsCommittedBy before step.time S right after) (held : (time : ℕ) → HasRow before v time ↔ KeptAt trace before.interval F G time)
-    (survives : (time : ℕ) → HasRow before v time → S v ↔ F' (length trace)) (is_right : Has right v ↔ G' (length trace)) where
+    (survives : (time : ℕ) → HasRow before v time → S v ↔ F' (length trace)) (is_right : HasValuation right v ↔ G' (length trace)) where
   is_chosen : (time : ℕ) → HasRow after v time → ChosenBy before.interval.high before.interval.low step.time (HasRow after v) time
   is_chosen time there = subst (λ l. ChosenBy before.interval.high before.interval.low l (HasRow after v) time) committed.last_is
       (subst (λ i. ChosenBy i.high i.low after.last (HasRow after v) time) committed.interval_is (law after committed.least v time there))
 
   pub kept_on : (time : ℕ) → HasRow after v time ↔ KeptAt (trace ++ step ∷ []) before.interval F' G' time
-  kept_on time = subst (λ l. HasRow after v time ↔ (HasPairAt (trace ++ step ∷ []) F' G' time × ChosenBy before.interval.high before.interval.low l (HasPairAt (trace ++ step ∷ []) F' G') time)) (sym last)
+  kept_on time = subst (λ l. HasRow after v time ↔ (HasPairAt (trace ++ step ∷ []) F' G' time
+      × ChosenBy before.interval.high before.interval.low l (HasPairAt (trace ++ step ∷ []) F' G') time)) (sym last)
       (chosen_on before.interval.high before.interval.low (last_time trace) step.time (end_of trace) (HasPairAt trace F G) (HasRow before v) (HasPairAt (trace ++ step ∷ []) F' G') (HasRow after v)
-      (F' (length trace)) (S v) (Has right v) later (bounded trace F G) held survives
+      (F' (length trace)) (S v) (HasValuation right v) later (bounded trace F G) held survives
       (λ t there none. held_from trace step (λ earlier. earlier ≡ t) F G F' G' same_F same_G there (λ either. none (⊎_elim (λ new. inr (sym new.0, is_right.1 new.1)) (λ old. inl old) either)))
       (λ t there goes. held_on trace step (λ earlier. earlier ≡ t) F G F' G' same_F same_G there goes)
       (λ has. held_now trace step (λ earlier. earlier ≡ step.time) F G F' G' same_F same_G refl (is_right.0 has))
@@ -53,12 +47,12 @@ within None low last now P time later chosen = tt
 within (Some high) low last now P time later chosen = omega (arith, later, chosen.0)
 
 pub kept_now : (last : ℕ) (P : ℕ → Type 0) (window : Window) (v : Valuation) (time : ℕ) → HasRow window v time → window.last ≤ last
-    → ChosenBy window.interval.high window.interval.low last P time → Keeps window window.last v
+    → ChosenBy window.interval.high window.interval.low last P time → WindowKeeps window window.last v
 kept_now last P window v time has later chosen = (time, (omega arith, within window.interval.high window.interval.low last window.last P time later chosen), has)
 
 -- what is kept answers, at each time from the last one on, what held
 pub remembers_held : (trace : List Step) (F G : ℕ → Type 0) (window : Window) (v : Valuation) → ((time : ℕ) → HasRow window v time ↔ KeptAt trace window.interval F G time)
-    → (time : ℕ) → last_time trace ≤ time → Remembers window time v ↔ HeldAt trace window.interval time F G
+    → (time : ℕ) → last_time trace ≤ time → WindowRemembers window time v ↔ HeldAt trace window.interval time F G
 remembers_held trace F G window v held time later = (
   λ h none. ((held h.0).0 h.2).0 (λ p. none (p.0, p.1, subst (λ t. IsIn window.interval (time - t)) (sym p.2) h.1, p.3, p.4)),
   λ h. stable (is_remembered window time v) (λ none. h (λ p.

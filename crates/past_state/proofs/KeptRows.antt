@@ -1,21 +1,17 @@
 -- The rows of a list under which a formula holds.
-use Rattle.std.proofs.Common.{◌≡◌, ◌∙◌, ◌↔◌, ⊎_elim, ℕ, ◌+◌, ◌<◌, ◌≤◌, Bool, true, false, IsTrue, List, [], ◌∷◌, ◌++◌, length, take, get_or, All, Contains, Result, Ok, Err, IfOk, refl, sym, ap, subst}
-use Rattle.std.proofs.lemmas.Bool.{false≢true}
-use Rattle.std.proofs.lemmas.List.{take_more, take_all}
-use Rattle.std.proofs.lemmas.List.Elements.{Contains-append_cases, Contains-append_left, Contains-append_right, Contains-get_or}
-use Rattle.enf_formula.specs.Formulas.{Formula}
-use Rattle.enf_value.specs.Valuations.{Valuation, no_values}
-use Rattle.enf_value.specs.declared.events.Event.{Event}
-use Rattle.enf_value.specs.declared.terms.VarId.{VarId}
-use Rattle.enf_value.specs.declared.values.Value.{Value}
-use Rattle.monitorable_guard.specs.Present.{HoldsNow}
-use Rattle.valuations.specs.Columns.{first_or_later, none_in_nil}
-use Rattle.valuations.specs.RowLaws.{value_at-with_inside, fits}
-use Rattle.valuations.specs.Tables.{Relation, IsTable, Has, Agrees, AgreeOn, valuation_of}
+use Rattle.past_state.proofs.Vocabulary.{◌≡◌, ◌∙◌, ◌↔◌, ⊎_elim, ℕ, ◌+◌, ◌<◌, ◌≤◌}
+use Rattle.past_state.proofs.Vocabulary.{true, false, IsTrue, List, [], ◌∷◌, ◌++◌, length, take, get_or, All}
+use Rattle.past_state.proofs.Vocabulary.{Contains, refl, sym, ap, subst, false≢true, take_more, take_all}
+use Rattle.past_state.proofs.Vocabulary.{Contains-append_cases, Contains-append_left, Contains-append_right}
+use Rattle.past_state.proofs.Vocabulary.{Contains-get_or, Formula, Valuation, no_values, valuation_of, Event, VarId}
+use Rattle.past_state.proofs.Vocabulary.{Value, HoldsNow, first_or_later, none_in_nil, value_at-with_inside}
+use Rattle.past_state.proofs.Vocabulary.{table_row-length, Relation, IsTable, HasValuation, AgreesWithRow}
+use Rattle.past_state.proofs.Vocabulary.{AgreeOnColumns}
+use Rattle.std.proofs.Common.{Bool}
 
 -- w has the row's values
 abbrev pub IsUnder : List VarId → List Value → Valuation → Type 0
-IsUnder columns row w = AgreeOn columns (valuation_of columns row) w
+IsUnder columns row w = AgreeOnColumns columns (valuation_of columns row) w
 
 -- whether the formula holds under the row is told, for each valuation that has its values
 abbrev pub Tells : List Event → List Relation → Formula → List VarId → List Value → Bool → Type 0
@@ -26,12 +22,6 @@ pub record KeepsHolding (events : List Event) (tables : List Relation) (f : Form
   pub complete : (row : List Value) → Contains rows row → (w : Valuation) → IsUnder columns row w → HoldsNow events tables w f → Contains out row
 
 module _ (events : List Event) (tables : List Relation) (f : Formula) (columns : List VarId) where
-  pub none_kept : (out : List (List Value)) → out ≡ [] → KeepsHolding events tables f columns [] out
-  none_kept out e = record {
-    sound = λ row there. absurd (none_in_nil row (subst (λ l. Contains l row) e there));
-    complete = λ row there. absurd (none_in_nil row there);
-  }
-
   last_row : (row other : List Value) → Contains (row ∷ []) other → row ≡ other
   last_row row other there = ⊎_elim (λ same. same) (λ behind. absurd (none_in_nil other behind)) (first_or_later other row [] there)
 
@@ -59,7 +49,7 @@ module _ (events : List Event) (tables : List Relation) (f : Formula) (columns :
         (Contains-append_cases rows (row ∷ []) other there);
   }
 
-  -- the same in a list, at a place
+  -- just the rows up to a place of a list were kept under which the formula holds
   pub kept_at : (rows out : List (List Value)) (i : ℕ) (row : List Value) → i < length rows → row ≡ get_or rows i row
       → KeepsHolding events tables f columns (take i rows ++ row ∷ []) out → KeepsHolding events tables f columns (take (i + 1) rows) out
   kept_at rows out i row below is kept = subst (λ l. KeepsHolding events tables f columns l out) (ap (λ r. take i rows ++ r ∷ []) is ∙ sym (take_more rows i row below)) kept
@@ -88,28 +78,23 @@ module _ (events : List Event) (tables : List Relation) (f : Formula) (rows : Re
   looped_no_more after not_it e = subst (KeepsHolding events tables f rows.columns (take (i + 1) rows.rows)) (sym e) (kept_at events tables f rows.columns rows.rows out i row within at_row
       (kept_no_more events tables f rows.columns (take i rows.rows) out row (subst (Tells events tables f rows.columns row) not_it told) kept))
 
-under : (t : Relation) (row : List Value) (v : Valuation) → IsTable t → Contains t.rows row → Agrees v t.columns row → IsUnder t.columns row v
-under t row v table there agrees x column = value_at-with_inside t.columns row no_values x table.distinct (fits t row table there) column ∙ sym (agrees x column)
+under : (t : Relation) (row : List Value) (v : Valuation) → IsTable t → Contains t.rows row → AgreesWithRow v t.columns row → IsUnder t.columns row v
+under t row v table there agrees x column = value_at-with_inside t.columns row no_values x table.distinct (table_row-length t row table there) column ∙ sym (agrees x column)
 
 -- a table of the rows that are kept
 pub kept_has : (events : List Event) (tables : List Relation) (f : Formula) (rows t : Relation) (out : List (List Value)) → IsTable rows → KeepsHolding events tables f rows.columns rows.rows out
     → t.columns ≡ rows.columns → ((row : List Value) → Contains t.rows row ↔ Contains out row)
-    → (v : Valuation) → Has t v ↔ (Has rows v × HoldsNow events tables v f)
+    → (v : Valuation) → HasValuation t v ↔ (HasValuation rows v × HoldsNow events tables v f)
 kept_has events tables f rows t out table kept columns same v = (
   λ h.
       let was = kept.sound h.0 ((same h.0).0 h.1) in
-      let agrees : Agrees v rows.columns h.0 = subst (λ l. Agrees v l h.0) columns h.2 in
+      let agrees : AgreesWithRow v rows.columns h.0 = subst (λ l. AgreesWithRow v l h.0) columns h.2 in
       ((h.0, was.0, agrees), was.1 v (under rows h.0 v table was.0 agrees)),
   λ both.
       let h = both.0 in
-      (h.0, (same h.0).1 (kept.complete h.0 h.1 v (under rows h.0 v table h.1 h.2) both.1), subst (λ l. Agrees v l h.0) (sym columns) h.2),
+      (h.0, (same h.0).1 (kept.complete h.0 h.1 v (under rows h.0 v table h.1 h.2) both.1), subst (λ l. AgreesWithRow v l h.0) (sym columns) h.2),
 )
 
 pub kept_fit : (events : List Event) (tables : List Relation) (f : Formula) (rows : Relation) (out : List (List Value)) → IsTable rows → KeepsHolding events tables f rows.columns rows.rows out
     → All (λ row. length row ≡ length rows.columns) out
-kept_fit events tables f rows out table kept k d below = fits rows (get_or out k d) table (kept.sound (get_or out k d) (Contains-get_or out k d below)).0
-
-pub ok_table : {E : Type 0} (r : Result Relation E) (columns : List VarId) (rows : List (List Value)) (P : Relation → Type 0) → IfOk r (λ t. t.columns ≡ columns)
-    → IfOk r (λ t. (row : List Value) → Contains t.rows row ↔ Contains rows row) → ((t : Relation) → t.columns ≡ columns → ((row : List Value) → Contains t.rows row ↔ Contains rows row) → P t) → IfOk r P
-ok_table (Ok t) columns rows P c r holds = holds t c r
-ok_table (Err e) columns rows P c r holds = tt
+kept_fit events tables f rows out table kept k d below = table_row-length rows (get_or out k d) table (kept.sound (get_or out k d) (Contains-get_or out k d below)).0

@@ -1,30 +1,22 @@
 -- Where the values of kept rows come from.
-use Rattle.std.proofs.Common.{◌⊎◌, inl, inr, ℕ, ◌-◌, ◌≡◌, List, length, All, Contains, None}
-use Rattle.enf_value.specs.Valuations.{Valuation}
-use Rattle.enf_value.specs.declared.intervals.Interval.{Interval}
-use Rattle.enf_value.specs.declared.steps.Step.{Step}
-use Rattle.enf_value.specs.declared.terms.VarId.{VarId}
-use Rattle.enf_formula.specs.Formulas.{Formula, True, False, Atom, Equal, Less, AtMost, Not, And, Or, Implies}
-use Rattle.enf_formula.specs.Formulas.{Exists, Forall, Prev, Next, Once, Historically, Since, Eventually, Always, Until}
-use Rattle.enf_formula.specs.FreeVariables.{IsFree}
-use Rattle.enf_formula.specs.Satisfaction.{Classically, Sat, Anywhere}
-use Rattle.monitorable_guard.specs.Safety.{denial}
-use Rattle.past_state.specs.Keeping.{CanKeep}
-use Rattle.past_state.specs.Kept.{KeptAt}
-use Rattle.past_state.specs.KeptValues.{HeldAlone, KeptHeld, OperatorsCanBeKept}
-use Rattle.past_state.specs.Saved.{KeptFor, kept_operand}
-use Rattle.past_state.proofs.KeepingLemmas.{keep_all}
+use Rattle.past_state.proofs.Vocabulary.{◌⊎◌, inr, ℕ, ◌-◌, List, length, Contains, None, Valuation}
+use Rattle.past_state.proofs.Vocabulary.{Interval, Step, Formula, True, False, Atom, Equal, Less, AtMost, Not, And, Or}
+use Rattle.past_state.proofs.Vocabulary.{Implies, Exists, Forall, Prev, Next, Once, Historically, Since, Eventually}
+use Rattle.past_state.proofs.Vocabulary.{Always, Until, IsFree, Classically, Sat, HoldsAnywhere, denial, KeptAt}
+use Rattle.past_state.proofs.Vocabulary.{KeptHeld, OperatorsCanBeKept}
+use Rattle.past_state.proofs.KeepableLemmas.{keep_all}
 
 pub can_be_kept : OperatorsCanBeKept
 can_be_kept f bound safe fresh = keep_all None f (Contains bound) (λ x. Contains bound x ⊎ IsFree x f) safe fresh (λ x free. inr free)
 
-some_position : (trace : List Step) (interval : Interval) (F : ℕ → Type 0) (v : Valuation) (g : Formula) (time : ℕ) → KeptAt trace interval F (λ i. Sat trace i v g) time → Classically ((i : ℕ) × Sat trace i v g)
+some_position : (trace : List Step) (interval : Interval) (F : ℕ → Type 0) (v : Valuation) (g : Formula) (time : ℕ) → KeptAt trace interval F (λ i. Sat trace i v g) time
+    → Classically ((i : ℕ) × Sat trace i v g)
 some_position trace interval F v g time kept none = kept.0 (λ at. none (at.0, at.3))
 
 pub held : KeptHeld
 held trace (Prev place interval g) v time can kept = record { fresh = can.0; safe = can.1; held = λ none. none (length trace - 1, kept.2) }
-held trace (Once place interval g) v time can kept = record { fresh = can.0; safe = can.1; held = some_position trace interval Anywhere v g time kept }
-held trace (Historically place interval g) v time can kept = record { fresh = can.0; safe = can.1; held = some_position trace interval Anywhere v (denial g) time kept }
+held trace (Once place interval g) v time can kept = record { fresh = can.0; safe = can.1; held = some_position trace interval HoldsAnywhere v g time kept }
+held trace (Historically place interval g) v time can kept = record { fresh = can.0; safe = can.1; held = some_position trace interval HoldsAnywhere v (denial g) time kept }
 held trace (Since place interval g h) v time can kept = record { fresh = can.0; safe = can.3; held = some_position trace interval (λ i. Sat trace i v g) v h time kept }
 held trace (True place) v time can never = absurd never
 held trace (False place) v time can never = absurd never

@@ -1,48 +1,30 @@
 -- Where the values in the tables of a step come from.
-use Rattle.std.proofs.Common.{◌≡◌, ◌∙◌, ◌⊎◌, inl, inr, ⊎_elim, ℕ, ◌+◌, ◌-◌, List, [], ◌∷◌, ◌++◌, length, drop, reverse, get_or, Contains, Some, sym, ap, subst, arith, length-drop, get_or-drop, refl}
-use Rattle.std.specs.Prelude.{slice_get}
-use Rattle.std.proofs.lemmas.List.Elements.{All-contains, Contains-append_cases, Contains-get_or}
-use Rattle.enf_value.specs.Valuations.{Valuation}
-use Rattle.enf_value.specs.declared.events.Event.{Event}
-use Rattle.enf_value.specs.declared.terms.VarId.{VarId}
-use Rattle.enf_value.specs.declared.values.Value.{Value}
-use Rattle.enf_formula.specs.Formulas.{Formula, True, False, Atom, Equal, Less, AtMost, Not, And, Or, Implies, Exists, Forall, Prev, Next, Once, Historically, Since, Eventually, Always, Until, tree_of}
-use Rattle.monitorable_guard.specs.Evaluation.{IsTabled, HasKnownValues}
-use Rattle.monitorable_guard.specs.Guards.{BoundFormula}
-use Rattle.monitorable_guard.specs.Safety.{denial}
-use Rattle.monitorable_guard.specs.Sources.{IsArgument, IsConstant}
-use Rattle.valuations.specs.Columns.{later, first_or_later, none_in_nil}
-use Rattle.valuations.specs.Tables.{Relation}
-use Rattle.windows.specs.Given.{given}
-use Rattle.windows.specs.GivenLaws.{given_from, given_last_from}
-use Rattle.windows.specs.KeptPairs.{Stores, pair}
-use Rattle.windows.specs.Windows.{Window}
-use Rattle.windows.specs.declared.kept.KeptPair.{KeptPair}
-use Rattle.past_state.specs.Known.{IsConstantOf, IsKeptValue, IsKnownOfGuard, TablesAreKnown}
-use Rattle.past_state.specs.Asking.{AnswersAll}
-use Rattle.past_state.specs.Memories.{IsFor, AreStepTables, given_by}
-use Rattle.past_state.specs.Operators.{operators, all_operators}
-use Rattle.past_state.specs.Past.{PastTables, formulas, formula_of, tables_of}
-use Rattle.past_state.specs.Runs.{AreFor, Runs}
-use Rattle.past_state.specs.Saved.{StoresFor, kept_row}
-use Rattle.past_state.specs.Survivors.{survives_by}
-use Rattle.past_state.specs.declared.guards.PlacedGuard.{PlacedGuard}
-use Rattle.past_state.specs.declared.memories.Memory.{Memory}
-use Rattle.past_state.specs.declared.memories.Memory.TheVariants as memories
-use Rattle.past_state.specs.declared.memories.StepTables.{StepTables}
-use Rattle.past_state.specs.declared.operators.OperatorState.{OperatorState}
+use Rattle.past_state.proofs.Vocabulary.{◌≡◌, ◌∙◌, ◌⊎◌, inl, inr, ⊎_elim, ℕ, ◌-◌, List, []}
+use Rattle.past_state.proofs.Vocabulary.{◌∷◌, ◌++◌, length, drop, reverse, get_or, Contains, Some, sym, ap}
+use Rattle.past_state.proofs.Vocabulary.{subst, arith, refl, slice_get, All-contains, Contains-append_cases}
+use Rattle.past_state.proofs.Vocabulary.{Contains-get_or, Valuation, Event, VarId, Value, Formula, True, False, Atom}
+use Rattle.past_state.proofs.Vocabulary.{Equal, Less, AtMost, Not, And, Or, Implies, Exists, Forall, Prev, Next, Once}
+use Rattle.past_state.proofs.Vocabulary.{Historically, Since, Eventually, Always, Until, tree_of, IsTabled}
+use Rattle.past_state.proofs.Vocabulary.{HasKnownValues, BoundFormula, denial, IsArgument, IsFormulaConstant}
+use Rattle.past_state.proofs.Vocabulary.{tabled_behind, later, first_or_later, none_in_nil, Relation, window_given}
+use Rattle.past_state.proofs.Vocabulary.{given_from, given_last_from, Stores, pair, Window, KeptPair, IsConstantOf}
+use Rattle.past_state.proofs.Vocabulary.{IsKeptValue, IsKnownOfGuard, TablesAreKnown, AnswersRows, IsFor, AreStepTables}
+use Rattle.past_state.proofs.Vocabulary.{memory_given, operators, all_operators, PastTables, formulas_of_guards}
+use Rattle.past_state.proofs.Vocabulary.{guard_formula, tables_of, AreFor, Runs, StoresFor, kept_row, survives_by}
+use Rattle.past_state.proofs.Vocabulary.{PlacedGuard, Memory, StepTables, OperatorState}
 use Rattle.past_state.proofs.PastLemmas.{OfGuard, all_reverse, same_guard}
 use Rattle.past_state.proofs.SavedLemmas.{counted_back}
+use Rattle.past_state.specs.declared.memories.Memory.TheVariants as memories
 
 -- ---- constants
 
-denial_constant : (g : Formula) (value : Value) → IsConstant value (denial g) → IsConstant value g
+denial_constant : (g : Formula) (value : Value) → IsFormulaConstant value (denial g) → IsFormulaConstant value g
 denial_constant (Not place h) value is = is
 denial_constant (Implies place a b) value is = is
 denial_constant g value is = is
 
 -- a constant of an operator in a formula is one of the formula
-constant_up : (g f : Formula) → Contains (operators g) f → (value : Value) → IsConstant value f → IsConstant value g
+constant_up : (g f : Formula) → Contains (operators g) f → (value : Value) → IsFormulaConstant value f → IsFormulaConstant value g
 constant_up (True place) f there value is = absurd (none_in_nil f there)
 constant_up (False place) f there value is = absurd (none_in_nil f there)
 constant_up (Atom place name terms) f there value is = absurd (none_in_nil f there)
@@ -56,13 +38,13 @@ constant_up (Implies place g h) f there value is = ⊎_elim (λ l. inl (constant
 constant_up (Exists place xs g) f there value is = constant_up g f there value is
 constant_up (Forall place xs g) f there value is = constant_up g f there value is
 constant_up (Prev place interval g) f there value is =
-    ⊎_elim (λ same. subst (IsConstant value) (sym same) is) (λ below. constant_up g f below value is) (first_or_later f (Prev place interval g) (operators g) there)
+    ⊎_elim (λ same. subst (IsFormulaConstant value) (sym same) is) (λ below. constant_up g f below value is) (first_or_later f (Prev place interval g) (operators g) there)
 constant_up (Once place interval g) f there value is =
-    ⊎_elim (λ same. subst (IsConstant value) (sym same) is) (λ below. constant_up g f below value is) (first_or_later f (Once place interval g) (operators g) there)
+    ⊎_elim (λ same. subst (IsFormulaConstant value) (sym same) is) (λ below. constant_up g f below value is) (first_or_later f (Once place interval g) (operators g) there)
 constant_up (Historically place interval g) f there value is =
-    ⊎_elim (λ same. subst (IsConstant value) (sym same) is) (λ below. constant_up g f below value is) (first_or_later f (Historically place interval g) (operators g) there)
+    ⊎_elim (λ same. subst (IsFormulaConstant value) (sym same) is) (λ below. constant_up g f below value is) (first_or_later f (Historically place interval g) (operators g) there)
 constant_up (Since place interval g h) f there value is =
-    ⊎_elim (λ same. subst (IsConstant value) (sym same) is)
+    ⊎_elim (λ same. subst (IsFormulaConstant value) (sym same) is)
     (λ below. ⊎_elim (λ l. inl (constant_up g f l value is)) (λ r. inr (constant_up h f r value is)) (Contains-append_cases (operators g) (operators h) f below))
     (first_or_later f (Since place interval g h) (operators g ++ operators h) there)
 constant_up (Next place interval g) f there value is = absurd (none_in_nil f there)
@@ -70,7 +52,7 @@ constant_up (Eventually place interval g) f there value is = absurd (none_in_nil
 constant_up (Always place interval g) f there value is = absurd (none_in_nil f there)
 constant_up (Until place interval g h) f there value is = absurd (none_in_nil f there)
 
-constant_all : (fs : List Formula) (f : Formula) → Contains (all_operators fs) f → (value : Value) → IsConstant value f → IsConstantOf fs value
+constant_all : (fs : List Formula) (f : Formula) → Contains (all_operators fs) f → (value : Value) → IsFormulaConstant value f → IsConstantOf fs value
 constant_all [] f there value is = absurd (none_in_nil f there)
 constant_all (g ∷ fs) f there value is =
     ⊎_elim (λ first. (g, (0, omega arith, refl), constant_up g f first value is))
@@ -78,20 +60,13 @@ constant_all (g ∷ fs) f there value is =
     (Contains-append_cases (operators g) (all_operators fs) f there)
 
 -- it is so of each operator in turn, from the last one
-constant_turned : (fs : List Formula) (f : Formula) → Contains (reverse (all_operators fs)) f → (value : Value) → IsConstant value f → IsConstantOf fs value
+constant_turned : (fs : List Formula) (f : Formula) → Contains (reverse (all_operators fs)) f → (value : Value) → IsFormulaConstant value f → IsConstantOf fs value
 constant_turned fs f there =
-    All-contains (λ g. (value : Value) → IsConstant value g → IsConstantOf fs value) (reverse (all_operators fs)) f
-    (all_reverse (λ g. (value : Value) → IsConstant value g → IsConstantOf fs value) (all_operators fs)
+    All-contains (λ g. (value : Value) → IsFormulaConstant value g → IsConstantOf fs value) (reverse (all_operators fs)) f
+    (all_reverse (λ g. (value : Value) → IsFormulaConstant value g → IsConstantOf fs value) (all_operators fs)
     (λ k d below. constant_all fs (get_or (all_operators fs) k d) (Contains-get_or (all_operators fs) k d below))) there
 
 -- ---- rows
-
--- a table behind others is one of all
-tabled_behind : (n : ℕ) (tables : List Relation) (value : Value) → IsTabled (drop n tables) value → IsTabled tables value
-tabled_behind n tables value some = (some.0, among some.0 some.1, some.2)
-  where
-    among : (t : Relation) → Contains (drop n tables) t → Contains tables t
-    among t there = (n + there.0, omega (arith, there.1, length-drop n tables), sym (get_or-drop n tables there.0 t) ∙ there.2)
 
 -- each operator has a number
 number_of : (os : List OperatorState) (o : OperatorState) → Contains os o → (n : ℕ) × (slice_get (reverse os) n ≡ Some o)
@@ -112,18 +87,19 @@ module _ (events : List Event) (S : Value → Type 0) (argument : (value : Value
   abbrev KeptSuch : Memory → Type 0
   KeptSuch m = (p : KeptPair) → StoresFor m p → (value : Value) → Contains p.row value → S value
 
-  right_known : (stack : List Relation) (f : Formula) (guard : BoundFormula) (columns : List VarId) (t : Relation) → tree_of guard.formula ≡ f → ((value : Value) → IsTabled stack value → S value) → ((value : Value) → IsConstant value f → S value)
-      → AnswersAll events stack guard columns t → AllSuch t
+  right_known : (stack : List Relation) (f : Formula) (guard : BoundFormula) (columns : List VarId) (t : Relation) → tree_of guard.formula ≡ f
+      → ((value : Value) → IsTabled stack value → S value) → ((value : Value) → IsFormulaConstant value f → S value)
+      → AnswersRows events stack guard columns t → AllSuch t
   right_known stack f guard columns t is tabled constant answers row there value inside =
-      ⊎_elim (argument value) (λ either. ⊎_elim (tabled value) (λ c. constant value (subst (IsConstant value) is c)) either) (answers.known row there value inside)
+      ⊎_elim (argument value) (λ either. ⊎_elim (tabled value) (λ c. constant value (subst (IsFormulaConstant value) is c)) either) (answers.known row there value inside)
 
   window_known : (window : Window) (time : ℕ) (t : StepTables) → AllSuch t.right → ((p : KeptPair) → Stores window p.row p.time → (value : Value) → Contains p.row value → S value)
-      → AllSuch (given window time (survives_by t.surviving) t.right)
+      → AllSuch (window_given window time (survives_by t.surviving) t.right)
   window_known window time t right keeps row there value inside =
       ⊎_elim (λ now. right row now value inside) (λ before. keeps (pair row before.0) before.1 value inside) (given_from window time (survives_by t.surviving) t.right row there)
 
   given_known : (f : Formula) (m : Memory) (stack : List Relation) (time : ℕ) (t : StepTables) → IsFor f m → AreStepTables events stack m t → ((value : Value) → IsTabled stack value → S value)
-      → ((value : Value) → IsConstant value f → S value) → KeptSuch m → AllSuch (given_by m time t)
+      → ((value : Value) → IsFormulaConstant value f → S value) → KeptSuch m → AllSuch (memory_given m time t)
   given_known (Prev place interval g) (memories.Prev slot operand) stack time t for are tabled constant keeps = λ row there value inside.
       let from = given_last_from slot time row there in
       keeps (pair row from.0) from.1 value inside
@@ -133,11 +109,12 @@ module _ (events : List Event) (S : Value → Type 0) (argument : (value : Value
       window_known window time t (right_known stack (denial g) right window.columns t.right for.0.formula_is tabled (λ value is. constant value (denial_constant g value is)) are.0) keeps
   given_known (Since place interval g h) (memories.Since window left left_tables right) stack time t for are tabled constant keeps =
       window_known window time t
-      (right_known (drop left_tables stack) h right window.columns t.right for.0.formula_is (λ value is. tabled value (tabled_behind left_tables stack value is)) (λ value is. constant value (inr is)) are.0) keeps
+      (right_known (drop left_tables stack) h right window.columns t.right for.0.formula_is (λ value is. tabled value (tabled_behind left_tables stack value is))
+      (λ value is. constant value (inr is)) are.0) keeps
   given_known f m stack time t for are tabled constant keeps = absurd for
 
   known_run : (time : ℕ) (fs : List Formula) (os : List OperatorState) (steps : List StepTables) (stack final : List Relation) → AreFor fs os → Runs events time stack os steps final
-      → ((f : Formula) → Contains fs f → (value : Value) → IsConstant value f → S value)
+      → ((f : Formula) → Contains fs f → (value : Value) → IsFormulaConstant value f → S value)
       → ((o : OperatorState) → Contains os o → KeptSuch o.memory)
       → ((value : Value) → IsTabled stack value → S value) → (value : Value) → IsTabled final value → S value
   known_run time [] [] [] stack final for runs constant keeps tabled = λ value is. tabled value (subst (λ l. IsTabled l value) (sym runs) is)
@@ -146,28 +123,28 @@ module _ (events : List Event) (S : Value → Type 0) (argument : (value : Value
   known_run time (f ∷ fs) [] steps stack final for runs constant keeps tabled = absurd for
   known_run time (f ∷ fs) (o ∷ os) [] stack final for runs constant keeps tabled = absurd runs
   known_run time (f ∷ fs) (o ∷ os) (t ∷ steps) stack final for runs constant keeps tabled =
-      known_run time fs os steps (given_by o.memory time t ∷ drop o.taken stack) final for.2 runs.1 (λ g there. constant g (later g f fs there)) (λ p there. keeps p (later p o os there)) on_top
+      known_run time fs os steps (memory_given o.memory time t ∷ drop o.taken stack) final for.2 runs.1 (λ g there. constant g (later g f fs there)) (λ p there. keeps p (later p o os there)) on_top
     where
-      given_such : AllSuch (given_by o.memory time t)
+      given_such : AllSuch (memory_given o.memory time t)
       given_such = given_known f o.memory stack time t for.0 runs.0 tabled (constant f (0, omega arith, refl)) (keeps o (0, omega arith, refl))
 
-      on_top : (value : Value) → IsTabled (given_by o.memory time t ∷ drop o.taken stack) value → S value
+      on_top : (value : Value) → IsTabled (memory_given o.memory time t ∷ drop o.taken stack) value → S value
       on_top value some =
           ⊎_elim (λ same. given_such some.2.0 (subst (λ s. Contains s.rows some.2.0) (sym same) some.2.1) value some.2.2)
-          (λ behind. tabled value (tabled_behind o.taken stack value (some.0, behind, some.2))) (first_or_later some.0 (given_by o.memory time t) (drop o.taken stack) some.1)
+          (λ behind. tabled value (tabled_behind o.taken stack value (some.0, behind, some.2))) (first_or_later some.0 (memory_given o.memory time t) (drop o.taken stack) some.1)
 
 pub are_known : TablesAreKnown
 are_known past time events tables is are =
-    known_run events (λ value. IsArgument events value ⊎ (IsConstantOf (formulas past.guards) value ⊎ IsKeptValue past.operators value)) (λ value of. inl of)
-    time (reverse (all_operators (formulas past.guards))) past.operators tables.steps [] tables.stack is.kept are.1
-    (λ f there value of. inr (inl (constant_turned (formulas past.guards) f there value of)))
+    known_run events (λ value. IsArgument events value ⊎ (IsConstantOf (formulas_of_guards past.guards) value ⊎ IsKeptValue past.operators value)) (λ value of. inl of)
+    time (reverse (all_operators (formulas_of_guards past.guards))) past.operators tables.steps [] tables.stack is.kept are.1
+    (λ f there value of. inr (inl (constant_turned (formulas_of_guards past.guards) f there value of)))
     (λ o there p stored value inside. inr (inr (kept_value past.operators o there p stored value inside)))
     (λ value none. absurd (none_in_nil none.0 none.1))
 
 -- ---- what a guard gives
 
 pub known_of_guard : (tables : PastTables) (number : ℕ) (g : PlacedGuard) (past : List Relation) (events : List Event) (v : Valuation) (t : Relation) → OfGuard tables number g past
-    → HasKnownValues events (past) (formula_of g) g.guard.bound v t → IsKnownOfGuard tables number events v t
+    → HasKnownValues events (past) (guard_formula g) g.guard.bound v t → IsKnownOfGuard tables number events v t
 known_of_guard tables number g past events v t asked known h is =
-    subst (λ k. HasKnownValues events (tables_of k tables) (formula_of k) k.guard.bound v t) (same_guard tables.guards number g h asked.is is)
-    (subst (λ l. HasKnownValues events l (formula_of g) g.guard.bound v t) asked.part known)
+    subst (λ k. HasKnownValues events (tables_of k tables) (guard_formula k) k.guard.bound v t) (same_guard tables.guards number g h asked.is is)
+    (subst (λ l. HasKnownValues events l (guard_formula g) g.guard.bound v t) asked.part known)

@@ -1,50 +1,31 @@
 -- What is kept for an operator, with one step more.
-use Rattle.std.proofs.Common.{◌≡◌, ◌∙◌, ◌↔◌, ◌⊎◌, inr, ℕ, ◌≤◌, IsTrue, List, [], ◌∷◌, ◌++◌, length, drop, Contains, refl, sym, subst, arith}
-use Rattle.std.specs.Prelude.{IsSome}
-use Rattle.std.proofs.lemmas.Bool.{and_parts}
-use Rattle.enf_value.specs.Valuations.{Valuation, value_at}
-use Rattle.enf_value.specs.declared.events.Event.{Event}
-use Rattle.enf_value.specs.declared.intervals.Interval.{Interval}
-use Rattle.enf_value.specs.declared.steps.Step.{Step}
-use Rattle.enf_value.specs.declared.terms.VarId.{VarId}
-use Rattle.enf_formula.specs.Formulas.{Formula, Not, Implies, Prev, Once, Historically, Since, tree_of}
-use Rattle.enf_formula.specs.FreeVariables.{IsFree, AreFreeVariables}
-use Rattle.enf_formula.specs.Past.{is_past}
-use Rattle.enf_formula.specs.Satisfaction.{Sat}
-use Rattle.monitorable_guard.specs.Evaluation.{FitOperators}
-use Rattle.monitorable_guard.specs.Guards.{BoundFormula}
-use Rattle.monitorable_guard.specs.Present.{HoldsNow, StandFor, StandsFor, Tabled, PresentIsSatisfied, outermost}
-use Rattle.monitorable_guard.specs.Safety.{BindsFresh, denial}
-use Rattle.trace_meaning.specs.Continuation.{last_time}
-use Rattle.valuations.specs.Just.{Binds}
-use Rattle.valuations.specs.Tables.{Relation, Has}
-use Rattle.windows.specs.Given.{given_last}
-use Rattle.windows.specs.GivenLaws.{given_last_answers}
-use Rattle.windows.specs.Slots.{LastHasColumns}
-use Rattle.windows.specs.Windows.{Window}
-use Rattle.past_state.specs.Laws.{AreTablesOf, SinceAnswers, SinceGoesOn, OnceAnswers, OnceGoesOn, HistoricallyIsDenied, PrevAnswers, PrevGoesOn, satisfied, everywhere}
-use Rattle.past_state.specs.Asking.{Asks, CanAskAll, CanAskUnder, AnswersAll}
-use Rattle.past_state.specs.Lefts.{AsksLeft, AreSurvivors, CanAskLeft, LeftHolds}
-use Rattle.past_state.specs.Memories.{IsFor, CanStep, AreStepTables, FitMemory, MemoryStands, IsCommittedTo, IsSameMemory, given_by}
-use Rattle.past_state.specs.Operators.{inner}
-use Rattle.past_state.specs.Survivors.{Survives, SurvivorsFit}
-use Rattle.past_state.specs.declared.left.Left.{Left}
-use Rattle.past_state.specs.declared.left.Left.TheVariants as side
-use Rattle.past_state.specs.declared.survivors.Survivors.TheVariants as told
-use Rattle.past_state.specs.declared.memories.Memory.{Memory}
-use Rattle.past_state.specs.declared.memories.Memory.TheVariants as memories
-use Rattle.past_state.specs.declared.memories.StepTables.{StepTables}
-use Rattle.past_state.proofs.HeldLemmas.{new_at}
+use Rattle.past_state.proofs.Vocabulary.{◌≡◌, ◌∙◌, ◌↔◌, ◌⊎◌, inr, ℕ, ◌≤◌, IsTrue, List}
+use Rattle.past_state.proofs.Vocabulary.{[], ◌∷◌, ◌++◌, length, drop, Contains, refl, sym, subst, IsSome}
+use Rattle.past_state.proofs.Vocabulary.{and_parts, Valuation, value_at, BindsColumns, Event, Interval, Step, VarId}
+use Rattle.past_state.proofs.Vocabulary.{iff_then as then, step_at_end, Formula, Not, Implies, Prev, Once, Historically}
+use Rattle.past_state.proofs.Vocabulary.{Since, IsFree, AreFreeVariables, Sat, tree_of, is_past, BindsFresh}
+use Rattle.past_state.proofs.Vocabulary.{FitOperators, BoundFormula, HoldsNow, TablesStandFor, TableStandsFor, Tabled}
+use Rattle.past_state.proofs.Vocabulary.{outermost, PresentIsSatisfied, denial, fit_short, last_time, Relation}
+use Rattle.past_state.proofs.Vocabulary.{HasValuation, given_by_slot, given_last_answers, LastHasColumns, Window}
+use Rattle.past_state.proofs.Vocabulary.{AreTablesOf, SinceAnswers, SinceGoesOn, OnceAnswers, OnceGoesOn}
+use Rattle.past_state.proofs.Vocabulary.{HistoricallyIsDenied, PrevAnswers, PrevGoesOn, satisfied, everywhere}
+use Rattle.past_state.proofs.Vocabulary.{GuardAsks, CanAskRows, CanAskRowsUnder, AnswersRows, AsksLeft, AreSurvivors}
+use Rattle.past_state.proofs.Vocabulary.{CanAskLeft, LeftHolds, IsFor, CanStep, AreStepTables, FitMemory, MemoryStands}
+use Rattle.past_state.proofs.Vocabulary.{IsCommittedTo, IsSameMemory, memory_given, inner, ValuationSurvives}
+use Rattle.past_state.proofs.Vocabulary.{SurvivorsFit, Left, Memory, StepTables}
 use Rattle.past_state.proofs.SurvivorLemmas.{window_gives}
+use Rattle.past_state.specs.declared.left_sides.Left.TheVariants as side
+use Rattle.past_state.specs.declared.survivors.Survivors.TheVariants as told
+use Rattle.past_state.specs.declared.memories.Memory.TheVariants as memories
 
 -- ---- tables of several operators
 
-pub stand_front : (trace : List Step) (i : ℕ) (fs gs : List Formula) (tables : List Relation) → StandFor trace i (fs ++ gs) tables → StandFor trace i fs tables
+pub stand_front : (trace : List Step) (i : ℕ) (fs gs : List Formula) (tables : List Relation) → TablesStandFor trace i (fs ++ gs) tables → TablesStandFor trace i fs tables
 stand_front trace i [] gs tables stand = tt
 stand_front trace i (f ∷ fs) gs [] stand = absurd stand
 stand_front trace i (f ∷ fs) gs (t ∷ tables) stand = (stand.0, stand_front trace i fs gs tables stand.1)
 
-pub stand_back : (trace : List Step) (i : ℕ) (fs gs : List Formula) (tables : List Relation) → StandFor trace i (fs ++ gs) tables → StandFor trace i gs (drop (length fs) tables)
+pub stand_back : (trace : List Step) (i : ℕ) (fs gs : List Formula) (tables : List Relation) → TablesStandFor trace i (fs ++ gs) tables → TablesStandFor trace i gs (drop (length fs) tables)
 stand_back trace i [] gs tables stand = stand
 stand_back trace i (f ∷ fs) gs [] stand = absurd stand
 stand_back trace i (f ∷ fs) gs (t ∷ tables) stand = stand_back trace i fs gs tables stand.1
@@ -58,11 +39,6 @@ pub fit_back : (fs gs : List Formula) (tables : List Relation) → FitOperators 
 fit_back [] gs tables fit = fit
 fit_back (f ∷ fs) gs [] fit = absurd fit
 fit_back (f ∷ fs) gs (t ∷ tables) fit = fit_back fs gs tables fit.1
-
-pub fit_long : (fs : List Formula) (tables : List Relation) → FitOperators fs tables → length fs ≤ length tables
-fit_long [] tables fit = omega arith
-fit_long (f ∷ fs) [] fit = absurd fit
-fit_long (f ∷ fs) (t ∷ tables) fit = omega (arith, fit_long fs tables fit.1)
 
 -- ---- the denial
 
@@ -83,8 +59,8 @@ denial_free g x = (λ free. free, λ free. free)
 
 -- ---- what a step may ask
 
-can_ask_all : (f : Formula) (columns : List VarId) (guard : BoundFormula) (tables : List Relation) → Asks f [] guard → AreFreeVariables f columns → FitOperators (outermost f) tables
-    → CanAskAll guard columns tables
+can_ask_all : (f : Formula) (columns : List VarId) (guard : BoundFormula) (tables : List Relation) → GuardAsks f [] guard → AreFreeVariables f columns → FitOperators (outermost f) tables
+    → CanAskRows guard columns tables
 can_ask_all f columns guard tables asks free fit = record {
   bound = asks.bound_is;
   free = subst (λ h. AreFreeVariables h columns) (sym asks.formula_is) free;
@@ -92,8 +68,8 @@ can_ask_all f columns guard tables asks free fit = record {
   tabled = subst (λ h. FitOperators (outermost h) tables) (sym asks.formula_is) fit;
 }
 
-can_ask_under : (f : Formula) (columns : List VarId) (guard : BoundFormula) (tables : List Relation) → Asks f columns guard → ((x : VarId) → IsFree x f → Contains columns x)
-    → FitOperators (outermost f) tables → CanAskUnder guard columns tables
+can_ask_under : (f : Formula) (columns : List VarId) (guard : BoundFormula) (tables : List Relation) → GuardAsks f columns guard → ((x : VarId) → IsFree x f → Contains columns x)
+    → FitOperators (outermost f) tables → CanAskRowsUnder guard columns tables
 can_ask_under f columns guard tables asks free fit = record {
   bound = asks.bound_is;
   free = λ x is. free x (subst (IsFree x) asks.formula_is is);
@@ -113,10 +89,10 @@ can_step (Once place interval g) (memories.Once window right) tables for fit = c
 can_step (Historically place interval g) (memories.Once window right) tables for fit =
     can_ask_all (denial g) window.columns right tables for.0 for.1 (subst (λ l. FitOperators l tables) (sym (denial_outermost g)) fit)
 can_step (Since place interval g h) (memories.Since window left left_tables right) tables for fit = (
-  subst (λ n. CanAskAll right window.columns (drop n tables)) (sym for.4)
+  subst (λ n. CanAskRows right window.columns (drop n tables)) (sym for.4)
       (can_ask_all h window.columns right (drop (length (outermost g)) tables) for.0 for.1 (fit_back (outermost g) (outermost h) tables fit)),
   can_ask_left g window.columns left tables for.3 (λ x free. (for.1.exact x).1 (for.5 x free)) (fit_front (outermost g) (outermost h) tables fit),
-  subst (λ n. n ≤ length tables) (sym for.4) (fit_long (outermost g) tables (fit_front (outermost g) (outermost h) tables fit)),
+  subst (λ n. n ≤ length tables) (sym for.4) (fit_short (outermost g) tables (fit_front (outermost g) (outermost h) tables fit)),
 )
 can_step f m tables for fit = absurd for
 
@@ -139,91 +115,94 @@ pub record Laws : Type 0 where
   pub prev_answers : PrevAnswers
   pub prev_goes_on : PrevGoesOn
 
-then : {P Q R : Type 0} → P ↔ Q → Q ↔ R → P ↔ R
-then a b = (λ p. b.0 (a.0 p), λ r. a.1 (b.1 r))
-
 module _ (laws : Laws) (trace : List Step) (step : Step) (later : last_time trace ≤ step.time) where
   -- what holds by the tables is what is satisfied
-  now_satisfied : (g : Formula) (guard : BoundFormula) (tables : List Relation) → tree_of guard.formula ≡ g → IsTrue (is_past g) → StandFor (trace ++ step ∷ []) (length trace) (outermost g) tables
+  now_satisfied : (g : Formula) (guard : BoundFormula) (tables : List Relation) → tree_of guard.formula ≡ g → IsTrue (is_past g)
+      → TablesStandFor (trace ++ step ∷ []) (length trace) (outermost g) tables
       → (v : Valuation) → ((x : VarId) → IsFree x g → IsSome (value_at v x))
       → HoldsNow step.events tables v (tree_of guard.formula) ↔ Sat (trace ++ step ∷ []) (length trace) v g
   now_satisfied g guard tables is past stand v binds =
       subst (λ h. HoldsNow step.events tables v h ↔ Sat (trace ++ step ∷ []) (length trace) v g) (sym is)
-      (subst (λ s. HoldsNow s.events tables v g ↔ Sat (trace ++ step ∷ []) (length trace) v g) (new_at trace step)
+      (subst (λ s. HoldsNow s.events tables v g ↔ Sat (trace ++ step ∷ []) (length trace) v g) (step_at_end trace step)
       (laws.present (trace ++ step ∷ []) (length trace) tables v g past stand binds))
 
-  bound_free : (g : Formula) (columns : List VarId) (v : Valuation) → AreFreeVariables g columns → Binds v columns → (x : VarId) → IsFree x g → IsSome (value_at v x)
+  bound_free : (g : Formula) (columns : List VarId) (v : Valuation) → AreFreeVariables g columns → BindsColumns v columns → (x : VarId) → IsFree x g → IsSome (value_at v x)
   bound_free g columns v free binds x is = binds x ((free.exact x).1 is)
 
-  is_answer : (g : Formula) (guard : BoundFormula) (tables : List Relation) (columns : List VarId) (t : Relation) → Asks g [] guard → AreFreeVariables g columns → IsTrue (is_past g)
-      → StandFor (trace ++ step ∷ []) (length trace) (outermost g) tables → AnswersAll step.events tables guard columns t
-      → (v : Valuation) → Binds v columns → Has t v ↔ Sat (trace ++ step ∷ []) (length trace) v g
+  is_answer : (g : Formula) (guard : BoundFormula) (tables : List Relation) (columns : List VarId) (t : Relation) → GuardAsks g [] guard → AreFreeVariables g columns → IsTrue (is_past g)
+      → TablesStandFor (trace ++ step ∷ []) (length trace) (outermost g) tables → AnswersRows step.events tables guard columns t
+      → (v : Valuation) → BindsColumns v columns → HasValuation t v ↔ Sat (trace ++ step ∷ []) (length trace) v g
   is_answer g guard tables columns t asks free past stand answers v binds =
       then (answers.rows v binds) (now_satisfied g guard tables asks.formula_is past stand v (bound_free g columns v free binds))
 
-  once_tables : (g : Formula) (interval : Interval) (window : Window) (right : BoundFormula) (tables : List Relation) (t : StepTables) → Asks g [] right → AreFreeVariables g window.columns → IsTrue (is_past g)
-      → StandFor (trace ++ step ∷ []) (length trace) (outermost g) tables → AnswersAll step.events tables right window.columns t.right → t.surviving ≡ told.All
+  once_tables : (g : Formula) (interval : Interval) (window : Window) (right : BoundFormula) (tables : List Relation) (t : StepTables) → GuardAsks g [] right
+      → AreFreeVariables g window.columns → IsTrue (is_past g)
+      → TablesStandFor (trace ++ step ∷ []) (length trace) (outermost g) tables → AnswersRows step.events tables right window.columns t.right → t.surviving ≡ told.All
       → AreTablesOf trace window everywhere (satisfied (trace ++ step ∷ []) g) t.surviving t.right
   once_tables g interval window right tables t asks free past stand answers all = record {
     right_columns = answers.columns_are;
-    survives = λ v binds keeps. subst (λ s. Survives s v ↔ everywhere v (length trace)) (sym all) (λ h. h, λ h. h);
+    survives = λ v binds keeps. subst (λ s. ValuationSurvives s v ↔ everywhere v (length trace)) (sym all) (λ h. h, λ h. h);
     is_right = is_answer g right tables window.columns t.right asks free past stand answers;
   }
 
   -- what is asked of the left side is what is satisfied
-  left_satisfied : (g : Formula) (left : Left) (columns : List VarId) (tables : List Relation) → AsksLeft g columns left → IsTrue (is_past g) → StandFor (trace ++ step ∷ []) (length trace) (outermost g) tables
+  left_satisfied : (g : Formula) (left : Left) (columns : List VarId) (tables : List Relation) → AsksLeft g columns left → IsTrue (is_past g)
+      → TablesStandFor (trace ++ step ∷ []) (length trace) (outermost g) tables
       → (v : Valuation) → ((x : VarId) → IsFree x g → IsSome (value_at v x))
       → LeftHolds step.events tables left v ↔ Sat (trace ++ step ∷ []) (length trace) v g
   left_satisfied g side.All columns tables asks past stand v binds = subst (λ f. LeftHolds step.events tables side.All v ↔ Sat (trace ++ step ∷ []) (length trace) v f) (sym asks.1) (λ h. h, λ h. h)
   left_satisfied g (side.Denied guard) columns tables asks past stand v binds =
-      let denied = now_satisfied asks.1 guard tables asks.3.formula_is (subst (λ f. IsTrue (is_past f)) asks.2 past) (subst (λ f. StandFor (trace ++ step ∷ []) (length trace) (outermost f) tables) asks.2 stand) v
+      let denied = now_satisfied asks.1 guard tables asks.3.formula_is (subst (λ f. IsTrue (is_past f)) asks.2 past)
+      (subst (λ f. TablesStandFor (trace ++ step ∷ []) (length trace) (outermost f) tables) asks.2 stand) v
       (λ x free. binds x (subst (IsFree x) (sym asks.2) free)) in
-      subst (λ f. LeftHolds step.events tables (side.Denied guard) v ↔ Sat (trace ++ step ∷ []) (length trace) v f) (sym asks.2) (λ fails holds. fails (denied.1 holds), λ fails holds. fails (denied.0 holds))
+      subst (λ f. LeftHolds step.events tables (side.Denied guard) v ↔ Sat (trace ++ step ∷ []) (length trace) v f) (sym asks.2)
+      (λ fails holds. fails (denied.1 holds), λ fails holds. fails (denied.0 holds))
   left_satisfied g (side.ByRow guard) columns tables asks past stand v binds = now_satisfied g guard tables asks.formula_is past stand v binds
 
-  since_tables : (g h : Formula) (window : Window) (left : Left) (right : BoundFormula) (left_tables : ℕ) (tables : List Relation) (t : StepTables) → Asks h [] right → AreFreeVariables h window.columns
+  since_tables : (g h : Formula) (window : Window) (left : Left) (right : BoundFormula) (left_tables : ℕ) (tables : List Relation) (t : StepTables) → GuardAsks h [] right
+      → AreFreeVariables h window.columns
       → AsksLeft g window.columns left → left_tables ≡ length (outermost g) → ((x : VarId) → IsFree x g → IsFree x h) → IsTrue (is_past g) → IsTrue (is_past h)
-      → StandFor (trace ++ step ∷ []) (length trace) (outermost g ++ outermost h) tables
-      → AnswersAll step.events (drop left_tables tables) right window.columns t.right → AreSurvivors step.events tables left window t.surviving
+      → TablesStandFor (trace ++ step ∷ []) (length trace) (outermost g ++ outermost h) tables
+      → AnswersRows step.events (drop left_tables tables) right window.columns t.right → AreSurvivors step.events tables left window t.surviving
       → AreTablesOf trace window (satisfied (trace ++ step ∷ []) g) (satisfied (trace ++ step ∷ []) h) t.surviving t.right
   since_tables g h window left right left_tables tables t asks_right free asks_left counted within past_g past_h stand answers surviving = record {
     right_columns = answers.columns_are;
     survives = λ v binds keeps. then (surviving.exact v binds keeps)
         (left_satisfied g left window.columns tables asks_left past_g (stand_front _ _ (outermost g) (outermost h) tables stand) v (λ x is. bound_free h window.columns v free binds x (within x is)));
     is_right = is_answer h right (drop left_tables tables) window.columns t.right asks_right free past_h
-        (subst (λ n. StandFor (trace ++ step ∷ []) (length trace) (outermost h) (drop n tables)) (sym counted) (stand_back _ _ (outermost g) (outermost h) tables stand)) answers;
+        (subst (λ n. TablesStandFor (trace ++ step ∷ []) (length trace) (outermost h) (drop n tables)) (sym counted) (stand_back _ _ (outermost g) (outermost h) tables stand)) answers;
   }
 
   -- the table that it gives stands for the operator
   stands_by : (f : Formula) (columns : List VarId) (table : Relation) → table.columns ≡ columns → ((x : VarId) → Contains columns x → IsFree x f)
-      → ((v : Valuation) → Binds v columns → Has table v ↔ Tabled (trace ++ step ∷ []) (length trace) v f) → StandsFor (trace ++ step ∷ []) (length trace) f table
+      → ((v : Valuation) → BindsColumns v columns → HasValuation table v ↔ Tabled (trace ++ step ∷ []) (length trace) v f) → TableStandsFor (trace ++ step ∷ []) (length trace) f table
   stands_by f columns table same free rows = record {
     columns = λ x there. free x (subst (λ l. Contains l x) same there);
-    rows = λ v binds. rows v (subst (Binds v) same binds);
+    rows = λ v binds. rows v (subst (BindsColumns v) same binds);
   }
 
   pub given_stands : (f : Formula) (m : Memory) (tables : List Relation) (t : StepTables) → IsTrue (is_past f) → IsFor f m → MemoryStands trace f m
-      → StandFor (trace ++ step ∷ []) (length trace) (inner f) tables → AreStepTables step.events tables m t → StandsFor (trace ++ step ∷ []) (length trace) f (given_by m step.time t)
+      → TablesStandFor (trace ++ step ∷ []) (length trace) (inner f) tables → AreStepTables step.events tables m t → TableStandsFor (trace ++ step ∷ []) (length trace) f (memory_given m step.time t)
   given_stands (Prev place interval g) (memories.Prev slot operand) tables t past for stands inside are =
-      stands_by _ slot.columns (given_last slot step.time) refl (λ x there. (for.1.exact x).0 there)
+      stands_by _ slot.columns (given_by_slot slot step.time) refl (λ x there. (for.1.exact x).0 there)
       (λ v binds. then (given_last_answers slot step.time for.3 v) (laws.prev_answers trace step place interval g slot past later stands v binds))
   given_stands (Once place interval g) (memories.Once window right) tables t past for stands inside are =
       let fit = step_fits step.events tables (memories.Once window right) t are in
-      stands_by _ window.columns (given_by (memories.Once window right) step.time t) refl (λ x there. (for.1.exact x).0 there)
+      stands_by _ window.columns (memory_given (memories.Once window right) step.time t) refl (λ x there. (for.1.exact x).0 there)
       (λ v binds. then (window_gives window step.time t.surviving t.right fit.0 fit.1 v)
       (laws.once_answers trace step place interval g window t.surviving t.right past later stands (once_tables g interval window right tables t for.0 for.1 past inside are.0 are.1) v binds))
   given_stands (Historically place interval g) (memories.Once window right) tables t past for stands inside are =
       let past' = denial_past g past in
       let fit = step_fits step.events tables (memories.Once window right) t are in
-      stands_by _ window.columns (given_by (memories.Once window right) step.time t) refl (λ x there. (denial_free g x).0 ((for.1.exact x).0 there))
+      stands_by _ window.columns (memory_given (memories.Once window right) step.time t) refl (λ x there. (denial_free g x).0 ((for.1.exact x).0 there))
       (λ v binds. then (window_gives window step.time t.surviving t.right fit.0 fit.1 v) (then
       (laws.once_answers trace step place interval (denial g) window t.surviving t.right past' later stands (once_tables (denial g) interval window right tables t for.0 for.1 past'
-      (subst (λ l. StandFor (trace ++ step ∷ []) (length trace) l tables) (sym (denial_outermost g)) inside) are.0 are.1) v binds)
+      (subst (λ l. TablesStandFor (trace ++ step ∷ []) (length trace) l tables) (sym (denial_outermost g)) inside) are.0 are.1) v binds)
       (let d = laws.denied (trace ++ step ∷ []) (length trace) v place interval g in (d.1, d.0))))
   given_stands (Since place interval g h) (memories.Since window left left_tables right) tables t past for stands inside are =
       let pasts = and_parts (is_past g) (is_past h) past in
       let fit = step_fits step.events tables (memories.Since window left left_tables right) t are in
-      stands_by _ window.columns (given_by (memories.Since window left left_tables right) step.time t) refl (λ x there. inr ((for.1.exact x).0 there))
+      stands_by _ window.columns (memory_given (memories.Since window left left_tables right) step.time t) refl (λ x there. inr ((for.1.exact x).0 there))
       (λ v binds. then (window_gives window step.time t.surviving t.right fit.0 fit.1 v)
       (laws.since_answers trace step place interval g h window t.surviving t.right pasts.0 pasts.1 later stands
       (since_tables g h window left right left_tables tables t for.0 for.1 for.3 for.4 for.5 pasts.0 pasts.1 inside are.0 are.1) v binds))
@@ -231,7 +210,7 @@ module _ (laws : Laws) (trace : List Step) (step : Step) (later : last_time trac
 
   -- and with the step committed it stands for the longer trace
   pub committed_stands : (f : Formula) (m : Memory) (tables : List Relation) (t : StepTables) (after : Memory) → IsTrue (is_past f) → IsFor f m → MemoryStands trace f m
-      → StandFor (trace ++ step ∷ []) (length trace) (inner f) tables → AreStepTables step.events tables m t → IsCommittedTo m step.time t after
+      → TablesStandFor (trace ++ step ∷ []) (length trace) (inner f) tables → AreStepTables step.events tables m t → IsCommittedTo m step.time t after
       → MemoryStands (trace ++ step ∷ []) f after
   committed_stands (Prev place interval g) (memories.Prev slot operand) tables t after past for stands inside are committed =
       subst (MemoryStands (trace ++ step ∷ []) (Prev place interval g)) (sym committed)
@@ -243,7 +222,7 @@ module _ (laws : Laws) (trace : List Step) (step : Step) (later : last_time trac
       let past' = denial_past g past in
       subst (MemoryStands (trace ++ step ∷ []) (Historically place interval g)) (sym committed.2)
       (laws.once_goes_on trace step interval (denial g) window t.surviving t.right past' later stands (once_tables (denial g) interval window right tables t for.0 for.1 past'
-      (subst (λ l. StandFor (trace ++ step ∷ []) (length trace) l tables) (sym (denial_outermost g)) inside) are.0 are.1) committed.0 committed.1)
+      (subst (λ l. TablesStandFor (trace ++ step ∷ []) (length trace) l tables) (sym (denial_outermost g)) inside) are.0 are.1) committed.0 committed.1)
   committed_stands (Since place interval g h) (memories.Since window left left_tables right) tables t after past for stands inside are committed =
       let pasts = and_parts (is_past g) (is_past h) past in
       subst (MemoryStands (trace ++ step ∷ []) (Since place interval g h)) (sym committed.2)

@@ -1,13 +1,12 @@
--- The operators of formulas from the last in pre-order to the first: each comes just behind those of its operands.
-use Rattle.std.proofs.Common.{◌≡◌, ◌∙◌, List, [], ◌∷◌, ◌++◌, reverse, refl, sym, ap, subst, append_assoc}
-use Rattle.std.proofs.Math.Seq.{drop-append_seam}
-use Rattle.std.proofs.lemmas.List.{reverse-append}
-use Rattle.enf_formula.specs.Formulas.{Formula, True, False, Atom, Equal, Less, AtMost, Not, And, Or, Implies, Exists, Forall, Prev, Next, Once, Historically, Since, Eventually, Always, Until}
-use Rattle.monitorable_guard.specs.Present.{outermost}
-use Rattle.past_state.specs.Operators.{operators, all_operators, all_outermost, inner}
-use Rattle.past_state.specs.Runs.{outer_onto, AreInsideOut}
+-- The operators of formulas from the last in pre-order to the first: each comes just after those of its operands.
+use Rattle.past_state.proofs.Vocabulary.{◌≡◌, ◌∙◌, List, [], ◌∷◌, ◌++◌, reverse, refl, sym, ap}
+use Rattle.past_state.proofs.Vocabulary.{subst, append_assoc, drop-append_seam, reverse-append, Formula, True, False}
+use Rattle.past_state.proofs.Vocabulary.{Atom, Equal, Less, AtMost, Not, And, Or, Implies, Exists, Forall, Prev, Next}
+use Rattle.past_state.proofs.Vocabulary.{Once, Historically, Since, Eventually, Always, Until, outermost, operators}
+use Rattle.past_state.proofs.Vocabulary.{all_operators, all_outermost, inner, AreInsideOut}
+use Rattle.past_state.proofs.OuterOperators.{outer_onto}
 
--- the operators of a list come just behind others, and leave these on top
+-- the operators of a list come just after others, and leave these on top
 pub record Goes (before fs after : List Formula) : Type 0 where
   pub leaves : (more : List Formula) → outer_onto before (fs ++ more) ≡ outer_onto after more
   pub ordered : (more : List Formula) → AreInsideOut after more → AreInsideOut before (fs ++ more)
@@ -21,7 +20,7 @@ goes_then before fs middle gs after first second = record {
   ordered = λ more order. subst (AreInsideOut before) (sym (append_assoc fs gs more)) (first.ordered (gs ++ more) (second.ordered more order));
 }
 
--- an operator behind those of its operands
+-- an operator after those of its operands
 goes_up : (f : Formula) (before fs : List Formula) → Goes before fs (inner f ++ before) → Goes before (fs ++ f ∷ []) (f ∷ before)
 goes_up f before fs inside = goes_then before fs (inner f ++ before) (f ∷ []) (f ∷ before) inside (record {
   leaves = λ more. ap (λ l. outer_onto (f ∷ l) more) (drop-append_seam (inner f) before);

@@ -1,40 +1,20 @@
 -- What operators on the past remember and answer depends on the events of their names alone.
-use Rattle.std.proofs.Common.{◌≡◌, ◌∙◌, ◌↔◌, ⊎_elim, IsTrue, ℕ, zero, suc, ◌-◌, ◌<◌, ◌≤◌, List, [], ◌∷◌, ◌++◌, length, drop, All, Contains, Option, None, Some, refl, sym, ap, subst, arith, length-append}
-use Rattle.std.proofs.lemmas.List.Elements.{All-cons, All-head, All-nil, All-tail, Contains-append_cases, Contains-append_left, Contains-append_right}
-use Rattle.enf_value.specs.Data.{step_at}
-use Rattle.enf_value.specs.Membership.{IsIn}
-use Rattle.enf_value.specs.Valuations.{Valuation}
-use Rattle.enf_value.specs.declared.events.NameId.{NameId}
-use Rattle.enf_value.specs.declared.intervals.Interval.{Interval}
-use Rattle.enf_value.specs.declared.steps.Step.{Step}
-use Rattle.enf_value.specs.declared.terms.VarId.{VarId}
-use Rattle.enf_formula.specs.Formulas.{Formula, Not, Implies, Prev, Once, Historically, Since}
-use Rattle.enf_formula.specs.Laws.{NamesDecide}
-use Rattle.enf_formula.specs.Names.{AreSameOf, HaveSameOf, names_in}
-use Rattle.enf_formula.specs.Satisfaction.{Sat}
-use Rattle.monitorable_guard.specs.Present.{StandFor, Tabled}
-use Rattle.monitorable_guard.specs.Safety.{denial}
-use Rattle.trace_meaning.specs.Continuation.{last_time}
-use Rattle.valuations.specs.Tables.{Relation}
-use Rattle.windows.specs.Kept.{ChosenBy}
-use Rattle.windows.specs.Slots.{IsUpToTime}
-use Rattle.windows.specs.Windows.{Window}
-use Rattle.past_state.specs.Held.{HeldWhere}
-use Rattle.past_state.specs.Kept.{HasPairAt, KeptAt}
-use Rattle.past_state.specs.Laws.{everywhere, satisfied}
-use Rattle.past_state.specs.Lefts.{AsksLeft}
-use Rattle.past_state.specs.Memories.{IsFor, MemoryStands}
-use Rattle.past_state.specs.Names.{names_of}
-use Rattle.past_state.specs.Operators.{inner}
-use Rattle.past_state.specs.Runs.{AllStand, outer_onto}
-use Rattle.past_state.specs.Stands.{WindowStands}
-use Rattle.past_state.specs.declared.memories.Memory.{Memory}
+use Rattle.past_state.proofs.Vocabulary.{◌≡◌, ◌∙◌, ◌↔◌, ⊎_elim, ℕ, zero, suc, ◌-◌, ◌<◌}
+use Rattle.past_state.proofs.Vocabulary.{◌≤◌, List, [], ◌∷◌, ◌++◌, length, drop, All, Contains, Option}
+use Rattle.past_state.proofs.Vocabulary.{None, Some, refl, sym, subst, arith, length-append, All-cons, All-head}
+use Rattle.past_state.proofs.Vocabulary.{All-nil, All-tail, Contains-append_cases, Contains-append_left}
+use Rattle.past_state.proofs.Vocabulary.{Contains-append_right, step_at, IsIn, Valuation, NameId, Interval, Step}
+use Rattle.past_state.proofs.Vocabulary.{Formula, Not, Implies, Prev, Once, Historically, Since, Sat, NamesDecide}
+use Rattle.past_state.proofs.Vocabulary.{HaveSameNamedEvents, HaveSameEvents, names_in_formula, TablesStandFor, Tabled}
+use Rattle.past_state.proofs.Vocabulary.{denial, last_time, Relation, ChosenBy, IsUpToTime, Window, HeldWhere}
+use Rattle.past_state.proofs.Vocabulary.{HasPairAt, KeptAt, everywhere, satisfied, MemoryStands, names_in_all, inner}
+use Rattle.past_state.proofs.Vocabulary.{AllStand, WindowStands, Memory, OperatorState}
+use Rattle.past_state.proofs.OuterOperators.{outer_onto}
 use Rattle.past_state.specs.declared.memories.Memory.TheVariants as memories
-use Rattle.past_state.specs.declared.operators.OperatorState.{OperatorState}
 
 -- ---- names of what is kept
 
-denial_names : (g : Formula) → names_in (denial g) ≡ names_in g
+denial_names : (g : Formula) → names_in_formula (denial g) ≡ names_in_formula g
 denial_names (Not place h) = refl
 denial_names (Implies place a b) = refl
 denial_names g = refl
@@ -43,18 +23,18 @@ denial_names g = refl
 
 module _ (names : List NameId) where
   abbrev pub Within : Formula → Type 0
-  Within f = (name : NameId) → Contains (names_in f) name → Contains names name
+  Within f = (name : NameId) → Contains (names_in_formula f) name → Contains names name
 
-  pub all_within : (fs : List Formula) → ((name : NameId) → Contains (names_of fs) name → Contains names name) → All Within fs
+  pub all_within : (fs : List Formula) → ((name : NameId) → Contains (names_in_all fs) name → Contains names name) → All Within fs
   all_within [] within = All-nil Within
   all_within (f ∷ fs) within =
-      All-cons Within f fs (λ name there. within name (Contains-append_left (names_in f) (names_of fs) name there))
-      (all_within fs (λ name there. within name (Contains-append_right (names_in f) (names_of fs) name there)))
+      All-cons Within f fs (λ name there. within name (Contains-append_left (names_in_formula f) (names_in_all fs) name there))
+      (all_within fs (λ name there. within name (Contains-append_right (names_in_formula f) (names_in_all fs) name there)))
 
-  pub names_within : (fs : List Formula) → All Within fs → (name : NameId) → Contains (names_of fs) name → Contains names name
+  pub names_within : (fs : List Formula) → All Within fs → (name : NameId) → Contains (names_in_all fs) name → Contains names name
   names_within [] within name there = absurd (omega (arith, there.1))
   names_within (f ∷ fs) within name there =
-      ⊎_elim (All-head Within f fs within name) (names_within fs (All-tail Within f fs within) name) (Contains-append_cases (names_in f) (names_of fs) name there)
+      ⊎_elim (All-head Within f fs within name) (names_within fs (All-tail Within f fs within) name) (Contains-append_cases (names_in_formula f) (names_in_all fs) name there)
 
   all_drop : (n : ℕ) (fs : List Formula) → All Within fs → All Within (drop n fs)
   all_drop zero fs within = within
@@ -75,21 +55,21 @@ time_at_end [] s t same (suc i) = refl
 time_at_end (x ∷ trace) s t same zero = refl
 time_at_end (x ∷ trace) s t same (suc i) = time_at_end trace s t same i
 
-events_at_end : (names : List NameId) (trace : List Step) (s t : Step) → HaveSameOf names s.events t.events → (i : ℕ)
-    → HaveSameOf names (step_at (trace ++ s ∷ []) i).events (step_at (trace ++ t ∷ []) i).events
+events_at_end : (names : List NameId) (trace : List Step) (s t : Step) → HaveSameEvents names s.events t.events → (i : ℕ)
+    → HaveSameEvents names (step_at (trace ++ s ∷ []) i).events (step_at (trace ++ t ∷ []) i).events
 events_at_end names [] s t same zero = same
 events_at_end names [] s t same (suc i) = λ event named. (λ h. h, λ h. h)
 events_at_end names (x ∷ trace) s t same zero = λ event named. (λ h. h, λ h. h)
 events_at_end names (x ∷ trace) s t same (suc i) = events_at_end names trace s t same i
 
-pub same_with : (names : List NameId) (trace : List Step) (s t : Step) → s.time ≡ t.time → HaveSameOf names s.events t.events → AreSameOf names (trace ++ s ∷ []) (trace ++ t ∷ [])
+pub same_with : (names : List NameId) (trace : List Step) (s t : Step) → s.time ≡ t.time → HaveSameEvents names s.events t.events → HaveSameNamedEvents names (trace ++ s ∷ []) (trace ++ t ∷ [])
 same_with names trace s t time same = record {
   long = omega (arith, length-append trace (s ∷ []), length-append trace (t ∷ []));
   times = time_at_end trace s t time;
   events = events_at_end names trace s t same;
 }
 
-pub last_same : (names : List NameId) (trace other : List Step) → AreSameOf names trace other → last_time trace ≡ last_time other
+pub last_same : (names : List NameId) (trace other : List Step) → HaveSameNamedEvents names trace other → last_time trace ≡ last_time other
 last_same names [] [] same = refl
 last_same names [] (t ∷ other) same = absurd (omega (arith, same.long))
 last_same names (s ∷ trace) [] same = absurd (omega (arith, same.long))
@@ -99,7 +79,7 @@ last_same names (s ∷ r ∷ trace) (t ∷ []) same = absurd (omega (arith, same
 last_same names (s ∷ r ∷ trace) (t ∷ u ∷ other) same =
     last_same names (r ∷ trace) (u ∷ other) (record { long = omega (arith, same.long); times = λ i. same.times (suc i); events = λ i. same.events (suc i) })
 
-pub turned : (names : List NameId) (trace other : List Step) → AreSameOf names trace other → AreSameOf names other trace
+pub turned : (names : List NameId) (trace other : List Step) → HaveSameNamedEvents names trace other → HaveSameNamedEvents names other trace
 turned names trace other same = record {
   long = sym same.long;
   times = λ i. sym (same.times i);
@@ -113,7 +93,7 @@ chosen_same None low last P Q back time chosen = λ t there. chosen t (back t th
 chosen_same (Some high) low last P Q back time chosen = (chosen.0, λ far t there far_t. chosen.1 far t (back t there) far_t)
 
 module _ (names : List NameId) where
-  held_same : (trace other : List Step) → AreSameOf names trace other → (Counts : ℕ → Type 0) (F G F' G' : ℕ → Type 0) → ((k : ℕ) → F k → F' k) → ((k : ℕ) → G k → G' k)
+  held_same : (trace other : List Step) → HaveSameNamedEvents names trace other → (Counts : ℕ → Type 0) (F G F' G' : ℕ → Type 0) → ((k : ℕ) → F k → F' k) → ((k : ℕ) → G k → G' k)
       → HeldWhere trace Counts F G → HeldWhere other Counts F' G'
   held_same trace other same Counts F G F' G' left right held none =
       held (λ h. none (
@@ -124,7 +104,7 @@ module _ (names : List NameId) where
         λ k behind below. left k (h.4 k behind (subst (λ n. k < n) (sym same.long) below)),
       ))
 
-  kept_same : (trace other : List Step) → AreSameOf names trace other → (interval : Interval) (F G F' G' : ℕ → Type 0) → ((k : ℕ) → F k ↔ F' k) → ((k : ℕ) → G k ↔ G' k)
+  kept_same : (trace other : List Step) → HaveSameNamedEvents names trace other → (interval : Interval) (F G F' G' : ℕ → Type 0) → ((k : ℕ) → F k ↔ F' k) → ((k : ℕ) → G k ↔ G' k)
       → (time : ℕ) → KeptAt trace interval F G time → KeptAt other interval F' G' time
   kept_same trace other same interval F G F' G' left right time kept = (
     held_same trace other same (λ earlier. earlier ≡ time) F G F' G' (λ k. (left k).0) (λ k. (right k).0) kept.0,
@@ -133,7 +113,7 @@ module _ (names : List NameId) where
         (λ t. held_same other trace (turned names trace other same) (λ earlier. earlier ≡ t) F' G' F G (λ k. (left k).1) (λ k. (right k).1)) time kept.1),
   )
 
-  window_same : (trace other : List Step) → AreSameOf names trace other → (interval : Interval) (F G F' G' : Valuation → ℕ → Type 0) (g : Formula) (window : Window)
+  window_same : (trace other : List Step) → HaveSameNamedEvents names trace other → (interval : Interval) (F G F' G' : Valuation → ℕ → Type 0) (g : Formula) (window : Window)
       → ((v : Valuation) (k : ℕ) → F v k ↔ F' v k) → ((v : Valuation) (k : ℕ) → G v k ↔ G' v k) → WindowStands trace interval F G g window → WindowStands other interval F' G' g window
   window_same trace other same interval F G F' G' g window left right stands = record {
     interval_is = stands.interval_is;
@@ -151,7 +131,7 @@ module _ (names : List NameId) where
         );
   }
 
-  module _ (decide : NamesDecide) (trace other : List Step) (same : AreSameOf names trace other) where
+  module _ (decide : NamesDecide) (trace other : List Step) (same : HaveSameNamedEvents names trace other) where
     sat_same : (f : Formula) → Within names f → (i : ℕ) (v : Valuation) → Sat trace i v f ↔ Sat other i v f
     sat_same f within i v = decide trace other i v f (record { long = same.long; times = same.times; events = λ k event named. same.events k event (within event.name named) })
 
@@ -160,7 +140,7 @@ module _ (names : List NameId) where
         let both = sat_same (Historically place interval g) within i v in (λ fails holds. fails (both.1 holds), λ fails holds. fails (both.0 holds))
     tabled_same f within i v = sat_same f within i v
 
-    pub stand_same : (i : ℕ) (fs : List Formula) (tables : List Relation) → All (Within names) fs → StandFor trace i fs tables → StandFor other i fs tables
+    pub stand_same : (i : ℕ) (fs : List Formula) (tables : List Relation) → All (Within names) fs → TablesStandFor trace i fs tables → TablesStandFor other i fs tables
     stand_same i [] tables within stand = tt
     stand_same i (f ∷ fs) [] within stand = absurd stand
     stand_same i (f ∷ fs) (t ∷ tables) within stand = (
@@ -213,8 +193,8 @@ module _ (names : List NameId) where
         (λ v k. sat_same (denial g) (λ name there. within name (subst (λ l. Contains l name) (denial_names g) there)) k v) stands
     memory_same (Since place interval g h) (memories.Since window left left_tables right) within stands =
         window_same trace other same interval (satisfied trace g) (satisfied trace h) (satisfied other g) (satisfied other h) h window
-        (λ v k. sat_same g (λ name there. within name (Contains-append_left (names_in g) (names_in h) name there)) k v)
-        (λ v k. sat_same h (λ name there. within name (Contains-append_right (names_in g) (names_in h) name there)) k v) stands
+        (λ v k. sat_same g (λ name there. within name (Contains-append_left (names_in_formula g) (names_in_formula h) name there)) k v)
+        (λ v k. sat_same h (λ name there. within name (Contains-append_right (names_in_formula g) (names_in_formula h) name there)) k v) stands
     memory_same f m within stands = absurd stands
 
     pub all_same : (fs : List Formula) (operators : List OperatorState) → All (Within names) fs → AllStand trace fs operators → AllStand other fs operators

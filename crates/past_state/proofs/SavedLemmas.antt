@@ -1,32 +1,19 @@
 -- The rows of a past state, window by window, and of which traces they are kept.
-use Rattle.std.proofs.Common.{◌≡◌, ◌∙◌, ◌↔◌, inl, inr, ⊎_elim, ℕ, zero, suc, ◌+◌, ◌-◌, ◌<◌, List, [], ◌∷◌, ◌++◌, map, reverse, length, get_or, Contains, Some, refl, sym, ap, subst, arith}
-use Rattle.std.specs.Prelude.{slice_get}
-use Rattle.std.proofs.lemmas.Bool.{cases_lt}
-use Rattle.std.proofs.lemmas.List.{get_or-reverse, length-reverse}
-use Rattle.std.proofs.lemmas.List.Elements.{Contains-append_cases, Contains-append_left, Contains-append_right}
-use Rattle.std.proofs.lemmas.Option.{get_or_from_slice_get, same_Some, slice_get-get_or, slice_get_within}
-use Rattle.enf_value.specs.declared.steps.Step.{Step}
-use Rattle.enf_value.specs.declared.values.Value.{Value}
-use Rattle.enf_formula.specs.Formulas.{Formula, True, Prev, Once, Historically, Since}
-use Rattle.enf_formula.specs.FreeLaws.{same_free}
-use Rattle.enf_formula.specs.FreeVariables.{AreFreeVariables}
-use Rattle.valuations.specs.Columns.{none_in_nil}
-use Rattle.valuations.specs.SearchLaws.{Contains-map, Contains-from_map}
-use Rattle.valuations.specs.Tables.{valuation_of}
-use Rattle.windows.specs.KeptLaws.{rises_append, rises_map, stored_last, stored_long, stored_row}
-use Rattle.windows.specs.KeptPairs.{AreRising, IsBefore, Stores}
-use Rattle.windows.specs.Windows.{Window, HasRow, KeepsLeast}
-use Rattle.windows.specs.declared.kept.KeptPair.{KeptPair}
-use Rattle.past_state.specs.Memories.{columns_of, IsFor, MemoryStands}
-use Rattle.past_state.specs.Operators.{all_operators}
-use Rattle.past_state.specs.Past.{Past, IsPast, formulas}
-use Rattle.past_state.specs.Runs.{AreFor, AllStand}
-use Rattle.past_state.specs.Saved.{AreKeptOf, AreRowsRising, IsRowBefore, IsWhole, KeptFor, StoresAt, StoresFor, kept_operand, kept_row, pair_of}
-use Rattle.past_state.specs.declared.kept.KeptRow.{KeptRow}
-use Rattle.past_state.specs.declared.memories.Memory.{Memory}
-use Rattle.past_state.specs.declared.memories.Memory.TheVariants as memories
-use Rattle.past_state.specs.declared.operators.OperatorState.{OperatorState}
+use Rattle.past_state.proofs.Vocabulary.{◌≡◌, ◌∙◌, ◌↔◌, inl, inr, ⊎_elim, ℕ, zero, suc, ◌+◌}
+use Rattle.past_state.proofs.Vocabulary.{◌-◌, ◌<◌, List, [], ◌∷◌, ◌++◌, map, reverse, length, get_or}
+use Rattle.past_state.proofs.Vocabulary.{Contains, Some, refl, sym, ap, subst, arith, slice_get, cases_lt}
+use Rattle.past_state.proofs.Vocabulary.{get_or-reverse, length-reverse, Contains-append_cases, Contains-append_left}
+use Rattle.past_state.proofs.Vocabulary.{Contains-append_right, get_or_from_slice_get, same_Some, slice_get-get_or}
+use Rattle.past_state.proofs.Vocabulary.{slice_get_within, Step, Value, Formula, True, Prev, Once, Historically, Since}
+use Rattle.past_state.proofs.Vocabulary.{AreFreeVariables, same_free, none_in_nil, Contains-map, Contains-from_map}
+use Rattle.past_state.proofs.Vocabulary.{valuation_of, rises_append, rises_map, stored_last, stored_long, stored_row}
+use Rattle.past_state.proofs.Vocabulary.{AreRising, Stores, IsPairBefore, Window, HasRow, KeepsLeast, KeptPair}
+use Rattle.past_state.proofs.Vocabulary.{columns_of, IsFor, MemoryStands, all_operators, kept_operand, AreKeptOf}
+use Rattle.past_state.proofs.Vocabulary.{AreRowsRising, IsRowBefore, KeptFor, pair_of, Past, IsPast, formulas_of_guards}
+use Rattle.past_state.proofs.Vocabulary.{AreFor, AllStand, kept_row, IsWhole, StoresAt, StoresFor, KeptRow, Memory}
+use Rattle.past_state.proofs.Vocabulary.{OperatorState}
 use Rattle.past_state.proofs.RowLemmas.{row_binds}
+use Rattle.past_state.specs.declared.memories.Memory.TheVariants as memories
 
 -- ---- window by window
 
@@ -52,7 +39,7 @@ pub saved_more : (operators : List OperatorState) (n : ℕ) (o : OperatorState) 
     → ((p : KeptPair) → Contains pairs p ↔ StoresFor o.memory p) → IsWhole o.memory → after ≡ rows ++ map (kept_row n) pairs → SavedUpTo operators n rows → SavedUpTo operators (n + 1) after
 saved_more operators n o pairs rows after numbered rises stored whole grown so_far = record {
   rising = subst AreRowsRising (sym grown) (rises_append IsRowBefore rows (map (kept_row n) pairs) so_far.rising
-      (rises_map IsBefore IsRowBefore (kept_row n) (λ p q before. inr (refl, before)) pairs rises)
+      (rises_map IsPairBefore IsRowBefore (kept_row n) (λ p q before. inr (refl, before)) pairs rises)
       (λ r s first second. let from = Contains-from_map (kept_row n) pairs s second in
       subst (IsRowBefore r) from.2 (inl ((so_far.exact r).0 first).0)));
   exact = λ r. (
@@ -130,8 +117,8 @@ lengths (f ∷ fs) [] are = absurd are
 lengths (f ∷ fs) (o ∷ operators) are = ap suc (lengths fs operators are.2)
 
 -- a past state has an operator for each of its guards' formulas
-pub counted : (past : Past) → IsPast past → length past.operators ≡ length (all_operators (formulas past.guards))
-counted past is = sym (lengths (reverse (all_operators (formulas past.guards))) past.operators is.kept) ∙ length-reverse (all_operators (formulas past.guards))
+pub counted : (past : Past) → IsPast past → length past.operators ≡ length (all_operators (formulas_of_guards past.guards))
+counted past is = sym (lengths (reverse (all_operators (formulas_of_guards past.guards))) past.operators is.kept) ∙ length-reverse (all_operators (formulas_of_guards past.guards))
 
 for_at : (fs : List Formula) (operators : List OperatorState) (k : ℕ) (d : Formula) (e : OperatorState) → AreFor fs operators → k < length fs → IsFor (get_or fs k d) (get_or operators k e).memory
 for_at [] operators k d e are below = absurd (omega (arith, below))

@@ -1,33 +1,19 @@
--- Rows that can be kept, and one more behind the last of them.
-use Rattle.std.proofs.Common.{◌≡◌, ◌∙◌, ◌↔◌, ◌⊎◌, inl, inr, ⊎_elim, ℕ, suc, ◌+◌, ◌-◌, ◌<◌, ◌≤◌, List, [], ◌∷◌, ◌++◌, append_assoc, get_or, length, map, All, Contains, Option, None, Some, refl, sym, ap, subst, arith}
-use Rattle.std.specs.Prelude.{slice_get}
-use Rattle.std.specs.Cmp.{tied_itself}
-use Rattle.std.specs.declared.cmp.Ordering.TheVariants.{Less, Greater}
-use Rattle.std.proofs.lemmas.List.Elements.{All-contains, Contains-append_cases, Contains-append_left, Contains-append_right}
-use Rattle.std.specs.Option.{option_map}
-use Rattle.std.proofs.lemmas.List.{length-map, map-append}
-use Rattle.std.proofs.lemmas.Option.{none-some, same_Some, slice_get-get_or, slice_get-map, slice_get_past}
-use Rattle.enf_value.specs.Order.{row_cmp}
-use Rattle.enf_value.specs.declared.values.Value.{Value}
-use Rattle.enf_value.specs.ListLaws.{there_from_get}
-use Rattle.enf_value.specs.declared.terms.VarId.{VarId}
-use Rattle.enf_formula.specs.Formulas.{Formula, Not, Implies, Prev, Once, Historically, Since}
-use Rattle.enf_formula.specs.FreeLaws.{same_free}
-use Rattle.enf_formula.specs.FreeVariables.{AreFreeVariables}
-use Rattle.monitorable_guard.specs.Safety.{denial}
-use Rattle.valuations.specs.Columns.{here, none_in_nil}
-use Rattle.valuations.specs.KeyLaws.{row_cmp_total}
-use Rattle.windows.specs.Kept.{ChosenBy}
-use Rattle.windows.specs.KeptLaws.{rises_append, rises_front}
-use Rattle.windows.specs.KeptPairs.{IsBefore, pair}
-use Rattle.windows.specs.declared.kept.KeptPair.{KeptPair}
-use Rattle.past_state.specs.Bounds.{AreWithinBounds, HaveTime, IsKeepable, IsTimely}
-use Rattle.past_state.specs.Saved.{IsRowBefore, kept_operand, kept_row, pair_of}
-use Rattle.past_state.specs.Operators.{all_operators, operators}
-use Rattle.past_state.specs.Shapes.{AreOfOne, CanFollow, ComesBehind, FitsIn, HasItsColumns, IsOther, Joins, JoinsBy, numbered_operators, operator_of}
-use Rattle.past_state.specs.declared.kept.KeptRow.{KeptRow}
-use Rattle.past_state.specs.declared.shapes.WindowShape.{WindowShape}
-use Rattle.past_state.proofs.RestoringLemmas.{all_of, only}
+-- Rows that can be kept, and one more after the last of them.
+use Rattle.past_state.proofs.Vocabulary.{◌≡◌, ◌∙◌, ◌↔◌, ◌⊎◌, inl, inr, ⊎_elim, ℕ, suc}
+use Rattle.past_state.proofs.Vocabulary.{◌<◌, ◌≤◌, List, [], ◌∷◌, ◌++◌, append_assoc, get_or}
+use Rattle.past_state.proofs.Vocabulary.{length, map, All, Contains, Option, None, Some, refl, sym, ap, subst, arith}
+use Rattle.past_state.proofs.Vocabulary.{slice_get, tied_itself, Greater, All-contains, Contains-append_cases}
+use Rattle.past_state.proofs.Vocabulary.{Contains-append_left, Contains-append_right, option_map, length-map}
+use Rattle.past_state.proofs.Vocabulary.{map-append, none-some, same_Some, slice_get-get_or, slice_get-map}
+use Rattle.past_state.proofs.Vocabulary.{slice_get_past, row_cmp, Value, there_from_get, here, none_in_nil, VarId}
+use Rattle.past_state.proofs.Vocabulary.{all_from, only_item as only, Formula, Not, Implies, Prev, Once, Historically}
+use Rattle.past_state.proofs.Vocabulary.{Since, AreFreeVariables, same_free, denial, row_cmp_total, ChosenBy}
+use Rattle.past_state.proofs.Vocabulary.{IsPairBefore, pair, rises_append, rises_front, KeptPair, AreWithinBounds}
+use Rattle.past_state.proofs.Vocabulary.{HaveTime, IsKeepable, IsTimely, kept_row, numbered_operators, IsRowBefore}
+use Rattle.past_state.proofs.Vocabulary.{pair_of, kept_operand, all_operators, operators, AreOfOne, RowCanFollow}
+use Rattle.past_state.proofs.Vocabulary.{ComesBehind, FitsIn, HasItsColumns, HasOtherValues, TimeJoins, TimeJoinsBy}
+use Rattle.past_state.proofs.Vocabulary.{operator_of, KeptRow, WindowShape}
+use Rattle.std.specs.declared.cmp.Ordering.TheVariants.{Less}
 
 -- ---- the order of rows
 
@@ -37,7 +23,7 @@ not_less row other same less =
     let itself : row_cmp other other ≡ Less = subst (λ r. row_cmp r other ≡ Less) same less in
     cc
 
-pair_before : (p q s : KeptPair) → IsBefore p q → IsBefore q s → IsBefore p s
+pair_before : (p q s : KeptPair) → IsPairBefore p q → IsPairBefore q s → IsPairBefore p s
 pair_before p q s first second =
     ⊎_elim
     (λ less. ⊎_elim (λ also. inl (row_cmp_total.trans p.row q.row s.row less also)) (λ same. inl (subst (λ r. row_cmp p.row r ≡ Less) same.0 less)) second)
@@ -53,7 +39,8 @@ row_before a b c first second =
 
 pub not_before : (b r : KeptRow) → row_cmp b.row r.row ≡ Greater → b.window ≡ r.window → IsRowBefore b r → ⊥
 not_before b r greater same before =
-    ⊎_elim (λ less. omega (arith, less, same)) (λ here. ⊎_elim (λ less. cc) (λ also. let itself : row_cmp r.row r.row ≡ Greater = subst (λ l. row_cmp l r.row ≡ Greater) also.0 greater in let tied = tied_itself row_cmp_total r.row in cc) here.1) before
+    ⊎_elim (λ less. omega (arith, less, same)) (λ here. ⊎_elim (λ less. cc) (λ also. let itself : row_cmp r.row r.row
+    ≡ Greater = subst (λ l. row_cmp l r.row ≡ Greater) also.0 greater in let tied = tied_itself row_cmp_total r.row in cc) here.1) before
 
 -- of the same values the later one has the later time
 pub later_of_one : (a c : KeptRow) → AreOfOne a c → IsRowBefore a c → a.time < c.time
@@ -71,7 +58,7 @@ between a b c first second one =
     second)
     first
   where
-    rows : row_cmp b.row c.row ≡ Less → IsBefore (pair_of a) (pair_of b) → ⊥
+    rows : row_cmp b.row c.row ≡ Less → IsPairBefore (pair_of a) (pair_of b) → ⊥
     rows less before =
         ⊎_elim (λ also. not_less a.row c.row one.1 (row_cmp_total.trans a.row b.row c.row also less)) (λ same. not_less b.row c.row (sym same.0 ∙ one.1) less) before
 
@@ -86,40 +73,37 @@ all_before : (xs : List KeptRow) (before : Option KeptRow) (r q : KeptRow) → I
 all_before xs None r q is comes there = absurd (none_in_nil q (subst (λ l. Contains l q) is there))
 all_before xs (Some b) r q is comes there = ⊎_elim (λ same. subst (λ p. IsRowBefore p r) (sym same) comes) (λ before. row_before q b r before comes) (is.1 q there)
 
-none_of_one : (xs : List KeptRow) (before : Option KeptRow) (r q : KeptRow) → IsLastOf xs before → ComesBehind before r → Contains xs q → AreOfOne q r → IsOther before r → ⊥
+none_of_one : (xs : List KeptRow) (before : Option KeptRow) (r q : KeptRow) → IsLastOf xs before → ComesBehind before r → Contains xs q → AreOfOne q r → HasOtherValues before r → ⊥
 none_of_one xs None r q is comes there one other = none_in_nil q (subst (λ l. Contains l q) is there)
 none_of_one xs (Some b) r q is comes there one other =
     other (⊎_elim (λ same. subst (λ p. AreOfOne p r) same one) (λ before. between q b r before comes one) (is.1 q there))
 
 -- ---- the times
 
-joins_map : (f : Formula) (last : ℕ) (A B : Type 0) (time : ℕ) → (A → B) → Joins f last A time → Joins f last B time
+joins_map : (f : Formula) (last : ℕ) (A B : Type 0) (time : ℕ) → (A → B) → TimeJoins f last A time → TimeJoins f last B time
 joins_map f last A B time from = by f
   where
-    each : (high : Option ℕ) (low : ℕ) → JoinsBy high low last A time → JoinsBy high low last B time
+    each : (high : Option ℕ) (low : ℕ) → TimeJoinsBy high low last A time → TimeJoinsBy high low last B time
     each None low alone = from alone
     each (Some high) low joins = (joins.0, λ far. from (joins.1 far))
 
-    by : (f : Formula) → Joins f last A time → Joins f last B time
+    by : (f : Formula) → TimeJoins f last A time → TimeJoins f last B time
     by (Prev place interval g) joins = joins
     by (Once place interval g) joins = (joins.0, each interval.high interval.low joins.1)
     by (Historically place interval g) joins = (joins.0, each interval.high interval.low joins.1)
     by (Since place interval g h) joins = (joins.0, each interval.high interval.low joins.1)
     by f joins = absurd joins
 
-pub joins_same : (f : Formula) (last : ℕ) (A B : Type 0) (time : ℕ) → A ↔ B → Joins f last A time ↔ Joins f last B time
-joins_same f last A B time same = (joins_map f last A B time same.0, joins_map f last B A time same.1)
-
--- the time of a row behind the others can be kept with theirs,
+-- the time of a row after the others can be kept with theirs,
 timely_last : (f : Formula) (last : ℕ) (Alone : Type 0) (P : ℕ → Type 0) (time : ℕ) → ((other : ℕ) → P other → other ≤ time) → (Alone → (other : ℕ) → P other → time ≤ other)
-    → Joins f last Alone time → IsTimely f last P time
+    → TimeJoins f last Alone time → IsTimely f last P time
 timely_last f last Alone P time latest earliest = by f
   where
-    each : (high : Option ℕ) (low : ℕ) → JoinsBy high low last Alone time → ChosenBy high low last P time
+    each : (high : Option ℕ) (low : ℕ) → TimeJoinsBy high low last Alone time → ChosenBy high low last P time
     each None low alone = earliest alone
     each (Some high) low joins = (joins.0, λ far other there also. latest other there)
 
-    by : (f : Formula) → Joins f last Alone time → IsTimely f last P time
+    by : (f : Formula) → TimeJoins f last Alone time → IsTimely f last P time
     by (Prev place interval g) joins = joins
     by (Once place interval g) joins = (joins.0, each interval.high interval.low joins.1)
     by (Historically place interval g) joins = (joins.0, each interval.high interval.low joins.1)
@@ -127,15 +111,15 @@ timely_last f last Alone P time latest earliest = by f
     by f joins = absurd joins
 
 -- and those of the others with it
-timely_more : (f : Formula) (last : ℕ) (P Q : ℕ → Type 0) (time : ℕ) → ((other : ℕ) → Q other → P other ⊎ ((time ≤ other) × Joins f last ⊥ other)) → IsTimely f last P time → IsTimely f last Q time
+timely_more : (f : Formula) (last : ℕ) (P Q : ℕ → Type 0) (time : ℕ) → ((other : ℕ) → Q other → P other ⊎ ((time ≤ other) × TimeJoins f last ⊥ other)) → IsTimely f last P time → IsTimely f last Q time
 timely_more f last P Q time = by f
   where
-    each : (high : Option ℕ) (low : ℕ) → ((other : ℕ) → Q other → P other ⊎ ((time ≤ other) × JoinsBy high low last ⊥ other)) → ChosenBy high low last P time → ChosenBy high low last Q time
+    each : (high : Option ℕ) (low : ℕ) → ((other : ℕ) → Q other → P other ⊎ ((time ≤ other) × TimeJoinsBy high low last ⊥ other)) → ChosenBy high low last P time → ChosenBy high low last Q time
     each None low more chosen = λ other there. ⊎_elim (λ old. chosen other old) (λ new. new.0) (more other there)
     each (Some high) low more chosen =
         (chosen.0, λ far other there also. ⊎_elim (λ old. chosen.1 far other old also) (λ new. absurd (new.1.1 also)) (more other there))
 
-    by : (f : Formula) → ((other : ℕ) → Q other → P other ⊎ ((time ≤ other) × Joins f last ⊥ other)) → IsTimely f last P time → IsTimely f last Q time
+    by : (f : Formula) → ((other : ℕ) → Q other → P other ⊎ ((time ≤ other) × TimeJoins f last ⊥ other)) → IsTimely f last P time → IsTimely f last Q time
     by (Prev place interval g) more timely = timely
     by (Once place interval g) more timely = (timely.0, each interval.high interval.low (λ other there. ⊎_elim inl (λ new. inr (new.0, new.1.1)) (more other there)) timely.1)
     by (Historically place interval g) more timely = (timely.0, each interval.high interval.low (λ other there. ⊎_elim inl (λ new. inr (new.0, new.1.1)) (more other there)) timely.1)
@@ -151,15 +135,15 @@ record HasEarlier (f : Formula) (last : ℕ) (P Q : ℕ → Type 0) (time : ℕ)
   also : Q time
 
 -- where both times can be kept, the later one can join the earlier
-joins_from : (f : Formula) (last : ℕ) (P Q : ℕ → Type 0) (time : ℕ) (Same : Type 0) → (Same → HasEarlier f last P Q time) → IsTimely f last P time → Joins f last (Same → ⊥) time
+joins_from : (f : Formula) (last : ℕ) (P Q : ℕ → Type 0) (time : ℕ) (Same : Type 0) → (Same → HasEarlier f last P Q time) → IsTimely f last P time → TimeJoins f last (Same → ⊥) time
 joins_from f last P Q time Same = by f
   where
-    each : (high : Option ℕ) (low : ℕ) → (Same → (e : ℕ) × (e < time) × P e × ChosenBy high low last Q e × Q time) → ChosenBy high low last P time → JoinsBy high low last (Same → ⊥) time
+    each : (high : Option ℕ) (low : ℕ) → (Same → (e : ℕ) × (e < time) × P e × ChosenBy high low last Q e × Q time) → ChosenBy high low last P time → TimeJoinsBy high low last (Same → ⊥) time
     each None low has chosen = λ s. let e = has s in omega (arith, e.1, chosen e.0 e.2)
     each (Some high) low has chosen =
         (chosen.0, λ far s. let e = has s in omega (arith, e.1, e.3.1 (omega (arith, e.1, far)) time e.4 far))
 
-    by : (f : Formula) → (Same → HasEarlier f last P Q time) → IsTimely f last P time → Joins f last (Same → ⊥) time
+    by : (f : Formula) → (Same → HasEarlier f last P Q time) → IsTimely f last P time → TimeJoins f last (Same → ⊥) time
     by (Prev place interval g) has timely = timely
     by (Once place interval g) has timely = (timely.0, each interval.high interval.low (λ s. let e = has s in (e.earlier, e.less, e.there, e.timely.1, e.also)) timely.1)
     by (Historically place interval g) has timely = (timely.0, each interval.high interval.low (λ s. let e = has s in (e.earlier, e.less, e.there, e.timely.1, e.also)) timely.1)
@@ -169,19 +153,19 @@ joins_from f last P Q time Same = by f
 -- ---- one row more
 
 module _ (fs : List Formula) (last : ℕ) (xs : List KeptRow) (before : Option KeptRow) (r : KeptRow) (is : IsLastOf xs before) where
-  -- the times that rows have for one, with the row behind them
+  -- the times that rows have for one, with the row after them
   either : (q : KeptRow) (other : ℕ) → HaveTime (xs ++ r ∷ []) q other → HaveTime xs q other ⊎ (kept_row q.window (pair q.row other) ≡ r)
   either q other there =
       let s = kept_row q.window (pair q.row other) in
       ⊎_elim (λ old. inl old) (λ new. inr (sym (only r s new))) (Contains-append_cases xs (r ∷ []) s there)
 
-  module _ (can : CanFollow fs last before r) where
+  module _ (can : RowCanFollow fs last before r) where
     last_keepable : IsKeepable fs last (xs ++ r ∷ []) r
     last_keepable = record {
       operator = can.fits.operator;
       numbered = can.fits.numbered;
       long = can.fits.long;
-      timely = timely_last can.fits.operator last (IsOther before r) (HaveTime (xs ++ r ∷ []) r) r.time
+      timely = timely_last can.fits.operator last (HasOtherValues before r) (HaveTime (xs ++ r ∷ []) r) r.time
           (λ other there. ⊎_elim
           (λ old. let less = later_of_one (kept_row r.window (pair r.row other)) r (refl, refl) (all_before xs before r _ is can.behind old) in omega (arith, less))
           (λ new. let same = ap (λ (k : KeptRow). k.time) new in omega (arith, same)) (either r other there))
@@ -200,22 +184,22 @@ module _ (fs : List Formula) (last : ℕ) (xs : List KeptRow) (before : Option K
           (λ other also. ⊎_elim (λ old. inl old) (λ new. inr (added other new)) (either q other also)) k.timely;
     }
       where
-        added : (other : ℕ) → kept_row q.window (pair q.row other) ≡ r → (q.time ≤ other) × Joins k.operator last ⊥ other
+        added : (other : ℕ) → kept_row q.window (pair q.row other) ≡ r → (q.time ≤ other) × TimeJoins k.operator last ⊥ other
         added other new =
             let one : AreOfOne q r = (ap (λ (s : KeptRow). s.window) new, ap (λ (s : KeptRow). s.row) new) in
             let time : other ≡ r.time = ap (λ (s : KeptRow). s.time) new in
             let less = later_of_one q r one (all_before xs before r q is can.behind there) in
             let same : can.fits.operator ≡ k.operator = same_Some can.fits.operator k.operator (sym can.fits.numbered ∙ ap (slice_get fs) (sym one.0) ∙ k.numbered) in (
               omega (arith, less, time),
-              subst (Joins k.operator last ⊥) (sym time) (subst (λ f. Joins f last ⊥ r.time) same
-                  (joins_map can.fits.operator last (IsOther before r) ⊥ r.time (none_of_one xs before r q is can.behind there one) can.fits.joins)),
+              subst (TimeJoins k.operator last ⊥) (sym time) (subst (λ f. TimeJoins f last ⊥ r.time) same
+                  (joins_map can.fits.operator last (HasOtherValues before r) ⊥ r.time (none_of_one xs before r q is can.behind there one) can.fits.joins)),
             )
 
     pub within_with : AreWithinBounds fs (Some last) xs → AreWithinBounds fs (Some last) (xs ++ r ∷ [])
     within_with within = (
-      rises_append IsRowBefore xs (r ∷ []) within.0 (all_of (IsRowBefore r) [] (λ q there. absurd (none_in_nil q there)), tt)
+      rises_append IsRowBefore xs (r ∷ []) within.0 (all_from (IsRowBefore r) [] (λ q there. absurd (none_in_nil q there)), tt)
           (λ q s there also. subst (IsRowBefore q) (only r s also) (all_before xs before r q is can.behind there)),
-      all_of (IsKeepable fs last (xs ++ r ∷ [])) (xs ++ r ∷ []) (λ q there. ⊎_elim
+      all_from (IsKeepable fs last (xs ++ r ∷ [])) (xs ++ r ∷ []) (λ q there. ⊎_elim
           (λ old. still_keepable q old (All-contains (IsKeepable fs last xs) xs q within.1 old))
           (λ new. subst (IsKeepable fs last (xs ++ r ∷ [])) (only r q new) last_keepable) (Contains-append_cases xs (r ∷ []) q there)),
     )
@@ -237,7 +221,7 @@ module _ (fs : List Formula) (last : ℕ) (xs : List KeptRow) (before : Option K
     comes None last_is = tt
     comes (Some b) last_is = across b last_is.0
 
-    joins_in : (o : Option KeptRow) → IsLastOf xs o → Joins own.operator last (IsOther o r) r.time
+    joins_in : (o : Option KeptRow) → IsLastOf xs o → TimeJoins own.operator last (HasOtherValues o r) r.time
     joins_in None last_is =
         joins_map own.operator last (⊥ → ⊥) (Unit {0}) r.time (λ _. tt)
         (joins_from own.operator last (HaveTime (xs ++ r ∷ []) r) (HaveTime (xs ++ r ∷ []) r) r.time ⊥ (λ none. absurd none) own.timely)
@@ -258,7 +242,7 @@ module _ (fs : List Formula) (last : ℕ) (xs : List KeptRow) (before : Option K
               also = subst (λ w. Contains (xs ++ r ∷ []) (kept_row w (pair b.row r.time))) (sym one.0) (subst (λ l. Contains (xs ++ r ∷ []) (kept_row r.window (pair l r.time))) (sym one.1) new);
             }
 
-    pub can_follow_from : CanFollow fs last before r
+    pub can_follow_from : RowCanFollow fs last before r
     can_follow_from = record {
       behind = comes before is;
       fits = record { operator = own.operator; numbered = own.numbered; long = own.long; joins = joins_in before is };
@@ -268,13 +252,13 @@ module _ (fs : List Formula) (last : ℕ) (xs : List KeptRow) (before : Option K
 
 -- a row fits in where its window's shape has as many columns and its operator can keep the time,
 pub fits_with : (shapes : List WindowShape) (last : ℕ) (Alone : Type 0) (r : KeptRow) (shape : WindowShape) → All HasItsColumns shapes → r.window < length shapes → shape ≡ get_or shapes r.window shape
-    → FitsIn (map operator_of shapes) last Alone r ↔ ((length r.row ≡ length shape.columns) × Joins (operator_of shape) last Alone r.time)
+    → FitsIn (map operator_of shapes) last Alone r ↔ ((length r.row ≡ length shape.columns) × TimeJoins (operator_of shape) last Alone r.time)
 fits_with shapes last Alone r shape each within is =
     let at : slice_get shapes r.window ≡ Some shape = slice_get-get_or shapes r.window shape within ∙ ap Some (sym is) in
     let named : slice_get (map operator_of shapes) r.window ≡ Some (operator_of shape) = slice_get-map operator_of shapes r.window ∙ ap (option_map operator_of) at in
     let own : HasItsColumns shape = All-contains HasItsColumns shapes shape each (there_from_get shapes r.window shape at) in (
       λ f. let same : f.operator ≡ operator_of shape = same_Some f.operator (operator_of shape) (sym f.numbered ∙ named) in
-          (f.long shape.columns (subst (λ g. AreFreeVariables (kept_operand g) shape.columns) (sym same) own), subst (λ g. Joins g last Alone r.time) same f.joins),
+          (f.long shape.columns (subst (λ g. AreFreeVariables (kept_operand g) shape.columns) (sym same) own), subst (λ g. TimeJoins g last Alone r.time) same f.joins),
       λ both. record {
         operator = operator_of shape;
         numbered = named;

@@ -1,8 +1,7 @@
 -- Stacks of tables, the first of which stands last.
-use Rattle.std.proofs.Common.{◌≡◌, ◌∙◌, ℕ, ◌-◌, ◌≤◌, List, ◌++◌, length, take, drop, reverse, sym, ap, arith}
-use Rattle.std.proofs.Math.Seq.{drop-append_seam}
-use Rattle.std.proofs.lemmas.List.{length-reverse, length-drop, reverse-append, take-append-drop}
-use Rattle.valuations.specs.Tables.{Relation}
+use Rattle.past_state.proofs.Vocabulary.{◌≡◌, ◌∙◌, ℕ, ◌-◌, ◌≤◌, List, ◌++◌, length, take}
+use Rattle.past_state.proofs.Vocabulary.{drop, reverse, sym, ap, arith, drop-append_seam, length-reverse, length-drop}
+use Rattle.past_state.proofs.Vocabulary.{reverse-append, take-append-drop, Relation}
 
 -- what stands below the top of a stack
 pub below_top : (xs : List Relation) (n : ℕ) → n ≤ length xs → reverse (take (length xs - n) xs) ≡ drop n (reverse xs)

@@ -1,11 +1,11 @@
 //! Copies of what is kept, which share the guards.
 ghost use Rattle.std.specs.Prelude.{◌≡◌, IfOk};
 
-use crate::left::Left;
+use crate::left_sides::Left;
 use crate::memories::Memory;
 use crate::operators::{OperatorState, OperatorStates};
-use enf_value::items::Duplicate;
-use enf_value::memory::NoMemory;
+use enf_data::items::Duplicate;
+use enf_data::memory::NoMemory;
 use std::alloc::{AllocError, Global};
 
 impl Duplicate for Left {

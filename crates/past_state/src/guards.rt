@@ -1,13 +1,14 @@
 //! The guards of a past state, and what is kept for them before the first step.
 ghost use Rattle.std.specs.Prelude.{◌≡◌, ◌<◌, ◌^◌, IfOk, OnOk, All, length, map, reverse};
-ghost use Rattle.past_state.specs.Guarded.{tree_in, count_in, IsFreshGuard, IsPastGuard, AreCopies};
-ghost use Rattle.past_state.specs.Past.{BeginAt};
-ghost use Rattle.past_state.specs.Keeping.{PushesFor};
-ghost use Rattle.past_state.specs.Operators.{all_operators, all_outermost};
+ghost use Rattle.past_state.specs.machine.Guards.{tree_in, count_in, IsFreshGuard, IsPastGuard, AreCopies};
+ghost use Rattle.past_state.specs.machine.Past.{BeginAt};
+ghost use Rattle.past_state.specs.machine.KeepableOperators.{PushesFor};
+ghost use Rattle.past_state.specs.meaning.KeptRows.{all_operators};
+ghost use Rattle.past_state.specs.machine.InnerOperators.{all_outermost};
 
-use crate::building::{guard_of, push_operators};
+use crate::first_memories::{guard_of, push_operators};
 use crate::operators::OperatorState;
-use enf_value::memory::NoMemory;
+use enf_data::memory::NoMemory;
 use monitorable_guard::Guard;
 use std::alloc::Global;
 

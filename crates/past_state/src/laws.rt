@@ -1,11 +1,11 @@
 //! How windows and slots stand for a trace, step by step: laws over the definitions, each the contract of a function.
-ghost use Rattle.past_state.specs.KeptValues.{KeptHeld, OperatorsCanBeKept};
-ghost use Rattle.past_state.specs.Counts.{NoMoreThanNodes};
-ghost use Rattle.past_state.specs.Known.{TablesAreKnown};
-ghost use Rattle.past_state.specs.Laws.{SinceAnswers, SinceGoesOn, OnceAnswers, OnceGoesOn, HistoricallyIsDenied};
-ghost use Rattle.past_state.specs.Laws.{PrevAnswers, PrevGoesOn};
-ghost use Rattle.past_state.specs.Past.{RunStands, CommitStands, TablesStay, UnreadGuardsHold, UnreadTablesStay};
-ghost use Rattle.past_state.specs.Restoring.{KeptAreWithinBounds};
+ghost use Rattle.past_state.specs.machine.KeepableOperators.{KeptHeld, OperatorsCanBeKept};
+ghost use Rattle.past_state.specs.machine.Laws.{NoMoreThanNodes, SinceAnswers, SinceGoesOn, OnceAnswers, OnceGoesOn};
+ghost use Rattle.past_state.specs.machine.Laws.{HistoricallyIsDenied, PrevAnswers, PrevGoesOn};
+ghost use Rattle.past_state.specs.machine.ValueSources.{TablesAreKnown};
+ghost use Rattle.past_state.specs.machine.Past.{RunStands, CommitStands, TablesStay, UnreadGuardsHold};
+ghost use Rattle.past_state.specs.machine.Past.{UnreadTablesStay};
+ghost use Rattle.past_state.specs.machine.RestoringLaws.{KeptAreWithinBounds};
 
 use enf_formula::laws::{dependence, is_classical};
 use monitorable_guard::laws::present_is_satisfied;

@@ -1,24 +1,24 @@
 //! What the operators on the past of guards need of the past, step by step, without the trace.
 #![tactic(auto)]
 
-mod asking;
-mod building;
 mod copies;
+mod first_memories;
 pub mod guards;
-pub mod kept;
+pub mod kept_rows;
 pub mod laws;
-pub mod left;
+pub mod left_sides;
 pub mod memories;
 mod names;
+mod operator_answers;
 pub mod operators;
 pub mod past;
-mod restoring;
+mod restored_past;
+mod row_filters;
 pub mod shapes;
 mod shared_guard;
-mod surviving;
 pub mod survivors;
 pub mod worked_cases;
 
-pub use kept::{KeptRow, KeptRows};
+pub use kept_rows::{KeptRow, KeptRows};
 pub use past::{PastState, Tables};
 pub use shapes::{RowOutOfBounds, WindowShape, check_rows, window_shapes};

@@ -1,12 +1,12 @@
 //! What is kept for an operator on the past.
 ghost use Rattle.std.specs.Prelude.{IfOk, OnOk};
 
-use crate::asking::LazyTables;
-use crate::left::Left;
+use crate::left_sides::Left;
+use crate::operator_answers::LazyTables;
+use crate::row_filters::all_rows;
 use crate::shared_guard::SharedGuard;
-use crate::surviving::all_rows;
 use crate::survivors::Survivors;
-use enf_value::memory::NoMemory;
+use enf_data::memory::NoMemory;
 use monitorable_guard::StepEvents;
 use std::alloc::Global;
 use valuations::Table;
@@ -40,8 +40,8 @@ pub struct StepTables {
 }
 
 impl Memory {
-    ghost use Rattle.past_state.specs.Memories.{CanStep, AreStepTables, FitMemory, IsUpToTimeOf, IsCommittedTo};
-    ghost use Rattle.past_state.specs.Memories.{IsSameMemory};
+    ghost use Rattle.past_state.specs.machine.Memories.{CanStep, AreStepTables, FitMemory, IsUpToTimeOf, IsCommittedTo};
+    ghost use Rattle.past_state.specs.machine.Memories.{IsSameMemory};
 
     /// What a step with these events brings, from the outermost operators of the operands.
     pub fn step_tables(
@@ -78,7 +78,7 @@ impl Memory {
         }
     }
 
-    /// Makes the step the last one. After want of memory it answers no more calls but drop.
+    /// Makes the step the last one. Once memory has run out, it answers no more calls but drop.
     pub fn commit(&mut self, time: u64, tables: StepTables) -> Result<(), NoMemory>
         requires later { IsUpToTimeOf time self.old }
         requires fits { FitMemory self.old tables }

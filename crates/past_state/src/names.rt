@@ -1,14 +1,14 @@
 //! The names that guards look for.
 ghost use Rattle.std.specs.Prelude.{◌≡◌, ◌↔◌, ◌++◌, IfOk, IsTrue, OnOk, Contains};
-ghost use Rattle.enf_formula.specs.Formulas.{tree_of};
-ghost use Rattle.enf_formula.specs.Names.{names_in};
-ghost use Rattle.enf_value.specs.declared.events.NameId.{NameId as AnyName};
-ghost use Rattle.past_state.specs.Past.{guard_names};
+ghost use Rattle.enf_formula.specs.machine.FormulaViews.{tree_of};
+ghost use Rattle.enf_formula.specs.machine.Agreement.{names_in_formula};
+ghost use Rattle.enf_data.specs.declared.events.NameId.{NameId as AnyName};
+ghost use Rattle.past_state.specs.machine.Past.{guard_names};
 
 use crate::guards::PlacedGuard;
+use enf_data::events::NameId;
+use enf_data::memory::NoMemory;
 use enf_formula::Formula;
-use enf_value::events::NameId;
-use enf_value::memory::NoMemory;
 use std::alloc::Global;
 use std::marker::Model;
 
@@ -22,7 +22,7 @@ impl Model for GuardNames {
     ghost use Rattle.std.specs.Prelude.{List};
     ghost use Rattle.std.specs.List.Sorted.{IsSortedByKey};
     ghost use Rattle.std.specs.Ordering.{nat_cmp};
-    ghost use Rattle.enf_value.specs.declared.events.NameId.{NameId};
+    ghost use Rattle.enf_data.specs.declared.events.NameId.{NameId};
 
     ghost Value = { List NameId };
 
@@ -65,7 +65,7 @@ fn all_names(alloc: Global, guards: &[PlacedGuard]) -> Result<Vec<NameId>, NoMem
 
 // Puts the names that the formula looks for last.
 fn push_names(formula: &Formula, out: &mut Vec<NameId>) -> Result<(), NoMemory>
-    ensures { OnOk result (out.new.items ≡ out.old.items ++ names_in (tree_of formula.now)) }
+    ensures { OnOk result (out.new.items ≡ out.old.items ++ names_in_formula (tree_of formula.now)) }
 {
     match formula {
         Formula::True(_)

@@ -1,11 +1,12 @@
 //! The operators on the past of guards, from the inside out.
 ghost use Rattle.std.specs.Prelude.{◌≡◌, [], IfOk, OnOk};
-ghost use Rattle.past_state.specs.LazyTables.{CanAskEach, tables_at};
-ghost use Rattle.past_state.specs.Runs.{AreOrdered, AreUpToTimeOf, Runs, AllFit, AllCommitted, AreSameKinds};
+ghost use Rattle.past_state.specs.machine.LazyTables.{CanAskEach, tables_at};
+ghost use Rattle.past_state.specs.machine.OperatorRuns.{AreOrderedOperators, AreUpToTimeOf, Runs, AllMemoriesFit};
+ghost use Rattle.past_state.specs.machine.OperatorRuns.{AllCommitted, AreSameKinds};
 
-use crate::asking::LazyTables;
 use crate::memories::{Memory, StepTables};
-use enf_value::memory::NoMemory;
+use crate::operator_answers::LazyTables;
+use enf_data::memory::NoMemory;
 use monitorable_guard::StepEvents;
 use std::alloc::Global;
 use std::rc::Rc;
@@ -30,14 +31,14 @@ pub struct Ran {
     pub places: Vec<usize>,
 }
 
-/// Evaluates the operators at a step, each behind those of its operands.
+/// Evaluates the operators at a step, each after those of its operands.
 pub fn run(
     alloc: Global,
     operators: &[OperatorState],
     time: u64,
     events: &StepEvents<'_>,
 ) -> Result<Ran, NoMemory>
-    requires ordered { AreOrdered operators.now }
+    requires ordered { AreOrderedOperators operators.now }
     requires later { AreUpToTimeOf time operators.now }
     ensures runs { IfOk result (λ ran. Runs events.now time [] operators.now ran.steps.items
         (tables_at operators.now ran.steps.items time ran.places.items)) }
@@ -62,7 +63,7 @@ pub fn commit_shared(
     steps: Vec<StepTables>,
 ) -> Result<(), NoMemory>
     requires later { AreUpToTimeOf time operators.old.value.items.items }
-    requires fits { AllFit operators.old.value.items.items steps.items }
+    requires fits { AllMemoriesFit operators.old.value.items.items steps.items }
     ensures ok { OnOk result (AllCommitted time operators.old.value.items.items steps.items
         operators.new.value.items.items) }
     ensures kinds { AreSameKinds operators.old.value.items.items operators.new.value.items.items }
@@ -71,14 +72,14 @@ pub fn commit_shared(
     commit_each(&mut operators.items, time, steps)
 }
 
-// The same of operators that nothing shares.
+// Makes the step the last one of each operator, where nothing shares them.
 fn commit_each(
     operators: &mut Vec<OperatorState>,
     time: u64,
     steps: Vec<StepTables>,
 ) -> Result<(), NoMemory>
     requires later { AreUpToTimeOf time operators.old.items }
-    requires fits { AllFit operators.old.items steps.items }
+    requires fits { AllMemoriesFit operators.old.items steps.items }
     ensures ok { OnOk result (AllCommitted time operators.old.items steps.items operators.new.items) }
     ensures kinds { AreSameKinds operators.old.items operators.new.items }
 {

@@ -1,19 +1,19 @@
 //! What the operators on the past of guards remember.
-ghost use Rattle.std.specs.Prelude.{◌≡◌, ◌↔◌, ◌≤◌, ℕ, List, [], None, IfOk};
-ghost use Rattle.std.specs.Prelude.{OnOk, All, Contains, IsTrue};
-ghost use Rattle.valuations.specs.Scopes.{bound_in};
-ghost use Rattle.valuations.specs.Tables.{IsTable};
+ghost use Rattle.std.specs.Prelude.{◌≡◌, ◌↔◌, ◌≤◌, ℕ, List, [], None, IfOk, OnOk, All, Contains};
+ghost use Rattle.std.specs.Prelude.{IsTrue};
+ghost use Rattle.valuations.specs.machine.Bindings.{bound_in};
+ghost use Rattle.valuations.specs.machine.Tables.{IsTable};
 
-use crate::asking::LazyTables;
 use crate::guards::PlacedGuard;
-use crate::kept::KeptRows;
+use crate::kept_rows::KeptRows;
 use crate::laws::{steps_stand, tables_are_known};
 use crate::memories::StepTables;
 use crate::names::GuardNames;
+use crate::operator_answers::LazyTables;
 use crate::operators::{OperatorStates, commit_shared, run};
-use enf_value::event_sets::EventSet;
-use enf_value::events::NameId;
-use enf_value::memory::NoMemory;
+use enf_data::event_sets::EventSet;
+use enf_data::events::NameId;
+use enf_data::memory::NoMemory;
 use monitorable_guard::laws::present_is_satisfied;
 use monitorable_guard::{Guard, Rows, StepEvents};
 use std::alloc::Global;
@@ -32,9 +32,9 @@ pub struct PastState {
 
 impl Model for PastState {
     ghost use Rattle.std.specs.Prelude.{◌↔◌, Contains};
-    ghost use Rattle.enf_value.specs.declared.events.NameId.{NameId};
-    ghost use Rattle.past_state.specs.Past.{Past, IsPast, guard_names};
-    ghost use Rattle.past_state.specs.PastCodes.{past_code};
+    ghost use Rattle.enf_data.specs.declared.events.NameId.{NameId};
+    ghost use Rattle.past_state.specs.machine.Past.{Past, IsPast, guard_names};
+    ghost use Rattle.past_state.specs.machine.PastCodes.{past_code};
 
     ghost Value = { Past };
 
@@ -60,9 +60,9 @@ pub struct Tables {
 }
 
 impl Model for Tables {
-    ghost use Rattle.past_state.specs.LazyTables.{CanAskEach, tables_at};
-    ghost use Rattle.past_state.specs.Past.{PastTables, ArePastTables};
-    ghost use Rattle.past_state.specs.PastCodes.{tables_code};
+    ghost use Rattle.past_state.specs.machine.LazyTables.{CanAskEach, tables_at};
+    ghost use Rattle.past_state.specs.machine.Past.{PastTables, ArePastTables};
+    ghost use Rattle.past_state.specs.machine.PastCodes.{tables_code};
 
     ghost Value = { PastTables };
 
@@ -82,14 +82,14 @@ impl Model for Tables {
 }
 
 impl PastState {
-    ghost use Rattle.enf_value.specs.declared.steps.Step.{Step};
-    ghost use Rattle.past_state.specs.Past.{AreOf, PastStands, TablesWillStand, CommittedWillStand};
-    ghost use Rattle.past_state.specs.Past.{GuardsWillHold, PastCommitted, guard_names};
-    ghost use Rattle.past_state.specs.Guarded.{AreCopies, IsFreshGuard};
-    ghost use Rattle.past_state.specs.Known.{AreKnown};
-    ghost use Rattle.past_state.specs.LastTimes.{AreAtLast};
-    ghost use Rattle.past_state.specs.Runs.{AreUpToTimeOf, AllFit};
-    ghost use Rattle.past_state.specs.Saved.{AreRowsOf};
+    ghost use Rattle.enf_data.specs.declared.steps.Step.{Step};
+    ghost use Rattle.past_state.specs.machine.Past.{AreTablesAtStep, PastStands, TablesWillStand, CommittedWillStand};
+    ghost use Rattle.past_state.specs.machine.Past.{GuardsWillHold, PastCommitted, guard_names};
+    ghost use Rattle.past_state.specs.machine.Guards.{AreCopies, IsFreshGuard};
+    ghost use Rattle.past_state.specs.machine.ValueSources.{AreKnown};
+    ghost use Rattle.past_state.specs.machine.MemoryTimes.{AreAtLast};
+    ghost use Rattle.past_state.specs.machine.OperatorRuns.{AreUpToTimeOf, AllMemoriesFit};
+    ghost use Rattle.past_state.specs.machine.StoredRows.{AreStoredRows};
 
     /// One window or slot for each operator on the past, before the first step. No quantifier in a guard binds a
     /// variable in scope.
@@ -97,7 +97,7 @@ impl PastState {
         requires { All IsFreshGuard guards.now }
         ensures guards { IfOk result (λ p. AreCopies guards.now p.guards) }
         ensures last { IfOk result (AreAtLast None) }
-        ensures exact { IfOk result (λ p. AreRowsOf p []) }
+        ensures exact { IfOk result (λ p. AreStoredRows p []) }
         ensures up_to { IfOk result (λ p. (time : ℕ) → AreUpToTimeOf time p.operators) }
         ensures stands { IfOk result (PastStands []) }
     {
@@ -107,7 +107,7 @@ impl PastState {
     /// The tables at a step with these events at this time, which is not before the last one.
     pub fn tables(&self, alloc: Global, time: u64, events: &EventSet) -> Result<Tables, NoMemory>
         requires { AreUpToTimeOf time self.now.operators }
-        ensures are { IfOk result (AreOf self.now time events.now) }
+        ensures are { IfOk result (AreTablesAtStep self.now time events.now) }
         ensures stand { IfOk result (TablesWillStand self.now time events.now) }
         ensures hold { IfOk result (GuardsWillHold self.now time events.now) }
         ensures known { IfOk result (AreKnown self.now events.now) }
@@ -116,7 +116,7 @@ impl PastState {
         self.tables_at(alloc, time, &events)
     }
 
-    /// The same of events that were put in order once for the step.
+    /// The tables at a step with events that were put in order once for it.
     pub fn tables_at(
         &self,
         alloc: Global,
@@ -124,7 +124,7 @@ impl PastState {
         events: &StepEvents<'_>,
     ) -> Result<Tables, NoMemory>
         requires { AreUpToTimeOf time self.now.operators }
-        ensures are { IfOk result (AreOf self.now time events.now) }
+        ensures are { IfOk result (AreTablesAtStep self.now time events.now) }
         ensures stand { IfOk result (TablesWillStand self.now time events.now) }
         ensures hold { IfOk result (GuardsWillHold self.now time events.now) }
         ensures known { IfOk result (AreKnown self.now events.now) }
@@ -157,11 +157,11 @@ impl PastState {
         self.names.has(name)
     }
 
-    /// Makes the step of these tables the last one. After want of memory its guards are as they were, and nothing is
-    /// said of what it remembers: it is fit to be dropped.
+    /// Makes the step of these tables the last one. Once memory has run out, its guards are as they were, and nothing
+    /// is said of what it remembers: it is fit to be dropped.
     pub fn commit(&mut self, time: u64, events: &EventSet, tables: Tables) -> Result<(), NoMemory>
         requires later { AreUpToTimeOf time self.old.operators }
-        requires are { AreOf self.old time events.now tables }
+        requires are { AreTablesAtStep self.old time events.now tables }
         ensures guards { self.new.guards ≡ self.old.guards }
         ensures ok { OnOk result (PastCommitted self.old time tables.steps self.new) }
         ensures up_to { OnOk result ((later : ℕ) → time ≤ later
@@ -182,9 +182,9 @@ impl PastState {
 
 impl Tables {
     ghost use Rattle.std.specs.Prelude.{◌<◌, length, drop};
-    ghost use Rattle.past_state.specs.Known.{IsKnownOfGuard};
-    ghost use Rattle.past_state.specs.Past.{BindsBound, HasOpenColumns, AreEvaluated, AreSatisfied, IsTestOf};
-    ghost use Rattle.past_state.specs.Past.{IsEvaluated, IsSatisfied};
+    ghost use Rattle.past_state.specs.machine.ValueSources.{IsKnownOfGuard};
+    ghost use Rattle.past_state.specs.machine.Past.{BindsBound, HasOpenColumns, AreEvaluated, AreSatisfied, IsTestOf};
+    ghost use Rattle.past_state.specs.machine.Past.{IsEvaluated, IsSatisfied};
 
     /// The guard's rows at the step, with the valuation's values of the bound variables. The columns are those free
     /// variables that are not bound, in rising variable number.
@@ -204,29 +204,10 @@ impl Tables {
         ensures known { IfOk result (IsKnownOfGuard self.now guard events.now v.now) }
     {
         let events = StepEvents::of(alloc, events)?;
-        self.rows_at(alloc, guard, &events, v)
+        self.rows_under(alloc, guard, &events, &Frame::Whole(v))
     }
 
-    /// The same at events that were put in order once for the step.
-    pub fn rows_at(
-        &self,
-        alloc: Global,
-        guard: u32,
-        events: &StepEvents<'_>,
-        v: &Valuation,
-    ) -> Result<Table, NoMemory>
-        requires within { guard < length self.now.guards }
-        requires binds { BindsBound self.now.guards guard v.now }
-        ensures table { IfOk result IsTable }
-        ensures columns { IfOk result (HasOpenColumns self.now guard) }
-        ensures evaluated { IfOk result (AreEvaluated self.now guard events.now v.now) }
-        ensures satisfied { IfOk result (AreSatisfied self.now guard events.now v.now) }
-        ensures known { IfOk result (IsKnownOfGuard self.now guard events.now v.now) }
-    {
-        self.rows_under(alloc, guard, events, &Frame::Whole(v))
-    }
-
-    /// The same under values that stay where they are.
+    /// The guard's rows at events that were put in order once for the step, under values that stay where they are.
     pub fn rows_under(
         &self,
         alloc: Global,
@@ -248,7 +229,8 @@ impl Tables {
         placed.guard.evaluate_under(alloc, events, &past, v)
     }
 
-    /// The same, where rows that are the arguments of events stay where they are.
+    /// The guard's rows at such events and under such values, where rows that are the arguments of events stay where
+    /// they are.
     #[inline(always)]
     pub fn told_under<'t>(
         &'t self,
@@ -286,27 +268,11 @@ impl Tables {
         ensures satisfied { IfOk result (IsSatisfied self.now guard events.now v.now) }
     {
         let events = StepEvents::of(alloc, events)?;
-        self.holds_at(alloc, guard, &events, v)
+        self.holds_under(alloc, guard, &events, &Frame::Whole(v))
     }
 
-    /// The same at events that were put in order once for the step.
-    pub fn holds_at(
-        &self,
-        alloc: Global,
-        guard: u32,
-        events: &StepEvents<'_>,
-        v: &Valuation,
-    ) -> Result<bool, NoMemory>
-        requires within { guard < length self.now.guards }
-        requires binds { BindsBound self.now.guards guard v.now }
-        requires test { IsTestOf self.now.guards guard }
-        ensures evaluated { IfOk result (IsEvaluated self.now guard events.now v.now) }
-        ensures satisfied { IfOk result (IsSatisfied self.now guard events.now v.now) }
-    {
-        self.holds_under(alloc, guard, events, &Frame::Whole(v))
-    }
-
-    /// The same under values that stay where they are; no table is made of the guard.
+    /// Whether values that stay where they are satisfy the guard, at events that were put in order once for the step;
+    /// no table is made of the guard.
     pub fn holds_under(
         &self,
         alloc: Global,
@@ -326,7 +292,7 @@ impl Tables {
         placed.guard.holds(alloc, events, &past, v)
     }
 
-    // The operators behind the first ones.
+    // The operators after the first ones.
     fn behind(&self, start: usize) -> LazyTables<'_>
         requires { start ≤ length self.now.stack }
         ensures { result ≡ drop start self.now.stack }

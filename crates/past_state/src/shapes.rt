@@ -1,23 +1,22 @@
 //! What the windows and slots keep rows of, by their numbers, and whether rows can be kept in them.
 ghost use Rattle.std.specs.Prelude.{◌≡◌, ◌↔◌, ◌∷◌, ◌++◌, [], List, Some, All, IfErr, IfOk};
-ghost use Rattle.std.specs.Prelude.{IfNone, IfSome, IsTrue};
-ghost use Rattle.std.specs.Prelude.{OnOk, map};
+ghost use Rattle.std.specs.Prelude.{IfNone, IfSome, IsTrue, OnOk, map};
 ghost use Rattle.std.specs.Option.{option_copied};
-ghost use Rattle.enf_formula.specs.Formulas.{tree_of};
-ghost use Rattle.enf_formula.specs.FreeVariables.{AreFreeVariables};
-ghost use Rattle.enf_value.specs.declared.terms.VarId.{VarId as Variable};
-ghost use Rattle.past_state.specs.Bounds.{AreWithinBounds};
-ghost use Rattle.past_state.specs.Guarded.{tree_in};
-ghost use Rattle.past_state.specs.Operators.{all_operators, operators};
-ghost use Rattle.past_state.specs.Saved.{IsRowBefore, kept_operand};
-ghost use Rattle.past_state.specs.Shapes.{AreOfOne, CanFollow, FitsIn, HasItsColumns, IsFirstOutOfBounds, Joins};
-ghost use Rattle.past_state.specs.Shapes.{JoinsIn, numbered, numbered_operators, operator_of};
+ghost use Rattle.enf_formula.specs.machine.FormulaViews.{tree_of};
+ghost use Rattle.enf_formula.specs.meaning.Satisfaction.{AreFreeVariables};
+ghost use Rattle.enf_data.specs.declared.terms.VarId.{VarId as Variable};
+ghost use Rattle.past_state.specs.meaning.RowBounds.{AreWithinBounds, numbered_operators};
+ghost use Rattle.past_state.specs.machine.Guards.{tree_in};
+ghost use Rattle.past_state.specs.meaning.KeptRows.{all_operators, operators, kept_operand, IsRowBefore};
+ghost use Rattle.past_state.specs.machine.WindowShapes.{AreOfOne, RowCanFollow, FitsIn, HasItsColumns};
+ghost use Rattle.past_state.specs.machine.WindowShapes.{IsFirstOutOfBounds, TimeJoins, TimeJoinsIn, numbered_operator};
+ghost use Rattle.past_state.specs.machine.WindowShapes.{operator_of};
 
-use crate::kept::KeptRow;
+use crate::kept_rows::KeptRow;
+use enf_data::intervals::Interval;
+use enf_data::memory::NoMemory;
+use enf_data::terms::Vars;
 use enf_formula::Formula;
-use enf_value::intervals::Interval;
-use enf_value::memory::NoMemory;
-use enf_value::terms::Vars;
 use monitorable_guard::Guard;
 use std::alloc::Global;
 use std::cmp::Ordering;
@@ -42,7 +41,7 @@ pub fn window_shapes<'a>(
     alloc: Global,
     guards: &'a [Guard],
 ) -> Result<Vec<WindowShape<'a>>, NoMemory>
-    ensures operators { IfOk result (λ shapes. map numbered shapes.items
+    ensures operators { IfOk result (λ shapes. map numbered_operator shapes.items
         ≡ numbered_operators 0 (map tree_in guards.now)) }
     ensures windows { IfOk result (λ shapes. map operator_of shapes.items
         ≡ all_operators (map tree_in guards.now)) }
@@ -62,8 +61,8 @@ fn push_shapes<'a>(
     formula: &'a Formula,
     out: &mut Vec<WindowShape<'a>>,
 ) -> Result<(), NoMemory>
-    ensures operators { OnOk result (map numbered out.new.items
-        ≡ map numbered out.old.items ++ map (λ o. (guard, o)) (operators (tree_of formula.now))) }
+    ensures operators { OnOk result (map numbered_operator out.new.items
+        ≡ map numbered_operator out.old.items ++ map (λ o. (guard, o)) (operators (tree_of formula.now))) }
     ensures columns { OnOk result (All HasItsColumns out.old.items → All HasItsColumns out.new.items) }
 {
     match formula {
@@ -104,8 +103,8 @@ fn push_shape<'a>(
     operand: &Formula,
     out: &mut Vec<WindowShape<'a>>,
 ) -> Result<(), NoMemory>
-    ensures operators { OnOk result (map numbered out.new.items
-        ≡ map numbered out.old.items ++ (guard, tree_of operator.now) ∷ []) }
+    ensures operators { OnOk result (map numbered_operator out.new.items
+        ≡ map numbered_operator out.old.items ++ (guard, tree_of operator.now) ∷ []) }
     ensures columns { OnOk result (((columns : List Variable) → AreFreeVariables (tree_of operand.now) columns
         → AreFreeVariables (kept_operand (tree_of operator.now)) columns) → All HasItsColumns out.old.items
         → All HasItsColumns out.new.items) }
@@ -160,7 +159,7 @@ fn can_follow(
     row: &KeptRow,
 ) -> bool
     requires columns { All HasItsColumns shapes.now }
-    ensures { IsTrue result ↔ CanFollow (map operator_of shapes.now) last (option_copied before.entry) row.now }
+    ensures { IsTrue result ↔ RowCanFollow (map operator_of shapes.now) last (option_copied before.entry) row.now }
 {
     match before {
         None => fits_in(shapes, last, true, row),
@@ -171,7 +170,7 @@ fn can_follow(
     }
 }
 
-// Whether a row is of other values than the one before it, if it comes behind that.
+// Whether a row is of other values than the one before it, if it comes after that.
 fn is_other_behind(before: &KeptRow, row: &KeptRow) -> Option<bool>
     ensures none { IfNone result (IsRowBefore before.now row.now → ⊥) }
     ensures behind { IfSome result (λ _. IsRowBefore before.now row.now) }
@@ -195,7 +194,7 @@ fn is_other_behind(before: &KeptRow, row: &KeptRow) -> Option<bool>
     }
 }
 
-// Whether a row is for one of the windows and slots, and its time can come behind earlier ones.
+// Whether a row is for one of the windows and slots, and its time can come after earlier ones.
 fn fits_in(shapes: &[WindowShape<'_>], last: u64, alone: bool, row: &KeptRow) -> bool
     requires columns { All HasItsColumns shapes.now }
     ensures { IsTrue result ↔ FitsIn (map operator_of shapes.now) last (IsTrue alone) row.now }
@@ -208,9 +207,9 @@ fn fits_in(shapes: &[WindowShape<'_>], last: u64, alone: bool, row: &KeptRow) ->
     }
 }
 
-// Whether an operator can keep a time behind earlier ones of the same values, where it is alone or not.
+// Whether an operator can keep a time after earlier ones of the same values, where it is alone or not.
 fn joins(operator: &Formula, last: u64, alone: bool, time: u64) -> bool
-    ensures { IsTrue result ↔ Joins (tree_of operator.now) last (IsTrue alone) time }
+    ensures { IsTrue result ↔ TimeJoins (tree_of operator.now) last (IsTrue alone) time }
 {
     match operator {
         Formula::Prev(_, _, _) => time == last,
@@ -222,7 +221,7 @@ fn joins(operator: &Formula, last: u64, alone: bool, time: u64) -> bool
 }
 
 fn joins_in(interval: &Interval, last: u64, alone: bool, time: u64) -> bool
-    ensures { IsTrue result ↔ JoinsIn interval.now last (IsTrue alone) time }
+    ensures { IsTrue result ↔ TimeJoinsIn interval.now last (IsTrue alone) time }
 {
     if last < time {
         return false;

@@ -1,8 +1,8 @@
 //! Guards that the copies of what is kept share.
 ghost use Rattle.std.specs.Prelude.{◌≡◌, IfOk};
 
-use enf_value::items::Duplicate;
-use enf_value::memory::NoMemory;
+use enf_data::items::Duplicate;
+use enf_data::memory::NoMemory;
 use monitorable_guard::Guard;
 use std::alloc::Global;
 use std::marker::Model;
@@ -15,7 +15,7 @@ pub struct SharedGuard {
 }
 
 impl Model for SharedGuard {
-    ghost use Rattle.monitorable_guard.specs.Guards.{BoundFormula, bound_formula_code};
+    ghost use Rattle.monitorable_guard.specs.machine.Guards.{BoundFormula, bound_formula_code};
 
     ghost Value = { BoundFormula };
 

@@ -1,5 +1,5 @@
 //! Which rows survive a step, by tables that are owned.
-ghost use Rattle.past_state.specs.Survivors.{IsViewOf};
+ghost use Rattle.past_state.specs.machine.Survivors.{IsViewOf};
 
 use valuations::Table;
 use windows::Surviving;
@@ -13,7 +13,7 @@ pub enum Survivors {
 }
 
 impl Survivors {
-    /// The same by reference, as windows ask for it.
+    /// The rows that survive, by reference, as windows ask for them.
     pub fn as_surviving(&self) -> Surviving<'_>
         ensures { IsViewOf self.now result }
     {

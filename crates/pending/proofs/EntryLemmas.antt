@@ -1,29 +1,23 @@
 -- Pending instances as entries.
-use Rattle.std.proofs.Common.{◌≡◌, ℕ, suc, ◌+◌, ◌<◌, List, [], ◌∷◌, ◌++◌, Contains, ⊎_elim, refl, sym, ap, subst, ◌∙◌, arith, get_or, length, map}
-use Rattle.std.specs.List.{AllByRecursion}
-use Rattle.std.proofs.lemmas.List.Sums.{sum_by-append}
-use Rattle.enf_value.specs.ListLaws.{AllByRecursion-append, AllByRecursion-of_append, first_or_later, here, later, none_in_nil}
-use Rattle.plan_terms.specs.Plans.{Plan}
-use Rattle.sleepers.specs.Entries.{ArePlaced, HasOneMore, IsFree, places}
-use Rattle.sleepers.specs.EntryLaws.{fewer_placed}
-use Rattle.sleepers.specs.Order.{IsBefore, Place, places_from, beginning}
-use Rattle.sleepers.specs.Steps.{PutsIn, TakesOut}
-use Rattle.sleepers.specs.declared.entries.Entry.{Entry}
-use Rattle.obligations.specs.Waiting.{count_due}
-use Rattle.obligations.specs.declared.instances.Instance.{Instance}
-use Rattle.pending.specs.Waking.{waking_of}
-use Rattle.pending.specs.Entries.{AreKept, FitsStep, entries_from, entry_at, items_of, waits_of}
+use Rattle.pending.proofs.Vocabulary.{◌≡◌, ℕ, suc, ◌+◌, ◌<◌, List, [], ◌∷◌, ◌++◌, Contains}
+use Rattle.pending.proofs.Vocabulary.{⊎_elim, refl, sym, ap, subst, ◌∙◌, arith, get_or, length, map}
+use Rattle.pending.proofs.Vocabulary.{AllByRecursion, sum_by-append, map-append, AllByRecursion-append}
+use Rattle.pending.proofs.Vocabulary.{AllByRecursion-of_append, first_or_later, here, later, none_in_nil, Plan}
+use Rattle.pending.proofs.Vocabulary.{ArePlaced, HasOneMoreEntry, IsFreePlace, entry_places, fewer_placed}
+use Rattle.pending.proofs.Vocabulary.{IsPlaceBefore, Place, places_from, beginning_at, PutsInEntries, TakesOutEntries}
+use Rattle.pending.proofs.Vocabulary.{Entry, count_due, Instance, wake_patterns_of, ArePendingEntries, FitsStep}
+use Rattle.pending.proofs.Vocabulary.{entries_from, entry_at, items_of, waits_of}
 
 -- ---- entries that go on from a place
 
 module _ (plans : List Plan) (place : Place) (number : ℕ) where
   -- one more
   pub entries_more : (k : ℕ) (xs : List Instance) (x : Instance) (n : ℕ) → n ≡ k + length xs
-      → entries_from plans place number k (xs ++ x ∷ []) ≡ entries_from plans place number k xs ++ entry_at plans (place ++ beginning number n ∷ []) x ∷ []
-  entries_more k [] x n is = let same : k ≡ n = omega (arith, is) in ap (λ m. entry_at plans (place ++ beginning number m ∷ []) x ∷ []) same
+      → entries_from plans place number k (xs ++ x ∷ []) ≡ entries_from plans place number k xs ++ entry_at plans (place ++ beginning_at number n ∷ []) x ∷ []
+  entries_more k [] x n is = let same : k ≡ n = omega (arith, is) in ap (λ m. entry_at plans (place ++ beginning_at number m ∷ []) x ∷ []) same
   entries_more k (z ∷ xs) x n is =
       let on : n ≡ suc k + length xs = omega (arith, is) in
-      ap (λ l. entry_at plans (place ++ beginning number k ∷ []) z ∷ l) (entries_more (suc k) xs x n on)
+      ap (λ l. entry_at plans (place ++ beginning_at number k ∷ []) z ∷ l) (entries_more (suc k) xs x n on)
 
   pub none_from : (k : ℕ) (xs : List Instance) → length xs ≡ 0 → entries_from plans place number k xs ≡ []
   none_from k [] none = refl
@@ -33,29 +27,25 @@ module _ (plans : List Plan) (place : Place) (number : ℕ) where
   entries_items k [] = refl
   entries_items k (x ∷ xs) = ap (λ l. x ∷ l) (entries_items (suc k) xs)
 
-  pub entries_wait : (k : ℕ) (xs : List Instance) → waits_of (entries_from plans place number k xs) ≡ map (waking_of plans) (items_of (entries_from plans place number k xs))
+  pub entries_wait : (k : ℕ) (xs : List Instance) → waits_of (entries_from plans place number k xs) ≡ map (wake_patterns_of plans) (items_of (entries_from plans place number k xs))
   entries_wait k [] = refl
-  entries_wait k (x ∷ xs) = ap (λ l. waking_of plans x ∷ l) (entries_wait (suc k) xs)
+  entries_wait k (x ∷ xs) = ap (λ l. wake_patterns_of plans x ∷ l) (entries_wait (suc k) xs)
 
   pub entries_places : (k : ℕ) (xs : List Instance)
-      → places (entries_from plans place number k xs) ≡ places_from place number k (length (entries_from plans place number k xs))
+      → entry_places (entries_from plans place number k xs) ≡ places_from place number k (length (entries_from plans place number k xs))
   entries_places k [] = refl
-  entries_places k (x ∷ xs) = ap (λ l. (place ++ beginning number k ∷ []) ∷ l) (entries_places (suc k) xs)
+  entries_places k (x ∷ xs) = ap (λ l. (place ++ beginning_at number k ∷ []) ∷ l) (entries_places (suc k) xs)
 
 -- ---- one entry more
 
-map_append : {X Y : Type 0} (f : X → Y) (xs ys : List X) → map f (xs ++ ys) ≡ map f xs ++ map f ys
-map_append f [] ys = refl
-map_append f (x ∷ xs) ys = ap (λ l. f x ∷ l) (map_append f xs ys)
-
 pub items_append : (xs ys : List (Entry Instance)) → items_of (xs ++ ys) ≡ items_of xs ++ items_of ys
-items_append xs ys = map_append (λ e. e.item) xs ys
+items_append xs ys = map-append (λ e. e.item) xs ys
 
 count_append : (plans : List Plan) (xs ys : List (Entry Instance)) (d : ℕ)
     → count_due plans (items_of (xs ++ ys)) d ≡ count_due plans (items_of xs) d + count_due plans (items_of ys) d
 count_append plans xs ys d = ap (λ l. count_due plans l d) (items_append xs ys) ∙ sum_by-append _ (items_of xs) (items_of ys)
 
-pub count_more : (plans : List Plan) (x : Entry Instance) (fewer more : List (Entry Instance)) → HasOneMore x fewer more → (d : ℕ)
+pub count_more : (plans : List Plan) (x : Entry Instance) (fewer more : List (Entry Instance)) → HasOneMoreEntry x fewer more → (d : ℕ)
     → count_due plans (items_of more) d ≡ count_due plans (items_of fewer) d + count_due plans (x.item ∷ []) d
 count_more plans x fewer more one d =
     let a = ap (λ l. count_due plans (items_of l) d) one.more_is in
@@ -65,7 +55,7 @@ count_more plans x fewer more one d =
     let h = count_append plans (x ∷ []) one.back d in
     omega (arith, a, b, f, g, h)
 
-pub fewer_kept : (steps : ℕ) (x : Entry Instance) (fewer more : List (Entry Instance)) → HasOneMore x fewer more → AreKept steps more → AreKept steps fewer
+pub fewer_kept : (steps : ℕ) (x : Entry Instance) (fewer more : List (Entry Instance)) → HasOneMoreEntry x fewer more → ArePendingEntries steps more → ArePendingEntries steps fewer
 fewer_kept steps x fewer more one kept =
     let parts = AllByRecursion-of_append (FitsStep steps) one.front (x ∷ one.back) (subst (AllByRecursion (FitsStep steps)) one.more_is kept.fit) in
     record {
@@ -73,7 +63,7 @@ fewer_kept steps x fewer more one kept =
       fit = subst (AllByRecursion (FitsStep steps)) (sym one.fewer_is) (AllByRecursion-append (FitsStep steps) one.front one.back parts.0 parts.1.1);
     }
 
-pub more_kept : (steps : ℕ) (x : Entry Instance) (fewer more : List (Entry Instance)) → HasOneMore x fewer more → AreKept steps fewer → FitsStep steps x → AreKept steps more
+pub more_kept : (steps : ℕ) (x : Entry Instance) (fewer more : List (Entry Instance)) → HasOneMoreEntry x fewer more → ArePendingEntries steps fewer → FitsStep steps x → ArePendingEntries steps more
 more_kept steps x fewer more one kept fits =
     let parts = AllByRecursion-of_append (FitsStep steps) one.front one.back (subst (AllByRecursion (FitsStep steps)) one.fewer_is kept.fit) in
     record {
@@ -83,46 +73,47 @@ more_kept steps x fewer more one kept fits =
 
 -- ---- one after another
 
-pub takes_append : (xs ys all mid left : List (Entry Instance)) → TakesOut xs all mid → TakesOut ys mid left → TakesOut (xs ++ ys) all left
-takes_append [] ys all mid left one two = subst (λ (l : List (Entry Instance)). TakesOut ys l left) one two
+pub takes_append : (xs ys all mid left : List (Entry Instance)) → TakesOutEntries xs all mid → TakesOutEntries ys mid left → TakesOutEntries (xs ++ ys) all left
+takes_append [] ys all mid left one two = subst (λ (l : List (Entry Instance)). TakesOutEntries ys l left) one two
 takes_append (x ∷ xs) ys all mid left one two = (one.0, one.1, takes_append xs ys one.0 mid left one.2 two)
 
-pub puts_none : (more all : List (Entry Instance)) → length more ≡ 0 → PutsIn more all all
+pub puts_none : (more all : List (Entry Instance)) → length more ≡ 0 → PutsInEntries more all all
 puts_none [] all none = refl
 puts_none (x ∷ more) all none = absurd (omega (arith, none))
 
-pub puts_more : (xs : List (Entry Instance)) (x : Entry Instance) (all mid grown : List (Entry Instance)) → PutsIn xs all mid → HasOneMore x mid grown
-    → PutsIn (xs ++ x ∷ []) all grown
-puts_more [] x all mid grown one more = (grown, subst (λ (l : List (Entry Instance)). HasOneMore x l grown) one more, refl)
+pub puts_more : (xs : List (Entry Instance)) (x : Entry Instance) (all mid grown : List (Entry Instance)) → PutsInEntries xs all mid → HasOneMoreEntry x mid grown
+    → PutsInEntries (xs ++ x ∷ []) all grown
+puts_more [] x all mid grown one more = (grown, subst (λ (l : List (Entry Instance)). HasOneMoreEntry x l grown) one more, refl)
 puts_more (z ∷ xs) x all mid grown one more = (one.0, one.1, puts_more xs x one.0 mid grown one.2 more)
 
 -- ---- entries that are put in at the first beginning, from the last to the first
 
 module _ (plans : List Plan) where
   -- none of them comes at an earlier place
-  pub free_below : (j k : ℕ) (xs : List Instance) → j < k → IsFree (beginning 0 j ∷ []) (entries_from plans [] 0 k xs)
-  free_below j k [] less there = none_in_nil (beginning 0 j ∷ []) there
+  pub free_below : (j k : ℕ) (xs : List Instance) → j < k → IsFreePlace (beginning_at 0 j ∷ []) (entries_from plans [] 0 k xs)
+  free_below j k [] less there = none_in_nil (beginning_at 0 j ∷ []) there
   free_below j k (x ∷ xs) less there =
-      ⊎_elim (λ same. let at = ap (λ (p : Place). (get_or p 0 (beginning 0 j)).among) same in omega (arith, at, less)) (free_below j (suc k) xs (omega (arith, less)))
-      (first_or_later (beginning 0 j ∷ []) (beginning 0 k ∷ []) (places (entries_from plans [] 0 (suc k) xs)) there)
+      ⊎_elim (λ same. let at = ap (λ (p : Place). (get_or p 0 (beginning_at 0 j)).among) same in omega (arith, at, less)) (free_below j (suc k) xs (omega (arith, less)))
+      (first_or_later (beginning_at 0 j ∷ []) (beginning_at 0 k ∷ []) (entry_places (entries_from plans [] 0 (suc k) xs)) there)
 
-  at_middle : (front back : List (Entry Instance)) (e : Entry Instance) → Contains (places (front ++ e ∷ back)) e.place
-  at_middle [] back e = here e.place (places back)
-  at_middle (f ∷ front) back e = later e.place f.place (places (front ++ e ∷ back)) (at_middle front back e)
+  at_middle : (front back : List (Entry Instance)) (e : Entry Instance) → Contains (entry_places (front ++ e ∷ back)) e.place
+  at_middle [] back e = here e.place (entry_places back)
+  at_middle (f ∷ front) back e = later e.place f.place (entry_places (front ++ e ∷ back)) (at_middle front back e)
 
   -- what comes at an earlier place is the first
   pub put_first : (n : ℕ) (x : Instance) (xs : List Instance) (fewer more : List (Entry Instance)) → fewer ≡ entries_from plans [] 0 (suc n) xs
-      → HasOneMore (entry_at plans (beginning 0 n ∷ []) x) fewer more → more ≡ entries_from plans [] 0 n (x ∷ xs)
+      → HasOneMoreEntry (entry_at plans (beginning_at 0 n ∷ []) x) fewer more → more ≡ entries_from plans [] 0 n (x ∷ xs)
   put_first n x xs fewer more is one = one.more_is ∙ by one.front xs (sym is ∙ one.fewer_is) (subst ArePlaced one.more_is one.placed)
     where
       entry : Entry Instance
-      entry = entry_at plans (beginning 0 n ∷ []) x
+      entry = entry_at plans (beginning_at 0 n ∷ []) x
 
       by : (front : List (Entry Instance)) (ys : List Instance) → entries_from plans [] 0 (suc n) ys ≡ front ++ one.back → ArePlaced (front ++ entry ∷ one.back)
           → front ++ entry ∷ one.back ≡ entries_from plans [] 0 n (x ∷ ys)
       by [] ys are placed = ap (λ l. entry ∷ l) (sym are)
       by (f ∷ front) [] are placed = absurd (omega (arith, ap length are))
       by (f ∷ front) (y ∷ ys) are placed =
-          let first : beginning 0 (suc n) ∷ [] ≡ f.place = ap (λ l. (get_or l 0 f).place) are in
-          let before : IsBefore (beginning 0 (suc n) ∷ []) (beginning 0 n ∷ []) = subst (λ p. IsBefore p (beginning 0 n ∷ [])) (sym first) (placed.0 (beginning 0 n ∷ []) (at_middle front one.back entry)) in
+          let first : beginning_at 0 (suc n) ∷ [] ≡ f.place = ap (λ l. (get_or l 0 f).place) are in
+          let before : IsPlaceBefore (beginning_at 0 (suc n) ∷ []) (beginning_at 0 n ∷ []) = subst (λ p. IsPlaceBefore p (beginning_at 0 n ∷ [])) (sym first)
+          (placed.0 (beginning_at 0 n ∷ []) (at_middle front one.back entry)) in
           absurd (⊎_elim (λ b. ⊎_elim (λ less. omega (arith, less)) (λ both. let less = both.1 in omega (arith, less)) b) (λ both. both.1) before)

@@ -1,6 +1,7 @@
-mod CaseLemmas
-pub mod WakingLemmas
+pub mod Vocabulary
+pub mod CaseLemmas
 pub mod EntryLemmas
-pub mod WalkLemmas
-pub mod GoLemmas
-pub mod ListedLemmas
+pub mod EntryStepLemmas
+pub mod PendingListLemmas
+pub mod ProgressLemmas
+pub mod WakePatternLemmas

@@ -1,6 +1,1 @@
--- Words on what wakes pending instances.
-pub mod Carried
-pub mod Cases
-pub mod Entries
-pub mod Listed
-pub mod Waking
+pub mod machine

@@ -1,14 +1,14 @@
 //! Pending instances as entries.
 ghost use Rattle.std.specs.Prelude.{◌≡◌, ◌++◌, ◌∷◌, [], IfOk, OnOk, map};
-ghost use Rattle.plan_terms.specs.Plans.{plan_of};
-ghost use Rattle.pending.specs.Entries.{entries_from, entry_at, items_of};
-ghost use Rattle.sleepers.specs.Entries.{shown};
-ghost use Rattle.pending.specs.Waking.{waking_of};
+ghost use Rattle.plan_terms.specs.machine.StoredPlans.{plan_of};
+ghost use Rattle.pending.specs.machine.PendingEntries.{entries_from, entry_at, items_of};
+ghost use Rattle.sleepers.specs.machine.Entries.{shown};
+ghost use Rattle.pending.specs.machine.WakePatterns.{wake_patterns_of};
 
-use crate::waking::patterns_of;
-use enf_value::memory::NoMemory;
+use crate::wake_patterns::patterns_of;
+use enf_data::memory::NoMemory;
 use obligations::Instance;
-use obligations::waiting::node_in;
+use obligations::pending_parts::node_in;
 use plan_terms::Plan;
 use sleepers::{Beginning, Entry, Patterns, Place};
 use std::alloc::Global;
@@ -20,7 +20,7 @@ fn patterns_in(
     plans: &[Plan],
     instance: &Instance,
 ) -> Result<Option<Patterns>, NoMemory>
-    ensures { IfOk result (λ found. found ≡ waking_of (map plan_of plans.now) instance.now) }
+    ensures { IfOk result (λ found. found ≡ wake_patterns_of (map plan_of plans.now) instance.now) }
 {
     match node_in(plans, instance) {
         Some(node) => patterns_of(alloc, node, &Frame::Whole(&instance.valuation)),
@@ -60,7 +60,7 @@ pub fn entry_behind(
     })
 }
 
-// Puts the entries of instances last that were begun at one beginning behind a place.
+// Puts the entries of instances last that were begun at one beginning after a place.
 pub fn put_begun(
     alloc: Global,
     plans: &[Plan],

@@ -1,25 +1,29 @@
 //! Lists of pending instances, of which a step looks at those that it wakes.
-ghost use Rattle.std.specs.Prelude.{◌≡◌, ◌+◌, ◌-◌, ◌<◌, ◌≤◌, ◌^◌, IfOk, List};
-ghost use Rattle.std.specs.Prelude.{OnOk, [], length, map};
+ghost use Rattle.std.specs.Prelude.{◌≡◌, ◌+◌, ◌-◌, ◌<◌, ◌≤◌, ◌^◌, IfOk, List, OnOk, []};
+ghost use Rattle.std.specs.Prelude.{length, map};
 ghost use Rattle.std.specs.List.{AllByRecursion};
-ghost use Rattle.enf_value.specs.declared.steps.Step.{Step};
-ghost use Rattle.plan_terms.specs.Plans.{Plan as AnyPlan, plan_of};
-ghost use Rattle.sleepers.specs.Entries.{AllBut, shown};
-ghost use Rattle.obligations.specs.Asked.{IsNowOf, guards_at};
-ghost use Rattle.obligations.specs.Carrying.{AreServed, Leads};
-ghost use Rattle.obligations.specs.Pending.{Goes};
-ghost use Rattle.obligations.specs.Traces.{PlansStand};
-ghost use Rattle.obligations.specs.Waiting.{CanAskOf, CanAskRoots, IsLeastOf};
-ghost use Rattle.obligations.specs.declared.now.TheConstants.{MOST_TIME};
-ghost use Rattle.pending.specs.Listed.{IsKeptFor, SleepsAt};
+ghost use Rattle.enf_data.specs.declared.steps.Step.{Step};
+ghost use Rattle.plan_terms.specs.meaning.Plans.{Plan as AnyPlan};
+ghost use Rattle.plan_terms.specs.machine.StoredPlans.{plan_of};
+ghost use Rattle.sleepers.specs.machine.Entries.{AllButThose, shown};
+ghost use Rattle.obligations.specs.machine.PresentStep.{IsNowOf};
+ghost use Rattle.past_state.specs.machine.GuardPlaces.{guards_at};
+ghost use Rattle.obligations.specs.machine.Progress.{AreServed};
+ghost use Rattle.obligations.specs.machine.Successors.{NowLeads};
+ghost use Rattle.obligations.specs.meaning.Pending.{PendingAfter};
+ghost use Rattle.obligations.specs.machine.PlanClasses.{PlansStand};
+ghost use Rattle.obligations.specs.machine.AskablePlans.{CanAskOf, CanAskRoots};
+ghost use Rattle.deadline_queue.specs.machine.Queues.{IsLeastOf};
+ghost use Rattle.obligations.specs.declared.present_step.TheConstants.{MOST_TIME};
+ghost use Rattle.pending.specs.machine.PendingLists.{IsPendingListOf, SleepsAt};
 
 use crate::entries::items_in;
 use crate::laws::sleepers_stay;
-use crate::walking::{carry, put_each, put_listed};
+use crate::progress_all::{carry, put_each, put_listed};
 use deadline_queue::DeadlineQueue;
-use enf_value::Event;
-use enf_value::items::Duplicate;
-use enf_value::memory::NoMemory;
+use enf_data::Event;
+use enf_data::items::Duplicate;
+use enf_data::memory::NoMemory;
 use obligations::instances::Instances;
 use obligations::laws::pending_exists;
 use obligations::{Instance, Now};
@@ -40,9 +44,9 @@ pub struct Pending {
 }
 
 impl Model for Pending {
-    ghost use Rattle.deadline_queue.specs.Queues.{IsQueue, entries};
-    ghost use Rattle.pending.specs.Entries.{AreKept, items_of, waits_of};
-    ghost use Rattle.pending.specs.Listed.{PendingList, pending_code};
+    ghost use Rattle.deadline_queue.specs.machine.Queues.{IsDeadlineQueue, held_deadlines};
+    ghost use Rattle.pending.specs.machine.PendingEntries.{ArePendingEntries, items_of, waits_of};
+    ghost use Rattle.pending.specs.machine.PendingLists.{PendingList, pending_code};
 
     ghost Value = { PendingList };
 
@@ -50,18 +54,18 @@ impl Model for Pending {
 
     ghost view = { λ p. record {
       instances = items_of p.sleepers.entries;
-      deadlines = entries p.deadlines;
+      deadlines = held_deadlines p.deadlines;
       waits = waits_of p.sleepers.entries;
     } };
 
-    ghost invariant = { λ p. IsQueue p.deadlines × AreKept p.steps p.sleepers.entries };
+    ghost invariant = { λ p. IsDeadlineQueue p.deadlines × ArePendingEntries p.steps p.sleepers.entries };
 }
 
 impl Pending {
     /// Nothing is pending.
     pub fn new(alloc: Global) -> Pending
         ensures instances { result.instances ≡ [] }
-        ensures kept { (plans : List AnyPlan) → IsKeptFor plans result }
+        ensures kept { (plans : List AnyPlan) → IsPendingListOf plans result }
     {
         let sleepers = Sleepers::new(alloc);
         let deadlines = DeadlineQueue::new(alloc);
@@ -75,7 +79,7 @@ impl Pending {
     /// Those of a list, with the deadlines that they have and what they wait for.
     pub fn from_list(alloc: Global, plans: &[Plan], list: Instances) -> Result<Pending, NoMemory>
         ensures instances { IfOk result (λ p. p.instances ≡ list) }
-        ensures kept { IfOk result (IsKeptFor (map plan_of plans.now)) }
+        ensures kept { IfOk result (IsPendingListOf (map plan_of plans.now)) }
     {
         let mut sleepers = Sleepers::new(alloc);
         let mut deadlines = DeadlineQueue::new(alloc);
@@ -110,8 +114,8 @@ impl Pending {
         events: &[Event],
         time: u64,
     ) -> Result<Vec<&Instance>, NoMemory>
-        ensures { IfOk result (λ woken. (plans : List AnyPlan) → IsKeptFor plans self.now
-            → AllBut (SleepsAt plans events.now time) self.now.instances (shown woken.items)) }
+        ensures { IfOk result (λ woken. (plans : List AnyPlan) → IsPendingListOf plans self.now
+            → AllButThose (SleepsAt plans events.now time) self.now.instances (shown woken.items)) }
     {
         if self.len() == 0 {
             return Ok(Vec::new(alloc));
@@ -127,9 +131,9 @@ impl Pending {
         self.deadlines.least()
     }
 
-    /// Each instance becomes what it becomes behind the step, in its place, and what the roots of the rules begin comes
-    /// last. At an inserted step those are served whose deadline it is: nothing is asked of them. After want of memory
-    /// it is fit to be dropped.
+    /// Each instance becomes what it becomes after the step, in its place, and what the roots of the rules begin
+    /// comes last. At an inserted step those are served whose deadline it is: nothing is asked of them. Once memory
+    /// has run out, it is fit to be dropped.
     pub fn progress(
         &mut self,
         alloc: Global,
@@ -141,15 +145,15 @@ impl Pending {
         requires named { PlansStand (map plan_of plans.now) }
         requires instances { AllByRecursion (CanAskOf (guards_at now.now.tables.now) (map plan_of plans.now))
             self.old.instances }
-        requires keeps { IsKeptFor (map plan_of plans.now) self.old }
+        requires keeps { IsPendingListOf (map plan_of plans.now) self.old }
         requires few { length plans.now ≤ 2 ^ 32 }
         requires in_time { now.now.time ≤ MOST_TIME }
         ensures goes { OnOk result ((trace : List Step) → IsNowOf now.now trace
             → AreServed (map plan_of plans.now) inserted trace self.old.instances
-            → Goes (map plan_of plans.now) trace self.old.instances self.new.instances) }
-        ensures leads { OnOk result (Leads now.now (map plan_of plans.now) inserted
+            → PendingAfter (map plan_of plans.now) trace self.old.instances self.new.instances) }
+        ensures leads { OnOk result (NowLeads now.now (map plan_of plans.now) inserted
             self.old.instances self.new.instances) }
-        ensures keeps { OnOk result (IsKeptFor (map plan_of plans.now) self.new) }
+        ensures keeps { OnOk result (IsPendingListOf (map plan_of plans.now) self.new) }
         ensures instances { OnOk result (AllByRecursion
             (CanAskOf (guards_at now.now.tables.now) (map plan_of plans.now)) self.new.instances) }
     {
@@ -172,7 +176,7 @@ impl Pending {
     }
 }
 
-// The number of the beginning behind one.
+// The number of the beginning after one.
 fn beginning_behind(number: u64) -> Result<u64, NoMemory>
     ensures { IfOk result (λ next. (next ≡ number + 1) × (number < 2 ^ 64 - 1)) }
 {

@@ -1,18 +1,9 @@
 -- The free variables of a guard that are not in scope are just its own.
-use Rattle.std.proofs.Common.{◌≡◌, List, ◌++◌, Contains, ⊎_elim}
-use Rattle.enf_value.specs.ListLaws.{Contains-append}
-use Rattle.enf_value.specs.Valuations.{variable_cmp, variable_cmp_total}
-use Rattle.enf_value.specs.declared.terms.VarId.{VarId}
-use Rattle.enf_formula.specs.Formulas.{Formula}
-use Rattle.enf_formula.specs.FreeVariables.{IsFree}
-use Rattle.enf_formula.specs.ScopeLaws.{new_apart}
-use Rattle.enf_formula.specs.Scopes.{AreNew}
-use Rattle.monitorable_guard.specs.Evaluation.{AreOpen}
-use Rattle.monitorable_guard.specs.Safety.{FreeWithin}
-use Rattle.plan_terms.specs.Columns.{ColumnsAreVariables}
-use Rattle.enf_value.specs.RisingLaws.{rising_behind, same_rising}
+use Rattle.plan_terms.proofs.Vocabulary.{◌≡◌, List, ◌++◌, Contains, ⊎_elim, Contains-append, variable_cmp}
+use Rattle.plan_terms.proofs.Vocabulary.{variable_cmp_total, VarId, Formula, IsFree, new_apart, AreNewVariables}
+use Rattle.plan_terms.proofs.Vocabulary.{AreOpen, FreeWithin, ColumnsAreVariables, rising_behind, same_rising}
 
-own : (test : Formula) (scope xs columns : List VarId) → AreNew scope xs → FreeWithin test (Contains (scope ++ xs))
+own : (test : Formula) (scope xs columns : List VarId) → AreNewVariables scope xs → FreeWithin test (Contains (scope ++ xs))
     → ((x : VarId) → Contains xs x → IsFree x test) → AreOpen test scope columns → columns ≡ xs
 own test scope xs columns new within tells are =
     same_rising variable_cmp_total columns xs are.rising (rising_behind variable_cmp scope xs new)

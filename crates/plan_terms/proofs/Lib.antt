@@ -1,8 +1,11 @@
-pub mod Finding
-pub mod ScopeLemmas
-pub mod TriggerLemmas
+pub mod Vocabulary
 pub mod CaseLemmas
 pub mod ColumnLemmas
-pub mod StandingLemmas
+pub mod NamedNodeLemmas
+pub mod NodeLemmas
+pub mod NodeSearch
 pub mod OwedCases
 pub mod OwedLemmas
+pub mod ScopeLaws
+pub mod ScopeLemmas
+pub mod TriggerLemmas

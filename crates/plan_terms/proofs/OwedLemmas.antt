@@ -1,25 +1,15 @@
--- What is lost and owed stays so behind more steps.
-use Rattle.std.proofs.Common.{◌≡◌, ◌⊎◌, ℕ, ◌+◌, ◌<◌, ◌≤◌, Bool, true, false, ◌||◌, List, [], ◌∷◌, ◌++◌, length, All, IsTrue, inl, inr, ⊎_elim, refl, sym, ap, subst, ◌∙◌, append_assoc, arith, length-append}
-use Rattle.std.specs.List.{AllByRecursion, list_any}
-use Rattle.std.proofs.lemmas.Bool.{false≢true}
-use Rattle.std.proofs.lemmas.List.{get_or_append_left}
-use Rattle.std.proofs.lemmas.List.Elements.{All-append, All-weaker}
-use Rattle.enf_value.specs.Data.{step_at, no_step}
-use Rattle.enf_value.specs.ListLaws.{AllByRecursion-of_append}
-use Rattle.enf_value.specs.Valuations.{Valuation, no_values, with_values}
-use Rattle.enf_value.specs.declared.steps.Step.{Step}
-use Rattle.enf_formula.specs.Formulas.{Formula, Or}
-use Rattle.enf_formula.specs.Laws.{PastDecides}
-use Rattle.enf_formula.specs.Past.{is_past}
-use Rattle.enf_formula.specs.Satisfaction.{Sat, elapsed}
-use Rattle.enf_value.specs.Membership.{IsIn}
-use Rattle.plan_terms.specs.Guards.{GuardLooksBack}
-use Rattle.plan_terms.specs.Lost.{IsLost, LostStaysLost}
-use Rattle.plan_terms.specs.Nodes.{has_future, is_future, nodes}
-use Rattle.plan_terms.specs.Owed.{IsAhead, IsNotMet, IsStillLost, LeadsOn, LeadsThrough, LeadsTo, Obligation, OwedLeadsOn, OwedStaysOwed, WasLost, obligation}
-use Rattle.plan_terms.specs.PlanFormula.{formula_for, from_to}
-use Rattle.plan_terms.specs.Plans.{Plan, Cause, Suppress, Both, Either, TestOr, Guarded, Eventually, Always}
-use Rattle.plan_terms.specs.Plans.{Until, Next}
+-- What is lost and owed stays so after more steps.
+use Rattle.plan_terms.proofs.Vocabulary.{◌≡◌, ◌⊎◌, ℕ, ◌+◌, ◌<◌, ◌≤◌, Bool, false, ◌||◌}
+use Rattle.plan_terms.proofs.Vocabulary.{List, [], ◌∷◌, ◌++◌, length, All, IsTrue, inl, inr, ⊎_elim, refl}
+use Rattle.plan_terms.proofs.Vocabulary.{sym, ap, subst, ◌∙◌, append_assoc, arith, length-append, AllByRecursion}
+use Rattle.plan_terms.proofs.Vocabulary.{list_any, false≢true, or_parts as neither, get_or_append_left, All-append}
+use Rattle.plan_terms.proofs.Vocabulary.{All-weaker, step_at, no_step, AllByRecursion-of_append, Valuation, no_values}
+use Rattle.plan_terms.proofs.Vocabulary.{with_values, Step, Formula, Or, Sat, elapsed, PastDecides, is_past, IsIn}
+use Rattle.plan_terms.proofs.Vocabulary.{GuardLooksBack, IsLost, IsAhead, IsNotMet, IsStillLost, LeadsThrough, LeadsTo}
+use Rattle.plan_terms.proofs.Vocabulary.{Obligation, WasLost, obligation, LostStaysLost, LeadsOn, OwedLeadsOn}
+use Rattle.plan_terms.proofs.Vocabulary.{OwedStaysOwed, has_future, is_future, nodes, formula_for, interval_from_to}
+use Rattle.plan_terms.proofs.Vocabulary.{Plan, CausePlan, SuppressPlan, Both, Either, TestOr, Guarded, EventuallyPlan}
+use Rattle.plan_terms.proofs.Vocabulary.{AlwaysPlan, UntilPlan, NextPlan}
 
 pub lost_stays_lost : LostStaysLost
 lost_stays_lost trace more clock later node v position given not_before lost longer continued =
@@ -36,11 +26,6 @@ lost_stays_lost trace more clock later node v position given not_before lost lon
 abbrev LookBack : Plan → Type 0
 LookBack plan = AllByRecursion GuardLooksBack (nodes plan)
 
--- neither of two is so
-neither : (a b : Bool) → (a || b) ≡ false → (a ≡ false) × (b ≡ false)
-neither true b none = absurd (false≢true (sym none))
-neither false b none = (refl, none)
-
 none_of : (ps qs : List Plan) → list_any is_future (ps ++ qs) ≡ false
     → (list_any is_future ps ≡ false) × (list_any is_future qs ≡ false)
 none_of [] qs none = (refl, none)
@@ -54,8 +39,8 @@ both_past f g one two = grind (arith, one, two)
 
 -- the formula of one whose guards look back does not look ahead either
 pub looks_back : (plan : Plan) → has_future plan ≡ false → LookBack plan → IsTrue (is_past (formula_for plan))
-looks_back (Cause node place name terms) none back = refl
-looks_back (Suppress node place name terms) none back = refl
+looks_back (CausePlan node place name terms) none back = refl
+looks_back (SuppressPlan node place name terms) none back = refl
 looks_back (Both node left right) none back =
     let parts = none_of (nodes left) (nodes right) none in
     let backs = AllByRecursion-of_append GuardLooksBack (nodes left) (nodes right) back.1 in
@@ -68,12 +53,12 @@ looks_back (TestOr node guard test body) none back =
     both_past test (formula_for body) back.0 (looks_back body none back.1)
 looks_back (Guarded node xs guard test body) none back =
     both_past test (formula_for body) back.0 (looks_back body none back.1)
-looks_back (Eventually node place low high body) none back = absurd (false≢true (sym none))
-looks_back (Always node place low high body) none back = absurd (false≢true (sym none))
-looks_back (Until node place low high left right) none back = absurd (false≢true (sym none))
-looks_back (Next node place high body) none back = absurd (false≢true (sym none))
+looks_back (EventuallyPlan node place low high body) none back = absurd (false≢true (sym none))
+looks_back (AlwaysPlan node place low high body) none back = absurd (false≢true (sym none))
+looks_back (UntilPlan node place low high left right) none back = absurd (false≢true (sym none))
+looks_back (NextPlan node place high body) none back = absurd (false≢true (sym none))
 
--- ---- moves behind more steps
+-- ---- moves after more steps
 
 module _ (past : PastDecides) (trace more : List Step) (clock later : ℕ)
     (given : All (λ step. clock ≤ step.time) more) (not_before : clock ≤ later) where
@@ -102,7 +87,7 @@ module _ (past : PastDecides) (trace more : List Step) (clock later : ℕ)
       let same = same_distance low high j k (omega (arith, there, behind)) there in record {
         not_before = behind;
         there = omega (arith, there, length-append trace more);
-        distance = subst (λ (d : ℕ). IsIn (from_to low high) d) (sym same) is.distance;
+        distance = subst (λ (d : ℕ). IsIn (interval_from_to low high) d) (sym same) is.distance;
       }
 
   -- a position that is ahead up to one of the shorter trace was ahead there
@@ -112,7 +97,7 @@ module _ (past : PastDecides) (trace more : List Step) (clock later : ℕ)
       let same = same_distance low high j i (omega (arith, there, le, behind)) (omega (arith, there, le)) in record {
         not_before = behind;
         there = omega (arith, there, le);
-        distance = subst (λ (d : ℕ). IsIn (from_to low high) d) same is.distance;
+        distance = subst (λ (d : ℕ). IsIn (interval_from_to low high) d) same is.distance;
       }
 
   stays : (node : Plan) (v : Valuation) (i : ℕ) → IsLost trace clock node v i → IsLost longer later node v i
@@ -134,8 +119,8 @@ module _ (past : PastDecides) (trace more : List Step) (clock later : ℕ)
 
   leads_to : (node : Plan) (v : Valuation) (j : ℕ) (next : Obligation) → LookBack node → j < length trace
       → LeadsTo trace clock node v j next → LeadsTo longer later node v j next
-  leads_to (Cause node place name terms) v j next back there leads = leads
-  leads_to (Suppress node place name terms) v j next back there leads = leads
+  leads_to (CausePlan node place name terms) v j next back there leads = leads
+  leads_to (SuppressPlan node place name terms) v j next back there leads = leads
   leads_to (Both node left right) v j next back there leads = leads
   leads_to (Either node left right) v j next back there leads =
       let backs = AllByRecursion-of_append GuardLooksBack (nodes left) (nodes right) back.1 in
@@ -144,13 +129,13 @@ module _ (past : PastDecides) (trace more : List Step) (clock later : ℕ)
       ((λ holds. leads.0 (off v test j there back.0 holds)), leads.1)
   leads_to (Guarded node xs guard test body) v j next back there leads =
       (leads.0, leads.1, on (with_values xs leads.0 v) test j there back.0 leads.2, leads.3)
-  leads_to (Next node place high body) v j next back there leads =
+  leads_to (NextPlan node place high body) v j next back there leads =
       (let before = leads.0 in omega (arith, before, length-append trace more), leads.1)
-  leads_to (Always node place low high body) v j next back there leads =
+  leads_to (AlwaysPlan node place low high body) v j next back there leads =
       (leads.0, ahead low high j leads.0 leads.1, leads.2)
-  leads_to (Eventually node place low high body) v j next back there leads =
+  leads_to (EventuallyPlan node place low high body) v j next back there leads =
       (leads.0, ahead low high j leads.0 leads.1, was_lost low high body v j leads.0 leads.1.there leads.2, leads.3)
-  leads_to (Until node place low high left right) v j next back there leads =
+  leads_to (UntilPlan node place low high left right) v j next back there leads =
       ⊎_elim
       (λ to_right. inl (to_right.0, ahead low high j to_right.0 to_right.1, was_lost low high right v j to_right.0 to_right.1.there to_right.2, to_right.3))
       (λ to_left. inr (to_left.0, ahead 0 high j to_left.0 to_left.1, still_lost low high right v j to_left.0 to_left.1.there to_left.2, to_left.3))
@@ -173,19 +158,19 @@ one_side trace left right v j next back there leads =
 
 leads_below : (trace : List Step) (clock : ℕ) (node : Plan) (v : Valuation) (j : ℕ) (next : Obligation) → LookBack node
     → j < length trace → LeadsTo trace clock node v j next → Goes trace next
-leads_below trace clock (Cause node place name terms) v j next back there leads = absurd leads
-leads_below trace clock (Suppress node place name terms) v j next back there leads = absurd leads
+leads_below trace clock (CausePlan node place name terms) v j next back there leads = absurd leads
+leads_below trace clock (SuppressPlan node place name terms) v j next back there leads = absurd leads
 leads_below trace clock (Both node left right) v j next back there leads = one_side trace left right v j next back.1 there leads
 leads_below trace clock (Either node left right) v j next back there leads = one_side trace left right v j next back.1 there leads.2
 leads_below trace clock (TestOr node guard test body) v j next back there leads = goes trace body v j next back.1 there leads.1
 leads_below trace clock (Guarded node xs guard test body) v j next back there leads =
     goes trace body (with_values xs leads.0 v) j next back.1 there leads.3
-leads_below trace clock (Next node place high body) v j next back there leads = goes trace body v (j + 1) next back.1 leads.0 leads.1
-leads_below trace clock (Always node place low high body) v j next back there leads =
+leads_below trace clock (NextPlan node place high body) v j next back there leads = goes trace body v (j + 1) next back.1 leads.0 leads.1
+leads_below trace clock (AlwaysPlan node place low high body) v j next back there leads =
     goes trace body v leads.0 next back.1 leads.1.there leads.2
-leads_below trace clock (Eventually node place low high body) v j next back there leads =
+leads_below trace clock (EventuallyPlan node place low high body) v j next back there leads =
     goes trace body v leads.0 next back.1 leads.1.there leads.3
-leads_below trace clock (Until node place low high left right) v j next back there leads =
+leads_below trace clock (UntilPlan node place low high left right) v j next back there leads =
     let backs = AllByRecursion-of_append GuardLooksBack (nodes left) (nodes right) back.1 in
     ⊎_elim (λ to_right. goes trace right v to_right.0 next backs.1 to_right.1.there to_right.3)
     (λ to_left. goes trace left v to_left.0 next backs.0 to_left.1.there to_left.3)

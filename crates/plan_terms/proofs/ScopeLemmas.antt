@@ -1,19 +1,13 @@
 -- What a node inherits from the plan in which it stands.
-use Rattle.std.proofs.Common.{◌≡◌, ℕ, Bool, true, false, cond, List, [], ◌∷◌, ◌++◌, map, Some, Contains, ⊎_elim, refl, sym, ap, ◌∙◌, append_assoc}
-use Rattle.std.specs.List.{AllByRecursion, find}
+use Rattle.plan_terms.proofs.Vocabulary.{◌≡◌, ℕ, Bool, true, false, cond, List, [], ◌∷◌, ◌++◌, map}
+use Rattle.plan_terms.proofs.Vocabulary.{Some, Contains, ⊎_elim, refl, sym, ap, ◌∙◌, append_assoc}
+use Rattle.plan_terms.proofs.Vocabulary.{AllByRecursion, find, option_map, append-nil, map-append}
+use Rattle.plan_terms.proofs.Vocabulary.{AllByRecursion-append, AllByRecursion-contains, AllByRecursion-find}
+use Rattle.plan_terms.proofs.Vocabulary.{AllByRecursion-weaker, Contains-append, variable_cmp, Var, VarId, IsFree}
+use Rattle.plan_terms.proofs.Vocabulary.{IsTermInScope, has_number, nodes, formula_for, Plan, CausePlan, SuppressPlan}
+use Rattle.plan_terms.proofs.Vocabulary.{Both, Either, TestOr, Guarded, EventuallyPlan, AlwaysPlan, UntilPlan, NextPlan}
+use Rattle.plan_terms.proofs.Vocabulary.{IsScopedPlan, scoped_at, scoped_nodes}
 use Rattle.std.specs.List.Sorted.{IsStrictlySortedBy}
-use Rattle.std.specs.Option.{option_map}
-use Rattle.std.proofs.lemmas.List.{append-nil, map-append}
-use Rattle.enf_value.specs.ListLaws.{AllByRecursion-append, AllByRecursion-contains, AllByRecursion-find, AllByRecursion-weaker, Contains-append}
-use Rattle.enf_value.specs.Valuations.{variable_cmp}
-use Rattle.enf_value.specs.declared.terms.Term.TheVariants.{Var}
-use Rattle.enf_value.specs.declared.terms.VarId.{VarId}
-use Rattle.enf_formula.specs.FreeVariables.{IsFree}
-use Rattle.enf_formula.specs.Scopes.{IsInScope}
-use Rattle.plan_terms.specs.Nodes.{has_number, nodes}
-use Rattle.plan_terms.specs.PlanFormula.{formula_for}
-use Rattle.plan_terms.specs.Plans.{Plan, Cause, Suppress, Both, Either, TestOr, Guarded, Eventually, Always, Until, Next}
-use Rattle.plan_terms.specs.Scopes.{IsScoped, scoped_at, scoped_nodes}
 
 abbrev Scoped : Type 0
 Scoped = Plan × List VarId
@@ -25,8 +19,8 @@ two_sides : (xs ys : List Scoped) (ls rs : List Plan) → map node_of xs ≡ ls 
 two_sides xs ys ls rs a b = map-append node_of xs ys ∙ ap (λ (zs : List Plan). zs ++ map node_of ys) a ∙ ap (λ (zs : List Plan). ls ++ zs) b
 
 pub same_nodes : (plan : Plan) (scope : List VarId) → map node_of (scoped_nodes plan scope) ≡ nodes plan
-same_nodes (Cause node place name terms) scope = refl
-same_nodes (Suppress node place name terms) scope = refl
+same_nodes (CausePlan node place name terms) scope = refl
+same_nodes (SuppressPlan node place name terms) scope = refl
 same_nodes (Both node left right) scope =
     ap (λ (zs : List Plan). (Both node left right) ∷ zs) (two_sides _ _ _ _ (same_nodes left scope) (same_nodes right scope))
 same_nodes (Either node left right) scope =
@@ -35,14 +29,14 @@ same_nodes (TestOr node guard test body) scope =
     ap (λ (zs : List Plan). (TestOr node guard test body) ∷ zs) (same_nodes body scope)
 same_nodes (Guarded node xs guard test body) scope =
     ap (λ (zs : List Plan). (Guarded node xs guard test body) ∷ zs) (same_nodes body (scope ++ xs))
-same_nodes (Eventually node place low high body) scope =
-    ap (λ (zs : List Plan). (Eventually node place low high body) ∷ zs) (same_nodes body scope)
-same_nodes (Always node place low high body) scope =
-    ap (λ (zs : List Plan). (Always node place low high body) ∷ zs) (same_nodes body scope)
-same_nodes (Until node place low high left right) scope =
-    ap (λ (zs : List Plan). (Until node place low high left right) ∷ zs) (two_sides _ _ _ _ (same_nodes left scope) (same_nodes right scope))
-same_nodes (Next node place high body) scope =
-    ap (λ (zs : List Plan). (Next node place high body) ∷ zs) (same_nodes body scope)
+same_nodes (EventuallyPlan node place low high body) scope =
+    ap (λ (zs : List Plan). (EventuallyPlan node place low high body) ∷ zs) (same_nodes body scope)
+same_nodes (AlwaysPlan node place low high body) scope =
+    ap (λ (zs : List Plan). (AlwaysPlan node place low high body) ∷ zs) (same_nodes body scope)
+same_nodes (UntilPlan node place low high left right) scope =
+    ap (λ (zs : List Plan). (UntilPlan node place low high left right) ∷ zs) (two_sides _ _ _ _ (same_nodes left scope) (same_nodes right scope))
+same_nodes (NextPlan node place high body) scope =
+    ap (λ (zs : List Plan). (NextPlan node place high body) ∷ zs) (same_nodes body scope)
 
 found_in : (number : ℕ) (xs : List Scoped) → option_map node_of (find (λ (n : Scoped). has_number number n.0) xs) ≡ find (has_number number) (map node_of xs)
 found_in number [] = refl
@@ -67,8 +61,8 @@ more_in : (scope xs : List VarId) (node : Scoped) → Begins (scope ++ xs) node 
 more_in scope xs node begins = (xs ++ begins.0, begins.1 ∙ append_assoc scope xs begins.0)
 
 begin : (plan : Plan) (scope : List VarId) → AllByRecursion (Begins scope) (scoped_nodes plan scope)
-begin (Cause node place name terms) scope = (here (Cause node place name terms) scope, tt)
-begin (Suppress node place name terms) scope = (here (Suppress node place name terms) scope, tt)
+begin (CausePlan node place name terms) scope = (here (CausePlan node place name terms) scope, tt)
+begin (SuppressPlan node place name terms) scope = (here (SuppressPlan node place name terms) scope, tt)
 begin (Both node left right) scope =
     (here (Both node left right) scope, AllByRecursion-append (Begins scope) (scoped_nodes left scope) (scoped_nodes right scope) (begin left scope) (begin right scope))
 begin (Either node left right) scope =
@@ -76,12 +70,12 @@ begin (Either node left right) scope =
 begin (TestOr node guard test body) scope = (here (TestOr node guard test body) scope, begin body scope)
 begin (Guarded node xs guard test body) scope =
     (here (Guarded node xs guard test body) scope, AllByRecursion-weaker (Begins (scope ++ xs)) (Begins scope) (scoped_nodes body (scope ++ xs)) (more_in scope xs) (begin body (scope ++ xs)))
-begin (Eventually node place low high body) scope =
-    (here (Eventually node place low high body) scope, begin body scope)
-begin (Always node place low high body) scope = (here (Always node place low high body) scope, begin body scope)
-begin (Until node place low high left right) scope =
-    (here (Until node place low high left right) scope, AllByRecursion-append (Begins scope) (scoped_nodes left scope) (scoped_nodes right scope) (begin left scope) (begin right scope))
-begin (Next node place high body) scope = (here (Next node place high body) scope, begin body scope)
+begin (EventuallyPlan node place low high body) scope =
+    (here (EventuallyPlan node place low high body) scope, begin body scope)
+begin (AlwaysPlan node place low high body) scope = (here (AlwaysPlan node place low high body) scope, begin body scope)
+begin (UntilPlan node place low high left right) scope =
+    (here (UntilPlan node place low high left right) scope, AllByRecursion-append (Begins scope) (scoped_nodes left scope) (scoped_nodes right scope) (begin left scope) (begin right scope))
+begin (NextPlan node place high body) scope = (here (NextPlan node place high body) scope, begin body scope)
 
 pub begins : (plan node : Plan) (scope inner : List VarId) (number : ℕ) → scoped_at number plan scope ≡ Some (node, inner) → (more : List VarId) × (inner ≡ scope ++ more)
 begins plan node scope inner number found = AllByRecursion-find (Begins scope) (λ (n : Scoped). has_number number n.0) (scoped_nodes plan scope) (node, inner) (begin plan scope) found
@@ -89,34 +83,35 @@ begins plan node scope inner number found = AllByRecursion-find (Begins scope) (
 abbrev Rises : Scoped → Type 0
 Rises node = IsStrictlySortedBy variable_cmp node.1
 
-all_rise : (plan : Plan) (scope : List VarId) → IsScoped plan scope → IsStrictlySortedBy variable_cmp scope → AllByRecursion Rises (scoped_nodes plan scope)
-all_rise (Cause node place name terms) scope each rises = (rises, tt)
-all_rise (Suppress node place name terms) scope each rises = (rises, tt)
+all_rise : (plan : Plan) (scope : List VarId) → IsScopedPlan plan scope → IsStrictlySortedBy variable_cmp scope → AllByRecursion Rises (scoped_nodes plan scope)
+all_rise (CausePlan node place name terms) scope each rises = (rises, tt)
+all_rise (SuppressPlan node place name terms) scope each rises = (rises, tt)
 all_rise (Both node left right) scope each rises =
     (rises, AllByRecursion-append Rises (scoped_nodes left scope) (scoped_nodes right scope) (all_rise left scope each.1 rises) (all_rise right scope each.2 rises))
 all_rise (Either node left right) scope each rises =
     (rises, AllByRecursion-append Rises (scoped_nodes left scope) (scoped_nodes right scope) (all_rise left scope each.1 rises) (all_rise right scope each.2 rises))
 all_rise (TestOr node guard test body) scope each rises = (rises, all_rise body scope each.1 rises)
 all_rise (Guarded node xs guard test body) scope each rises = (rises, all_rise body (scope ++ xs) each.1 each.0.0)
-all_rise (Eventually node place low high body) scope each rises = (rises, all_rise body scope each.1 rises)
-all_rise (Always node place low high body) scope each rises = (rises, all_rise body scope each.1 rises)
-all_rise (Until node place low high left right) scope each rises =
+all_rise (EventuallyPlan node place low high body) scope each rises = (rises, all_rise body scope each.1 rises)
+all_rise (AlwaysPlan node place low high body) scope each rises = (rises, all_rise body scope each.1 rises)
+all_rise (UntilPlan node place low high left right) scope each rises =
     (rises, AllByRecursion-append Rises (scoped_nodes left scope) (scoped_nodes right scope) (all_rise left scope each.1 rises) (all_rise right scope each.2 rises))
-all_rise (Next node place high body) scope each rises = (rises, all_rise body scope each.1 rises)
+all_rise (NextPlan node place high body) scope each rises = (rises, all_rise body scope each.1 rises)
 
-pub rises : (plan node : Plan) (scope inner : List VarId) (number : ℕ) → scoped_at number plan scope ≡ Some (node, inner) → IsScoped plan scope → IsStrictlySortedBy variable_cmp scope → IsStrictlySortedBy variable_cmp inner
+pub rises : (plan node : Plan) (scope inner : List VarId) (number : ℕ) → scoped_at number plan scope ≡ Some (node, inner) → IsScopedPlan plan scope
+    → IsStrictlySortedBy variable_cmp scope → IsStrictlySortedBy variable_cmp inner
 rises plan node scope inner number found each rising = AllByRecursion-find Rises (λ (n : Scoped). has_number number n.0) (scoped_nodes plan scope) (node, inner) (all_rise plan scope each rising) found
 
-pub free_in_scope : (plan : Plan) (scope : List VarId) (x : VarId) → IsScoped plan scope → IsFree x (formula_for plan) → Contains scope x
-free_in_scope (Cause node place name terms) scope x each free = AllByRecursion-contains (IsInScope scope) terms (Var x) each free
-free_in_scope (Suppress node place name terms) scope x each free = AllByRecursion-contains (IsInScope scope) terms (Var x) each free
+pub free_in_scope : (plan : Plan) (scope : List VarId) (x : VarId) → IsScopedPlan plan scope → IsFree x (formula_for plan) → Contains scope x
+free_in_scope (CausePlan node place name terms) scope x each free = AllByRecursion-contains (IsTermInScope scope) terms (Var x) each free
+free_in_scope (SuppressPlan node place name terms) scope x each free = AllByRecursion-contains (IsTermInScope scope) terms (Var x) each free
 free_in_scope (Both node left right) scope x each free = ⊎_elim (λ l. free_in_scope left scope x each.1 l) (λ r. free_in_scope right scope x each.2 r) free
 free_in_scope (Either node left right) scope x each free = ⊎_elim (λ l. free_in_scope left scope x each.1 l) (λ r. free_in_scope right scope x each.2 r) free
 free_in_scope (TestOr node guard test body) scope x each free = ⊎_elim (λ l. each.0 x l) (λ r. free_in_scope body scope x each.1 r) free
 free_in_scope (Guarded node xs guard test body) scope x each free =
     let there : Contains (scope ++ xs) x = ⊎_elim (λ l. each.0.1 x l) (λ r. free_in_scope body (scope ++ xs) x each.1 r) free.0 in
     ⊎_elim (λ front. front) (λ own. absurd (free.1 own)) (Contains-append scope xs x there)
-free_in_scope (Eventually node place low high body) scope x each free = free_in_scope body scope x each.1 free
-free_in_scope (Always node place low high body) scope x each free = free_in_scope body scope x each.1 free
-free_in_scope (Until node place low high left right) scope x each free = ⊎_elim (λ l. free_in_scope left scope x each.1 l) (λ r. free_in_scope right scope x each.2 r) free
-free_in_scope (Next node place high body) scope x each free = free_in_scope body scope x each.1 free
+free_in_scope (EventuallyPlan node place low high body) scope x each free = free_in_scope body scope x each.1 free
+free_in_scope (AlwaysPlan node place low high body) scope x each free = free_in_scope body scope x each.1 free
+free_in_scope (UntilPlan node place low high left right) scope x each free = ⊎_elim (λ l. free_in_scope left scope x each.1 l) (λ r. free_in_scope right scope x each.2 r) free
+free_in_scope (NextPlan node place high body) scope x each free = free_in_scope body scope x each.1 free

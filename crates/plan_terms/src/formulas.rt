@@ -1,15 +1,15 @@
 //! The formula that a plan stands for.
 ghost use Rattle.std.specs.Prelude.{◌≡◌, IfOk};
-ghost use Rattle.enf_formula.specs.Formulas.{tree_of};
-ghost use Rattle.plan_terms.specs.Plans.{plan_of};
-ghost use Rattle.plan_terms.specs.PlanFormula.{formula_for, from_to};
+ghost use Rattle.enf_formula.specs.machine.FormulaViews.{tree_of};
+ghost use Rattle.plan_terms.specs.machine.StoredPlans.{plan_of};
+ghost use Rattle.plan_terms.specs.meaning.Plans.{formula_for, interval_from_to};
 
 use crate::plans::Plan;
+use enf_data::intervals::Interval;
+use enf_data::items::Duplicate;
+use enf_data::memory::NoMemory;
+use enf_data::terms::Terms;
 use enf_formula::Formula;
-use enf_value::intervals::Interval;
-use enf_value::items::Duplicate;
-use enf_value::memory::NoMemory;
-use enf_value::terms::Terms;
 use std::alloc::Global;
 
 /// The formula that a plan stands for. Where the plan keeps no place of a node, it is 0.
@@ -105,7 +105,7 @@ pub fn formula_of(alloc: Global, plan: &Plan) -> Result<Formula, NoMemory>
 
 // The differences from `low` to `high`.
 fn bounded(low: u64, high: u64) -> Interval
-    ensures { result ≡ from_to low high }
+    ensures { result ≡ interval_from_to low high }
 {
     Interval {
         low,

@@ -1,13 +1,9 @@
 //! Laws of plans, each the contract of a function with an empty body.
-ghost use Rattle.plan_terms.specs.Columns.{ColumnsAreVariables};
-ghost use Rattle.plan_terms.specs.Lost.{LostStaysLost};
-ghost use Rattle.plan_terms.specs.Nodes.{NumberIsPlace};
-ghost use Rattle.plan_terms.specs.Owed.{LeadsOn, OwedLeadsOn, OwedStaysOwed};
-ghost use Rattle.plan_terms.specs.ScopeLaws.{FoundBeginsWithScope, FoundEndsInTime, FoundHasListedGuards};
-ghost use Rattle.plan_terms.specs.ScopeLaws.{FoundHasRisingScope, FoundHasSafeGuards, FoundIsFirst, FoundIsScoped};
-ghost use Rattle.plan_terms.specs.ScopeLaws.{FreeIsInScope, NodesHaveScopes};
-ghost use Rattle.plan_terms.specs.Standing.{FoundStandIn, NodesStandIn, PlansStandIn};
-ghost use Rattle.plan_terms.specs.Triggers.{TriggersAreMet};
+ghost use Rattle.plan_terms.specs.machine.Laws.{ColumnsAreVariables, LostStaysLost, NumberIsPlace, LeadsOn};
+ghost use Rattle.plan_terms.specs.machine.Laws.{OwedLeadsOn, OwedStaysOwed, FoundBeginsWithScope, FoundEndsInTime};
+ghost use Rattle.plan_terms.specs.machine.Laws.{FoundHasListedGuards, FoundHasRisingScope, FoundHasSafeGuards};
+ghost use Rattle.plan_terms.specs.machine.Laws.{FoundIsFirst, FoundIsScoped, FreeIsInScope, NodesHaveScopes};
+ghost use Rattle.plan_terms.specs.machine.Laws.{FoundStandIn, NodesStandIn, PlansStandIn, TriggersAreMet};
 
 use enf_formula::laws::dependence;
 
@@ -56,7 +52,7 @@ pub fn columns_are_variables()
     ensures { ColumnsAreVariables }
 {}
 
-/// What is lost stays lost at a later clock, and behind steps that are not before the clock.
+/// What is lost stays lost at a later clock, and after steps that are not before the clock.
 pub fn lost_stays_lost()
     ensures { LostStaysLost }
 {}

@@ -1,12 +1,12 @@
 //! Plans: how a formula is to be made true, as trees whose leaves are changes of the present, with the formula that a
 //! plan stands for and what is asked of plans and their guards. It stands on `monitorable_guard`, `enf_formula` and
-//! `enf_value`.
+//! `enf_data`.
 #![tactic(auto)]
 
 pub mod formulas;
 pub mod laws;
+pub mod plan_shape;
 pub mod plans;
-pub mod shape;
 pub mod triggers;
 pub mod worked_cases;
 

@@ -1,8 +1,8 @@
 //! Trees of plans.
+use enf_data::events::NameId;
+use enf_data::places::Place;
+use enf_data::terms::{Terms, Vars};
 use enf_formula::Formula;
-use enf_value::events::NameId;
-use enf_value::places::Place;
-use enf_value::terms::{Terms, Vars};
 
 /// How a formula is made true: by causing and suppressing events, now or within an interval of times. Each node has
 /// its number in the plan, and where it has one the place of the formula's principal token. A test and a guard have

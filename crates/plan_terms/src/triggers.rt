@@ -1,12 +1,12 @@
 //! The names whose events trigger a guard.
 ghost use Rattle.std.specs.Prelude.{◌≡◌, IfOk, is_some};
 ghost use Rattle.std.specs.Option.{option_map};
-ghost use Rattle.enf_formula.specs.Formulas.{tree_of};
-ghost use Rattle.plan_terms.specs.Triggers.{triggers as trigger_names};
+ghost use Rattle.enf_formula.specs.machine.FormulaViews.{tree_of};
+ghost use Rattle.plan_terms.specs.meaning.Plans.{triggers as trigger_names};
 
+use enf_data::events::NameId;
+use enf_data::memory::NoMemory;
 use enf_formula::Formula;
-use enf_value::events::NameId;
-use enf_value::memory::NoMemory;
 use std::alloc::Global;
 
 /// The names of which one has an event wherever the formula holds, or none: of `and` those of the first side that has

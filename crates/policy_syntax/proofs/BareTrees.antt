@@ -1,36 +1,35 @@
 -- What is asked of trees does not depend on their places.
-use Rattle.std.proofs.Common.{◌≡◌, ℕ, ◌+◌, ◌≤◌, List, [], ◌∷◌, length, map, refl, sym, ap, subst, ◌∙◌}
-use Rattle.std.specs.List.{AllByRecursion}
-use Rattle.std.proofs.lemmas.List.{length-map}
-use Rattle.policy_syntax.specs.Limits.{IsKept, IsRule, IsShortName, IsShortTerm, size}
-use Rattle.policy_syntax.specs.Places.{bare, bare_rule, bare_term, bare_binding}
-use Rattle.policy_syntax.specs.Trees.{Formula, Rule, True, False, Atom, Equal, Less, AtMost, Not, And, Or, Implies, Exists, Forall, Prev, Next, Once, Historically, Since, Eventually, Always, Until}
-use Rattle.policy_syntax.specs.declared.limits.TheConstants.{MOST_NODES, MOST_VARIABLES}
-use Rattle.policy_syntax.specs.declared.trees.Binding.{Binding}
-use Rattle.policy_syntax.specs.declared.trees.SyntaxTerm.{SyntaxTerm}
+use Rattle.policy_syntax.proofs.Vocabulary.{◌≡◌, ℕ, ◌+◌, ◌≤◌, List, [], ◌∷◌, length, map, refl}
+use Rattle.policy_syntax.proofs.Vocabulary.{sym, ap, subst, ◌∙◌, AllByRecursion, length-map, KeepsLimits, IsRule}
+use Rattle.policy_syntax.proofs.Vocabulary.{IsShortName, IsShortTerm, tree_size, SyntaxTree, PolicyRule, TrueTree}
+use Rattle.policy_syntax.proofs.Vocabulary.{FalseTree, AtomTree, EqualTree, LessTree, AtMostTree, NotTree, AndTree}
+use Rattle.policy_syntax.proofs.Vocabulary.{OrTree, ImpliesTree, ExistsTree, ForallTree, PrevTree, NextTree, OnceTree}
+use Rattle.policy_syntax.proofs.Vocabulary.{HistoricallyTree, SinceTree, EventuallyTree, AlwaysTree, UntilTree}
+use Rattle.policy_syntax.proofs.Vocabulary.{bare_syntax_tree, bare_rule, bare_term, bare_binding, MOST_NODES}
+use Rattle.policy_syntax.proofs.Vocabulary.{MOST_VARIABLES, Binding, SyntaxTerm}
 use Rattle.policy_syntax.specs.declared.trees.SyntaxTerm.TheVariants.{Variable, Constant}
 
-bare_size : (f : Formula) → size (bare f) ≡ size f
-bare_size (True place) = refl
-bare_size (False place) = refl
-bare_size (Atom place name ts) = refl
-bare_size (Equal place s t) = refl
-bare_size (Less place s t) = refl
-bare_size (AtMost place s t) = refl
-bare_size (Not place f) = ap (λ (n : ℕ). 1 + n) (bare_size f)
-bare_size (And place f g) = (λ j. bare_size f j + (1 + bare_size g j))
-bare_size (Or place f g) = (λ j. bare_size f j + (1 + bare_size g j))
-bare_size (Implies place f g) = (λ j. bare_size f j + (1 + bare_size g j))
-bare_size (Exists place xs f) = ap (λ (n : ℕ). 1 + n) (bare_size f)
-bare_size (Forall place xs f) = ap (λ (n : ℕ). 1 + n) (bare_size f)
-bare_size (Prev place interval f) = ap (λ (n : ℕ). 1 + n) (bare_size f)
-bare_size (Next place interval f) = ap (λ (n : ℕ). 1 + n) (bare_size f)
-bare_size (Once place interval f) = ap (λ (n : ℕ). 1 + n) (bare_size f)
-bare_size (Historically place interval f) = ap (λ (n : ℕ). 1 + n) (bare_size f)
-bare_size (Since place interval f g) = (λ j. bare_size f j + (1 + bare_size g j))
-bare_size (Eventually place interval f) = ap (λ (n : ℕ). 1 + n) (bare_size f)
-bare_size (Always place interval f) = ap (λ (n : ℕ). 1 + n) (bare_size f)
-bare_size (Until place interval f g) = (λ j. bare_size f j + (1 + bare_size g j))
+bare_size : (f : SyntaxTree) → tree_size (bare_syntax_tree f) ≡ tree_size f
+bare_size (TrueTree place) = refl
+bare_size (FalseTree place) = refl
+bare_size (AtomTree place name ts) = refl
+bare_size (EqualTree place s t) = refl
+bare_size (LessTree place s t) = refl
+bare_size (AtMostTree place s t) = refl
+bare_size (NotTree place f) = ap (λ (n : ℕ). 1 + n) (bare_size f)
+bare_size (AndTree place f g) = (λ j. bare_size f j + (1 + bare_size g j))
+bare_size (OrTree place f g) = (λ j. bare_size f j + (1 + bare_size g j))
+bare_size (ImpliesTree place f g) = (λ j. bare_size f j + (1 + bare_size g j))
+bare_size (ExistsTree place xs f) = ap (λ (n : ℕ). 1 + n) (bare_size f)
+bare_size (ForallTree place xs f) = ap (λ (n : ℕ). 1 + n) (bare_size f)
+bare_size (PrevTree place interval f) = ap (λ (n : ℕ). 1 + n) (bare_size f)
+bare_size (NextTree place interval f) = ap (λ (n : ℕ). 1 + n) (bare_size f)
+bare_size (OnceTree place interval f) = ap (λ (n : ℕ). 1 + n) (bare_size f)
+bare_size (HistoricallyTree place interval f) = ap (λ (n : ℕ). 1 + n) (bare_size f)
+bare_size (SinceTree place interval f g) = (λ j. bare_size f j + (1 + bare_size g j))
+bare_size (EventuallyTree place interval f) = ap (λ (n : ℕ). 1 + n) (bare_size f)
+bare_size (AlwaysTree place interval f) = ap (λ (n : ℕ). 1 + n) (bare_size f)
+bare_size (UntilTree place interval f g) = (λ j. bare_size f j + (1 + bare_size g j))
 
 short_term : (t : SyntaxTerm) → IsShortTerm t → IsShortTerm (bare_term t)
 short_term (Variable place name) h = h
@@ -56,61 +55,81 @@ names_short : (xs : List Binding) → AllByRecursion (λ (x : Binding). IsShortN
 names_short [] h = tt
 names_short (x ∷ xs) h = (h.0, names_short xs h.1)
 
--- the scope behind as many variables
+-- the scope after as many variables
 behind_bare : (scope : ℕ) (xs : List Binding) → scope + length (map bare_binding xs) ≡ scope + length xs
 behind_bare scope xs = ap (λ (n : ℕ). scope + n) (length-map xs bare_binding)
 
-kept_bare : (f : Formula) (scope : ℕ) → IsKept scope f → IsKept scope (bare f)
-kept_bare (True place) scope k = k
-kept_bare (False place) scope k = k
-kept_bare (Atom place name ts) scope k = (k.0, short_terms ts k.1)
-kept_bare (Equal place s t) scope k = (short_term s k.0, short_term t k.1)
-kept_bare (Less place s t) scope k = (short_term s k.0, short_term t k.1)
-kept_bare (AtMost place s t) scope k = (short_term s k.0, short_term t k.1)
-kept_bare (Not place f) scope k = kept_bare f scope k
-kept_bare (And place f g) scope k = (kept_bare f scope k.0, kept_bare g scope k.1)
-kept_bare (Or place f g) scope k = (kept_bare f scope k.0, kept_bare g scope k.1)
-kept_bare (Implies place f g) scope k = (kept_bare f scope k.0, kept_bare g scope k.1)
-kept_bare (Exists place xs f) scope k = (subst (λ (n : ℕ). n ≤ MOST_VARIABLES) (sym (behind_bare scope xs)) k.0, short_names xs k.1, subst (λ (n : ℕ). IsKept n (bare f)) (sym (behind_bare scope xs)) (kept_bare f (scope + length xs) k.2))
-kept_bare (Forall place xs f) scope k = (subst (λ (n : ℕ). n ≤ MOST_VARIABLES) (sym (behind_bare scope xs)) k.0, short_names xs k.1, subst (λ (n : ℕ). IsKept n (bare f)) (sym (behind_bare scope xs)) (kept_bare f (scope + length xs) k.2))
-kept_bare (Prev place interval f) scope k = (k.0, kept_bare f scope k.1)
-kept_bare (Next place interval f) scope k = (k.0, kept_bare f scope k.1)
-kept_bare (Once place interval f) scope k = (k.0, kept_bare f scope k.1)
-kept_bare (Historically place interval f) scope k = (k.0, kept_bare f scope k.1)
-kept_bare (Since place interval f g) scope k = (k.0, kept_bare f scope k.1, kept_bare g scope k.2)
-kept_bare (Eventually place interval f) scope k = (k.0, kept_bare f scope k.1)
-kept_bare (Always place interval f) scope k = (k.0, kept_bare f scope k.1)
-kept_bare (Until place interval f g) scope k = (k.0, kept_bare f scope k.1, kept_bare g scope k.2)
+kept_bare : (f : SyntaxTree) (scope : ℕ) → KeepsLimits scope f → KeepsLimits scope (bare_syntax_tree f)
+kept_bare (TrueTree place) scope k = k
+kept_bare (FalseTree place) scope k = k
+kept_bare (AtomTree place name ts) scope k = (k.0, short_terms ts k.1)
+kept_bare (EqualTree place s t) scope k = (short_term s k.0, short_term t k.1)
+kept_bare (LessTree place s t) scope k = (short_term s k.0, short_term t k.1)
+kept_bare (AtMostTree place s t) scope k = (short_term s k.0, short_term t k.1)
+kept_bare (NotTree place f) scope k = kept_bare f scope k
+kept_bare (AndTree place f g) scope k = (kept_bare f scope k.0, kept_bare g scope k.1)
+kept_bare (OrTree place f g) scope k = (kept_bare f scope k.0, kept_bare g scope k.1)
+kept_bare (ImpliesTree place f g) scope k = (kept_bare f scope k.0, kept_bare g scope k.1)
+kept_bare (ExistsTree place xs f) scope k = (
+  subst (λ (n : ℕ). n ≤ MOST_VARIABLES) (sym (behind_bare scope xs)) k.0,
+  short_names xs k.1,
+  subst
+      (λ (n : ℕ). KeepsLimits n (bare_syntax_tree f)) (sym (behind_bare scope xs)) (kept_bare f (scope + length xs) k.2),
+)
+kept_bare (ForallTree place xs f) scope k = (
+  subst (λ (n : ℕ). n ≤ MOST_VARIABLES) (sym (behind_bare scope xs)) k.0,
+  short_names xs k.1,
+  subst
+      (λ (n : ℕ). KeepsLimits n (bare_syntax_tree f)) (sym (behind_bare scope xs)) (kept_bare f (scope + length xs) k.2),
+)
+kept_bare (PrevTree place interval f) scope k = (k.0, kept_bare f scope k.1)
+kept_bare (NextTree place interval f) scope k = (k.0, kept_bare f scope k.1)
+kept_bare (OnceTree place interval f) scope k = (k.0, kept_bare f scope k.1)
+kept_bare (HistoricallyTree place interval f) scope k = (k.0, kept_bare f scope k.1)
+kept_bare (SinceTree place interval f g) scope k = (k.0, kept_bare f scope k.1, kept_bare g scope k.2)
+kept_bare (EventuallyTree place interval f) scope k = (k.0, kept_bare f scope k.1)
+kept_bare (AlwaysTree place interval f) scope k = (k.0, kept_bare f scope k.1)
+kept_bare (UntilTree place interval f g) scope k = (k.0, kept_bare f scope k.1, kept_bare g scope k.2)
 
-bare_kept : (f : Formula) (scope : ℕ) → IsKept scope (bare f) → IsKept scope f
-bare_kept (True place) scope k = k
-bare_kept (False place) scope k = k
-bare_kept (Atom place name ts) scope k = (k.0, terms_short ts k.1)
-bare_kept (Equal place s t) scope k = (term_short s k.0, term_short t k.1)
-bare_kept (Less place s t) scope k = (term_short s k.0, term_short t k.1)
-bare_kept (AtMost place s t) scope k = (term_short s k.0, term_short t k.1)
-bare_kept (Not place f) scope k = bare_kept f scope k
-bare_kept (And place f g) scope k = (bare_kept f scope k.0, bare_kept g scope k.1)
-bare_kept (Or place f g) scope k = (bare_kept f scope k.0, bare_kept g scope k.1)
-bare_kept (Implies place f g) scope k = (bare_kept f scope k.0, bare_kept g scope k.1)
-bare_kept (Exists place xs f) scope k = (subst (λ (n : ℕ). n ≤ MOST_VARIABLES) (behind_bare scope xs) k.0, names_short xs k.1, bare_kept f (scope + length xs) (subst (λ (n : ℕ). IsKept n (bare f)) (behind_bare scope xs) k.2))
-bare_kept (Forall place xs f) scope k = (subst (λ (n : ℕ). n ≤ MOST_VARIABLES) (behind_bare scope xs) k.0, names_short xs k.1, bare_kept f (scope + length xs) (subst (λ (n : ℕ). IsKept n (bare f)) (behind_bare scope xs) k.2))
-bare_kept (Prev place interval f) scope k = (k.0, bare_kept f scope k.1)
-bare_kept (Next place interval f) scope k = (k.0, bare_kept f scope k.1)
-bare_kept (Once place interval f) scope k = (k.0, bare_kept f scope k.1)
-bare_kept (Historically place interval f) scope k = (k.0, bare_kept f scope k.1)
-bare_kept (Since place interval f g) scope k = (k.0, bare_kept f scope k.1, bare_kept g scope k.2)
-bare_kept (Eventually place interval f) scope k = (k.0, bare_kept f scope k.1)
-bare_kept (Always place interval f) scope k = (k.0, bare_kept f scope k.1)
-bare_kept (Until place interval f g) scope k = (k.0, bare_kept f scope k.1, bare_kept g scope k.2)
+bare_kept : (f : SyntaxTree) (scope : ℕ) → KeepsLimits scope (bare_syntax_tree f) → KeepsLimits scope f
+bare_kept (TrueTree place) scope k = k
+bare_kept (FalseTree place) scope k = k
+bare_kept (AtomTree place name ts) scope k = (k.0, terms_short ts k.1)
+bare_kept (EqualTree place s t) scope k = (term_short s k.0, term_short t k.1)
+bare_kept (LessTree place s t) scope k = (term_short s k.0, term_short t k.1)
+bare_kept (AtMostTree place s t) scope k = (term_short s k.0, term_short t k.1)
+bare_kept (NotTree place f) scope k = bare_kept f scope k
+bare_kept (AndTree place f g) scope k = (bare_kept f scope k.0, bare_kept g scope k.1)
+bare_kept (OrTree place f g) scope k = (bare_kept f scope k.0, bare_kept g scope k.1)
+bare_kept (ImpliesTree place f g) scope k = (bare_kept f scope k.0, bare_kept g scope k.1)
+bare_kept (ExistsTree place xs f) scope k = (
+  subst (λ (n : ℕ). n ≤ MOST_VARIABLES) (behind_bare scope xs) k.0,
+  names_short xs k.1,
+  bare_kept f (scope + length xs)
+      (subst (λ (n : ℕ). KeepsLimits n (bare_syntax_tree f)) (behind_bare scope xs) k.2),
+)
+bare_kept (ForallTree place xs f) scope k = (
+  subst (λ (n : ℕ). n ≤ MOST_VARIABLES) (behind_bare scope xs) k.0,
+  names_short xs k.1,
+  bare_kept f (scope + length xs)
+      (subst (λ (n : ℕ). KeepsLimits n (bare_syntax_tree f)) (behind_bare scope xs) k.2),
+)
+bare_kept (PrevTree place interval f) scope k = (k.0, bare_kept f scope k.1)
+bare_kept (NextTree place interval f) scope k = (k.0, bare_kept f scope k.1)
+bare_kept (OnceTree place interval f) scope k = (k.0, bare_kept f scope k.1)
+bare_kept (HistoricallyTree place interval f) scope k = (k.0, bare_kept f scope k.1)
+bare_kept (SinceTree place interval f g) scope k = (k.0, bare_kept f scope k.1, bare_kept g scope k.2)
+bare_kept (EventuallyTree place interval f) scope k = (k.0, bare_kept f scope k.1)
+bare_kept (AlwaysTree place interval f) scope k = (k.0, bare_kept f scope k.1)
+bare_kept (UntilTree place interval f g) scope k = (k.0, bare_kept f scope k.1, bare_kept g scope k.2)
 
 -- a rule at other places is within the limits too
-pub rule_anywhere : (rule other : Rule) → bare_rule other ≡ bare_rule rule → IsRule rule → IsRule other
+pub rule_anywhere : (rule other : PolicyRule) → bare_rule other ≡ bare_rule rule → IsRule rule → IsRule other
 rule_anywhere rule other e h =
-    let name : other.name ≡ rule.name = ap (λ (r : Rule). r.name) e in
-    let same : bare other.formula ≡ bare rule.formula = ap (λ (r : Rule). r.formula) e in
+    let name : other.name ≡ rule.name = ap (λ (r : PolicyRule). r.name) e in
+    let same : bare_syntax_tree other.formula ≡ bare_syntax_tree rule.formula = ap (λ (r : PolicyRule). r.formula) e in
     record {
       short = subst IsShortName (sym name) h.short;
-      small = subst (λ (n : ℕ). n ≤ MOST_NODES) (sym (sym (bare_size other.formula) ∙ ap size same ∙ bare_size rule.formula)) h.small;
-      kept = bare_kept other.formula 0 (subst (IsKept 0) (sym same) (kept_bare rule.formula 0 h.kept));
+      small = subst (λ (n : ℕ). n ≤ MOST_NODES) (sym (sym (bare_size other.formula) ∙ ap tree_size same ∙ bare_size rule.formula)) h.small;
+      kept = bare_kept other.formula 0 (subst (KeepsLimits 0) (sym same) (kept_bare rule.formula 0 h.kept));
     }

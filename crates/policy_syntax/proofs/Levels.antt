@@ -1,18 +1,16 @@
 -- The levels of the lexemes of phrases, and how many variables are in scope at them.
-use Rattle.std.proofs.Common.{◌≡◌, ℕ, ◌≤◌, Bool, true, false, nat_le, ◌&&◌, List, [], ◌∷◌, map, refl, sym, ap, ◌∙◌, arith}
-use Rattle.std.proofs.lemmas.Bool.Decides.{nat_tests}
-use Rattle.policy_syntax.specs.Grammar.{RulePhrase, Step, bound, policy_fold}
-use Rattle.policy_syntax.specs.Refusals.{Deep, deepen}
-use Rattle.policy_syntax.specs.Writing.{AreLow, Leveled, level_of, levels_of}
-use Rattle.policy_syntax.specs.declared.limits.TheConstants.{MOST_LEVEL, MOST_VARIABLES}
-use Rattle.policy_syntax.proofs.Spelled.{policy_map}
+use Rattle.policy_syntax.proofs.Vocabulary.{◌≡◌, ℕ, ◌≤◌, Bool, true, false, nat_le, ◌&&◌, List, []}
+use Rattle.policy_syntax.proofs.Vocabulary.{◌∷◌, map, refl, sym, ap, ◌∙◌, arith, nat_tests, RulePhrase}
+use Rattle.policy_syntax.proofs.Vocabulary.{LexemeStep, bound, policy_fold, Deep, deepen, AreLow, Leveled, level_of}
+use Rattle.policy_syntax.proofs.Vocabulary.{levels_of, MOST_LEVEL, MOST_VARIABLES}
+use Rattle.policy_syntax.proofs.SpellingMaps.{policy_map}
 
 -- each lexeme with its level
-abbrev pub leveled : Step (List Leveled)
+abbrev pub leveled : LexemeStep (List Leveled)
 leveled level scope place lexeme rest = (level, lexeme) ∷ rest
 
 -- whether few variables are in scope at each
-abbrev pub roomy : Step Bool
+abbrev pub roomy : LexemeStep Bool
 roomy level scope place lexeme rest = nat_le scope MOST_VARIABLES && rest
 
 pub room_is : (scope : ℕ) (rest : Bool) → scope ≤ MOST_VARIABLES → (nat_le scope MOST_VARIABLES && rest) ≡ rest

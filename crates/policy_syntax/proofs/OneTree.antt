@@ -1,35 +1,42 @@
--- Lexemes are those of at most one phrase, and what is left behind it is the same.
-use Rattle.std.proofs.Common.{◌≡◌, ◌≢◌, ℕ, ◌+◌, Bool, List, [], ◌∷◌, Option, None, Some, refl, sym, ap, ◌∙◌, arith}
-use Rattle.policy_syntax.specs.Grammar.{TermPhrase, TermsPhrase, ArgumentsPhrase, VariablesPhrase, IntervalPhrase, FormulaPhrase, OrPhrase, AndPhrase, InfixPhrase, UnaryPhrase, PrimaryPhrase, RulePhrase}
-use Rattle.policy_syntax.specs.Grammar.{Variable, Plain, Minus, Quoted, LastTerm, NextTerm, LastVariable, NextVariable, OneSide, Implication, OneCase, Disjunction, OnePart, Conjunction, OneOperand, Between}
-use Rattle.policy_syntax.specs.Grammar.{Negation, Before, Quantified, Primary, Parenthesis, Constant, Event, Comparison, scope_behind, spell, end_lexeme, term_lexeme, term_place}
-use Rattle.policy_syntax.specs.Grammar.{terms_fold, some_terms_fold, arguments_fold, variables_fold, interval_fold, formula_fold, or_fold, and_fold, infix_fold, unary_fold, primary_fold, rule_fold, policy_fold}
-use Rattle.policy_syntax.specs.Grammar.{FormulaFits, OrFits, AndFits, InfixFits, UnaryFits, PrimaryFits, RuleFits, PolicyFits}
-use Rattle.policy_syntax.specs.Lexemes.{Lexeme, Placed, Symbol, Truth, Prefix, Infix, Quantifier, Sign, Name, Digits, Negative, Text, next_lexeme, next_place, behind_next}
+-- Lexemes are those of at most one phrase, and what is left after it is the same.
+use Rattle.policy_syntax.proofs.Vocabulary.{◌≡◌, ◌≢◌, ℕ, ◌+◌, Bool, List, [], ◌∷◌, Option, None}
+use Rattle.policy_syntax.proofs.Vocabulary.{Some, refl, sym, ap, ◌∙◌, arith, TermPhrase, TermsPhrase}
+use Rattle.policy_syntax.proofs.Vocabulary.{ArgumentsPhrase, VariablesPhrase, IntervalPhrase, FormulaPhrase, OrPhrase}
+use Rattle.policy_syntax.proofs.Vocabulary.{AndPhrase, InfixPhrase, UnaryPhrase, PrimaryPhrase, RulePhrase, Variable}
+use Rattle.policy_syntax.proofs.Vocabulary.{Plain, Minus, Quoted, LastTerm, NextTerm, LastVariable, NextVariable}
+use Rattle.policy_syntax.proofs.Vocabulary.{OneSide, Implication, OneCase, Disjunction, OnePart, Conjunction}
+use Rattle.policy_syntax.proofs.Vocabulary.{OneOperand, Between, Negation, Before, Quantified, Primary, Parenthesis}
+use Rattle.policy_syntax.proofs.Vocabulary.{Constant, Event, Comparison, scope_behind, spell, end_lexeme, term_lexeme}
+use Rattle.policy_syntax.proofs.Vocabulary.{term_place, terms_fold, some_terms_fold, arguments_fold, variables_fold}
+use Rattle.policy_syntax.proofs.Vocabulary.{interval_fold, formula_fold, or_fold, and_fold, infix_fold, unary_fold}
+use Rattle.policy_syntax.proofs.Vocabulary.{primary_fold, rule_fold, policy_fold, FormulaFits, OrFits, AndFits}
+use Rattle.policy_syntax.proofs.Vocabulary.{InfixFits, UnaryFits, PrimaryFits, RuleFits, PolicyFits, PolicyLexeme}
+use Rattle.policy_syntax.proofs.Vocabulary.{PlacedLexeme, Symbol, Truth, Prefix, Infix, Quantifier, Sign, NameLexeme}
+use Rattle.policy_syntax.proofs.Vocabulary.{DigitsLexeme, NegativeLexeme, TextLexeme, next_lexeme, next_place}
+use Rattle.policy_syntax.proofs.Vocabulary.{behind_next, Not, And, Or, Arrow, CloseParen, Comma, Dot, Semicolon}
+use Rattle.policy_syntax.proofs.Vocabulary.{Binding}
 use Rattle.policy_syntax.specs.declared.lexemes.Infix as infixes
 use Rattle.policy_syntax.specs.declared.lexemes.Prefix as prefixes
 use Rattle.policy_syntax.specs.declared.lexemes.Quantifier as quantifiers
 use Rattle.policy_syntax.specs.declared.lexemes.Sign as signs
-use Rattle.policy_syntax.specs.declared.lexemes.Symbol.TheVariants.{Not, And, Or, Arrow, CloseParen, Comma, Dot, Semicolon}
-use Rattle.policy_syntax.specs.declared.trees.Binding.{Binding}
 
 -- one phrase, and one rest
-pub record One {P : Type 0} (a b : P) (ra rb : List Placed) : Type 0 where
+pub record One {P : Type 0} (a b : P) (ra rb : List PlacedLexeme) : Type 0 where
   pub same : a ≡ b
   pub rest : ra ≡ rb
 
 -- ---- lexemes
 
-name_one : (a b : List ℕ) → Name a ≡ Name b → a ≡ b
+name_one : (a b : List ℕ) → NameLexeme a ≡ NameLexeme b → a ≡ b
 name_one a b e = cc
 
-digits_one : (a b : ℕ) → Digits a ≡ Digits b → a ≡ b
+digits_one : (a b : ℕ) → DigitsLexeme a ≡ DigitsLexeme b → a ≡ b
 digits_one a b e = cc
 
-negative_one : (a b : ℕ) → Negative a ≡ Negative b → a ≡ b
+negative_one : (a b : ℕ) → NegativeLexeme a ≡ NegativeLexeme b → a ≡ b
 negative_one a b e = cc
 
-text_one : (a b : List ℕ) → Text a ≡ Text b → a ≡ b
+text_one : (a b : List ℕ) → TextLexeme a ≡ TextLexeme b → a ≡ b
 text_one a b e = cc
 
 truth_one : (a b : Bool) → Truth a ≡ Truth b → a ≡ b
@@ -67,7 +74,8 @@ term_one (Quoted p n) (Plain q m) e f = absurd cc
 term_one (Quoted p n) (Minus q m) e f = absurd cc
 term_one (Quoted p n) (Quoted q m) e f = (λ j. Quoted (e j) (text_one n m f j))
 
-terms_one : (l s m t : ℕ) (a b : TermsPhrase) (ra rb : List Placed) → terms_fold spell l s a ra ≡ terms_fold spell m t b rb → next_lexeme ra ≢ Symbol Comma → next_lexeme rb ≢ Symbol Comma → One a b ra rb
+terms_one : (l s m t : ℕ) (a b : TermsPhrase) (ra rb : List PlacedLexeme) → terms_fold spell l s a ra ≡ terms_fold spell m t b rb → next_lexeme ra ≢ Symbol Comma
+    → next_lexeme rb ≢ Symbol Comma → One a b ra rb
 terms_one l s m t (LastTerm x) (LastTerm y) ra rb e ca cb = record { same = ap LastTerm (term_one x y (ap (next_place 0) e) (ap next_lexeme e)); rest = ap behind_next e }
 terms_one l s m t (LastTerm x) (NextTerm y d k) ra rb e ca cb = absurd (ca (ap next_lexeme (ap behind_next e)))
 terms_one l s m t (NextTerm x c h) (LastTerm y) ra rb e ca cb = absurd (cb (sym (ap next_lexeme (ap behind_next e))))
@@ -78,7 +86,7 @@ terms_one l s m t (NextTerm x c h) (NextTerm y d k) ra rb e ca cb =
     record { same = (λ j. NextTerm (first j) (comma j) (r.same j)); rest = r.rest }
 
 -- what begins an operand: `not`, a prefix operator, a quantifier, or a primary
-kind : Lexeme → ℕ
+kind : PolicyLexeme → ℕ
 kind (Symbol Not) = 0
 kind (Symbol _) = 3
 kind (Prefix _) = 1
@@ -86,13 +94,13 @@ kind (Quantifier _) = 2
 kind _ = 3
 
 -- what begins a primary: a parenthesis, a truth value or a term
-head : Lexeme → ℕ
+head : PolicyLexeme → ℕ
 head (Symbol _) = 0
 head (Truth _) = 1
-head (Name _) = 2
-head (Digits _) = 2
-head (Negative _) = 2
-head (Text _) = 2
+head (NameLexeme _) = 2
+head (DigitsLexeme _) = 2
+head (NegativeLexeme _) = 2
+head (TextLexeme _) = 2
 head (Sign _) = 3
 head _ = 4
 
@@ -103,7 +111,7 @@ term_head (Plain p n) = refl
 term_head (Minus p n) = refl
 term_head (Quoted p n) = refl
 
-terms_head : (l s : ℕ) (a : TermsPhrase) (rest : List Placed) → head (next_lexeme (terms_fold spell l s a rest)) ≡ 2
+terms_head : (l s : ℕ) (a : TermsPhrase) (rest : List PlacedLexeme) → head (next_lexeme (terms_fold spell l s a rest)) ≡ 2
 terms_head l s (LastTerm x) rest = term_head x
 terms_head l s (NextTerm x c more) rest = term_head x
 
@@ -114,7 +122,7 @@ term_kind (Plain p n) = refl
 term_kind (Minus p n) = refl
 term_kind (Quoted p n) = refl
 
-primary_kind : (l s : ℕ) (a : PrimaryPhrase) (rest : List Placed) → kind (next_lexeme (primary_fold spell l s a rest)) ≡ 3
+primary_kind : (l s : ℕ) (a : PrimaryPhrase) (rest : List PlacedLexeme) → kind (next_lexeme (primary_fold spell l s a rest)) ≡ 3
 unfolding kind
 primary_kind l s (Parenthesis o f c) rest = refl
 primary_kind l s (Constant v p) rest = refl
@@ -123,12 +131,12 @@ primary_kind l s (Comparison x sign p y) rest = term_kind x
 
 -- ---- the terms of an event
 
-record Closed (x y : Option TermsPhrase) (p q : ℕ) (ra rb : List Placed) : Type 0 where
+record Closed (x y : Option TermsPhrase) (p q : ℕ) (ra rb : List PlacedLexeme) : Type 0 where
   pub same : x ≡ y
   pub close : p ≡ q
   pub rest : ra ≡ rb
 
-some_one : (l s m t : ℕ) (x y : Option TermsPhrase) (p q : ℕ) (ra rb : List Placed)
+some_one : (l s m t : ℕ) (x y : Option TermsPhrase) (p q : ℕ) (ra rb : List PlacedLexeme)
     → some_terms_fold spell l s x ((p, Symbol CloseParen) ∷ ra) ≡ some_terms_fold spell m t y ((q, Symbol CloseParen) ∷ rb) → Closed x y p q ra rb
 unfolding head
 some_one l s m t None None p q ra rb e = record { same = refl; close = ap (next_place 0) e; rest = ap behind_next e }
@@ -140,7 +148,7 @@ some_one l s m t (Some a) (Some b) p q ra rb e =
     let r = terms_one l s m t a b ((p, Symbol CloseParen) ∷ ra) ((q, Symbol CloseParen) ∷ rb) e (λ f. cc) (λ f. cc) in
     record { same = ap Some r.same; close = ap (next_place 0) r.rest; rest = ap behind_next r.rest }
 
-arguments_one : (l s m t : ℕ) (a b : ArgumentsPhrase) (ra rb : List Placed) → arguments_fold spell l s a ra ≡ arguments_fold spell m t b rb → One a b ra rb
+arguments_one : (l s m t : ℕ) (a b : ArgumentsPhrase) (ra rb : List PlacedLexeme) → arguments_fold spell l s a ra ≡ arguments_fold spell m t b rb → One a b ra rb
 arguments_one l s m t a b ra rb e =
     let r = some_one (l + 1) s (m + 1) t a.terms b.terms a.close_paren b.close_paren ra rb (ap behind_next e) in
     let opened : a.open_paren ≡ b.open_paren = ap (next_place 0) e in
@@ -148,10 +156,11 @@ arguments_one l s m t a b ra rb e =
 
 -- ---- variables and intervals
 
-binding_one : (a b : Binding) → a.place ≡ b.place → Name a.name ≡ Name b.name → a ≡ b
+binding_one : (a b : Binding) → a.place ≡ b.place → NameLexeme a.name ≡ NameLexeme b.name → a ≡ b
 binding_one a b e f = (λ j. record { place = e j; name = name_one a.name b.name f j })
 
-variables_one : (l s m t : ℕ) (a b : VariablesPhrase) (ra rb : List Placed) → variables_fold spell l s a ra ≡ variables_fold spell m t b rb → next_lexeme ra ≢ Symbol Comma → next_lexeme rb ≢ Symbol Comma → One a b ra rb
+variables_one : (l s m t : ℕ) (a b : VariablesPhrase) (ra rb : List PlacedLexeme) → variables_fold spell l s a ra ≡ variables_fold spell m t b rb → next_lexeme ra ≢ Symbol Comma
+    → next_lexeme rb ≢ Symbol Comma → One a b ra rb
 variables_one l s m t (LastVariable x) (LastVariable y) ra rb e ca cb = record { same = ap LastVariable (binding_one x y (ap (next_place 0) e) (ap next_lexeme e)); rest = ap behind_next e }
 variables_one l s m t (LastVariable x) (NextVariable y d k) ra rb e ca cb = absurd (ca (ap next_lexeme (ap behind_next e)))
 variables_one l s m t (NextVariable x c h) (LastVariable y) ra rb e ca cb = absurd (cb (sym (ap next_lexeme (ap behind_next e))))
@@ -167,7 +176,7 @@ end_one None (Some b) e = absurd cc
 end_one (Some a) None e = absurd cc
 end_one (Some a) (Some b) e = ap Some (digits_one a b e)
 
-interval_one : (l s m t : ℕ) (a b : IntervalPhrase) (ra rb : List Placed) → interval_fold spell l s a ra ≡ interval_fold spell m t b rb → One a b ra rb
+interval_one : (l s m t : ℕ) (a b : IntervalPhrase) (ra rb : List PlacedLexeme) → interval_fold spell l s a ra ≡ interval_fold spell m t b rb → One a b ra rb
 interval_one l s m t a b ra rb e =
     let e1 = ap behind_next e in
     let e2 = ap behind_next e1 in
@@ -226,7 +235,8 @@ apart_32 e = absurd (omega (arith, e))
 mutual
   unfolding kind head
 
-  pub formula_one : (l s m t : ℕ) (a b : FormulaPhrase) (ra rb : List Placed) → formula_fold spell l s a ra ≡ formula_fold spell m t b rb → FormulaFits a (next_lexeme ra) → FormulaFits b (next_lexeme rb) → One a b ra rb
+  pub formula_one : (l s m t : ℕ) (a b : FormulaPhrase) (ra rb : List PlacedLexeme) → formula_fold spell l s a ra ≡ formula_fold spell m t b rb → FormulaFits a (next_lexeme ra)
+      → FormulaFits b (next_lexeme rb) → One a b ra rb
   formula_one l s m t (OneSide f) (OneSide g) ra rb e x y = let r = or_one l s m t f g ra rb e x.0 y.0 in record { same = ap OneSide r.same; rest = r.rest }
   formula_one l s m t (OneSide f) (Implication g q h) ra rb e x y =
       let r = or_one l s m t f g ra ((q, Symbol Arrow) ∷ formula_fold spell (m + 1) t h rb) e x.0 y.0 in absurd (x.1 (ap next_lexeme r.rest))
@@ -238,7 +248,7 @@ mutual
       let place : p ≡ q = ap (next_place 0) r.rest in
       record { same = (λ j. Implication (r.same j) (place j) (w.same j)); rest = w.rest }
 
-  pub or_one : (l s m t : ℕ) (a b : OrPhrase) (ra rb : List Placed) → or_fold spell l s a ra ≡ or_fold spell m t b rb → OrFits a (next_lexeme ra) → OrFits b (next_lexeme rb) → One a b ra rb
+  pub or_one : (l s m t : ℕ) (a b : OrPhrase) (ra rb : List PlacedLexeme) → or_fold spell l s a ra ≡ or_fold spell m t b rb → OrFits a (next_lexeme ra) → OrFits b (next_lexeme rb) → One a b ra rb
   or_one l s m t (OneCase f) (OneCase g) ra rb e x y = let r = and_one l s m t f g ra rb e x.0 y.0 in record { same = ap OneCase r.same; rest = r.rest }
   or_one l s m t (OneCase f) (Disjunction g q h) ra rb e x y =
       let r = and_one l s m t f g ra ((q, Symbol Or) ∷ or_fold spell (m + 1) t h rb) e x.0 y.0 in absurd (x.1 (ap next_lexeme r.rest))
@@ -250,7 +260,8 @@ mutual
       let place : p ≡ q = ap (next_place 0) r.rest in
       record { same = (λ j. Disjunction (r.same j) (place j) (w.same j)); rest = w.rest }
 
-  pub and_one : (l s m t : ℕ) (a b : AndPhrase) (ra rb : List Placed) → and_fold spell l s a ra ≡ and_fold spell m t b rb → AndFits a (next_lexeme ra) → AndFits b (next_lexeme rb) → One a b ra rb
+  pub and_one : (l s m t : ℕ) (a b : AndPhrase) (ra rb : List PlacedLexeme) → and_fold spell l s a ra ≡ and_fold spell m t b rb → AndFits a (next_lexeme ra)
+      → AndFits b (next_lexeme rb) → One a b ra rb
   and_one l s m t (OnePart f) (OnePart g) ra rb e x y = let r = infix_one l s m t f g ra rb e x.0 y.0 in record { same = ap OnePart r.same; rest = r.rest }
   and_one l s m t (OnePart f) (Conjunction g q h) ra rb e x y =
       let r = infix_one l s m t f g ra ((q, Symbol And) ∷ and_fold spell (m + 1) t h rb) e x.0 y.0 in absurd (x.1 (ap next_lexeme r.rest))
@@ -262,21 +273,24 @@ mutual
       let place : p ≡ q = ap (next_place 0) r.rest in
       record { same = (λ j. Conjunction (r.same j) (place j) (w.same j)); rest = w.rest }
 
-  pub infix_one : (l s m t : ℕ) (a b : InfixPhrase) (ra rb : List Placed) → infix_fold spell l s a ra ≡ infix_fold spell m t b rb → InfixFits a (next_lexeme ra) → InfixFits b (next_lexeme rb) → One a b ra rb
+  pub infix_one : (l s m t : ℕ) (a b : InfixPhrase) (ra rb : List PlacedLexeme) → infix_fold spell l s a ra ≡ infix_fold spell m t b rb → InfixFits a (next_lexeme ra)
+      → InfixFits b (next_lexeme rb) → One a b ra rb
   infix_one l s m t (OneOperand f) (OneOperand g) ra rb e x y = let r = unary_one l s m t f g ra rb e x.0 y.0 in record { same = ap OneOperand r.same; rest = r.rest }
   infix_one l s m t (OneOperand f) (Between g o q i h) ra rb e x y =
       let r = unary_one l s m t f g ra ((q, Infix o) ∷ interval_fold spell m t i (unary_fold spell (m + 1) t h rb)) e x.0 y.0 in absurd (x.1 o (ap next_lexeme r.rest))
   infix_one l s m t (Between f o p i g) (OneOperand h) ra rb e x y =
       let r = unary_one l s m t f h ((p, Infix o) ∷ interval_fold spell l s i (unary_fold spell (l + 1) s g ra)) rb e x.0 y.0 in absurd (y.1 o (ap next_lexeme (sym r.rest)))
   infix_one l s m t (Between f o p i g) (Between h u q k w) ra rb e x y =
-      let r = unary_one l s m t f h ((p, Infix o) ∷ interval_fold spell l s i (unary_fold spell (l + 1) s g ra)) ((q, Infix u) ∷ interval_fold spell m t k (unary_fold spell (m + 1) t w rb)) e x.0 y.0 in
+      let r = unary_one l s m t f h ((p, Infix o) ∷ interval_fold spell l s i (unary_fold spell (l + 1) s g ra))
+      ((q, Infix u) ∷ interval_fold spell m t k (unary_fold spell (m + 1) t w rb)) e x.0 y.0 in
       let word : o ≡ u = infix_word_one o u (ap next_lexeme r.rest) in
       let place : p ≡ q = ap (next_place 0) r.rest in
       let v = interval_one l s m t i k (unary_fold spell (l + 1) s g ra) (unary_fold spell (m + 1) t w rb) (ap behind_next r.rest) in
       let z = unary_one (l + 1) s (m + 1) t g w ra rb v.rest x.1 y.1 in
       record { same = (λ j. Between (r.same j) (word j) (place j) (v.same j) (z.same j)); rest = z.rest }
 
-  pub unary_one : (l s m t : ℕ) (a b : UnaryPhrase) (ra rb : List Placed) → unary_fold spell l s a ra ≡ unary_fold spell m t b rb → UnaryFits a (next_lexeme ra) → UnaryFits b (next_lexeme rb) → One a b ra rb
+  pub unary_one : (l s m t : ℕ) (a b : UnaryPhrase) (ra rb : List PlacedLexeme) → unary_fold spell l s a ra ≡ unary_fold spell m t b rb → UnaryFits a (next_lexeme ra)
+      → UnaryFits b (next_lexeme rb) → One a b ra rb
   unary_one l s m t (Negation p f) (Negation q g) ra rb e x y =
       let w = unary_one (l + 1) s (m + 1) t f g ra rb (ap behind_next e) x y in
       let place : p ≡ q = ap (next_place 0) e in
@@ -310,7 +324,7 @@ mutual
   unary_one l s m t (Primary f) (Before u q k g) ra rb e x y = apart_31 (sym (primary_kind l s f ra) ∙ ap kind (ap next_lexeme e))
   unary_one l s m t (Primary f) (Quantified u q ys c g) ra rb e x y = apart_32 (sym (primary_kind l s f ra) ∙ ap kind (ap next_lexeme e))
 
-  pub primary_one : (l s m t : ℕ) (a b : PrimaryPhrase) (ra rb : List Placed) → primary_fold spell l s a ra ≡ primary_fold spell m t b rb → PrimaryFits a → PrimaryFits b → One a b ra rb
+  pub primary_one : (l s m t : ℕ) (a b : PrimaryPhrase) (ra rb : List PlacedLexeme) → primary_fold spell l s a ra ≡ primary_fold spell m t b rb → PrimaryFits a → PrimaryFits b → One a b ra rb
   primary_one l s m t (Parenthesis p f c) (Parenthesis q g d) ra rb e x y =
       let r = formula_one (l + 1) s (m + 1) t f g ((c, Symbol CloseParen) ∷ ra) ((d, Symbol CloseParen) ∷ rb) (ap behind_next e) x y in
       let opened : p ≡ q = ap (next_place 0) e in
@@ -348,7 +362,7 @@ mutual
 
 -- ---- policies
 
-rule_one : (a b : RulePhrase) (ra rb : List Placed) → rule_fold spell a ra ≡ rule_fold spell b rb → RuleFits a → RuleFits b → One a b ra rb
+rule_one : (a b : RulePhrase) (ra rb : List PlacedLexeme) → rule_fold spell a ra ≡ rule_fold spell b rb → RuleFits a → RuleFits b → One a b ra rb
 rule_one a b ra rb e x y =
     let e1 = ap behind_next e in
     let e2 = ap behind_next e1 in

@@ -1,33 +1,26 @@
 -- Nothing is refused in exactly the policies within the limits.
-use Rattle.std.proofs.Common.{◌≡◌, ◌≢◌, ℕ, ◌+◌, ◌≤◌, Bool, true, false, true≢false, List, [], ◌∷◌, ◌++◌, length, map, Contains, Option, None, Some, Result, Ok, Err, refl, sym, ap, subst, ◌∙◌, append_assoc, length-append, arith}
-use Rattle.std.proofs.lemmas.List.{append-nil}
-use Rattle.std.specs.List.{list_any, AllByRecursion}
-use Rattle.std.specs.Str.{bytes_eq}
-use Rattle.std.proofs.lemmas.Slice.Eq.{bytes_eq-Decides}
-use Rattle.enf_value.specs.Decided.{list_any-Decides}
-use Rattle.enf_value.specs.Membership.{HasNoRepeats}
-use Rattle.enf_value.specs.MembershipLaws.{HasNoRepeats-middle, HasNoRepeats-push}
-use Rattle.enf_value.specs.declared.limits.TheConstants.{MOST_NAME_BYTES}
-use Rattle.policy_syntax.specs.Automaton as automaton
-use Rattle.policy_syntax.specs.Automaton.{Stack, item, formula_on, judge, start}
-use Rattle.policy_syntax.specs.Grammar.{PolicyFits, RulePhrase, bound, formula_fold, formula_tree, policy_fold, policy_tree, spell}
-use Rattle.policy_syntax.specs.Lexemes.{Placed, Symbol, Name, lexemes}
-use Rattle.policy_syntax.specs.Limits.{IsPolicy, IsRule, size}
-use Rattle.policy_syntax.specs.Reading.{IsPolicyText}
-use Rattle.policy_syntax.specs.Refusals.{Gives, GivesAnswer, IsAnswer}
-use Rattle.policy_syntax.specs.Trees.{Rule as RuleTree}
-use Rattle.policy_syntax.specs.declared.lexemes.Symbol.TheVariants.{Rule, Colon, Semicolon}
-use Rattle.policy_syntax.specs.declared.limits.TheConstants.{MOST_RULES}
-use Rattle.policy_syntax.specs.declared.refusals.SyntaxRefusal.{SyntaxRefusal}
-use Rattle.policy_syntax.specs.declared.refusals.SyntaxRefusal.TheVariants.{Syntax, Limit, NoMemory}
-use Rattle.policy_syntax.proofs.Bounds.{bound_is}
-use Rattle.policy_syntax.proofs.Inward.{formula_bound, formula_in}
-use Rattle.policy_syntax.proofs.Judged.{judge_takes}
-use Rattle.policy_syntax.proofs.Judging.{first_judged, judged_first, judged_sentence}
+use Rattle.policy_syntax.proofs.Vocabulary.{◌≡◌, ◌≢◌, ℕ, ◌+◌, ◌≤◌, Bool, true, false}
+use Rattle.policy_syntax.proofs.Vocabulary.{true≢false, List, [], ◌∷◌, ◌++◌, length, map, Contains, Option}
+use Rattle.policy_syntax.proofs.Vocabulary.{None, Some, Result, Ok, Err, refl, sym, ap, subst, ◌∙◌, append_assoc}
+use Rattle.policy_syntax.proofs.Vocabulary.{length-append, arith, append-nil, list_any, AllByRecursion, bytes_eq}
+use Rattle.policy_syntax.proofs.Vocabulary.{bytes_eq-Decides, list_any-Decides, HasNoRepeats-middle, HasNoRepeats-push}
+use Rattle.policy_syntax.proofs.Vocabulary.{HasNoRepeats, MOST_NAME_BYTES, stack_item, formula_on, start_stack}
+use Rattle.policy_syntax.proofs.Vocabulary.{PolicyFits, bound, formula_fold, policy_fold, policy_tree, spell}
+use Rattle.policy_syntax.proofs.Vocabulary.{IsPolicyText, RulePhrase, formula_tree, PlacedLexeme, Symbol, NameLexeme}
+use Rattle.policy_syntax.proofs.Vocabulary.{lexemes, IsPolicy, IsRule, tree_size, PolicyRule as RuleTree}
+use Rattle.policy_syntax.proofs.Vocabulary.{CallGivesSyntax, GivesSyntaxAnswer, IsSyntaxAnswer, Rule, Colon, Semicolon}
+use Rattle.policy_syntax.proofs.Vocabulary.{MOST_RULES, SyntaxRefusal, Syntax, Limit, NoMemory}
+use Rattle.policy_syntax.specs.machine.Automaton.{judge}
+use Rattle.policy_syntax.proofs.LexemeLimits.{bound_is}
+use Rattle.policy_syntax.proofs.PhrasesWithinLimits.{formula_bound, formula_in}
+use Rattle.policy_syntax.proofs.JudgedLexemes.{judge_takes}
+use Rattle.policy_syntax.proofs.FirstRefusals.{first_judged, judged_first, judged_sentence}
 use Rattle.policy_syntax.proofs.OneTree.{policy_one}
-use Rattle.policy_syntax.proofs.Outward.{formula_out}
-use Rattle.policy_syntax.proofs.Standing.{start_on}
-use Rattle.policy_syntax.proofs.Steps.{bound_out, false_le, false_lt, le_false, low_in, low_out, lt_false, went}
+use Rattle.policy_syntax.proofs.UnrefusedPhrases.{formula_out}
+use Rattle.policy_syntax.proofs.LexemeRefusals.{start_on}
+use Rattle.policy_syntax.proofs.UnrefusedLexemes.{bound_out, false_le, false_lt, le_false, low_in, low_out, lt_false}
+use Rattle.policy_syntax.proofs.UnrefusedLexemes.{went}
+use Rattle.policy_syntax.specs.machine.Automaton as automaton
 
 -- the names of rules
 abbrev names_of : List RulePhrase → List (List ℕ)
@@ -43,43 +36,45 @@ unused names name never = by (list_any (bytes_eq name) names) refl
     by true e = absurd (never ((list_any-Decides bytes_eq bytes_eq-Decides names name).0 e))
     by false e = refl
 
--- rules behind some others, whose names these are, keep the limits with them
+-- rules after some others, whose names these are, keep the limits with them
 record IsWithin (names : List (List ℕ)) (rules : List RulePhrase) : Type 0 where
   bounded : policy_fold bound rules true ≡ true
   few : length names + length (policy_tree rules) ≤ MOST_RULES
   each : AllByRecursion IsRule (policy_tree rules)
   distinct : HasNoRepeats (names ++ names_of rules)
 
-rules_out : (end n : ℕ) (names : List (List ℕ)) (rules : List RulePhrase) → PolicyFits rules → length names ≤ MOST_RULES → HasNoRepeats names → judge end start n names (policy_fold spell rules []) ≡ None → IsWithin names rules
+rules_out : (end n : ℕ) (names : List (List ℕ)) (rules : List RulePhrase) → PolicyFits rules → length names ≤ MOST_RULES → HasNoRepeats names
+    → judge end start_stack n names (policy_fold spell rules []) ≡ None → IsWithin names rules
 rules_out end n names [] fits few distinct e = record { bounded = refl; few = omega (arith, few); each = tt; distinct = subst HasNoRepeats (sym (append-nil names)) distinct }
 rules_out end n names (rule ∷ rules) fits few distinct e =
     let t4 = policy_fold spell rules [] in
     let t3 = (rule.semicolon, Symbol Semicolon) ∷ t4 in
     let t2 = formula_fold spell 0 0 rule.formula t3 in
     let t1 = (rule.colon, Symbol Colon) ∷ t2 in
-    let t0 = (rule.name_place, Name rule.name) ∷ t1 in
+    let t0 = (rule.name_place, NameLexeme rule.name) ∷ t1 in
     let more = names ++ rule.name ∷ [] in
-    let m = size (formula_tree rule.formula) in
-    let w1 = went end 0 0 n rule.place automaton.MoreRules [] (item automaton.RuleName 0 0 ∷ []) names (Symbol Rule) t0 refl refl e in
+    let m = tree_size (formula_tree rule.formula) in
+    let w1 = went end 0 0 n rule.place automaton.MoreRules [] (stack_item automaton.RuleName 0 0 ∷ []) names (Symbol Rule) t0 refl refl e in
     let a1 = low_out automaton.MoreRules 0 0 n names (Symbol Rule) refl w1.low in
-    let w2 = went end 0 0 0 rule.name_place automaton.RuleName [] (item automaton.RuleColon 0 0 ∷ []) names (Name rule.name) t1 refl refl w1.later in
-    let a2 = low_out automaton.RuleName 0 0 0 names (Name rule.name) refl w2.low in
-    let w3 = went end 0 0 0 rule.colon automaton.RuleColon [] (formula_on 0 0 (item automaton.RuleEnd 0 0 ∷ [])) more (Symbol Colon) t2 refl refl w2.later in
-    let f = formula_out end more 0 0 (item automaton.RuleEnd 0 0 ∷ []) 0 rule.formula t3 fits.0 w3.later in
-    let w4 = went end 0 0 (0 + m) rule.semicolon automaton.RuleEnd [] start more (Symbol Semicolon) t4 refl refl f.later in
+    let w2 = went end 0 0 0 rule.name_place automaton.RuleName [] (stack_item automaton.RuleColon 0 0 ∷ []) names (NameLexeme rule.name) t1 refl refl w1.later in
+    let a2 = low_out automaton.RuleName 0 0 0 names (NameLexeme rule.name) refl w2.low in
+    let w3 = went end 0 0 0 rule.colon automaton.RuleColon [] (formula_on 0 0 (stack_item automaton.RuleEnd 0 0 ∷ [])) more (Symbol Colon) t2 refl refl w2.later in
+    let f = formula_out end more 0 0 (stack_item automaton.RuleEnd 0 0 ∷ []) 0 rule.formula t3 fits.0 w3.later in
+    let w4 = went end 0 0 (0 + m) rule.semicolon automaton.RuleEnd [] start_stack more (Symbol Semicolon) t4 refl refl f.later in
     let room = false_le MOST_RULES (length names) a1.1 in
     let longer = length-append names (rule.name ∷ []) in
     let q = rules_out end (0 + m) more rules fits.1 (omega (arith, room, longer)) (HasNoRepeats-push names rule.name distinct (absent names rule.name w2.right)) w4.later in
     let low = a1.0 in
     record {
-      bounded = bound_is 0 0 rule.place (Symbol Rule) _ low.level_is low.scope_is ∙ bound_is 0 0 rule.name_place (Name rule.name) _ low.level_is low.scope_is ∙ bound_is 0 0 rule.colon (Symbol Colon) _ low.level_is low.scope_is
+      bounded = bound_is 0 0 rule.place (Symbol Rule) _ low.level_is low.scope_is ∙ bound_is 0 0 rule.name_place (NameLexeme rule.name) _ low.level_is low.scope_is ∙ bound_is 0 0
+          rule.colon (Symbol Colon) _ low.level_is low.scope_is
           ∙ ap (formula_fold bound 0 0 rule.formula) (bound_is 0 0 rule.semicolon (Symbol Semicolon) _ low.level_is low.scope_is ∙ q.bounded) ∙ f.bounded;
       few = omega (arith, q.few, longer);
       each = (record { short = false_lt MOST_NAME_BYTES (length rule.name) a2.1; small = omega (arith, f.few); kept = f.kept }, q.each);
       distinct = subst HasNoRepeats (append_assoc names (rule.name ∷ []) (names_of rules)) q.distinct;
     }
 
-rules_in : (end n : ℕ) (names : List (List ℕ)) (rules : List RulePhrase) → PolicyFits rules → IsWithin names rules → judge end start n names (policy_fold spell rules []) ≡ None
+rules_in : (end n : ℕ) (names : List (List ℕ)) (rules : List RulePhrase) → PolicyFits rules → IsWithin names rules → judge end start_stack n names (policy_fold spell rules []) ≡ None
 unfolding judge
 rules_in end n names [] fits w = refl
 rules_in end n names (rule ∷ rules) fits w =
@@ -87,30 +82,34 @@ rules_in end n names (rule ∷ rules) fits w =
     let t3 = (rule.semicolon, Symbol Semicolon) ∷ t4 in
     let t2 = formula_fold spell 0 0 rule.formula t3 in
     let t1 = (rule.colon, Symbol Colon) ∷ t2 in
-    let t0 = (rule.name_place, Name rule.name) ∷ t1 in
+    let t0 = (rule.name_place, NameLexeme rule.name) ∷ t1 in
     let more = names ++ rule.name ∷ [] in
-    let m = size (formula_tree rule.formula) in
+    let m = tree_size (formula_tree rule.formula) in
     let b4 = policy_fold bound rules true in
     let b3 = bound 0 0 rule.semicolon (Symbol Semicolon) b4 in
     let b2 = formula_fold bound 0 0 rule.formula b3 in
     let b1 = bound 0 0 rule.colon (Symbol Colon) b2 in
-    let c0 = bound_out 0 0 rule.place (Symbol Rule) (bound 0 0 rule.name_place (Name rule.name) b1) w.bounded in
-    let c1 = bound_out 0 0 rule.name_place (Name rule.name) b1 c0.1 in
+    let c0 = bound_out 0 0 rule.place (Symbol Rule) (bound 0 0 rule.name_place (NameLexeme rule.name) b1) w.bounded in
+    let c1 = bound_out 0 0 rule.name_place (NameLexeme rule.name) b1 c0.1 in
     let c2 = bound_out 0 0 rule.colon (Symbol Colon) b2 c1.1 in
     let c3 = formula_bound 0 0 rule.formula b3 c2.1 in
     let c4 = bound_out 0 0 rule.semicolon (Symbol Semicolon) b4 c3.1 in
     let low = c0.0 in
     let is = w.each.0 in
     let longer = length-append names (rule.name ∷ []) in
-    judge_takes end 0 0 n rule.place automaton.MoreRules [] (item automaton.RuleName 0 0 ∷ []) names (Symbol Rule) t0 refl refl refl (low_in automaton.MoreRules 0 0 n names (Symbol Rule) refl low (le_false MOST_RULES (length names) (omega (arith, w.few))))
-    ∙ judge_takes end 0 0 0 rule.name_place automaton.RuleName [] (item automaton.RuleColon 0 0 ∷ []) names (Name rule.name) t1 refl refl (unused names rule.name (HasNoRepeats-middle names (names_of rules) rule.name w.distinct))
-    (low_in automaton.RuleName 0 0 0 names (Name rule.name) refl low (lt_false MOST_NAME_BYTES (length rule.name) is.short))
-    ∙ judge_takes end 0 0 0 rule.colon automaton.RuleColon [] (formula_on 0 0 (item automaton.RuleEnd 0 0 ∷ [])) more (Symbol Colon) t2 refl refl refl (low_in automaton.RuleColon 0 0 0 more (Symbol Colon) refl low refl)
-    ∙ formula_in end more 0 0 (item automaton.RuleEnd 0 0 ∷ []) 0 rule.formula t3 fits.0 (record {
+    judge_takes end 0 0 n rule.place automaton.MoreRules [] (stack_item automaton.RuleName 0 0 ∷ []) names (Symbol Rule) t0 refl refl refl
+    (low_in automaton.MoreRules 0 0 n names (Symbol Rule) refl low (le_false MOST_RULES (length names) (omega (arith, w.few))))
+    ∙ judge_takes end 0 0 0 rule.name_place automaton.RuleName [] (stack_item automaton.RuleColon 0 0 ∷ []) names (NameLexeme rule.name) t1 refl refl
+    (unused names rule.name (HasNoRepeats-middle names (names_of rules) rule.name w.distinct))
+    (low_in automaton.RuleName 0 0 0 names (NameLexeme rule.name) refl low (lt_false MOST_NAME_BYTES (length rule.name) is.short))
+    ∙ judge_takes end 0 0 0 rule.colon automaton.RuleColon [] (formula_on 0 0 (stack_item automaton.RuleEnd 0 0 ∷ [])) more (Symbol Colon) t2 refl refl refl
+    (low_in automaton.RuleColon 0 0 0 more (Symbol Colon) refl low refl)
+    ∙ formula_in end more 0 0 (stack_item automaton.RuleEnd 0 0 ∷ []) 0 rule.formula t3 fits.0 (record {
       bounded = c3.0;
       kept = is.kept;
       few = omega (arith, is.small);
-      later = judge_takes end 0 0 (0 + m) rule.semicolon automaton.RuleEnd [] start more (Symbol Semicolon) t4 refl refl refl (low_in automaton.RuleEnd 0 0 (0 + m) more (Symbol Semicolon) refl low refl)
+      later = judge_takes end 0 0 (0 + m) rule.semicolon automaton.RuleEnd [] start_stack more (Symbol Semicolon) t4 refl refl refl
+          (low_in automaton.RuleEnd 0 0 (0 + m) more (Symbol Semicolon) refl low refl)
           ∙ rules_in end (0 + m) more rules fits.1 (record {
             bounded = c4.1;
             few = omega (arith, w.few, longer);
@@ -121,10 +120,10 @@ rules_in end n names (rule ∷ rules) fits w =
 
 -- ---- policies
 
-pub policy_out : (bytes : List ℕ) (end : ℕ) → judge end start 0 [] (lexemes bytes) ≡ None → (rules : List RuleTree) × IsPolicyText bytes rules
+pub policy_out : (bytes : List ℕ) (end : ℕ) → judge end start_stack 0 [] (lexemes bytes) ≡ None → (rules : List RuleTree) × IsPolicyText bytes rules
 policy_out bytes end e =
-    let s = judged_sentence end [] start 0 [] (lexemes bytes) start_on e in
-    let w = rules_out end 0 [] s.0 s.1 (omega arith) tt (subst (λ (text : List Placed). judge end start 0 [] text ≡ None) (sym s.2) e) in (
+    let s = judged_sentence end [] start_stack 0 [] (lexemes bytes) start_on e in
+    let w = rules_out end 0 [] s.0 s.1 (omega arith) tt (subst (λ (text : List PlacedLexeme). judge end start_stack 0 [] text ≡ None) (sym s.2) e) in (
       policy_tree s.0,
       record {
         read = record { phrase = s.0; tree_is = refl; fits = s.1; spells = s.2; bounds = w.bounded };
@@ -132,11 +131,11 @@ policy_out bytes end e =
       },
     )
 
-pub policy_in : (bytes : List ℕ) (end : ℕ) (rules : List RuleTree) → IsPolicyText bytes rules → judge end start 0 [] (lexemes bytes) ≡ None
+pub policy_in : (bytes : List ℕ) (end : ℕ) (rules : List RuleTree) → IsPolicyText bytes rules → judge end start_stack 0 [] (lexemes bytes) ≡ None
 policy_in bytes end rules is =
     let r = is.read in
     let within : IsPolicy (policy_tree r.phrase) = subst IsPolicy (sym r.tree_is) is.within in
-    subst (λ (text : List Placed). judge end start 0 [] text ≡ None) r.spells
+    subst (λ (text : List PlacedLexeme). judge end start_stack 0 [] text ≡ None) r.spells
     (rules_in end 0 [] r.phrase r.fits (record { bounded = r.bounds; few = omega (arith, within.few); each = within.each; distinct = within.distinct }))
 
 -- ---- answers
@@ -150,37 +149,38 @@ refusal_of (Err refusal) = Some refusal
 
 -- the first refusal of a text by the automaton
 abbrev pub judged : List ℕ → Option SyntaxRefusal
-judged bytes = judge (length bytes) start 0 [] (lexemes bytes)
+judged bytes = judge (length bytes) start_stack 0 [] (lexemes bytes)
 
-pub answer_judged : (bytes : List ℕ) (answer : Answer) → IsAnswer bytes answer → judged bytes ≡ refusal_of answer
+pub answer_judged : (bytes : List ℕ) (answer : Answer) → IsSyntaxAnswer bytes answer → judged bytes ≡ refusal_of answer
 answer_judged bytes (Ok rules) is = policy_in bytes (length bytes) rules is
-answer_judged bytes (Err refusal) is = first_judged (length bytes) [] start 0 [] (lexemes bytes) refusal start_on is
+answer_judged bytes (Err refusal) is = first_judged (length bytes) [] start_stack 0 [] (lexemes bytes) refusal start_on is
 
-pub refusal_answer : (bytes : List ℕ) (refusal : SyntaxRefusal) → judged bytes ≡ Some refusal → IsAnswer bytes (Err refusal)
-refusal_answer bytes refusal e = judged_first (length bytes) [] start 0 [] (lexemes bytes) refusal start_on e
+pub refusal_answer : (bytes : List ℕ) (refusal : SyntaxRefusal) → judged bytes ≡ Some refusal → IsSyntaxAnswer bytes (Err refusal)
+refusal_answer bytes refusal e = judged_first (length bytes) [] start_stack 0 [] (lexemes bytes) refusal start_on e
 
 same_rules : (bytes : List ℕ) (rules others : List RuleTree) → IsPolicyText bytes rules → IsPolicyText bytes others → rules ≡ others
 same_rules bytes rules others a b =
     sym a.read.tree_is ∙ ap policy_tree (policy_one a.read.phrase b.read.phrase (a.read.spells ∙ sym b.read.spells) a.read.fits b.read.fits) ∙ b.read.tree_is
 
-same : (bytes : List ℕ) (answer other : Answer) → IsAnswer bytes answer → IsAnswer bytes other → refusal_of answer ≡ refusal_of other → answer ≡ other
+same : (bytes : List ℕ) (answer other : Answer) → IsSyntaxAnswer bytes answer → IsSyntaxAnswer bytes other → refusal_of answer ≡ refusal_of other → answer ≡ other
 same bytes (Ok rules) (Ok others) is also e = ap Ok (same_rules bytes rules others is also)
 same bytes (Ok rules) (Err refusal) is also e = absurd cc
 same bytes (Err refusal) (Ok others) is also e = absurd cc
 same bytes (Err refusal) (Err other) is also e = cc
 
 -- a text has one answer at most
-pub only_answer : (bytes : List ℕ) (answer other : Answer) → IsAnswer bytes answer → IsAnswer bytes other → answer ≡ other
+pub only_answer : (bytes : List ℕ) (answer other : Answer) → IsSyntaxAnswer bytes answer → IsSyntaxAnswer bytes other → answer ≡ other
 only_answer bytes answer other is also = same bytes answer other is also (sym (answer_judged bytes answer is) ∙ answer_judged bytes other also)
 
 -- ---- answers of a call
 
-pub error_answer : (bytes : List ℕ) (refusal : SyntaxRefusal) → (refusal ≢ NoMemory → judged bytes ≡ Some refusal) → GivesAnswer bytes (Err refusal)
+pub error_answer : (bytes : List ℕ) (refusal : SyntaxRefusal) → (refusal ≢ NoMemory → judged bytes ≡ Some refusal) → GivesSyntaxAnswer bytes (Err refusal)
 error_answer bytes NoMemory e = tt
 error_answer bytes (Syntax place) e = refusal_answer bytes (Syntax place) (e (λ f. cc))
 error_answer bytes (Limit place) e = refusal_answer bytes (Limit place) (e (λ f. cc))
 
-pub error_gives : (bytes : List ℕ) (refusal : SyntaxRefusal) → (refusal ≢ NoMemory → judged bytes ≡ Some refusal) → (answer : Answer) → IsAnswer bytes answer → Gives (Err refusal) answer
+pub error_gives : (bytes : List ℕ) (refusal : SyntaxRefusal) → (refusal ≢ NoMemory → judged bytes ≡ Some refusal) → (answer : Answer) → IsSyntaxAnswer bytes answer
+    → CallGivesSyntax (Err refusal) answer
 error_gives bytes NoMemory e answer given = tt
 error_gives bytes (Syntax place) e answer given = only_answer bytes (Err (Syntax place)) answer (refusal_answer bytes (Syntax place) (e (λ f. cc))) given
 error_gives bytes (Limit place) e answer given = only_answer bytes (Err (Limit place)) answer (refusal_answer bytes (Limit place) (e (λ f. cc))) given

@@ -1,11 +1,2 @@
-pub mod Trees
-pub mod Lexemes
-pub mod Grammar
-pub mod Limits
-pub mod Reading
-pub mod Refusals
-pub mod Automaton
-pub mod Following
-pub mod Cases
-pub mod Places
-pub mod Writing
+pub mod meaning
+pub mod machine

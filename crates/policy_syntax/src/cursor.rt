@@ -1,10 +1,12 @@
 //! The lexemes of a text, one after the other.
 ghost use Rattle.std.specs.Prelude.{◌≡◌, ◌↔◌, ◌≤◌, [], IsTrue, length, IfOk, OnOk};
-ghost use Rattle.policy_syntax.specs.Lexemes.{IsCursor, IsInRange, ahead_of, behind_next, lexeme_of, lexemes};
-ghost use Rattle.policy_syntax.specs.Lexemes.{lexemes_at, next_lexeme, next_place};
+ghost use Rattle.policy_syntax.specs.machine.Cursor.{IsCursor, IsInRange, lexeme_ahead, behind_next, lexeme_of};
+ghost use Rattle.policy_syntax.specs.machine.Cursor.{next_place};
+ghost use Rattle.policy_syntax.specs.meaning.Lexemes.{lexemes, lexemes_at, next_lexeme};
 
 use crate::lexemes::Lexeme;
-use enf_value::{MOST_FILE_BYTES, NoMemory, Place, next_token};
+use enf_data::{MOST_FILE_BYTES, NoMemory, Place};
+use enf_value::next_token;
 use std::alloc::Global;
 use std::marker::Model;
 
@@ -15,27 +17,27 @@ pub(crate) struct Cursor<'a> {
     bytes: &'a [u8],
     place: Place,
     lexeme: Lexeme<'a>,
-    // The place behind the lexeme.
+    // The place after the lexeme.
     behind: usize,
 }
 
 impl<'a> Model for Cursor<'a> {
-    ghost use Rattle.policy_syntax.specs.Lexemes.{Ahead, IsCursor, ahead_of, lexeme_of};
+    ghost use Rattle.policy_syntax.specs.machine.Cursor.{Ahead, IsCursor, lexeme_ahead, lexeme_of};
 
     ghost Value = { Ahead };
 
-    ghost view = { λ c. ahead_of (lexeme_of c.lexeme) c.place c.behind c.bytes.now };
+    ghost view = { λ c. lexeme_ahead (lexeme_of c.lexeme) c.place c.behind c.bytes.now };
 
     ghost invariant = { λ c. IsCursor (lexeme_of c.lexeme) c.place c.behind c.bytes.now };
 }
 
-// The lexeme at a place or behind it, with its own place and the place behind it.
+// The lexeme at a place or after it, with its own place and the place after it.
 fn lexeme_at(alloc: Global, bytes: &[u8], at: usize) -> Result<(Lexeme<'_>, Place, usize), NoMemory>
     requires short { length bytes.now ≤ MOST_FILE_BYTES }
     requires within { at ≤ length bytes.now }
     ensures cursor { IfOk result (λ found. IsCursor (lexeme_of found.0) found.1 found.2 bytes.now) }
     ensures rest { IfOk result (λ found.
-        (ahead_of (lexeme_of found.0) found.1 found.2 bytes.now).rest ≡ lexemes_at bytes.now at) }
+        (lexeme_ahead (lexeme_of found.0) found.1 found.2 bytes.now).rest ≡ lexemes_at bytes.now at) }
 {
     match next_token(alloc, bytes, at)? {
         Some(next) => Ok((Lexeme::of_token(next.token), next.place, next.end)),
@@ -81,7 +83,7 @@ impl<'a> Cursor<'a> {
         self.place
     }
 
-    // Goes to the next lexeme, and hands this one out. Behind the end is the end.
+    // Goes to the next lexeme, and hands this one out. After the end is the end.
     pub(crate) fn advance(&mut self) -> Result<Lexeme<'a>, NoMemory>
         ensures taken { IfOk result (λ lexeme. lexeme_of lexeme ≡ next_lexeme self.old.rest) }
         ensures in_range { IfOk result (λ lexeme. IsInRange (lexeme_of lexeme)) }

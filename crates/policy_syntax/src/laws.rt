@@ -1,20 +1,20 @@
 //! Laws of the grammar, each the contract of a function with an empty body.
 ghost use Rattle.std.specs.Prelude.{◌≡◌, ℕ, [], List};
-ghost use Rattle.policy_syntax.specs.Grammar.{PolicyFits, RulePhrase, policy_fold, spell};
-ghost use Rattle.policy_syntax.specs.Lexemes.{Placed};
-ghost use Rattle.policy_syntax.specs.Reading.{IsPolicyText};
-ghost use Rattle.policy_syntax.specs.Refusals.{OneAnswer};
-ghost use Rattle.policy_syntax.specs.Trees.{Rule};
-ghost use Rattle.policy_syntax.specs.Writing.{TextsAreWritable, WrittenHasLevels, WrittenIsRead};
+ghost use Rattle.policy_syntax.specs.meaning.Grammar.{PolicyFits, policy_fold, spell, IsPolicyText};
+ghost use Rattle.policy_syntax.specs.meaning.Phrases.{RulePhrase};
+ghost use Rattle.policy_syntax.specs.meaning.Lexemes.{PlacedLexeme};
+ghost use Rattle.policy_syntax.specs.machine.Laws.{OneSyntaxAnswer, TextsAreWritable, WrittenHasLevels, WrittenIsRead};
+ghost use Rattle.policy_syntax.specs.meaning.Trees.{PolicyRule};
 
 use enf_value::laws::texts_are_cut;
 
 /// A list of lexemes with their places is spelled by the phrases of one policy at most, whatever its limits, and a text
 /// is a policy of one list of rules at most.
 pub fn one_tree()
-    ensures phrases { (placed : List Placed) (rules others : List RulePhrase) → PolicyFits rules → PolicyFits others
+    ensures phrases { (placed : List PlacedLexeme) (rules others : List RulePhrase) → PolicyFits rules
+        → PolicyFits others
         → policy_fold spell rules [] ≡ placed → policy_fold spell others [] ≡ placed → rules ≡ others }
-    ensures rules { (bytes : List ℕ) (rules others : List Rule)
+    ensures rules { (bytes : List ℕ) (rules others : List PolicyRule)
         → IsPolicyText bytes rules → IsPolicyText bytes others → rules ≡ others }
 {}
 
@@ -35,5 +35,5 @@ pub fn written_is_read()
 
 /// Each text has exactly one answer.
 pub fn one_answer()
-    ensures { OneAnswer }
+    ensures { OneSyntaxAnswer }
 {}

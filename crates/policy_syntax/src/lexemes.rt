@@ -1,11 +1,13 @@
 //! The tokens of policies by what they are for.
 ghost use Rattle.std.specs.Prelude.{◌≡◌};
-ghost use Rattle.enf_value.specs.TokenViews.{token_of};
+ghost use Rattle.enf_value.specs.machine.TokenViews.{token_of};
 ghost use Rattle.std.specs.Str.{bytes_eq};
-ghost use Rattle.policy_syntax.specs.Lexemes.{infix_of, lexeme_of, of_mark, of_temporal_word, of_token, of_word};
-ghost use Rattle.policy_syntax.specs.Lexemes.{prefix_of, quantifier_of, symbol_of, truth_of};
+ghost use Rattle.policy_syntax.specs.meaning.Lexemes.{infix_of, lexeme_of_mark, lexeme_of_temporal, lexeme_of_token};
+ghost use Rattle.policy_syntax.specs.meaning.Lexemes.{lexeme_of_word, prefix_of, quantifier_of, symbol_of, truth_of};
+ghost use Rattle.policy_syntax.specs.machine.Cursor.{lexeme_of};
 
-use enf_value::{Mark, TextValue, Token};
+use enf_data::TextValue;
+use enf_value::{Mark, Token};
 
 /// A quantifier.
 #[derive(Clone, Copy, Debug, PartialEq, Eq)]
@@ -80,7 +82,7 @@ pub(crate) enum Lexeme<'a> {
 impl<'a> Lexeme<'a> {
     // The lexeme that a token is.
     pub(crate) fn of_token(token: Token<'a>) -> Lexeme<'a>
-        ensures { lexeme_of result ≡ of_token (token_of token.entry) }
+        ensures { lexeme_of result ≡ lexeme_of_token (token_of token.entry) }
     {
         match token {
             Token::Word(word) => word_lexeme(word),
@@ -94,7 +96,7 @@ impl<'a> Lexeme<'a> {
 }
 
 fn word_lexeme(word: &[u8]) -> Lexeme<'_>
-    ensures { lexeme_of result ≡ of_word word.now }
+    ensures { lexeme_of result ≡ lexeme_of_word word.now }
 {
     if let Some(symbol) = symbol_of(word) {
         Lexeme::Symbol(symbol)
@@ -109,7 +111,7 @@ fn word_lexeme(word: &[u8]) -> Lexeme<'_>
 
 // The lexeme of a word that is none of first-order logic.
 fn temporal_lexeme(word: &[u8]) -> Lexeme<'_>
-    ensures { lexeme_of result ≡ of_temporal_word word.now }
+    ensures { lexeme_of result ≡ lexeme_of_temporal word.now }
 {
     if let Some(operator) = prefix_of(word) {
         Lexeme::Prefix(operator)
@@ -201,7 +203,7 @@ fn infix_of(word: &[u8]) -> Option<Infix>
 }
 
 fn mark_lexeme(mark: Mark) -> Lexeme<'static>
-    ensures { lexeme_of result ≡ of_mark mark }
+    ensures { lexeme_of result ≡ lexeme_of_mark mark }
 {
     match mark {
         Mark::OpenParen => Lexeme::Symbol(Symbol::OpenParen),

@@ -2,25 +2,30 @@
 ghost use Rattle.std.specs.Prelude.{◌≡◌, ◌≢◌, ◌↔◌, ℕ, List, [], ◌∷◌, ◌+◌, ◌≤◌};
 ghost use Rattle.std.specs.Prelude.{false, true, length, IfOk, IsTrue};
 ghost use Rattle.std.specs.Result.{IfErr};
-ghost use Rattle.policy_syntax.specs.Automaton.{BehindArgument, BehindConstant, BehindName, BehindVariable};
-ghost use Rattle.policy_syntax.specs.Automaton.{BoundVariable, CloseInterval, NextArgument, OpenInterval, Operand};
-ghost use Rattle.policy_syntax.specs.Automaton.{SecondEnd, item};
-ghost use Rattle.policy_syntax.specs.Following.{Bars, BarsSymbol, Continues, Follows, Judges, Refuses, at_end};
-ghost use Rattle.policy_syntax.specs.Following.{at_level, at_name, at_node, at_term, next_of, next_place_of};
-ghost use Rattle.policy_syntax.specs.Grammar.{end_lexeme, sign_tree};
-ghost use Rattle.policy_syntax.specs.Lexemes.{Digits, IsInRange, Name, Placed, Symbol as AnySymbol, is_constant};
-ghost use Rattle.policy_syntax.specs.Lexemes.{is_end, lexeme_of, next_lexeme, next_place};
-ghost use Rattle.policy_syntax.specs.Limits.{IsShortName};
-ghost use Rattle.policy_syntax.specs.Reading.{ArgumentsRead, IntervalRead, IsConstant, IsTaken, PrimaryRead};
-ghost use Rattle.policy_syntax.specs.Reading.{TermRead, TermsRead, VariablesRead};
-ghost use Rattle.policy_syntax.specs.Trees.{formula_of};
+ghost use Rattle.policy_syntax.specs.machine.Automaton.{BehindArgument, BehindConstant, BehindName, BehindVariable};
+ghost use Rattle.policy_syntax.specs.machine.Automaton.{BoundVariable, CloseInterval, NextArgument, OpenInterval};
+ghost use Rattle.policy_syntax.specs.machine.Automaton.{Operand, SecondEnd, stack_item};
+ghost use Rattle.policy_syntax.specs.machine.PartOutcomes.{Bars, BarsSymbol, Continues, ReadsPart, JudgesLexeme};
+ghost use Rattle.policy_syntax.specs.machine.PartOutcomes.{RefusesFrom, end_refusal, level_refusal};
+ghost use Rattle.policy_syntax.specs.machine.PartOutcomes.{name_lexeme_refusal, node_refusal, term_refusal};
+ghost use Rattle.policy_syntax.specs.machine.PartOutcomes.{next_lexeme_of, next_place_of};
+ghost use Rattle.policy_syntax.specs.meaning.Grammar.{end_lexeme};
+ghost use Rattle.policy_syntax.specs.meaning.Phrases.{sign_tree};
+ghost use Rattle.policy_syntax.specs.meaning.Lexemes.{DigitsLexeme, NameLexeme, PlacedLexeme, Symbol as AnySymbol};
+ghost use Rattle.policy_syntax.specs.meaning.Lexemes.{next_lexeme};
+ghost use Rattle.policy_syntax.specs.machine.Cursor.{IsInRange, is_constant, is_end_lexeme, lexeme_of, next_place};
+ghost use Rattle.policy_syntax.specs.meaning.Trees.{IsShortName};
+ghost use Rattle.policy_syntax.specs.machine.PhraseReading.{ArgumentsRead, IntervalRead, IsConstantLexeme};
+ghost use Rattle.policy_syntax.specs.machine.PhraseReading.{IsLexemeTaken, PrimaryRead, TermRead, TermsRead};
+ghost use Rattle.policy_syntax.specs.machine.PhraseReading.{VariablesRead};
+ghost use Rattle.policy_syntax.specs.machine.StoredTrees.{syntax_tree_of};
 
 use crate::cursor::Cursor;
 use crate::lexemes::{Lexeme, Sign, Symbol};
 use crate::limits::{MOST_INTERVAL_END, MOST_LEVEL, MOST_NODES, MOST_VARIABLES};
 use crate::refusals::SyntaxRefusal;
 use crate::trees::{Binding, Bindings, SyntaxFormula, SyntaxTerm, SyntaxTerms};
-use enf_value::{Interval, MOST_NAME_BYTES, NoMemory, Place, TextValue, Value};
+use enf_data::{Interval, MOST_NAME_BYTES, NoMemory, Place, TextValue, Value};
 use std::alloc::Global;
 
 // How deep a token stands: its level, and how many variables are in scope.
@@ -94,13 +99,13 @@ impl<'a> Parts<'a> {
 
     // Takes the lexeme, which stands at a level.
     pub(crate) fn take(&mut self, level: u32) -> Result<(Place, Lexeme<'a>), SyntaxRefusal>
-        requires { is_end (next_lexeme self.old.cursor.rest) ≡ false }
+        requires { is_end_lexeme (next_lexeme self.old.cursor.rest) ≡ false }
         ensures taken { IfOk result (λ taken.
-            IsTaken level (lexeme_of taken.1) taken.0 self.old.cursor self.new.cursor) }
+            IsLexemeTaken level (lexeme_of taken.1) taken.0 self.old.cursor self.new.cursor) }
         ensures lexeme { IfOk result (λ taken. lexeme_of taken.1 ≡ next_lexeme self.old.cursor.rest) }
         ensures in_range { IfOk result (λ taken. IsInRange (lexeme_of taken.1)) }
         ensures nodes { self.new.nodes ≡ self.old.nodes }
-        ensures barred { IfErr result (Bars (at_level (next_place_of self.old) level)) }
+        ensures barred { IfErr result (Bars (level_refusal (next_place_of self.old) level)) }
     {
         if level > MOST_LEVEL {
             return Err(self.limit());
@@ -111,9 +116,10 @@ impl<'a> Parts<'a> {
 
     // Takes a word or a mark.
     pub(crate) fn take_symbol(&mut self, symbol: Symbol, level: u32) -> Result<Place, SyntaxRefusal>
-        ensures taken { IfOk result (λ place. IsTaken level (AnySymbol symbol) place self.old.cursor self.new.cursor) }
+        ensures taken { IfOk result (λ place. IsLexemeTaken level (AnySymbol symbol) place self.old.cursor
+            self.new.cursor) }
         ensures nodes { self.new.nodes ≡ self.old.nodes }
-        ensures barred { IfErr result (BarsSymbol symbol (next_place_of self.old) level (next_of self.old)) }
+        ensures barred { IfErr result (BarsSymbol symbol (next_place_of self.old) level (next_lexeme_of self.old)) }
     {
         if !self.is_at(symbol) {
             return Err(self.syntax());
@@ -139,12 +145,12 @@ impl<'a> Parts<'a> {
 
     // Takes a lexeme that is the principal one of a node.
     pub(crate) fn take_node(&mut self, level: u32) -> Result<Place, SyntaxRefusal>
-        requires { is_end (next_lexeme self.old.cursor.rest) ≡ false }
+        requires { is_end_lexeme (next_lexeme self.old.cursor.rest) ≡ false }
         ensures taken { IfOk result (λ place.
-            IsTaken level (next_lexeme self.old.cursor.rest) place self.old.cursor self.new.cursor) }
+            IsLexemeTaken level (next_lexeme self.old.cursor.rest) place self.old.cursor self.new.cursor) }
         ensures nodes { IfOk result (λ _. self.new.nodes ≡ self.old.nodes + 1) }
         ensures few { IfOk result (λ _. self.new.nodes ≤ MOST_NODES) }
-        ensures barred { IfErr result (Bars (at_node (next_place_of self.old) level self.old.nodes)) }
+        ensures barred { IfErr result (Bars (node_refusal (next_place_of self.old) level self.old.nodes)) }
     {
         let place = self.cursor.place();
         self.count_node(place)?;
@@ -154,10 +160,12 @@ impl<'a> Parts<'a> {
 
     // Takes a name.
     pub(crate) fn name(&mut self, level: u32) -> Result<(Place, TextValue), SyntaxRefusal>
-        ensures taken { IfOk result (λ taken. IsTaken level (Name taken.1) taken.0 self.old.cursor self.new.cursor) }
+        ensures taken { IfOk result (λ taken. IsLexemeTaken level (NameLexeme taken.1) taken.0 self.old.cursor
+            self.new.cursor) }
         ensures short { IfOk result (λ taken. IsShortName taken.1) }
         ensures nodes { self.new.nodes ≡ self.old.nodes }
-        ensures barred { IfErr result (Bars (at_name (next_place_of self.old) level (next_of self.old))) }
+        ensures barred { IfErr result (Bars (name_lexeme_refusal (next_place_of self.old) level
+            (next_lexeme_of self.old))) }
     {
         let Lexeme::Name(name) = *self.cursor.lexeme() else {
             return Err(self.syntax());
@@ -173,10 +181,10 @@ impl<'a> Parts<'a> {
     // Takes a variable that a quantifier binds.
     fn binding(&mut self, depth: Depth) -> Result<Binding, SyntaxRefusal>
         ensures taken { IfOk result (λ binding.
-            IsTaken depth.level (Name binding.name) binding.place self.old.cursor self.new.cursor) }
+            IsLexemeTaken depth.level (NameLexeme binding.name) binding.place self.old.cursor self.new.cursor) }
         ensures scope { IfOk result (λ _. depth.scope + 1 ≤ MOST_VARIABLES) }
-        ensures follows { Follows (item BoundVariable depth.level (depth.scope + 1) ∷ [])
-            (item BehindVariable depth.level (depth.scope + 1) ∷ []) self.old self.new result }
+        ensures follows { ReadsPart (stack_item BoundVariable depth.level (depth.scope + 1) ∷ [])
+            (stack_item BehindVariable depth.level (depth.scope + 1) ∷ []) self.old self.new result }
     {
         let Lexeme::Name(_) = self.cursor.lexeme() else {
             return Err(self.syntax());
@@ -193,10 +201,12 @@ impl<'a> Parts<'a> {
         ensures read { IfOk result (λ bindings.
             VariablesRead depth.level depth.scope self.old.cursor.rest self.new.cursor.rest bindings) }
         ensures scope { IfOk result (λ bindings. depth.scope + length bindings ≤ MOST_VARIABLES) }
-        ensures ends { IfOk result (λ _. next_of self.new ≢ AnySymbol Symbol.Comma) }
-        ensures follows { IfOk result (λ bindings. Continues (item BoundVariable depth.level (depth.scope + 1) ∷ [])
-            (item BehindVariable depth.level (depth.scope + length bindings) ∷ []) self.old self.new) }
-        ensures refused { IfErr result (Refuses (item BoundVariable depth.level (depth.scope + 1) ∷ []) self.old) }
+        ensures ends { IfOk result (λ _. next_lexeme_of self.new ≢ AnySymbol Symbol.Comma) }
+        ensures follows { IfOk result (λ bindings. Continues
+            (stack_item BoundVariable depth.level (depth.scope + 1) ∷ [])
+            (stack_item BehindVariable depth.level (depth.scope + length bindings) ∷ []) self.old self.new) }
+        ensures refused { IfErr result (RefusesFrom (stack_item BoundVariable depth.level (depth.scope + 1) ∷ [])
+            self.old) }
     {
         let mut inner = depth;
         let mut bindings = Bindings::new(self.alloc);
@@ -220,8 +230,9 @@ impl<'a> Parts<'a> {
             TermRead depth.level depth.scope self.old.cursor.rest self.new.cursor.rest term) }
         ensures nodes { self.new.nodes ≡ self.old.nodes }
         ensures taken { IfOk result (λ _.
-            (place : ℕ) × IsTaken depth.level (next_of self.old) place self.old.cursor self.new.cursor) }
-        ensures judged { Judges (at_term (next_place_of self.old) depth.level (next_of self.old)) result }
+            (place : ℕ) × IsLexemeTaken depth.level (next_lexeme_of self.old) place self.old.cursor self.new.cursor) }
+        ensures judged { JudgesLexeme (term_refusal (next_place_of self.old) depth.level (next_lexeme_of self.old))
+            result }
     {
         if let Lexeme::Name(_) = self.cursor.lexeme() {
             let (place, name) = self.name(depth.level)?;
@@ -239,9 +250,9 @@ impl<'a> Parts<'a> {
         requires { depth.scope ≤ MOST_VARIABLES }
         ensures read { IfOk result (λ terms.
             TermsRead depth.level depth.scope self.old.cursor.rest self.new.cursor.rest terms) }
-        ensures ends { IfOk result (λ _. next_of self.new ≢ AnySymbol Symbol.Comma) }
-        ensures follows { Follows (item NextArgument depth.level depth.scope ∷ [])
-            (item BehindArgument depth.level depth.scope ∷ []) self.old self.new result }
+        ensures ends { IfOk result (λ _. next_lexeme_of self.new ≢ AnySymbol Symbol.Comma) }
+        ensures follows { ReadsPart (stack_item NextArgument depth.level depth.scope ∷ [])
+            (stack_item BehindArgument depth.level depth.scope ∷ []) self.old self.new result }
     {
         let mut terms = SyntaxTerms::new(self.alloc);
         'terms: loop {
@@ -260,10 +271,11 @@ impl<'a> Parts<'a> {
     fn arguments(&mut self, name: Place, depth: Depth) -> Result<SyntaxTerms, SyntaxRefusal>
         requires level { depth.level ≤ MOST_LEVEL }
         requires scope { depth.scope ≤ MOST_VARIABLES }
-        requires at { next_of self.old ≡ AnySymbol Symbol.OpenParen }
+        requires at { next_lexeme_of self.old ≡ AnySymbol Symbol.OpenParen }
         ensures read { IfOk result (λ terms.
             ArgumentsRead depth.level depth.scope self.old.cursor.rest self.new.cursor.rest terms) }
-        ensures follows { Follows (item (BehindName name) depth.level depth.scope ∷ []) [] self.old self.new result }
+        ensures follows { ReadsPart (stack_item (BehindName name) depth.level depth.scope ∷ []) [] self.old self.new
+            result }
     {
         self.count_node(name)?;
         self.take_symbol(Symbol::OpenParen, depth.level)?;
@@ -281,9 +293,9 @@ impl<'a> Parts<'a> {
     pub(crate) fn named(&mut self, depth: Depth) -> Result<SyntaxFormula, SyntaxRefusal>
         requires { depth.scope ≤ MOST_VARIABLES }
         ensures read { IfOk result (λ f.
-            PrimaryRead depth.level depth.scope self.old.cursor.rest self.new.cursor.rest (formula_of f)) }
-        ensures follows { (name : List ℕ) → next_of self.old ≡ Name name
-            → Follows (item Operand depth.level depth.scope ∷ []) [] self.old self.new result }
+            PrimaryRead depth.level depth.scope self.old.cursor.rest self.new.cursor.rest (syntax_tree_of f)) }
+        ensures follows { (name : List ℕ) → next_lexeme_of self.old ≡ NameLexeme name
+            → ReadsPart (stack_item Operand depth.level depth.scope ∷ []) [] self.old self.new result }
     {
         let (place, name) = self.name(depth.level)?;
         if !self.is_at(Symbol::OpenParen) {
@@ -293,7 +305,7 @@ impl<'a> Parts<'a> {
         Ok(SyntaxFormula::Atom(place, name, arguments))
     }
 
-    // Takes a comparison sign and the term behind it.
+    // Takes a comparison sign and the term after it.
     pub(crate) fn comparison(
         &mut self,
         left: SyntaxTerm,
@@ -301,9 +313,10 @@ impl<'a> Parts<'a> {
     ) -> Result<SyntaxFormula, SyntaxRefusal>
         requires { depth.scope ≤ MOST_VARIABLES }
         ensures read { IfOk result (λ f.
-            (before : List Placed) → TermRead depth.level depth.scope before self.old.cursor.rest left
-            → PrimaryRead depth.level depth.scope before self.new.cursor.rest (formula_of f)) }
-        ensures follows { Follows (item BehindConstant depth.level depth.scope ∷ []) [] self.old self.new result }
+            (before : List PlacedLexeme) → TermRead depth.level depth.scope before self.old.cursor.rest left
+            → PrimaryRead depth.level depth.scope before self.new.cursor.rest (syntax_tree_of f)) }
+        ensures follows { ReadsPart (stack_item BehindConstant depth.level depth.scope ∷ []) [] self.old self.new
+            result }
     {
         let Lexeme::Sign(sign) = *self.cursor.lexeme() else {
             return Err(self.syntax());
@@ -318,8 +331,9 @@ impl<'a> Parts<'a> {
         requires { depth.scope ≤ MOST_VARIABLES }
         ensures read { IfOk result (λ interval.
             IntervalRead depth.level depth.scope self.old.cursor.rest self.new.cursor.rest interval) }
-        ensures follows { (operand : ℕ) → Follows (item (OpenInterval operand) depth.level depth.scope ∷ [])
-            (item Operand operand depth.scope ∷ []) self.old self.new result }
+        ensures follows { (operand : ℕ) → ReadsPart (stack_item (OpenInterval operand) depth.level depth.scope ∷
+            [])
+            (stack_item Operand operand depth.scope ∷ []) self.old self.new result }
     {
         self.take_symbol(Symbol::OpenBracket, depth.level)?;
         let (_, low) = self.interval_end(0, depth.level)?;
@@ -331,11 +345,13 @@ impl<'a> Parts<'a> {
 
     // Takes an end of an interval, which is no less than some number.
     fn interval_end(&mut self, least: u64, level: u32) -> Result<(Place, u64), SyntaxRefusal>
-        ensures taken { IfOk result (λ end. IsTaken level (Digits end.1) end.0 self.old.cursor self.new.cursor) }
+        ensures taken { IfOk result (λ end. IsLexemeTaken level (DigitsLexeme end.1) end.0 self.old.cursor
+            self.new.cursor) }
         ensures low { IfOk result (λ end. least ≤ end.1) }
         ensures high { IfOk result (λ end. end.1 ≤ MOST_INTERVAL_END) }
         ensures nodes { self.new.nodes ≡ self.old.nodes }
-        ensures barred { IfErr result (Bars (at_end (next_place_of self.old) level least (next_of self.old))) }
+        ensures barred { IfErr result (Bars (end_refusal (next_place_of self.old) level least
+            (next_lexeme_of self.old))) }
     {
         let Lexeme::Digits(end) = *self.cursor.lexeme() else {
             return Err(self.syntax());
@@ -353,10 +369,10 @@ impl<'a> Parts<'a> {
     // Takes the second end of an interval, or the star in its place.
     fn second_end(&mut self, low: u64, level: u32) -> Result<Option<u64>, SyntaxRefusal>
         ensures taken { IfOk result (λ high.
-            (place : ℕ) × IsTaken level (end_lexeme high) place self.old.cursor self.new.cursor) }
+            (place : ℕ) × IsLexemeTaken level (end_lexeme high) place self.old.cursor self.new.cursor) }
         ensures follows { (operand scope : ℕ) → scope ≤ MOST_VARIABLES
-            → Follows (item (SecondEnd operand low) level scope ∷ [])
-            (item (CloseInterval operand) level scope ∷ []) self.old self.new result }
+            → ReadsPart (stack_item (SecondEnd operand low) level scope ∷ [])
+            (stack_item (CloseInterval operand) level scope ∷ []) self.old self.new result }
     {
         if self.is_at(Symbol::Star) {
             self.take_symbol(Symbol::Star, level)?;
@@ -368,7 +384,7 @@ impl<'a> Parts<'a> {
 }
 
 fn compared(sign: Sign, place: Place, left: SyntaxTerm, right: SyntaxTerm) -> SyntaxFormula
-    ensures { formula_of result ≡ sign_tree sign place left right }
+    ensures { syntax_tree_of result ≡ sign_tree sign place left right }
 {
     match sign {
         Sign::Equal => SyntaxFormula::Equal(place, left, right),
@@ -389,7 +405,7 @@ fn begins_constant(lexeme: &Lexeme<'_>) -> bool
 fn constant(lexeme: Lexeme<'_>) -> Value
     requires constant { is_constant (lexeme_of lexeme) ≡ true }
     requires in_range { IsInRange (lexeme_of lexeme) }
-    ensures { IsConstant (lexeme_of lexeme.entry) result }
+    ensures { IsConstantLexeme (lexeme_of lexeme.entry) result }
 {
     match lexeme {
         Lexeme::Digits(value) => Value::Num(value as i64),

@@ -1,16 +1,19 @@
 //! The reader of policies: formulas by recursive descent, a function for each nonterminal of the grammar.
-ghost use Rattle.std.specs.Prelude.{◌≡◌, ◌≢◌, ◌+◌, ◌≤◌, List, [], ◌∷◌};
-ghost use Rattle.std.specs.Prelude.{Result, false, length, IfOk};
+ghost use Rattle.std.specs.Prelude.{◌≡◌, ◌≢◌, ◌+◌, ◌≤◌, List, [], ◌∷◌, Result, false};
+ghost use Rattle.std.specs.Prelude.{length, IfOk};
 ghost use Rattle.std.specs.Str.{bytes_eq};
-ghost use Rattle.policy_syntax.specs.Automaton.{Operand, and_on, formula_on, infix_on, item, or_on};
-ghost use Rattle.policy_syntax.specs.Following.{Follows, JudgesRule};
-ghost use Rattle.policy_syntax.specs.Lexemes.{Prefix as AnyPrefix, Quantifier as AnyQuantifier, Symbol as AnySymbol};
-ghost use Rattle.policy_syntax.specs.Lexemes.{Truth as AnyTruth, lexeme_of, next_lexeme};
-ghost use Rattle.policy_syntax.specs.Grammar.{infix_tree, prefix_tree, quantifier_tree, truth_tree};
-ghost use Rattle.policy_syntax.specs.Reading.{AndRead, FormulaRead, InfixRead, OrRead, PrimaryRead};
-ghost use Rattle.policy_syntax.specs.Reading.{RuleRead, UnaryRead, begins_inner, has_name, is_name_of};
-ghost use Rattle.policy_syntax.specs.Refusals.{Gives, GivesAnswer, IsAnswer, answer_of};
-ghost use Rattle.policy_syntax.specs.Trees.{Rule, formula_of, rule_of};
+ghost use Rattle.policy_syntax.specs.machine.Automaton.{Operand, and_on, formula_on, infix_on, stack_item, or_on};
+ghost use Rattle.policy_syntax.specs.machine.PartOutcomes.{ReadsPart, JudgesRule};
+ghost use Rattle.policy_syntax.specs.meaning.Lexemes.{Prefix as AnyPrefix, Quantifier as AnyQuantifier};
+ghost use Rattle.policy_syntax.specs.meaning.Lexemes.{Symbol as AnySymbol, Truth as AnyTruth, next_lexeme};
+ghost use Rattle.policy_syntax.specs.machine.Cursor.{lexeme_of};
+ghost use Rattle.policy_syntax.specs.meaning.Phrases.{infix_tree, prefix_tree, quantifier_tree, truth_tree};
+ghost use Rattle.policy_syntax.specs.machine.PhraseReading.{AndRead, FormulaRead, InfixRead, OrRead, PrimaryRead};
+ghost use Rattle.policy_syntax.specs.machine.PhraseReading.{RuleRead, UnaryRead, begins_inner, has_name, is_name_of};
+ghost use Rattle.policy_syntax.specs.machine.CallAnswers.{CallGivesSyntax, GivesSyntaxAnswer, syntax_answer_of};
+ghost use Rattle.policy_syntax.specs.meaning.Refusals.{IsSyntaxAnswer};
+ghost use Rattle.policy_syntax.specs.meaning.Trees.{PolicyRule};
+ghost use Rattle.policy_syntax.specs.machine.StoredTrees.{syntax_tree_of, policy_rule_of};
 
 use crate::cursor::Cursor;
 use crate::lexemes::{Infix, Lexeme, Prefix, Quantifier, Symbol};
@@ -18,15 +21,15 @@ use crate::limits::{MOST_LEVEL, MOST_RULES, MOST_VARIABLES};
 use crate::parts::{Depth, Parts};
 use crate::refusals::SyntaxRefusal;
 use crate::trees::{Bindings, SyntaxFormula, SyntaxPolicy, SyntaxRule, SyntaxRules};
-use enf_value::{Interval, MOST_FILE_BYTES, NoMemory, Place};
+use enf_data::{Interval, MOST_FILE_BYTES, NoMemory, Place};
 use std::alloc::Global;
 
 /// Reads the syntax tree of a policy, up to its end or the first refusal.
 pub fn read_syntax(alloc: Global, bytes: &[u8]) -> Result<SyntaxPolicy, SyntaxRefusal>
     requires { length bytes.now ≤ MOST_FILE_BYTES }
-    ensures answer { GivesAnswer bytes.now (answer_of result) }
-    ensures only { (answer : Result (List Rule) SyntaxRefusal)
-        → IsAnswer bytes.now answer → Gives (answer_of result) answer }
+    ensures answer { GivesSyntaxAnswer bytes.now (syntax_answer_of result) }
+    ensures only { (answer : Result (List PolicyRule) SyntaxRefusal)
+        → IsSyntaxAnswer bytes.now answer → CallGivesSyntax (syntax_answer_of result) answer }
 {
     let mut parts = Parts {
         alloc,
@@ -45,7 +48,7 @@ pub fn read_syntax(alloc: Global, bytes: &[u8]) -> Result<SyntaxPolicy, SyntaxRe
 
 fn read_rule(parts: &mut Parts<'_>, rules: &SyntaxRules) -> Result<SyntaxRule, SyntaxRefusal>
     requires { parts.old.cursor.rest ≢ [] }
-    ensures read { IfOk result (λ rule. RuleRead parts.old.cursor.rest parts.new.cursor.rest (rule_of rule)) }
+    ensures read { IfOk result (λ rule. RuleRead parts.old.cursor.rest parts.new.cursor.rest (policy_rule_of rule)) }
     ensures few { IfOk result (λ rule. length rules.now + 1 ≤ MOST_RULES) }
     ensures judged { JudgesRule rules.now parts.old parts.new result }
 {
@@ -98,8 +101,8 @@ fn formula(parts: &mut Parts<'_>, depth: Depth) -> Result<SyntaxFormula, SyntaxR
     requires level { depth.level ≤ MOST_LEVEL + 1 }
     requires scope { depth.scope ≤ MOST_VARIABLES }
     ensures read { IfOk result (λ f.
-        FormulaRead depth.level depth.scope parts.old.cursor.rest parts.new.cursor.rest (formula_of f)) }
-    ensures follows { Follows (formula_on depth.level depth.scope []) [] parts.old parts.new result }
+        FormulaRead depth.level depth.scope parts.old.cursor.rest parts.new.cursor.rest (syntax_tree_of f)) }
+    ensures follows { ReadsPart (formula_on depth.level depth.scope []) [] parts.old parts.new result }
 {
     let left = disjunction(parts, depth)?;
     if !parts.is_at(Symbol::Arrow) {
@@ -116,8 +119,8 @@ fn disjunction(parts: &mut Parts<'_>, depth: Depth) -> Result<SyntaxFormula, Syn
     requires level { depth.level ≤ MOST_LEVEL + 1 }
     requires scope { depth.scope ≤ MOST_VARIABLES }
     ensures read { IfOk result (λ f.
-        OrRead depth.level depth.scope parts.old.cursor.rest parts.new.cursor.rest (formula_of f)) }
-    ensures follows { Follows (or_on depth.level depth.scope []) [] parts.old parts.new result }
+        OrRead depth.level depth.scope parts.old.cursor.rest parts.new.cursor.rest (syntax_tree_of f)) }
+    ensures follows { ReadsPart (or_on depth.level depth.scope []) [] parts.old parts.new result }
 {
     let left = conjunction(parts, depth)?;
     if !parts.is_at(Symbol::Or) {
@@ -134,8 +137,8 @@ fn conjunction(parts: &mut Parts<'_>, depth: Depth) -> Result<SyntaxFormula, Syn
     requires level { depth.level ≤ MOST_LEVEL + 1 }
     requires scope { depth.scope ≤ MOST_VARIABLES }
     ensures read { IfOk result (λ f.
-        AndRead depth.level depth.scope parts.old.cursor.rest parts.new.cursor.rest (formula_of f)) }
-    ensures follows { Follows (and_on depth.level depth.scope []) [] parts.old parts.new result }
+        AndRead depth.level depth.scope parts.old.cursor.rest parts.new.cursor.rest (syntax_tree_of f)) }
+    ensures follows { ReadsPart (and_on depth.level depth.scope []) [] parts.old parts.new result }
 {
     let left = infix(parts, depth)?;
     if !parts.is_at(Symbol::And) {
@@ -153,8 +156,8 @@ fn infix(parts: &mut Parts<'_>, depth: Depth) -> Result<SyntaxFormula, SyntaxRef
     requires level { depth.level ≤ MOST_LEVEL + 1 }
     requires scope { depth.scope ≤ MOST_VARIABLES }
     ensures read { IfOk result (λ f.
-        InfixRead depth.level depth.scope parts.old.cursor.rest parts.new.cursor.rest (formula_of f)) }
-    ensures follows { Follows (infix_on depth.level depth.scope []) [] parts.old parts.new result }
+        InfixRead depth.level depth.scope parts.old.cursor.rest parts.new.cursor.rest (syntax_tree_of f)) }
+    ensures follows { ReadsPart (infix_on depth.level depth.scope []) [] parts.old parts.new result }
 {
     let left = unary(parts, depth)?;
     let Lexeme::Infix(operator) = *parts.cursor.lexeme() else {
@@ -172,8 +175,8 @@ fn unary(parts: &mut Parts<'_>, depth: Depth) -> Result<SyntaxFormula, SyntaxRef
     requires level { depth.level ≤ MOST_LEVEL + 1 }
     requires scope { depth.scope ≤ MOST_VARIABLES }
     ensures read { IfOk result (λ f.
-        UnaryRead depth.level depth.scope parts.old.cursor.rest parts.new.cursor.rest (formula_of f)) }
-    ensures follows { Follows (item Operand depth.level depth.scope ∷ []) [] parts.old parts.new result }
+        UnaryRead depth.level depth.scope parts.old.cursor.rest parts.new.cursor.rest (syntax_tree_of f)) }
+    ensures follows { ReadsPart (stack_item Operand depth.level depth.scope ∷ []) [] parts.old parts.new result }
 {
     if parts.is_at(Symbol::Not) {
         return negation(parts, depth);
@@ -194,8 +197,8 @@ fn negation(parts: &mut Parts<'_>, depth: Depth) -> Result<SyntaxFormula, Syntax
     requires scope { depth.scope ≤ MOST_VARIABLES }
     requires at { next_lexeme parts.old.cursor.rest ≡ AnySymbol Symbol.Not }
     ensures read { IfOk result (λ f.
-        UnaryRead depth.level depth.scope parts.old.cursor.rest parts.new.cursor.rest (formula_of f)) }
-    ensures follows { Follows (item Operand depth.level depth.scope ∷ []) [] parts.old parts.new result }
+        UnaryRead depth.level depth.scope parts.old.cursor.rest parts.new.cursor.rest (syntax_tree_of f)) }
+    ensures follows { ReadsPart (stack_item Operand depth.level depth.scope ∷ []) [] parts.old parts.new result }
 {
     let place = parts.take_node(depth.level)?;
     let operand = unary(parts, depth.deeper())?;
@@ -212,8 +215,8 @@ fn prefixed(
     requires scope { depth.scope ≤ MOST_VARIABLES }
     requires at { next_lexeme parts.old.cursor.rest ≡ AnyPrefix operator }
     ensures read { IfOk result (λ f.
-        UnaryRead depth.level depth.scope parts.old.cursor.rest parts.new.cursor.rest (formula_of f)) }
-    ensures follows { Follows (item Operand depth.level depth.scope ∷ []) [] parts.old parts.new result }
+        UnaryRead depth.level depth.scope parts.old.cursor.rest parts.new.cursor.rest (syntax_tree_of f)) }
+    ensures follows { ReadsPart (stack_item Operand depth.level depth.scope ∷ []) [] parts.old parts.new result }
 {
     let place = parts.take_node(depth.level)?;
     let interval = parts.interval(depth.deeper())?;
@@ -232,8 +235,8 @@ fn quantified(
     requires scope { depth.scope ≤ MOST_VARIABLES }
     requires at { next_lexeme parts.old.cursor.rest ≡ AnyQuantifier quantifier }
     ensures read { IfOk result (λ f.
-        UnaryRead depth.level depth.scope parts.old.cursor.rest parts.new.cursor.rest (formula_of f)) }
-    ensures follows { Follows (item Operand depth.level depth.scope ∷ []) [] parts.old parts.new result }
+        UnaryRead depth.level depth.scope parts.old.cursor.rest parts.new.cursor.rest (syntax_tree_of f)) }
+    ensures follows { ReadsPart (stack_item Operand depth.level depth.scope ∷ []) [] parts.old parts.new result }
 {
     let place = parts.take_node(depth.level)?;
     let bindings = parts.bindings(depth.deeper())?;
@@ -250,8 +253,8 @@ fn parenthesis(parts: &mut Parts<'_>, depth: Depth) -> Result<SyntaxFormula, Syn
     requires scope { depth.scope ≤ MOST_VARIABLES }
     requires at { next_lexeme parts.old.cursor.rest ≡ AnySymbol Symbol.OpenParen }
     ensures read { IfOk result (λ f.
-        UnaryRead depth.level depth.scope parts.old.cursor.rest parts.new.cursor.rest (formula_of f)) }
-    ensures follows { Follows (item Operand depth.level depth.scope ∷ []) [] parts.old parts.new result }
+        UnaryRead depth.level depth.scope parts.old.cursor.rest parts.new.cursor.rest (syntax_tree_of f)) }
+    ensures follows { ReadsPart (stack_item Operand depth.level depth.scope ∷ []) [] parts.old parts.new result }
 {
     parts.take_symbol(Symbol::OpenParen, depth.level)?;
     let inner = formula(parts, depth.deeper())?;
@@ -264,8 +267,8 @@ fn bare(parts: &mut Parts<'_>, depth: Depth) -> Result<SyntaxFormula, SyntaxRefu
     requires scope { depth.scope ≤ MOST_VARIABLES }
     requires at { begins_inner (next_lexeme parts.old.cursor.rest) ≡ false }
     ensures read { IfOk result (λ f.
-        PrimaryRead depth.level depth.scope parts.old.cursor.rest parts.new.cursor.rest (formula_of f)) }
-    ensures follows { Follows (item Operand depth.level depth.scope ∷ []) [] parts.old parts.new result }
+        PrimaryRead depth.level depth.scope parts.old.cursor.rest parts.new.cursor.rest (syntax_tree_of f)) }
+    ensures follows { ReadsPart (stack_item Operand depth.level depth.scope ∷ []) [] parts.old parts.new result }
 {
     match *parts.cursor.lexeme() {
         Lexeme::Truth(value) => truth(parts, value, depth),
@@ -281,15 +284,15 @@ fn truth(parts: &mut Parts<'_>, value: bool, depth: Depth) -> Result<SyntaxFormu
     requires scope { depth.scope ≤ MOST_VARIABLES }
     requires at { next_lexeme parts.old.cursor.rest ≡ AnyTruth value }
     ensures read { IfOk result (λ f.
-        PrimaryRead depth.level depth.scope parts.old.cursor.rest parts.new.cursor.rest (formula_of f)) }
-    ensures follows { Follows (item Operand depth.level depth.scope ∷ []) [] parts.old parts.new result }
+        PrimaryRead depth.level depth.scope parts.old.cursor.rest parts.new.cursor.rest (syntax_tree_of f)) }
+    ensures follows { ReadsPart (stack_item Operand depth.level depth.scope ∷ []) [] parts.old parts.new result }
 {
     let place = parts.take_node(depth.level)?;
     Ok(constant(value, place))
 }
 
 fn constant(value: bool, place: Place) -> SyntaxFormula
-    ensures { formula_of result ≡ truth_tree value place }
+    ensures { syntax_tree_of result ≡ truth_tree value place }
 {
     if value {
         SyntaxFormula::True(place)
@@ -307,8 +310,8 @@ fn joined(
     left: SyntaxFormula,
     right: SyntaxFormula,
 ) -> Result<SyntaxFormula, NoMemory>
-    ensures { IfOk result (λ f. formula_of f
-        ≡ infix_tree operator place interval (formula_of left) (formula_of right)) }
+    ensures { IfOk result (λ f. syntax_tree_of f
+        ≡ infix_tree operator place interval (syntax_tree_of left) (syntax_tree_of right)) }
 {
     let left = boxed(alloc, left)?;
     let right = boxed(alloc, right)?;
@@ -322,8 +325,8 @@ fn with_infix(
     left: Box<SyntaxFormula>,
     right: Box<SyntaxFormula>,
 ) -> SyntaxFormula
-    ensures { formula_of result
-        ≡ infix_tree operator place interval (formula_of left.value) (formula_of right.value) }
+    ensures { syntax_tree_of result
+        ≡ infix_tree operator place interval (syntax_tree_of left.value) (syntax_tree_of right.value) }
 {
     match operator {
         Infix::Since => SyntaxFormula::Since(place, interval, left, right),
@@ -337,7 +340,7 @@ fn with_prefix(
     interval: Interval,
     operand: Box<SyntaxFormula>,
 ) -> SyntaxFormula
-    ensures { formula_of result ≡ prefix_tree operator place interval (formula_of operand.value) }
+    ensures { syntax_tree_of result ≡ prefix_tree operator place interval (syntax_tree_of operand.value) }
 {
     match operator {
         Prefix::Prev => SyntaxFormula::Prev(place, interval, operand),
@@ -355,7 +358,7 @@ fn with_quantifier(
     bindings: Bindings,
     operand: Box<SyntaxFormula>,
 ) -> SyntaxFormula
-    ensures { formula_of result ≡ quantifier_tree quantifier place bindings (formula_of operand.value) }
+    ensures { syntax_tree_of result ≡ quantifier_tree quantifier place bindings (syntax_tree_of operand.value) }
 {
     match quantifier {
         Quantifier::Exists => SyntaxFormula::Exists(place, bindings, operand),

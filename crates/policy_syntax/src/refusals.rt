@@ -2,7 +2,7 @@
 ghost use Rattle.std.specs.Prelude.{◌≡◌};
 ghost use Rattle.policy_syntax.specs.declared.refusals.SyntaxRefusal.TheVariants.{NoMemory as OutOfMemory};
 
-use enf_value::{NoMemory, Place};
+use enf_data::{NoMemory, Place};
 
 /// Why the first pass refuses a text.
 #[derive(Clone, Copy, Debug, PartialEq, Eq)]

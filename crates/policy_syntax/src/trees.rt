@@ -1,5 +1,5 @@
 //! Syntax trees of policies: names and variables are texts, and each node has its place.
-use enf_value::{Interval, Items, Place, TextValue, Value};
+use enf_data::{Interval, Items, Place, TextValue, Value};
 
 /// A variable or a value, with the place of its token.
 #[derive(Debug, Drop)]

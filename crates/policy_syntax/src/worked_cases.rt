@@ -1,15 +1,15 @@
 //! Worked cases of the grammar and of its refusals, each a clause of a function with an empty body.
 ghost use Rattle.std.specs.Prelude.{◌≡◌, ◌≢◌, [], ◌∷◌, codes, false, true};
-ghost use Rattle.policy_syntax.specs.Cases.{HasLimitAt, HasSyntaxAt, HasTree, comparison, implication_to_the_right};
-ghost use Rattle.policy_syntax.specs.Cases.{precedence, with_name, with_nots};
-ghost use Rattle.policy_syntax.specs.Cases.{prefix_binds_tighter, quantifier_in_parentheses, quantifier_reaches};
-ghost use Rattle.policy_syntax.specs.Cases.{since_behind_a_quantifier, two_rules};
-ghost use Rattle.policy_syntax.specs.Lexemes.{Digits, lexemes};
-ghost use Rattle.policy_syntax.specs.Refusals.{behind, is_below_first, nodes_behind, rule_names, rules_behind};
-ghost use Rattle.policy_syntax.specs.Refusals.{wants_end};
+ghost use Rattle.policy_syntax.specs.machine.Cases.{HasLimitAt, HasSyntaxAt, HasTree, comparison};
+ghost use Rattle.policy_syntax.specs.machine.Cases.{implication_to_the_right, precedence, with_name, with_nots};
+ghost use Rattle.policy_syntax.specs.machine.Cases.{prefix_binds_tighter, quantifier_in_parentheses};
+ghost use Rattle.policy_syntax.specs.machine.Cases.{quantifier_reaches, since_behind_a_quantifier, two_rules};
+ghost use Rattle.policy_syntax.specs.meaning.Lexemes.{DigitsLexeme, lexemes};
+ghost use Rattle.policy_syntax.specs.meaning.Refusals.{kinds_behind, is_below_first, nodes_behind, rule_names};
+ghost use Rattle.policy_syntax.specs.meaning.Refusals.{rules_behind, wants_end};
 
 /// Texts with their trees: `and` before `or` before `->`, each to the right; a quantifier reaches as far as it can,
-/// over the `since` behind it too; `since` and `until` bind tighter than `and`, and prefix operators tighter still.
+/// over the `since` after it too; `since` and `until` bind tighter than `and`, and prefix operators tighter still.
 pub fn trees()
     ensures implication_to_the_right { HasTree (codes "rule r: a() -> b() -> c();") implication_to_the_right }
     ensures precedence { HasTree (codes "rule r: a() -> b() or c() and d();") precedence }
@@ -22,22 +22,22 @@ pub fn trees()
     ensures two_rules { HasTree (codes "rule r: true; rule s: false;") two_rules }
 {}
 
-/// What stands behind a lexeme: names of rules, how many rules and nodes, and whether an interval's end is wanted.
+/// What stands after a lexeme: names of rules, how many rules and nodes, and whether an interval's end is wanted.
 pub fn counts()
-    ensures names { rule_names (behind (lexemes (codes "rule r: a(); rule s: true; rule")))
+    ensures names { rule_names (kinds_behind (lexemes (codes "rule r: a(); rule s: true; rule")))
         ≡ codes "s" ∷ codes "r" ∷ [] }
-    ensures rules { rules_behind (behind (lexemes (codes "rule r: a(); rule s: true; rule"))) ≡ 3 }
-    ensures an_event_is_a_node { nodes_behind (behind (lexemes (codes "rule r: a("))) ≡ 1 }
-    ensures a_name_is_none { nodes_behind (behind (lexemes (codes "rule r: a"))) ≡ 0 }
-    ensures a_sign_is_a_node { nodes_behind (behind (lexemes (codes "rule r: x = y"))) ≡ 1 }
+    ensures rules { rules_behind (kinds_behind (lexemes (codes "rule r: a(); rule s: true; rule"))) ≡ 3 }
+    ensures an_event_is_a_node { nodes_behind (kinds_behind (lexemes (codes "rule r: a("))) ≡ 1 }
+    ensures a_name_is_none { nodes_behind (kinds_behind (lexemes (codes "rule r: a"))) ≡ 0 }
+    ensures a_sign_is_a_node { nodes_behind (kinds_behind (lexemes (codes "rule r: x = y"))) ≡ 1 }
     ensures one_quantifier_is_a_node { nodes_behind
-        (behind (lexemes (codes "rule r: forall x, y. not a() and true"))) ≡ 5 }
-    ensures for_each_rule_anew { nodes_behind (behind (lexemes (codes "rule r: a(); rule s: b()"))) ≡ 1 }
-    ensures first_end { wants_end (behind (lexemes (codes "rule r: once["))) ≡ true }
-    ensures second_end { wants_end (behind (lexemes (codes "rule r: once[3,"))) ≡ true }
-    ensures no_end { wants_end (behind (lexemes (codes "rule r: a(3,"))) ≡ false }
-    ensures below { is_below_first (behind (lexemes (codes "rule r: once[3,"))) (Digits 2) ≡ true }
-    ensures not_below { is_below_first (behind (lexemes (codes "rule r: once[3,"))) (Digits 3) ≡ false }
+        (kinds_behind (lexemes (codes "rule r: forall x, y. not a() and true"))) ≡ 5 }
+    ensures for_each_rule_anew { nodes_behind (kinds_behind (lexemes (codes "rule r: a(); rule s: b()"))) ≡ 1 }
+    ensures first_end { wants_end (kinds_behind (lexemes (codes "rule r: once["))) ≡ true }
+    ensures second_end { wants_end (kinds_behind (lexemes (codes "rule r: once[3,"))) ≡ true }
+    ensures no_end { wants_end (kinds_behind (lexemes (codes "rule r: a(3,"))) ≡ false }
+    ensures below { is_below_first (kinds_behind (lexemes (codes "rule r: once[3,"))) (DigitsLexeme 2) ≡ true }
+    ensures not_below { is_below_first (kinds_behind (lexemes (codes "rule r: once[3,"))) (DigitsLexeme 3) ≡ false }
 {}
 
 /// Refused texts, with the place of the first refusal: Syntax where no policy goes on so, at the end where none ends

@@ -1,16 +1,10 @@
 -- Plans are accepted, or refused for one reason alone.
-use Rattle.std.proofs.Common.{◌≡◌, ◌⊎◌, ℕ, zero, suc, ◌<◌, ◌≤◌, IsTrue, List, Some, refl, sym, ap, subst, inl, inr, ⊎_elim, arith, ◌∙◌}
-use Rattle.std.specs.List.{slice_get}
-use Rattle.std.proofs.lemmas.Bool.{cases_lt}
-use Rattle.enf_value.specs.declared.events.NameId.{NameId}
-use Rattle.plan_terms.specs.Nodes.{nodes}
-use Rattle.plan_terms.specs.Plans.{Plan, Cause, Eventually, Until, Next}
-use Rattle.rank_check.specs.Chains.{IsOnCycle}
-use Rattle.rank_check.specs.Paths.{needs_trigger, Edge}
-use Rattle.rank_check.specs.Refusals.{AllIsTriggered, AreAccepted, IsAcyclic, IsFirstName, IsFirstPlace, IsPlaceOf, IsUntriggeredAt, RefusesPlans}
-use Rattle.plan_terms.specs.Changes.{NothingClashes, Clashes}
-use Rattle.rank_check.specs.declared.answers.RankRefusal.{RankRefusal}
-use Rattle.rank_check.specs.declared.answers.RankRefusal.TheVariants.{RoleClash, Untriggered, Cyclic, NoMemory}
+use Rattle.rank_check.proofs.Vocabulary.{◌≡◌, ◌⊎◌, ℕ, zero, suc, ◌<◌, ◌≤◌, IsTrue, List, Some}
+use Rattle.rank_check.proofs.Vocabulary.{refl, sym, ap, subst, inl, inr, ⊎_elim, arith, ◌∙◌, slice_get}
+use Rattle.rank_check.proofs.Vocabulary.{cases_lt, NameId, nodes, Plan, CausePlan, EventuallyPlan, UntilPlan, NextPlan}
+use Rattle.rank_check.proofs.Vocabulary.{NothingClashes, Clashes, IsOnCycle, needs_trigger, Edge, AllIsTriggered}
+use Rattle.rank_check.proofs.Vocabulary.{AreAccepted, IsAcyclic, IsUntriggeredAt, IsFirstName, IsFirstPlace, IsPlaceOf}
+use Rattle.rank_check.proofs.Vocabulary.{RefusesPlans, RankRefusal, RoleClash, Untriggered, Cyclic, NoMemory}
 
 -- where no name is the first, none is there
 none_below : (P : NameId → Type 0) → ((name : NameId) → IsFirstName P name → ⊥) → (most : ℕ) (name : NameId) → name.0 < most → P name → ⊥
@@ -33,10 +27,10 @@ one_first P a b is also =
 
 -- where no node is the first, none is there
 place_at : (node : Plan) → IsTrue (needs_trigger node) → (at : ℕ) × IsPlaceOf at node
-place_at (Cause n place name terms) needs = (place, refl)
-place_at (Eventually n place low high body) needs = (place, refl)
-place_at (Until n place low high l r) needs = (place, refl)
-place_at (Next n place high body) needs = (place, refl)
+place_at (CausePlan n place name terms) needs = (place, refl)
+place_at (EventuallyPlan n place low high body) needs = (place, refl)
+place_at (UntilPlan n place low high l r) needs = (place, refl)
+place_at (NextPlan n place high body) needs = (place, refl)
 place_at plan needs = absurd (cc)
 
 abbrev NoneFirst : List Plan → Type 0
@@ -82,10 +76,10 @@ all_triggered plans none rule number node is = in_rules plans none (suc rule) ru
 
 -- the place of a node is one
 one_place : (node : Plan) (a b : ℕ) → IsPlaceOf a node → IsPlaceOf b node → a ≡ b
-one_place (Cause n place name terms) a b is also = is ∙ sym also
-one_place (Eventually n place low high body) a b is also = is ∙ sym also
-one_place (Until n place low high l r) a b is also = is ∙ sym also
-one_place (Next n place high body) a b is also = is ∙ sym also
+one_place (CausePlan n place name terms) a b is also = is ∙ sym also
+one_place (EventuallyPlan n place low high body) a b is also = is ∙ sym also
+one_place (UntilPlan n place low high l r) a b is also = is ∙ sym also
+one_place (NextPlan n place high body) a b is also = is ∙ sym also
 one_place plan a b is also = absurd is
 
 one_first_place : (plans : List Plan) (a b : ℕ) → IsFirstPlace plans a → IsFirstPlace plans b → a ≡ b
@@ -100,7 +94,8 @@ one_first_place plans a b (rule, number, node, is, keeps) (other, place, late, a
     let one : slice_get plans rule ≡ Some also.untriggered.plan = subst (λ (k : ℕ). slice_get plans k ≡ Some also.untriggered.plan) too.0 also.untriggered.plan_is in
     let mine : slice_get plans rule ≡ Some is.untriggered.plan = is.untriggered.plan_is in
     let plans_alike : is.untriggered.plan ≡ also.untriggered.plan = cc in
-    let here : slice_get (nodes also.untriggered.plan) place ≡ Some node = subst (λ (p : Plan). slice_get (nodes p) place ≡ Some node) plans_alike (subst (λ (k : ℕ). slice_get (nodes is.untriggered.plan) k ≡ Some node) numbers is.untriggered.node_is) in
+    let here : slice_get (nodes also.untriggered.plan) place ≡ Some node = subst (λ (p : Plan). slice_get (nodes p) place ≡ Some node) plans_alike
+    (subst (λ (k : ℕ). slice_get (nodes is.untriggered.plan) k ≡ Some node) numbers is.untriggered.node_is) in
     let its : slice_get (nodes also.untriggered.plan) place ≡ Some late = also.untriggered.node_is in
     let nodes_alike : node ≡ late = cc in
     one_place late a b (subst (IsPlaceOf a) nodes_alike keeps) holds) back)

@@ -1,17 +1,13 @@
 -- The first place that a walk finds is that of the first node that is met before any trigger.
-use Rattle.std.proofs.Common.{◌≡◌, ℕ, zero, suc, ◌+◌, ◌<◌, ◌≤◌, Bool, true, false, IsTrue, List, [], ◌∷◌, ◌++◌, Option, None, Some, length, map, refl, sym, ap, subst, inl, inr, ⊎_elim, arith, ◌∙◌}
-use Rattle.std.specs.List.{slice_get, AllByRecursion}
-use Rattle.std.specs.Option.{option_or, option_map}
-use Rattle.std.proofs.lemmas.Bool.{cases_lt}
-use Rattle.std.proofs.lemmas.List.{map-append}
-use Rattle.std.proofs.lemmas.Option.{slice_get-map, slice_get_read, slice_get_within}
-use Rattle.enf_value.specs.ListLaws.{there_from_get}
-use Rattle.plan_terms.specs.Nodes.{nodes, number_of, IsNumbered}
-use Rattle.plan_terms.specs.Plans.{Plan, Cause, Suppress, Both, Either, TestOr, Guarded, Eventually, Always, Until, Next}
-use Rattle.rank_check.specs.Paths.{needs_trigger, IsUntriggered}
-use Rattle.plan_terms.specs.Triggers.{triggers}
-use Rattle.rank_check.specs.Refusals.{IsPlaceOf, AllIsTriggered, IsFirstPlace}
-use Rattle.rank_check.specs.Walks.{bare_behind, visits, place_needing, bare_place, first_place}
+use Rattle.rank_check.proofs.Vocabulary.{◌≡◌, ℕ, zero, suc, ◌+◌, ◌<◌, ◌≤◌, Bool, true, false}
+use Rattle.rank_check.proofs.Vocabulary.{IsTrue, List, [], ◌∷◌, ◌++◌, Option, None, Some, length, map, refl}
+use Rattle.rank_check.proofs.Vocabulary.{sym, ap, subst, inl, inr, ⊎_elim, arith, ◌∙◌, slice_get}
+use Rattle.rank_check.proofs.Vocabulary.{AllByRecursion, option_or, option_map, cases_lt, map-append, slice_get-map}
+use Rattle.rank_check.proofs.Vocabulary.{slice_get_read, slice_get_within, there_from_get, nodes, node_number, Plan}
+use Rattle.rank_check.proofs.Vocabulary.{CausePlan, SuppressPlan, Both, Either, TestOr, Guarded, EventuallyPlan}
+use Rattle.rank_check.proofs.Vocabulary.{AlwaysPlan, UntilPlan, NextPlan, triggers, IsNumberedPlan, needs_trigger}
+use Rattle.rank_check.proofs.Vocabulary.{IsUntriggered, AllIsTriggered, IsPlaceOf, IsFirstPlace, bare_behind, visits}
+use Rattle.rank_check.proofs.Vocabulary.{place_needing, bare_place, first_place}
 use Rattle.rank_check.proofs.VisitLemmas.{untriggered_if_bare, bare_if_untriggered}
 
 abbrev Visit : Type 0
@@ -27,17 +23,17 @@ first_of_both (x ∷ xs) ys = by (bare_place x) (first_place (xs ++ ys)) (first_
     by (Some n) a b c is = refl
 
 needs : (node : Plan) (at : ℕ) → place_needing node ≡ Some at → IsTrue (needs_trigger node) × IsPlaceOf at node
-needs (Cause n place name terms) at is = (refl, cc)
-needs (Eventually n place low high body) at is = (refl, cc)
-needs (Until n place low high l r) at is = (refl, cc)
-needs (Next n place high body) at is = (refl, cc)
+needs (CausePlan n place name terms) at is = (refl, cc)
+needs (EventuallyPlan n place low high body) at is = (refl, cc)
+needs (UntilPlan n place low high l r) at is = (refl, cc)
+needs (NextPlan n place high body) at is = (refl, cc)
 needs plan at is = absurd (cc)
 
 needing : (node : Plan) → IsTrue (needs_trigger node) → place_needing node ≡ None → ⊥
-needing (Cause n place name terms) is none = cc
-needing (Eventually n place low high body) is none = cc
-needing (Until n place low high l r) is none = cc
-needing (Next n place high body) is none = cc
+needing (CausePlan n place name terms) is none = cc
+needing (EventuallyPlan n place low high body) is none = cc
+needing (UntilPlan n place low high l r) is none = cc
+needing (NextPlan n place high body) is none = cc
 needing plan is none = cc
 
 -- a bare node that needs a trigger stands so far on
@@ -66,7 +62,7 @@ no_bare (v ∷ vs) none (suc k) node bare = no_bare vs (by (bare_place v) (first
     by None b e = e
     by (Some n) b e = absurd (cc)
 
--- behind a visit that is not the first bare one
+-- after a visit that is not the first bare one
 behind : (v : Visit) (vs : List Visit) (at : ℕ) → bare_place v ≡ None → First vs at → First (v ∷ vs) at
 behind v vs at none rest = record {
   place = suc rest.place;
@@ -105,16 +101,16 @@ abbrev node_of : Visit → Plan
 node_of v = v.0
 
 visited : (bare : Bool) (plan : Plan) → map node_of (visits bare plan) ≡ nodes plan
-visited bare (Cause n place name terms) = refl
-visited bare (Suppress n place name terms) = refl
+visited bare (CausePlan n place name terms) = refl
+visited bare (SuppressPlan n place name terms) = refl
 visited bare (Both n l r) = let a = visited bare l in let b = visited bare r in let c = map-append node_of (visits bare l) (visits bare r) in cc
 visited bare (Either n l r) = let a = visited bare l in let b = visited bare r in let c = map-append node_of (visits bare l) (visits bare r) in cc
 visited bare (TestOr n guard test body) = ap (λ (l : List Plan). TestOr n guard test body ∷ l) (visited bare body)
 visited bare (Guarded n xs guard test body) = ap (λ (l : List Plan). Guarded n xs guard test body ∷ l) (visited (bare_behind bare (triggers test)) body)
-visited bare (Eventually n place low high body) = ap (λ (l : List Plan). Eventually n place low high body ∷ l) (visited bare body)
-visited bare (Always n place low high body) = ap (λ (l : List Plan). Always n place low high body ∷ l) (visited true body)
-visited bare (Until n place low high l r) = let a = visited true l in let b = visited bare r in let c = map-append node_of (visits true l) (visits bare r) in cc
-visited bare (Next n place high body) = ap (λ (l : List Plan). Next n place high body ∷ l) (visited bare body)
+visited bare (EventuallyPlan n place low high body) = ap (λ (l : List Plan). EventuallyPlan n place low high body ∷ l) (visited bare body)
+visited bare (AlwaysPlan n place low high body) = ap (λ (l : List Plan). AlwaysPlan n place low high body ∷ l) (visited true body)
+visited bare (UntilPlan n place low high l r) = let a = visited true l in let b = visited bare r in let c = map-append node_of (visits true l) (visits bare r) in cc
+visited bare (NextPlan n place high body) = ap (λ (l : List Plan). NextPlan n place high body ∷ l) (visited bare body)
 
 node_at : (plan node : Plan) (k : ℕ) (o : Bool) → slice_get (visits true plan) k ≡ Some (node, o) → slice_get (nodes plan) k ≡ Some node
 node_at plan node k o is =
@@ -138,7 +134,7 @@ pub record FirstIn (plan : Plan) (at : ℕ) : Type 0 where
   pub keeps : IsPlaceOf at node
   pub first : (place : ℕ) (late : Plan) → slice_get (nodes plan) place ≡ Some late → IsUntriggered plan late → number ≤ place
 
-pub first_in_plan : (plan : Plan) (at : ℕ) → IsNumbered plan → first_place (visits true plan) ≡ Some at → FirstIn plan at
+pub first_in_plan : (plan : Plan) (at : ℕ) → IsNumberedPlan plan → first_place (visits true plan) ≡ Some at → FirstIn plan at
 first_in_plan plan at numbered is =
     let found = first_bare (visits true plan) at is in
     record {
@@ -149,15 +145,15 @@ first_in_plan plan at numbered is =
       keeps = found.keeps;
       first = λ place late there untriggered.
           let at = visit_at plan late untriggered in
-          let one : number_of late ≡ at.0 = numbered at.0 late (node_at plan late at.0 true at.1) in
-          let other : number_of late ≡ place = numbered place late there in
+          let one : node_number late ≡ at.0 = numbered at.0 late (node_at plan late at.0 true at.1) in
+          let other : node_number late ≡ place = numbered place late there in
           omega (arith, found.first at.0 late (at.1, untriggered.0), one, other);
     }
 
 -- over the plans of a policy
-numbered_at : (plans : List Plan) (rule : ℕ) (plan : Plan) → AllByRecursion IsNumbered plans → slice_get plans rule ≡ Some plan → IsNumbered plan
+numbered_at : (plans : List Plan) (rule : ℕ) (plan : Plan) → AllByRecursion IsNumberedPlan plans → slice_get plans rule ≡ Some plan → IsNumberedPlan plan
 numbered_at [] rule plan all is = absurd (cc)
-numbered_at (p ∷ plans) zero plan all is = let same : p ≡ plan = cc in subst IsNumbered same all.0
+numbered_at (p ∷ plans) zero plan all is = let same : p ≡ plan = cc in subst IsNumberedPlan same all.0
 numbered_at (p ∷ plans) (suc rule) plan all is = numbered_at plans rule plan all.1 is
 
 -- nothing is bare in the first so many
@@ -179,7 +175,8 @@ pub none_bare : (plans : List Plan) → NoneBefore plans (length plans) → AllI
 none_bare plans none rule number node is =
     none_in_plan is.plan (none rule is.plan (slice_get_within plans rule is.plan is.plan_is) is.plan_is) node is.untriggered
 
-pub first_of_plans : (plans : List Plan) (rule : ℕ) (plan : Plan) (at : ℕ) → AllByRecursion IsNumbered plans → NoneBefore plans rule → slice_get plans rule ≡ Some plan → first_place (visits true plan) ≡ Some at → IsFirstPlace plans at
+pub first_of_plans : (plans : List Plan) (rule : ℕ) (plan : Plan) (at : ℕ) → AllByRecursion IsNumberedPlan plans → NoneBefore plans rule → slice_get plans rule ≡ Some plan
+    → first_place (visits true plan) ≡ Some at → IsFirstPlace plans at
 first_of_plans plans rule plan at numbered none is found =
     let inside = first_in_plan plan at (numbered_at plans rule plan numbered is) found in (
       rule,

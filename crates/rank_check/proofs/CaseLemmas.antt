@@ -1,19 +1,14 @@
 -- Edges of the small policies in which names follow from each other.
-use Rattle.std.proofs.Common.{◌≡◌, ℕ, zero, suc, ◌+◌, ◌≤◌, true, List, [], ◌∷◌, Contains, refl, sym, ap, subst, inl, ⊎_elim, arith}
-use Rattle.enf_formula.specs.Cases.{name_p, name_q}
-use Rattle.enf_value.specs.declared.events.NameId.{NameId}
-use Rattle.plan_terms.specs.Plans.{Plan, Cause, Eventually}
-use Rattle.enf_value.specs.ListLaws.{here, first_or_later, none_in_nil}
-use Rattle.rank_check.specs.Cases.{name_r, soon_after, in_a_row, two_in_turn}
-use Rattle.rank_check.specs.Chains.{Leads, EndsIn, IsOnCycle}
-use Rattle.rank_check.specs.Paths.{Edge}
-use Rattle.rank_check.specs.Walks.{Causes}
+use Rattle.rank_check.proofs.Vocabulary.{◌≡◌, ℕ, zero, suc, ◌+◌, ◌≤◌, true, List, [], ◌∷◌}
+use Rattle.rank_check.proofs.Vocabulary.{Contains, refl, sym, ap, subst, inl, ⊎_elim, arith, name_p, name_q, NameId}
+use Rattle.rank_check.proofs.Vocabulary.{Plan, CausePlan, EventuallyPlan, here, first_or_later, none_in_nil, name_r}
+use Rattle.rank_check.proofs.Vocabulary.{soon_after, in_a_row, two_in_turn, EdgesLead, IsOnCycle, Edge, EndsIn, Causes}
 use Rattle.rank_check.proofs.CauseLemmas.{caused_if_edge}
 
 pub edge_of : (plans : List Plan) (from to : NameId) → Contains plans (soon_after from to) → Edge plans from to
 edge_of plans from to there =
-    let end : Plan = Cause 2 6 to [] in
-    let soon : Plan = Eventually 1 4 1 5 end in
+    let end : Plan = CausePlan 2 6 to [] in
+    let soon : Plan = EventuallyPlan 1 4 1 5 end in
     let plan : Plan = soon_after from to in
     (plan, there, plan, inl refl, plan ∷ soon ∷ [], end, (refl, soon, here soon [], (refl, end, here end [], refl)), refl, from ∷ [], refl, here from [])
 
@@ -43,11 +38,12 @@ edge_rises from to edge =
     let by : (first second : NameId) → suc first.0 ≤ second.0 → soon_after first second ≡ caused.0 → suc from.0 ≤ to.0 =
     λ first second rises same. number_rises first second from to rises (one_edge first second from to (subst (λ (p : Plan). Causes true [] p from to) (sym same) caused.2)) in
     ⊎_elim (by name_p name_q (omega arith))
-    (λ (more : Contains (soon_after name_q name_r ∷ []) caused.0). ⊎_elim (by name_q name_r (omega arith)) (λ (none : Contains [] caused.0). absurd (none_in_nil caused.0 none)) (first_or_later caused.0 (soon_after name_q name_r) [] more))
+    (λ (more : Contains (soon_after name_q name_r ∷ []) caused.0). ⊎_elim (by name_q name_r (omega arith)) (λ (none : Contains [] caused.0). absurd (none_in_nil caused.0 none))
+    (first_or_later caused.0 (soon_after name_q name_r) [] more))
     (first_or_later caused.0 (soon_after name_p name_q) (soon_after name_q name_r ∷ []) caused.1)
 
 -- where edges go to greater numbers alone, a chain has no more edges than the number of its last name
-chain_rises : (k : ℕ) (from to : NameId) → Leads (Edge in_a_row) k from to → from.0 + k ≤ to.0
+chain_rises : (k : ℕ) (from to : NameId) → EdgesLead (Edge in_a_row) k from to → from.0 + k ≤ to.0
 chain_rises zero from to is = let same : from.0 ≡ to.0 = ap (λ (n : NameId). n.0) is in omega arith
 chain_rises (suc k) from to leads = omega (arith, chain_rises k from leads.0 leads.1, edge_rises leads.0 to leads.2)
 

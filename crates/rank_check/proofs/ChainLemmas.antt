@@ -1,18 +1,17 @@
 -- Chains of edges.
-use Rattle.std.proofs.Common.{◌≡◌, ℕ, zero, suc, ◌+◌, ◌≤◌, arith, refl, subst}
-use Rattle.enf_value.specs.declared.events.NameId.{NameId}
-use Rattle.rank_check.specs.Chains.{Leads, IsRank, IsOnCycle}
+use Rattle.rank_check.proofs.Vocabulary.{◌≡◌, ℕ, zero, suc, ◌+◌, ◌≤◌, arith, refl, subst, NameId}
+use Rattle.rank_check.proofs.Vocabulary.{EdgesLead, IsOnCycle, IsRank}
 
 module _ (E : NameId → NameId → Type 0) where
-  -- one chain behind another
-  joined : (m n : ℕ) (a b c : NameId) → Leads E m a b → Leads E n b c → (p : ℕ) × (p ≡ m + n) × Leads E p a c
-  joined m zero a b c first is = (m, omega arith, subst (λ (d : NameId). Leads E m a d) is first)
+  -- one chain after another
+  joined : (m n : ℕ) (a b c : NameId) → EdgesLead E m a b → EdgesLead E n b c → (p : ℕ) × (p ≡ m + n) × EdgesLead E p a c
+  joined m zero a b c first is = (m, omega arith, subst (λ (d : NameId). EdgesLead E m a d) is first)
   joined m (suc n) a b c first second =
       let more = joined m n a b second.0 first second.1 in
       (suc more.0, omega (arith, more.1), (second.0, more.2, second.2))
 
   -- a chain that returns can be walked again and again
-  around : (k n : ℕ) (a : NameId) → Leads E (suc k) a a → (m : ℕ) × (n ≤ m) × Leads E m a a
+  around : (k n : ℕ) (a : NameId) → EdgesLead E (suc k) a a → (m : ℕ) × (n ≤ m) × EdgesLead E m a a
   around k zero a cycle = (0, omega arith, refl)
   around k (suc n) a cycle =
       let before = around k n a cycle in

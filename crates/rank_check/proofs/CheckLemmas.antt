@@ -1,10 +1,7 @@
 -- What is known of a table of edges holds of the edges of the plans, and the answers of the parts are those of the whole.
-use Rattle.std.proofs.Common.{◌↔◌, ℕ, zero, suc}
-use Rattle.enf_value.specs.declared.events.NameId.{NameId}
-use Rattle.rank_check.specs.Chains.{Leads, IsOnCycle, IsRank}
-use Rattle.rank_check.specs.Refusals.{IsFirstName}
+use Rattle.rank_check.proofs.Vocabulary.{◌↔◌, ℕ, zero, suc, NameId, EdgesLead, IsOnCycle, IsRank, IsFirstName}
 
-leads : (E F : NameId → NameId → Type 0) → ((a b : NameId) → E a b → F a b) → (k : ℕ) (a b : NameId) → Leads E k a b → Leads F k a b
+leads : (E F : NameId → NameId → Type 0) → ((a b : NameId) → E a b → F a b) → (k : ℕ) (a b : NameId) → EdgesLead E k a b → EdgesLead F k a b
 leads E F there zero a b is = is
 leads E F there (suc k) a b is = (is.0, leads E F there k a is.0 is.1, there is.0 b is.2)
 

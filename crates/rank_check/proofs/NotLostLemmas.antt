@@ -1,58 +1,39 @@
 -- What is owed is not lost while a trace can be continued well.
-use Rattle.std.proofs.Common.{◌≡◌, ℕ, IsTrue, List, map, Option, None, Some, slice_get, refl, sym, ◌∙◌}
-use Rattle.std.specs.List.{AllByRecursion, find}
-use Rattle.std.proofs.lemmas.Bool.{false≢true}
-use Rattle.std.proofs.lemmas.Option.{none-some}
-use Rattle.enf_value.specs.ListLaws.{AllByRecursion-contains, there_from_get}
-use Rattle.enf_value.specs.declared.steps.Step.{Step}
-use Rattle.enf_value.specs.declared.terms.VarId.{VarId}
-use Rattle.enf_formula.specs.Formulas.{Formula}
-use Rattle.trace_meaning.specs.Good.{Good}
-use Rattle.plan_terms.specs.Nodes.{NumberIsPlace, has_deadline, has_future, has_number, is_future, nodes}
-use Rattle.plan_terms.specs.PlanFormula.{formula_for}
-use Rattle.plan_terms.specs.Plans.{Plan, Cause, Suppress, Both, Either, TestOr, Guarded, Eventually, Always}
-use Rattle.plan_terms.specs.Plans.{Until, Next}
-use Rattle.plan_terms.specs.Standing.{PlansStandIn, node_in, nodes_of}
-use Rattle.plan_terms.specs.WellFormed.{IsWellFormed}
-use Rattle.rank_check.specs.Transparency.{DeadlinesAreNotLost, GoesWell, LookBack, OwedNodesAreNotLost, OwedNodesHold, RootsAreNotLost, RootsHold}
+use Rattle.rank_check.proofs.Vocabulary.{◌≡◌, ℕ, IsTrue, List, map, Option, None, Some, refl, sym, ◌∙◌}
+use Rattle.rank_check.proofs.Vocabulary.{AllByRecursion, find, false≢true, none-some, AllByRecursion-contains}
+use Rattle.rank_check.proofs.Vocabulary.{there_from_get, Step, VarId, Formula, Good, NumberIsPlace, PlansStandIn}
+use Rattle.rank_check.proofs.Vocabulary.{has_deadline, has_future, has_number, is_future, node_in, nodes_of}
+use Rattle.rank_check.proofs.Vocabulary.{formula_for, Plan, CausePlan, SuppressPlan, Both, Either, TestOr, Guarded}
+use Rattle.rank_check.proofs.Vocabulary.{EventuallyPlan, AlwaysPlan, UntilPlan, NextPlan, IsWellFormed, first_node}
+use Rattle.rank_check.proofs.Vocabulary.{DeadlinesAreNotLost, GoesWell, LookBack, OwedNodesAreNotLost, OwedNodesHold}
+use Rattle.rank_check.proofs.Vocabulary.{RootsAreNotLost, RootsHold}
+use Rattle.std.proofs.Common.{slice_get}
 
 -- ---- nodes
 
-first_node : (plan : Plan) → slice_get (nodes plan) 0 ≡ Some plan
-first_node (Cause node place name terms) = refl
-first_node (Suppress node place name terms) = refl
-first_node (Both node left right) = refl
-first_node (Either node left right) = refl
-first_node (TestOr node guard test body) = refl
-first_node (Guarded node xs guard test body) = refl
-first_node (Eventually node place low high body) = refl
-first_node (Always node place low high body) = refl
-first_node (Until node place low high left right) = refl
-first_node (Next node place high body) = refl
-
 operator_ahead : (node : Plan) → IsTrue (is_future node) → IsTrue (has_future node)
-operator_ahead (Cause node place name terms) is = absurd (false≢true is)
-operator_ahead (Suppress node place name terms) is = absurd (false≢true is)
+operator_ahead (CausePlan node place name terms) is = absurd (false≢true is)
+operator_ahead (SuppressPlan node place name terms) is = absurd (false≢true is)
 operator_ahead (Both node left right) is = absurd (false≢true is)
 operator_ahead (Either node left right) is = absurd (false≢true is)
 operator_ahead (TestOr node guard test body) is = absurd (false≢true is)
 operator_ahead (Guarded node xs guard test body) is = absurd (false≢true is)
-operator_ahead (Eventually node place low high body) is = refl
-operator_ahead (Always node place low high body) is = refl
-operator_ahead (Until node place low high left right) is = refl
-operator_ahead (Next node place high body) is = refl
+operator_ahead (EventuallyPlan node place low high body) is = refl
+operator_ahead (AlwaysPlan node place low high body) is = refl
+operator_ahead (UntilPlan node place low high left right) is = refl
+operator_ahead (NextPlan node place high body) is = refl
 
 deadline_ahead : (node : Plan) → IsTrue (has_deadline node) → IsTrue (is_future node)
-deadline_ahead (Cause node place name terms) is = absurd (false≢true is)
-deadline_ahead (Suppress node place name terms) is = absurd (false≢true is)
+deadline_ahead (CausePlan node place name terms) is = absurd (false≢true is)
+deadline_ahead (SuppressPlan node place name terms) is = absurd (false≢true is)
 deadline_ahead (Both node left right) is = absurd (false≢true is)
 deadline_ahead (Either node left right) is = absurd (false≢true is)
 deadline_ahead (TestOr node guard test body) is = absurd (false≢true is)
 deadline_ahead (Guarded node xs guard test body) is = absurd (false≢true is)
-deadline_ahead (Eventually node place low high body) is = refl
-deadline_ahead (Always node place low high body) is = absurd (false≢true is)
-deadline_ahead (Until node place low high left right) is = refl
-deadline_ahead (Next node place high body) is = refl
+deadline_ahead (EventuallyPlan node place low high body) is = refl
+deadline_ahead (AlwaysPlan node place low high body) is = absurd (false≢true is)
+deadline_ahead (UntilPlan node place low high left right) is = refl
+deadline_ahead (NextPlan node place high body) is = refl
 
 -- the node with number 0 is the root
 root_of : NumberIsPlace → (guards : List (Formula × List VarId)) (plans : List Plan) (rule : ℕ) (node : Plan)

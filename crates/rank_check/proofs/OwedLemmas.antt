@@ -1,31 +1,19 @@
 -- Under transparent plans what is owed holds wherever a trace goes on to satisfy the plans.
-use Rattle.std.proofs.Common.{◌≡◌, ◌⊎◌, ℕ, zero, suc, ◌<◌, ◌≤◌, Bool, true, false, not, ◌&&◌, ◌||◌, IsTrue, List, [], ◌∷◌, ◌++◌, length, map, Some, slice_get, inl, inr, ⊎_elim, refl, sym, subst, append-nil, arith, le_refl, length-append}
-use Rattle.std.specs.List.{list_all, list_any}
-use Rattle.std.proofs.lemmas.Bool.{false≢true}
-use Rattle.std.proofs.lemmas.List.Elements.{All-head, All-nil, All-tail}
-use Rattle.std.proofs.lemmas.List.Folds.{list_all-append, list_any-append}
-use Rattle.std.proofs.lemmas.Option.{none-some, same_Some}
-use Rattle.enf_value.specs.Data.{IsTrace}
-use Rattle.enf_value.specs.Valuations.{Valuation, no_values, with_values}
-use Rattle.enf_value.specs.declared.steps.Step.{Step}
-use Rattle.enf_formula.specs.Formulas.{Formula}
-use Rattle.enf_formula.specs.Laws.{IsStable}
-use Rattle.enf_formula.specs.Satisfaction.{Sat}
-use Rattle.trace_meaning.specs.Satisfies.{Satisfies}
-use Rattle.plan_terms.specs.Lost.{IsLost}
-use Rattle.plan_terms.specs.Nodes.{has_future, is_future, nodes}
-use Rattle.plan_terms.specs.Owed.{IsAhead, IsOwed, IsStillLost, LeadsThrough, LeadsTo, Obligation, OwedStaysOwed, obligation}
-use Rattle.plan_terms.specs.PlanFormula.{formula_for}
-use Rattle.plan_terms.specs.Plans.{Plan, Cause, Suppress, Both, Either, TestOr, Guarded, Eventually, Always}
-use Rattle.plan_terms.specs.Plans.{Until, Next}
-use Rattle.rank_check.specs.Transparency.{OwedNodesHold, RootsHold}
-use Rattle.rank_check.specs.Transparent.{is_transparent, is_transparent_at}
+use Rattle.rank_check.proofs.Vocabulary.{◌≡◌, ◌⊎◌, ℕ, zero, suc, ◌<◌, ◌≤◌, Bool, true, false}
+use Rattle.rank_check.proofs.Vocabulary.{not, ◌&&◌, ◌||◌, IsTrue, List, [], ◌∷◌, ◌++◌, length, map}
+use Rattle.rank_check.proofs.Vocabulary.{Some, ⊎_elim, refl, sym, subst, arith, le_refl, length-append, list_all}
+use Rattle.rank_check.proofs.Vocabulary.{list_any, false≢true, All-head, All-nil, All-tail, list_all-append}
+use Rattle.rank_check.proofs.Vocabulary.{list_any-append, none-some, same_Some, IsTrace, Valuation, no_values}
+use Rattle.rank_check.proofs.Vocabulary.{with_values, Step, cases_le, both_true as both, not_both as never, Formula}
+use Rattle.rank_check.proofs.Vocabulary.{Sat, IsStable, Satisfies, IsLost, IsAhead, IsOwed, IsStillLost, LeadsThrough}
+use Rattle.rank_check.proofs.Vocabulary.{LeadsTo, Obligation, obligation, has_future, is_future, nodes, formula_for}
+use Rattle.rank_check.proofs.Vocabulary.{Plan, CausePlan, SuppressPlan, Both, Either, TestOr, Guarded, EventuallyPlan}
+use Rattle.rank_check.proofs.Vocabulary.{AlwaysPlan, UntilPlan, NextPlan, OwedStaysOwed, OwedNodesHold, RootsHold}
+use Rattle.rank_check.proofs.Vocabulary.{is_transparent, is_transparent_at}
+use Rattle.std.proofs.Common.{slice_get}
+use Rattle.std.proofs.Common.{append-nil}
 
 -- ---- tests
-
-both : (a b : Bool) → IsTrue (a && b) → IsTrue a × IsTrue b
-both true b is = (refl, is)
-both false b is = absurd (false≢true is)
 
 from_left : (a b : Bool) → IsTrue a → IsTrue (a || b)
 from_left true b is = refl
@@ -34,10 +22,6 @@ from_left false b is = absurd (false≢true is)
 from_right : (a b : Bool) → IsTrue b → IsTrue (a || b)
 from_right true b is = refl
 from_right false b is = is
-
-never : (a : Bool) → IsTrue (not a) → IsTrue a → ⊥
-never true is_not is = false≢true is_not
-never false is_not is = false≢true is
 
 second_not : (a b : Bool) → IsTrue (not (a && b)) → IsTrue a → b ≡ false
 second_not true true none is = absurd (false≢true none)
@@ -48,12 +32,6 @@ first_not : (a b : Bool) → IsTrue (not (a && b)) → IsTrue b → a ≡ false
 first_not false b none is = refl
 first_not true true none is = absurd (false≢true none)
 first_not true false none is = absurd (false≢true is)
-
-up_to_or_above : (a b : ℕ) → (a ≤ b) ⊎ (b < a)
-up_to_or_above zero b = inl (omega arith)
-up_to_or_above (suc a) zero = inr (omega arith)
-up_to_or_above (suc a) (suc b) =
-    ⊎_elim (λ below. inl (omega (arith, below))) (λ above. inr (omega (arith, above))) (up_to_or_above a b)
 
 -- ---- nodes
 
@@ -109,8 +87,8 @@ module _ (stable : (trace : List Step) (i : ℕ) (v : Valuation) (f : Formula) �
   -- a node that is marked and holds leads to what is so too, where that looks ahead
   moves : (node : Plan) (v : Valuation) (j : ℕ) (next : Obligation) → IsMarked node → Sat trace j v (formula_for node)
       → LeadsTo trace clock node v j next → Ahead next.node → Kept next
-  moves (Cause node place name terms) v j next marked holds leads ahead = absurd leads
-  moves (Suppress node place name terms) v j next marked holds leads ahead = absurd leads
+  moves (CausePlan node place name terms) v j next marked holds leads ahead = absurd leads
+  moves (SuppressPlan node place name terms) v j next marked holds leads ahead = absurd leads
   moves (Both node left right) v j next marked holds leads ahead =
       let sides = parts left right marked in
       ⊎_elim (λ is. subst Kept is (sides.0, holds.0)) (λ is. subst Kept is (sides.1, holds.1)) leads
@@ -133,8 +111,8 @@ module _ (stable : (trace : List Step) (i : ℕ) (v : Valuation) (f : Formula) �
       subst Kept leads.1 (marked, stable trace j v (formula_for body) (λ fails. holds leads.0 fails))
   moves (Guarded node xs guard test body) v j next marked holds leads ahead =
       subst Kept leads.3 (marked, holds leads.0 leads.1 leads.2)
-  moves (Next node place high body) v j next marked holds leads ahead = subst Kept leads.1 (marked, holds.2)
-  moves (Always node place low high body) v j next marked holds leads ahead =
+  moves (NextPlan node place high body) v j next marked holds leads ahead = subst Kept leads.1 (marked, holds.2)
+  moves (AlwaysPlan node place low high body) v j next marked holds leads ahead =
       let k : ℕ = leads.0 in
       let is_ahead = leads.1 in
       subst Kept leads.2 (
@@ -142,25 +120,25 @@ module _ (stable : (trace : List Step) (i : ℕ) (v : Valuation) (f : Formula) �
         stable trace k v (formula_for body) (λ fails. holds (λ none. none
             (k, is_ahead.not_before, is_ahead.there, is_ahead.distance, fails, λ i from before. tt))),
       )
-  moves (Eventually node place low high body) v j next marked holds leads ahead =
+  moves (EventuallyPlan node place low high body) v j next marked holds leads ahead =
       let here = both (not (has_future body)) (list_all is_transparent_at (nodes body)) marked in
       absurd (never (has_future body) here.0 (below body v leads.0 next leads.3 ahead))
-  moves (Until node place low high left right) v j next marked holds leads ahead =
+  moves (UntilPlan node place low high left right) v j next marked holds leads ahead =
       let here = both (not (has_future right)) (list_all is_transparent_at (nodes left ++ nodes right)) marked in
       ⊎_elim
       (λ to_right. absurd (never (has_future right) here.0 (below right v to_right.0 next to_right.3 ahead)))
       (λ to_left. subst Kept to_left.3 ((parts left right here.1).0, left_side low high left right v j to_left.0 to_left.1 to_left.2 holds))
       leads
     where
-      -- the right side is met behind the positions at which it is lost, and up to there the left side holds
+      -- the right side is met after the positions at which it is lost, and up to there the left side holds
       left_side : (low high : ℕ) (left right : Plan) (v : Valuation) (j k : ℕ) → IsAhead trace 0 high j k
-          → IsStillLost trace clock low high right v j k → Sat trace j v (formula_for (Until 0 0 low high left right))
+          → IsStillLost trace clock low high right v j k → Sat trace j v (formula_for (UntilPlan 0 0 low high left right))
           → Sat trace k v (formula_for left)
       left_side low high left right v j k is_ahead lost holds =
           stable trace k v (formula_for left) (λ fails. holds (λ met. ⊎_elim
           (λ up_to. not_lost right v met.0 met.4 (lost met.0 (record { not_before = met.1; there = met.2; distance = met.3 }) up_to))
           (λ above. fails (met.5 k is_ahead.not_before above))
-          (up_to_or_above met.0 k)))
+          (cases_le met.0 k)))
 
   -- what leads to what looks ahead looks ahead
   side_ahead : (left right : Plan) (v : Valuation) (j : ℕ) (next : Obligation)
@@ -172,17 +150,17 @@ module _ (stable : (trace : List Step) (i : ℕ) (v : Valuation) (f : Formula) �
 
   move_ahead : (node : Plan) (v : Valuation) (j : ℕ) (next : Obligation) → LeadsTo trace clock node v j next
       → Ahead next.node → Ahead node
-  move_ahead (Cause node place name terms) v j next leads ahead = absurd leads
-  move_ahead (Suppress node place name terms) v j next leads ahead = absurd leads
+  move_ahead (CausePlan node place name terms) v j next leads ahead = absurd leads
+  move_ahead (SuppressPlan node place name terms) v j next leads ahead = absurd leads
   move_ahead (Both node left right) v j next leads ahead = side_ahead left right v j next leads ahead
   move_ahead (Either node left right) v j next leads ahead = side_ahead left right v j next leads.2 ahead
   move_ahead (TestOr node guard test body) v j next leads ahead = below body v j next leads.1 ahead
   move_ahead (Guarded node xs guard test body) v j next leads ahead =
       below body (with_values xs leads.0 v) j next leads.3 ahead
-  move_ahead (Next node place high body) v j next leads ahead = refl
-  move_ahead (Always node place low high body) v j next leads ahead = refl
-  move_ahead (Eventually node place low high body) v j next leads ahead = refl
-  move_ahead (Until node place low high left right) v j next leads ahead = refl
+  move_ahead (NextPlan node place high body) v j next leads ahead = refl
+  move_ahead (AlwaysPlan node place low high body) v j next leads ahead = refl
+  move_ahead (EventuallyPlan node place low high body) v j next leads ahead = refl
+  move_ahead (UntilPlan node place low high left right) v j next leads ahead = refl
 
   through_ahead : (from : Obligation) (others : List Obligation) (to : Obligation)
       → LeadsThrough trace clock from others to → Ahead to.node → Ahead from.node

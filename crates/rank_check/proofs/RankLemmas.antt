@@ -1,16 +1,14 @@
 -- Ranks by rounds, and that they end: a chain of as many edges as there are names returns to one of them.
-use Rattle.std.proofs.Common.{◌≡◌, ◌⊎◌, ℕ, zero, suc, ◌+◌, ◌<◌, ◌≤◌, Bool, true, false, eqb, ◌||◌, List, [], ◌∷◌, ◌++◌, length, get_or, replicate, set, take, refl, sym, ap, subst, inl, inr, ⊎_elim, arith, ◌∙◌}
-use Rattle.std.specs.List.{AllByRecursion, IsDistinct, list_any}
-use Rattle.std.proofs.lemmas.Bool.{cases_lt, eqb-true, ne_eqb}
-use Rattle.std.proofs.lemmas.Grind.{get_or-set_at}
-use Rattle.std.proofs.Math.Seq.{take-append_seam}
-use Rattle.std.proofs.lemmas.List.{get_or-replicate, get_or-set_other, get_or_past, length-replicate}
-use Rattle.std.proofs.lemmas.Map.Keys.{IsDistinct-cons}
-use Rattle.std.proofs.lemmas.Map.Steps.{length-le_from_distinct_below}
-use Rattle.enf_value.specs.declared.events.NameId.{NameId}
-use Rattle.rank_check.specs.Chains.{Leads, EndsIn, IsOnCycle, IsRank, IsRankWithin}
-use Rattle.rank_check.specs.Horizon.{greatest, rank_in}
-use Rattle.rank_check.proofs.ClosureLemmas.{below_or_there, same_name}
+use Rattle.rank_check.proofs.Vocabulary.{◌≡◌, ◌⊎◌, ℕ, zero, suc, ◌+◌, ◌<◌, ◌≤◌, Bool, true}
+use Rattle.rank_check.proofs.Vocabulary.{false, eqb, ◌||◌, List, [], ◌∷◌, ◌++◌, length, get_or, replicate}
+use Rattle.rank_check.proofs.Vocabulary.{set, take, refl, sym, ap, subst, inl, inr, ⊎_elim, arith, ◌∙◌}
+use Rattle.rank_check.proofs.Vocabulary.{AllByRecursion, list_any, cases_lt, eqb-true, ne_eqb, get_or-set_at}
+use Rattle.rank_check.proofs.Vocabulary.{take-append_seam, get_or-replicate, get_or-set_other, get_or_past}
+use Rattle.rank_check.proofs.Vocabulary.{length-replicate, IsDistinct-cons, length-le_from_distinct_below, NameId}
+use Rattle.rank_check.proofs.Vocabulary.{same_name, EdgesLead, IsOnCycle, EndsIn, IsRank, IsRankWithin, greatest}
+use Rattle.rank_check.proofs.Vocabulary.{rank_in}
+use Rattle.std.specs.List.{IsDistinct}
+use Rattle.rank_check.proofs.ClosureLemmas.{below_or_there}
 
 pub greatest-le : (most : ℕ) (xs : List ℕ) → ((i : ℕ) → get_or xs i 0 ≤ most) → greatest xs ≤ most
 greatest-le most [] each = omega arith
@@ -42,7 +40,7 @@ written len lent rest same = ap (λ n. take n (lent ++ rest)) same ∙ take-appe
 module _ (E : NameId → NameId → Type 0) where
   -- a number of a name from which a chain leads to the name
   abbrev IsBefore : NameId → ℕ → Type 0
-  IsBefore to n = (name : NameId) × (name.0 ≡ n) × ((k : ℕ) × Leads E k name to)
+  IsBefore to n = (name : NameId) × (name.0 ≡ n) × ((k : ℕ) × EdgesLead E k name to)
 
   one_less : (k : ℕ) (name : NameId) → EndsIn E (suc k) name → EndsIn E k name
   one_less zero name ends = (name, refl)
@@ -109,12 +107,14 @@ module _ (E : NameId → NameId → Type 0) where
       (λ (above : n ≤ name.0). (is.left name above).longest most (omega arith) ends)
       (cases_lt name.0 n)
 
-  pub raising_more : (most : ℕ) (name from : NameId) (ranks : List ℕ) (is_longer : Bool) → IsRaising most name.0 ranks is_longer → name.0 < length ranks → most ≤ rank_in ranks from → E from name → IsRaising most (name.0 + 1) (set ranks name.0 (most + 1)) true
+  pub raising_more : (most : ℕ) (name from : NameId) (ranks : List ℕ) (is_longer : Bool) → IsRaising most name.0 ranks is_longer → name.0 < length ranks
+      → most ≤ rank_in ranks from → E from name → IsRaising most (name.0 + 1) (set ranks name.0 (most + 1)) true
   raising_more most name from ranks is_longer is inside high edge =
       let one : most + 1 ≡ suc most = omega arith in
       let here : IsRankWithin E (suc most) name (suc most) = longer most from name (has_chain most name.0 ranks is_longer from is high) edge in
       let set_here : get_or (set ranks name.0 (most + 1)) name.0 0 ≡ suc most = get_or-set_at ranks name.0 name.0 (most + 1) 0 refl inside ∙ one in
-      let set_other : (other : NameId) → (other.0 ≡ name.0 → ⊥) → get_or (set ranks name.0 (most + 1)) other.0 0 ≡ get_or ranks other.0 0 = λ other apart. get_or-set_other ranks name.0 other.0 (most + 1) 0 apart in
+      let set_other : (other : NameId) → (other.0 ≡ name.0 → ⊥) → get_or (set ranks name.0 (most + 1)) other.0 0
+      ≡ get_or ranks other.0 0 = λ other apart. get_or-set_other ranks name.0 other.0 (most + 1) 0 apart in
       record {
         done = λ other below. ⊎_elim
             (λ (less : other.0 < name.0). subst (IsRankWithin E (suc most) other) (sym (set_other other (λ same. omega arith))) (is.done other less))
@@ -124,7 +124,8 @@ module _ (E : NameId → NameId → Type 0) where
         none = λ same. absurd (cc);
       }
 
-  pub raising_same : (most : ℕ) (name : NameId) (ranks : List ℕ) (is_longer : Bool) → IsRaising most name.0 ranks is_longer → ((from : NameId) → most ≤ rank_in ranks from → E from name → ⊥) → IsRaising most (name.0 + 1) ranks is_longer
+  pub raising_same : (most : ℕ) (name : NameId) (ranks : List ℕ) (is_longer : Bool) → IsRaising most name.0 ranks is_longer
+      → ((from : NameId) → most ≤ rank_in ranks from → E from name → ⊥) → IsRaising most (name.0 + 1) ranks is_longer
   raising_same most name ranks is_longer is none =
       let no_chain : EndsIn E (suc most) name → ⊥ = λ ends. none ends.1.0 (tells_chain most name.0 ranks is_longer ends.1.0 is (ends.0, ends.1.1)) ends.1.2 in
       record {
@@ -156,15 +157,15 @@ module _ (E : NameId → NameId → Type 0) where
         (cases_lt name.0 n)
 
     -- the numbers of the names on a chain, the last first
-    abbrev numbers : (k : ℕ) (from to : NameId) → Leads E k from to → List ℕ
+    abbrev numbers : (k : ℕ) (from to : NameId) → EdgesLead E k from to → List ℕ
     numbers zero from to leads = to.0 ∷ []
     numbers (suc k) from to leads = to.0 ∷ numbers k from leads.0 leads.1
 
-    length-numbers : (k : ℕ) (from to : NameId) (leads : Leads E k from to) → length (numbers k from to leads) ≡ suc k
+    length-numbers : (k : ℕ) (from to : NameId) (leads : EdgesLead E k from to) → length (numbers k from to leads) ≡ suc k
     length-numbers zero from to leads = refl
     length-numbers (suc k) from to leads = ap suc (length-numbers k from leads.0 leads.1)
 
-    all_below : (k : ℕ) (from to : NameId) (leads : Leads E k from to) → to.0 < width → AllByRecursion (λ n. n < width) (numbers k from to leads)
+    all_below : (k : ℕ) (from to : NameId) (leads : EdgesLead E k from to) → to.0 < width → AllByRecursion (λ n. n < width) (numbers k from to leads)
     all_below zero from to leads below = (below, tt)
     all_below (suc k) from to leads below = (below, all_below k from leads.0 leads.1 (inside leads.0 to leads.2).0)
 
@@ -175,7 +176,7 @@ module _ (E : NameId → NameId → Type 0) where
         (λ (later : list_any (eqb q) xs ≡ true). one_of xs q all.1 later)
         (or_cases (eqb q x) (list_any (eqb q) xs) any)
 
-    leads_from : (k : ℕ) (from to : NameId) (leads : Leads E k from to) → AllByRecursion (IsBefore to) (numbers k from to leads)
+    leads_from : (k : ℕ) (from to : NameId) (leads : EdgesLead E k from to) → AllByRecursion (IsBefore to) (numbers k from to leads)
     leads_from zero from to leads = ((to, refl, (0, refl)), tt)
     leads_from (suc k) from to leads = (
       (to, refl, (0, refl)),
@@ -185,9 +186,9 @@ module _ (E : NameId → NameId → Type 0) where
     module _ (acyclic : (name : NameId) → IsOnCycle E name → ⊥) where
       apart : (before to : NameId) → E before to → (n : ℕ) → IsBefore before n → eqb to.0 n ≡ false
       apart before to edge n b = ne_eqb to.0 n
-          (λ same. acyclic to (b.2.0, (before, subst (λ (a : NameId). Leads E b.2.0 a before) (same_name b.0 to (b.1 ∙ sym same)) b.2.1, edge)))
+          (λ same. acyclic to (b.2.0, (before, subst (λ (a : NameId). EdgesLead E b.2.0 a before) (same_name b.0 to (b.1 ∙ sym same)) b.2.1, edge)))
 
-      distinct : (k : ℕ) (from to : NameId) (leads : Leads E k from to) → IsDistinct eqb (numbers k from to leads)
+      distinct : (k : ℕ) (from to : NameId) (leads : EdgesLead E k from to) → IsDistinct eqb (numbers k from to leads)
       distinct zero from to leads = IsDistinct-cons eqb to.0 [] tt none_distinct
       distinct (suc k) from to leads = IsDistinct-cons eqb to.0 (numbers k from leads.0 leads.1)
           (weaker (IsBefore leads.0) (λ n. eqb to.0 n ≡ false) (apart leads.0 to leads.2) (numbers k from leads.0 leads.1) (leads_from k from leads.0 leads.1))

@@ -1,10 +1,8 @@
 -- Paths from the starts of a plan, node by node.
-use Rattle.std.proofs.Common.{◌≡◌, ◌⊎◌, List, [], ◌∷◌, Contains, refl, sym, subst, inl, inr, ⊎_elim}
-use Rattle.enf_value.specs.ListLaws.{here, first_or_later, none_in_nil}
-use Rattle.plan_terms.specs.Nodes.{nodes}
-use Rattle.plan_terms.specs.Plans.{Plan, Always, Until}
-use Rattle.rank_check.specs.Paths.{below, begun_by, IsPath}
-use Rattle.rank_check.proofs.PlanLemmas.{within, root, deeper}
+use Rattle.rank_check.proofs.Vocabulary.{◌≡◌, ◌⊎◌, List, [], ◌∷◌, Contains, refl, sym, subst, inl}
+use Rattle.rank_check.proofs.Vocabulary.{inr, ⊎_elim, here, first_or_later, none_in_nil, nodes, Plan, AlwaysPlan}
+use Rattle.rank_check.proofs.Vocabulary.{UntilPlan, itself as root, below, begun_later, IsPath}
+use Rattle.rank_check.proofs.PlanLemmas.{within, deeper}
 
 -- a path with the property from the plan itself
 abbrev pub From : (List Plan → Plan → Type 0) → Plan → Type 0
@@ -12,15 +10,16 @@ From Q plan = (path : List Plan) × (end : Plan) × IsPath plan path end × Q pa
 
 -- and from a start that some node of the plan begins
 abbrev pub Begun : (List Plan → Plan → Type 0) → Plan → Type 0
-Begun Q plan = (node : Plan) × Contains (nodes plan) node × (start : Plan) × Contains (begun_by node) start × From Q start
+Begun Q plan = (node : Plan) × Contains (nodes plan) node × (start : Plan) × Contains (begun_later node) start × From Q start
 
 abbrev pub Behind : (List Plan → Plan → Type 0) → Plan → List Plan → Plan → Type 0
 Behind Q plan path end = Q (plan ∷ path) end
 
-pub is_below : (plan next : Plan) → Contains (begun_by plan) next → Contains (below plan) next
-is_below (Always node place low high body) next at = at
-is_below (Until node place low high left right) next at =
-    ⊎_elim (λ (same : left ≡ next). subst (λ p. Contains (left ∷ right ∷ []) p) same (here left (right ∷ []))) (λ (none : Contains [] next). absurd (none_in_nil next none)) (first_or_later next left [] at)
+pub is_below : (plan next : Plan) → Contains (begun_later plan) next → Contains (below plan) next
+is_below (AlwaysPlan node place low high body) next at = at
+is_below (UntilPlan node place low high left right) next at =
+    ⊎_elim (λ (same : left ≡ next). subst (λ p. Contains (left ∷ right ∷ []) p) same (here left (right ∷ []))) (λ (none : Contains [] next). absurd (none_in_nil next none))
+    (first_or_later next left [] at)
 is_below plan next at = absurd (none_in_nil next at)
 
 module _ (Q : List Plan → Plan → Type 0) where
@@ -36,14 +35,14 @@ module _ (Q : List Plan → Plan → Type 0) where
       let same : node ≡ plan = sym is.0 in
       inr (is.1, subst (λ p. Contains (below p) is.1) same is.2, (path, end, is.3, subst (λ p. Q (p ∷ path) end) same holds))
 
-  pub begun_here : (plan start : Plan) → Contains (begun_by plan) start → From Q start → Begun Q plan
+  pub begun_here : (plan start : Plan) → Contains (begun_later plan) start → From Q start → Begun Q plan
   begun_here plan start at from = (plan, root plan, start, at, from)
 
   pub begun_below : (plan next : Plan) → Contains (below plan) next → Begun Q next → Begun Q plan
   begun_below plan next at begun = (begun.0, deeper plan next begun.0 at begun.1, begun.2, begun.3, begun.4)
 
-  pub begun_cases : (plan : Plan) → Begun Q plan → ((start : Plan) × Contains (begun_by plan) start × From Q start) ⊎ ((next : Plan) × Contains (below plan) next × Begun Q next)
+  pub begun_cases : (plan : Plan) → Begun Q plan → ((start : Plan) × Contains (begun_later plan) start × From Q start) ⊎ ((next : Plan) × Contains (below plan) next × Begun Q next)
   begun_cases plan begun =
-      ⊎_elim (λ same. inl (begun.2, subst (λ p. Contains (begun_by p) begun.2) (sym same) begun.3, begun.4))
+      ⊎_elim (λ same. inl (begun.2, subst (λ p. Contains (begun_later p) begun.2) (sym same) begun.3, begun.4))
       (λ deep. inr (deep.0, deep.1, (begun.0, deep.2, begun.2, begun.3, begun.4)))
       (within plan begun.0 begun.1)

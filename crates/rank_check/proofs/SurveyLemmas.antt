@@ -1,16 +1,11 @@
 -- Greatest and least numbers of joined lists, and surveys of joined nodes.
-use Rattle.std.proofs.Common.{◌≡◌, ℕ, zero, suc, get_or, take, ◌<◌, Bool, ◌+◌, ◌*◌, ◌-◌, ◌≤◌, max, min, true, false, cond, List, [], ◌∷◌, ◌++◌, length, map, arith, ap, sym, subst, ◌∙◌, length-append}
-use Rattle.std.specs.List.{AllByRecursion, filter, flat_map}
-use Rattle.std.proofs.lemmas.Grind.{flat_map-append}
-use Rattle.std.proofs.lemmas.List.{append-nil, map-append, map_more}
-use Rattle.std.proofs.lemmas.List.Elements.{filter-append}
-use Rattle.plan_terms.specs.Nodes.{has_deadline, nodes}
-use Rattle.plan_terms.specs.Plans.{Plan, Until, plan_of}
+use Rattle.rank_check.proofs.Vocabulary.{◌≡◌, ℕ, zero, suc, get_or, take, ◌<◌, Bool, ◌+◌, ◌*◌}
+use Rattle.rank_check.proofs.Vocabulary.{◌-◌, ◌≤◌, max, min, true, false, cond, List, [], ◌∷◌, ◌++◌}
+use Rattle.rank_check.proofs.Vocabulary.{length, map, arith, ap, sym, subst, ◌∙◌, length-append, AllByRecursion}
+use Rattle.rank_check.proofs.Vocabulary.{filter, flat_map, flat_map-append, append-nil, map-append, map_more}
+use Rattle.rank_check.proofs.Vocabulary.{filter-append, has_deadline, nodes, window_end, Plan, UntilPlan, caused_at}
+use Rattle.rank_check.proofs.Vocabulary.{plan_of, greatest, least_with, rank_in, class_in, IsSurvey, Survey}
 use Rattle.plan_terms.specs.declared.plans.Plan.{Plan as Stored}
-use Rattle.rank_check.specs.Horizon.{greatest, least_with, rank_in, window_end, class_in}
-use Rattle.plan_terms.specs.Changes.{cause_of}
-use Rattle.rank_check.specs.Survey.{IsSurvey}
-use Rattle.rank_check.specs.declared.horizon.Survey.{Survey}
 
 pub greatest-append : (xs ys : List ℕ) → greatest (xs ++ ys) ≡ max (greatest xs) (greatest ys)
 greatest-append [] ys = omega arith
@@ -97,10 +92,11 @@ owing above step high a = record {
 module _ (above step : ℕ) (ranks : List ℕ) where
   joined : (xs ys : List Plan) (a b : Survey) → IsSurvey above step ranks xs a → IsSurvey above step ranks ys b → IsSurvey above step ranks (xs ++ ys) (both a b)
   joined xs ys a b first second =
-      let least : least_with above (map (rank_in ranks) (flat_map cause_of (xs ++ ys))) ≡ min (least_with above (map (rank_in ranks) (flat_map cause_of xs))) (least_with above (map (rank_in ranks) (flat_map cause_of ys))) =
-      ap (λ l. least_with above (map (rank_in ranks) l)) (flat_map-append cause_of xs ys)
-      ∙ ap (least_with above) (map-append (rank_in ranks) (flat_map cause_of xs) (flat_map cause_of ys))
-      ∙ least_with-append above (map (rank_in ranks) (flat_map cause_of xs)) (map (rank_in ranks) (flat_map cause_of ys)) in
+      let least : least_with above (map (rank_in ranks) (flat_map caused_at (xs ++ ys)))
+      ≡ min (least_with above (map (rank_in ranks) (flat_map caused_at xs))) (least_with above (map (rank_in ranks) (flat_map caused_at ys))) =
+      ap (λ l. least_with above (map (rank_in ranks) l)) (flat_map-append caused_at xs ys)
+      ∙ ap (least_with above) (map-append (rank_in ranks) (flat_map caused_at xs) (flat_map caused_at ys))
+      ∙ least_with-append above (map (rank_in ranks) (flat_map caused_at xs)) (map (rank_in ranks) (flat_map caused_at ys)) in
       record {
         size = omega (arith, first.size, second.size, length-append xs ys);
         least = omega (arith, first.least, second.least, least);
@@ -109,28 +105,30 @@ module _ (above step : ℕ) (ranks : List ℕ) where
       }
 
   -- two sides below a node that has no deadline itself
-  pub of_two : (node : Plan) (xs ys : List Plan) (a b ab found : Survey) → cause_of node ≡ [] → has_deadline node ≡ false → IsSurvey above step ranks xs a → IsSurvey above step ranks ys b → ab ≡ both a b → found ≡ one_more ab → IsSurvey above step ranks (node ∷ (xs ++ ys)) found
+  pub of_two : (node : Plan) (xs ys : List Plan) (a b ab found : Survey) → caused_at node ≡ [] → has_deadline node ≡ false → IsSurvey above step ranks xs a
+      → IsSurvey above step ranks ys b → ab ≡ both a b → found ≡ one_more ab → IsSurvey above step ranks (node ∷ (xs ++ ys)) found
   of_two node xs ys a b ab found causes free first second joins is =
       let both_found : IsSurvey above step ranks (xs ++ ys) ab = subst (IsSurvey above step ranks (xs ++ ys)) (sym joins) (joined xs ys a b first second) in
       let more : IsSurvey above step ranks (node ∷ (xs ++ ys)) (one_more ab) = record {
         size = omega (arith, both_found.size);
-        least = both_found.least ∙ ap (λ l. least_with above (map (rank_in ranks) (l ++ flat_map cause_of (xs ++ ys)))) (sym causes);
+        least = both_found.least ∙ ap (λ l. least_with above (map (rank_in ranks) (l ++ flat_map caused_at (xs ++ ys)))) (sym causes);
         class = both_found.class ∙ ap (λ b. greatest (map (class_in above step ranks) (cond b (node ∷ filter has_deadline (xs ++ ys)) (filter has_deadline (xs ++ ys))))) (sym free);
         end = both_found.end ∙ ap (λ b. greatest (map window_end (cond b (node ∷ filter has_deadline (xs ++ ys)) (filter has_deadline (xs ++ ys))))) (sym free);
       } in
       subst (IsSurvey above step ranks (node ∷ (xs ++ ys))) (sym is) more
 
   -- and below an `Until`
-  pub of_until : (number place low high : ℕ) (left right : Plan) (a b ab more found : Survey) → IsSurvey above step ranks (nodes left) a → IsSurvey above step ranks (nodes right) b → ab ≡ both a b → more ≡ one_more ab → found ≡ owing above step high more → IsSurvey above step ranks (nodes (Until number place low high left right)) found
+  pub of_until : (number place low high : ℕ) (left right : Plan) (a b ab more found : Survey) → IsSurvey above step ranks (nodes left) a → IsSurvey above step ranks (nodes right) b
+      → ab ≡ both a b → more ≡ one_more ab → found ≡ owing above step high more → IsSurvey above step ranks (nodes (UntilPlan number place low high left right)) found
   of_until number place low high left right a b ab more found first second joins one is =
       let all = nodes left ++ nodes right in
       let both_found : IsSurvey above step ranks all ab = subst (IsSurvey above step ranks all) (sym joins) (joined (nodes left) (nodes right) a b first second) in
-      let last : IsSurvey above step ranks (nodes (Until number place low high left right)) (owing above step high (one_more ab)) =
-      let size : ab.size + 1 ≡ length (Until number place low high left right ∷ all) = omega (arith, both_found.size) in
+      let last : IsSurvey above step ranks (nodes (UntilPlan number place low high left right)) (owing above step high (one_more ab)) =
+      let size : ab.size + 1 ≡ length (UntilPlan number place low high left right ∷ all) = omega (arith, both_found.size) in
       record {
         size = size;
         least = both_found.least;
         class = let least = both_found.least in let class = both_found.class in cc;
         end = ap (max high) both_found.end;
       } in
-      subst (IsSurvey above step ranks (nodes (Until number place low high left right))) (sym (is ∙ ap (owing above step high) one)) last
+      subst (IsSurvey above step ranks (nodes (UntilPlan number place low high left right))) (sym (is ∙ ap (owing above step high) one)) last

@@ -1,15 +1,15 @@
 -- The walk meets a node without a trigger exactly where a path from a start leads to it on which no guard has triggers.
-use Rattle.std.proofs.Common.{◌≡◌, ◌⊎◌, Bool, true, IsTrue, List, [], ◌∷◌, ◌++◌, Option, None, Some, Contains, refl, sym, ap, subst, inl, inr, ⊎_elim}
-use Rattle.std.specs.Option.{option_or}
-use Rattle.std.proofs.lemmas.List.Elements.{Contains-append_left, Contains-append_right, Contains-append_cases}
-use Rattle.enf_value.specs.ListLaws.{here, later, first_or_later, none_in_nil}
-use Rattle.enf_value.specs.declared.events.NameId.{NameId}
-use Rattle.plan_terms.specs.Plans.{Plan, Cause, Suppress, Both, Either, TestOr, Guarded, Eventually, Always, Until, Next}
-use Rattle.rank_check.specs.Paths.{below, begun_by, path_triggers, needs_trigger, IsPath, IsUntriggered}
-use Rattle.plan_terms.specs.Triggers.{guard_triggers, triggers}
-use Rattle.rank_check.specs.Walks.{bare_behind, visits}
-use Rattle.rank_check.proofs.PlanLemmas.{by_below, in_one, in_two}
-use Rattle.rank_check.proofs.StartLemmas.{From, Begun, Behind, is_below, at_end, one_more, one_less, begun_here, begun_below, begun_cases}
+use Rattle.rank_check.proofs.Vocabulary.{◌≡◌, ◌⊎◌, Bool, true, IsTrue, List, [], ◌∷◌, ◌++◌}
+use Rattle.rank_check.proofs.Vocabulary.{Option, None, Some, Contains, refl, sym, ap, subst, inl, inr, ⊎_elim}
+use Rattle.rank_check.proofs.Vocabulary.{option_or, Contains-append_left, Contains-append_right, Contains-append_cases}
+use Rattle.rank_check.proofs.Vocabulary.{here, later, first_or_later, none_in_nil, NameId, Plan, CausePlan}
+use Rattle.rank_check.proofs.Vocabulary.{SuppressPlan, Both, Either, TestOr, Guarded, EventuallyPlan, AlwaysPlan}
+use Rattle.rank_check.proofs.Vocabulary.{UntilPlan, NextPlan, guard_triggers, triggers, below, begun_later}
+use Rattle.rank_check.proofs.Vocabulary.{path_triggers, needs_trigger, IsPath, IsUntriggered, in_one, in_two}
+use Rattle.rank_check.proofs.Vocabulary.{bare_behind, visits}
+use Rattle.rank_check.proofs.PlanLemmas.{by_below}
+use Rattle.rank_check.proofs.StartLemmas.{From, Begun, Behind, is_below, at_end, one_more, one_less, begun_here}
+use Rattle.rank_check.proofs.StartLemmas.{begun_below, begun_cases}
 
 abbrev Visit : Type 0
 Visit = Plan × Bool
@@ -17,7 +17,7 @@ Visit = Plan × Bool
 -- a visit to a plan, to what stands directly below, or to what is begun there
 abbrev Deeper : Bool → Plan → Visit → Type 0
 Deeper bare plan v = ((next : Plan) × Contains (below plan) next × Contains (visits (bare_behind bare (guard_triggers plan)) next) v)
-    ⊎ ((next : Plan) × Contains (begun_by plan) next × Contains (visits true next) v)
+    ⊎ ((next : Plan) × Contains (begun_later plan) next × Contains (visits true next) v)
 
 one : (root v : Visit) (rest : List Visit) (D : Type 0) → (Contains rest v → D) → Contains (root ∷ rest) v → (root ≡ v) ⊎ D
 one root v rest D below there = ⊎_elim (λ same. inl same) (λ more. inr (below more)) (first_or_later v root rest there)
@@ -30,55 +30,67 @@ none : (D : Type 0) (v : Visit) → Contains [] v → D
 none D v there = absurd (none_in_nil v there)
 
 cases : (bare : Bool) (plan : Plan) (v : Visit) → Contains (visits bare plan) v → ((plan, bare) ≡ v) ⊎ Deeper bare plan v
-cases bare (Cause n place name terms) v there = one (Cause n place name terms, bare) v [] (Deeper bare (Cause n place name terms) v) (none (Deeper bare (Cause n place name terms) v) v) there
-cases bare (Suppress n place name terms) v there = one (Suppress n place name terms, bare) v [] (Deeper bare (Suppress n place name terms) v) (none (Deeper bare (Suppress n place name terms) v) v) there
-cases bare (Both n l r) v there = two (Both n l r, bare) v (visits bare l) (visits bare r) (Deeper bare (Both n l r) v) (λ is. inl (l, here l (r ∷ []), is)) (λ is. inl (r, later r l (r ∷ []) (here r []), is)) there
-cases bare (Either n l r) v there = two (Either n l r, bare) v (visits bare l) (visits bare r) (Deeper bare (Either n l r) v) (λ is. inl (l, here l (r ∷ []), is)) (λ is. inl (r, later r l (r ∷ []) (here r []), is)) there
+cases bare (CausePlan n place name terms) v there = one (CausePlan n place name terms, bare) v [] (Deeper bare (CausePlan n place name terms) v)
+    (none (Deeper bare (CausePlan n place name terms) v) v) there
+cases bare (SuppressPlan n place name terms) v there = one (SuppressPlan n place name terms, bare) v [] (Deeper bare (SuppressPlan n place name terms) v)
+    (none (Deeper bare (SuppressPlan n place name terms) v) v) there
+cases bare (Both n l r) v there = two (Both n l r, bare) v (visits bare l) (visits bare r) (Deeper bare (Both n l r) v) (λ is. inl (l, here l (r ∷ []), is))
+    (λ is. inl (r, later r l (r ∷ []) (here r []), is)) there
+cases bare (Either n l r) v there = two (Either n l r, bare) v (visits bare l) (visits bare r) (Deeper bare (Either n l r) v) (λ is. inl (l, here l (r ∷ []), is))
+    (λ is. inl (r, later r l (r ∷ []) (here r []), is)) there
 cases bare (TestOr n guard test body) v there = one (TestOr n guard test body, bare) v (visits bare body) (Deeper bare (TestOr n guard test body) v) (λ is. inl (body, here body [], is)) there
-cases bare (Guarded n xs guard test body) v there = one (Guarded n xs guard test body, bare) v (visits (bare_behind bare (triggers test)) body) (Deeper bare (Guarded n xs guard test body) v) (λ is. inl (body, here body [], is)) there
-cases bare (Eventually n place low high body) v there = one (Eventually n place low high body, bare) v (visits bare body) (Deeper bare (Eventually n place low high body) v) (λ is. inl (body, here body [], is)) there
-cases bare (Always n place low high body) v there = one (Always n place low high body, bare) v (visits true body) (Deeper bare (Always n place low high body) v) (λ is. inr (body, here body [], is)) there
-cases bare (Until n place low high l r) v there = two (Until n place low high l r, bare) v (visits true l) (visits bare r) (Deeper bare (Until n place low high l r) v) (λ is. inr (l, here l [], is)) (λ is. inl (r, later r l (r ∷ []) (here r []), is)) there
-cases bare (Next n place high body) v there = one (Next n place high body, bare) v (visits bare body) (Deeper bare (Next n place high body) v) (λ is. inl (body, here body [], is)) there
+cases bare (Guarded n xs guard test body) v there = one (Guarded n xs guard test body, bare) v (visits (bare_behind bare (triggers test)) body)
+    (Deeper bare (Guarded n xs guard test body) v) (λ is. inl (body, here body [], is)) there
+cases bare (EventuallyPlan n place low high body) v there = one (EventuallyPlan n place low high body, bare) v (visits bare body) (Deeper bare (EventuallyPlan n place low high body) v)
+    (λ is. inl (body, here body [], is)) there
+cases bare (AlwaysPlan n place low high body) v there = one (AlwaysPlan n place low high body, bare) v (visits true body) (Deeper bare (AlwaysPlan n place low high body) v)
+    (λ is. inr (body, here body [], is)) there
+cases bare (UntilPlan n place low high l r) v there = two (UntilPlan n place low high l r, bare) v (visits true l) (visits bare r) (Deeper bare (UntilPlan n place low high l r) v)
+    (λ is. inr (l, here l [], is)) (λ is. inl (r, later r l (r ∷ []) (here r []), is)) there
+cases bare (NextPlan n place high body) v there = one (NextPlan n place high body, bare) v (visits bare body) (Deeper bare (NextPlan n place high body) v) (λ is. inl (body, here body [], is)) there
 
 into_one : (root v : Visit) (f : Plan → List Visit) (body next : Plan) → Contains (body ∷ []) next → Contains (f next) v → Contains (root ∷ f body) v
 into_one root v f body next at there = later v root (f body) (in_one (λ p. Contains (f p) v → Contains (f body) v) body (λ is. is) next at there)
 
 into_two : (root v : Visit) (f g : Plan → List Visit) (l r next : Plan) → Contains (l ∷ r ∷ []) next → Contains (f next) v × Contains (g next) v → Contains (root ∷ f l ++ g r) v
 into_two root v f g l r next at there =
-    later v root (f l ++ g r) (in_two (λ p. Contains (f p) v × Contains (g p) v → Contains (f l ++ g r) v) l r (λ is. Contains-append_left (f l) (g r) v is.0) (λ is. Contains-append_right (f l) (g r) v is.1) next at there)
+    later v root (f l ++ g r) (in_two (λ p. Contains (f p) v × Contains (g p) v → Contains (f l ++ g r) v) l r (λ is. Contains-append_left (f l) (g r) v is.0)
+    (λ is. Contains-append_right (f l) (g r) v is.1) next at there)
 
 -- what is met below, whether the start is bare there or not, is met from the plan
 into_any : (bare : Bool) (plan next : Plan) (v : Visit) → Contains (below plan) next → ((o : Bool) → Contains (visits o next) v) → Contains (visits bare plan) v
-into_any bare (Cause n place name terms) next v at each = absurd (none_in_nil next at)
-into_any bare (Suppress n place name terms) next v at each = absurd (none_in_nil next at)
+into_any bare (CausePlan n place name terms) next v at each = absurd (none_in_nil next at)
+into_any bare (SuppressPlan n place name terms) next v at each = absurd (none_in_nil next at)
 into_any bare (Both n l r) next v at each = into_two (Both n l r, bare) v (visits bare) (visits bare) l r next at (each bare, each bare)
 into_any bare (Either n l r) next v at each = into_two (Either n l r, bare) v (visits bare) (visits bare) l r next at (each bare, each bare)
 into_any bare (TestOr n guard test body) next v at each = into_one (TestOr n guard test body, bare) v (visits bare) body next at (each bare)
-into_any bare (Guarded n xs guard test body) next v at each = into_one (Guarded n xs guard test body, bare) v (visits (bare_behind bare (triggers test))) body next at (each (bare_behind bare (triggers test)))
-into_any bare (Eventually n place low high body) next v at each = into_one (Eventually n place low high body, bare) v (visits bare) body next at (each bare)
-into_any bare (Always n place low high body) next v at each = into_one (Always n place low high body, bare) v (visits true) body next at (each true)
-into_any bare (Until n place low high l r) next v at each = into_two (Until n place low high l r, bare) v (visits true) (visits bare) l r next at (each true, each bare)
-into_any bare (Next n place high body) next v at each = into_one (Next n place high body, bare) v (visits bare) body next at (each bare)
+into_any bare (Guarded n xs guard test body) next v at each = into_one (Guarded n xs guard test body, bare) v (visits (bare_behind bare (triggers test))) body next at
+    (each (bare_behind bare (triggers test)))
+into_any bare (EventuallyPlan n place low high body) next v at each = into_one (EventuallyPlan n place low high body, bare) v (visits bare) body next at (each bare)
+into_any bare (AlwaysPlan n place low high body) next v at each = into_one (AlwaysPlan n place low high body, bare) v (visits true) body next at (each true)
+into_any bare (UntilPlan n place low high l r) next v at each = into_two (UntilPlan n place low high l r, bare) v (visits true) (visits bare) l r next at (each true, each bare)
+into_any bare (NextPlan n place high body) next v at each = into_one (NextPlan n place high body, bare) v (visits bare) body next at (each bare)
 
 -- a bare start stays bare where no guard closes it
 into_bare : (plan next : Plan) (v : Visit) → guard_triggers plan ≡ None → Contains (below plan) next → Contains (visits true next) v → Contains (visits true plan) v
-into_bare (Cause n place name terms) next v none at there = absurd (none_in_nil next at)
-into_bare (Suppress n place name terms) next v none at there = absurd (none_in_nil next at)
+into_bare (CausePlan n place name terms) next v none at there = absurd (none_in_nil next at)
+into_bare (SuppressPlan n place name terms) next v none at there = absurd (none_in_nil next at)
 into_bare (Both n l r) next v none at there = into_two (Both n l r, true) v (visits true) (visits true) l r next at (there, there)
 into_bare (Either n l r) next v none at there = into_two (Either n l r, true) v (visits true) (visits true) l r next at (there, there)
 into_bare (TestOr n guard test body) next v none at there = into_one (TestOr n guard test body, true) v (visits true) body next at there
 into_bare (Guarded n xs guard test body) next v none at there =
-    into_one (Guarded n xs guard test body, true) v (visits (bare_behind true (triggers test))) body next at (subst (λ (g : Option (List NameId)). Contains (visits (bare_behind true g) next) v) (sym none) there)
-into_bare (Eventually n place low high body) next v none at there = into_one (Eventually n place low high body, true) v (visits true) body next at there
-into_bare (Always n place low high body) next v none at there = into_one (Always n place low high body, true) v (visits true) body next at there
-into_bare (Until n place low high l r) next v none at there = into_two (Until n place low high l r, true) v (visits true) (visits true) l r next at (there, there)
-into_bare (Next n place high body) next v none at there = into_one (Next n place high body, true) v (visits true) body next at there
+    into_one (Guarded n xs guard test body, true) v (visits (bare_behind true (triggers test))) body next at
+    (subst (λ (g : Option (List NameId)). Contains (visits (bare_behind true g) next) v) (sym none) there)
+into_bare (EventuallyPlan n place low high body) next v none at there = into_one (EventuallyPlan n place low high body, true) v (visits true) body next at there
+into_bare (AlwaysPlan n place low high body) next v none at there = into_one (AlwaysPlan n place low high body, true) v (visits true) body next at there
+into_bare (UntilPlan n place low high l r) next v none at there = into_two (UntilPlan n place low high l r, true) v (visits true) (visits true) l r next at (there, there)
+into_bare (NextPlan n place high body) next v none at there = into_one (NextPlan n place high body, true) v (visits true) body next at there
 
-into_begun : (bare : Bool) (plan start : Plan) (v : Visit) → Contains (begun_by plan) start → Contains (visits true start) v → Contains (visits bare plan) v
-into_begun bare (Always n place low high body) start v at there = into_one (Always n place low high body, bare) v (visits true) body start at there
-into_begun bare (Until n place low high l r) start v at there =
-    later v (Until n place low high l r, bare) (visits true l ++ visits bare r) (Contains-append_left (visits true l) (visits bare r) v (in_one (λ p. Contains (visits true p) v → Contains (visits true l) v) l (λ is. is) start at there))
+into_begun : (bare : Bool) (plan start : Plan) (v : Visit) → Contains (begun_later plan) start → Contains (visits true start) v → Contains (visits bare plan) v
+into_begun bare (AlwaysPlan n place low high body) start v at there = into_one (AlwaysPlan n place low high body, bare) v (visits true) body start at there
+into_begun bare (UntilPlan n place low high l r) start v at there =
+    later v (UntilPlan n place low high l r, bare) (visits true l ++ visits bare r) (Contains-append_left (visits true l) (visits bare r) v
+    (in_one (λ p. Contains (visits true p) v → Contains (visits true l) v) l (λ is. is) start at there))
 into_begun bare plan start v at there = absurd (none_in_nil start at)
 
 -- paths to a node with no triggers on them
@@ -97,16 +109,16 @@ stays bare None is = (is, refl)
 stays bare (Some names) is = absurd (cc)
 
 at_root : (bare : Bool) (plan : Plan) → Contains (visits bare plan) (plan, bare)
-at_root bare (Cause n place name terms) = here (Cause n place name terms, bare) []
-at_root bare (Suppress n place name terms) = here (Suppress n place name terms, bare) []
+at_root bare (CausePlan n place name terms) = here (CausePlan n place name terms, bare) []
+at_root bare (SuppressPlan n place name terms) = here (SuppressPlan n place name terms, bare) []
 at_root bare (Both n l r) = here (Both n l r, bare) (visits bare l ++ visits bare r)
 at_root bare (Either n l r) = here (Either n l r, bare) (visits bare l ++ visits bare r)
 at_root bare (TestOr n guard test body) = here (TestOr n guard test body, bare) (visits bare body)
 at_root bare (Guarded n xs guard test body) = here (Guarded n xs guard test body, bare) (visits (bare_behind bare (triggers test)) body)
-at_root bare (Eventually n place low high body) = here (Eventually n place low high body, bare) (visits bare body)
-at_root bare (Always n place low high body) = here (Always n place low high body, bare) (visits true body)
-at_root bare (Until n place low high l r) = here (Until n place low high l r, bare) (visits true l ++ visits bare r)
-at_root bare (Next n place high body) = here (Next n place high body, bare) (visits bare body)
+at_root bare (EventuallyPlan n place low high body) = here (EventuallyPlan n place low high body, bare) (visits bare body)
+at_root bare (AlwaysPlan n place low high body) = here (AlwaysPlan n place low high body, bare) (visits true body)
+at_root bare (UntilPlan n place low high l r) = here (UntilPlan n place low high l r, bare) (visits true l ++ visits bare r)
+at_root bare (NextPlan n place high body) = here (NextPlan n place high body, bare) (visits bare body)
 
 -- from the plan, where the start before it is bare, or from a start begun below
 abbrev pub Met : (node : Plan) → (bare : Bool) → Plan → Type 0
@@ -121,7 +133,7 @@ from_below node plan next bare at met =
     ⊎_elim (λ is. let s = stays bare (guard_triggers plan) is.0 in inl (s.0, one_more (Bare node) plan next at (lifted node plan next s.1 is.1)))
     (λ begun. inr (begun_below (Bare node) plan next at begun)) met
 
-from_begun : (node plan start : Plan) (bare : Bool) → Contains (begun_by plan) start → Met node true start → Met node bare plan
+from_begun : (node plan start : Plan) (bare : Bool) → Contains (begun_later plan) start → Met node true start → Met node bare plan
 from_begun node plan start bare at met =
     ⊎_elim (λ is. inr (begun_here (Bare node) plan start at is.1))
     (λ begun. inr (begun_below (Bare node) plan start (is_below plan start at) begun)) met
@@ -129,7 +141,8 @@ from_begun node plan start bare at met =
 pub sound : (node plan : Plan) (bare : Bool) → Contains (visits bare plan) (node, true) → Met node bare plan
 sound node = by_below (λ plan. (bare : Bool) → Contains (visits bare plan) (node, true) → Met node bare plan) (λ plan each bare there.
     ⊎_elim (λ same. inl (ap (λ (v : Visit). v.1) same, at_end (Bare node) plan (ap (λ (v : Visit). v.0) same, refl)))
-    (λ deep. ⊎_elim (λ d. from_below node plan d.0 bare d.1 (each d.0 d.1 (bare_behind bare (guard_triggers plan)) d.2)) (λ d. from_begun node plan d.0 bare d.1 (each d.0 (is_below plan d.0 d.1) true d.2)) deep)
+    (λ deep. ⊎_elim (λ d. from_below node plan d.0 bare d.1 (each d.0 d.1 (bare_behind bare (guard_triggers plan)) d.2))
+    (λ d. from_begun node plan d.0 bare d.1 (each d.0 (is_below plan d.0 d.1) true d.2)) deep)
     (cases bare plan (node, true) there))
 
 abbrev Complete : (node plan : Plan) → Type 0

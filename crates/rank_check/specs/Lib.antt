@@ -1,14 +1,2 @@
-pub mod Roles
-pub mod Paths
-pub mod Chains
-pub mod Horizon
-pub mod Walks
-pub mod Survey
-pub mod Transparent
-pub mod Transparency
-pub mod Refusals
-pub mod Ranked
-pub mod Limits
-pub mod Matrix
-pub mod Laws
-pub mod Cases
+pub mod meaning
+pub mod machine

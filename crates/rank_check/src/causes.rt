@@ -1,18 +1,18 @@
 //! Which events are caused below which triggers.
 ghost use Rattle.std.specs.Prelude.{◌≡◌, ◌↔◌, Contains, IfOk, OnOk, map};
-ghost use Rattle.enf_formula.specs.Formulas.{tree_of};
-ghost use Rattle.enf_value.specs.declared.events.NameId.{NameId as Name};
-ghost use Rattle.plan_terms.specs.Plans.{plan_of};
-ghost use Rattle.rank_check.specs.Limits.{ArePlansWithinLimits};
-ghost use Rattle.rank_check.specs.Matrix.{Adds, Joins};
-ghost use Rattle.rank_check.specs.Paths.{Edge};
-ghost use Rattle.plan_terms.specs.Triggers.{triggers as names_of};
-ghost use Rattle.rank_check.specs.Walks.{Causes, met_behind, bare_behind};
+ghost use Rattle.enf_formula.specs.machine.FormulaViews.{tree_of};
+ghost use Rattle.enf_data.specs.declared.events.NameId.{NameId as Name};
+ghost use Rattle.plan_terms.specs.machine.StoredPlans.{plan_of};
+ghost use Rattle.rank_check.specs.machine.Limits.{ArePlansWithinLimits};
+ghost use Rattle.rank_check.specs.machine.EdgeTables.{AddsEdges, HasEdge};
+ghost use Rattle.rank_check.specs.meaning.AcceptedPlans.{Edge};
+ghost use Rattle.plan_terms.specs.meaning.Plans.{triggers as names_of};
+ghost use Rattle.rank_check.specs.machine.PlanWalks.{Causes, met_behind, bare_behind};
 
 use crate::edges::Edges;
+use enf_data::events::NameId;
+use enf_data::memory::NoMemory;
 use enf_formula::Formula;
-use enf_value::events::NameId;
-use enf_value::memory::NoMemory;
 use plan_terms::Plan;
 use plan_terms::triggers::triggers;
 use std::alloc::Global;
@@ -22,7 +22,7 @@ pub fn edges_of(alloc: Global, plans: &[Plan], names: u32) -> Result<Edges, NoMe
     requires { ArePlansWithinLimits names (map plan_of plans.now) }
     ensures width { IfOk result (λ edges. edges.width ≡ names) }
     ensures edges { IfOk result (λ edges. (from to : Name)
-        → Joins edges from to ↔ Edge (map plan_of plans.now) from to) }
+        → HasEdge edges from to ↔ Edge (map plan_of plans.now) from to) }
 {
     let mut edges = Edges::new(alloc, names)?;
     let mut met = Vec::new(alloc);
@@ -42,7 +42,7 @@ fn add_causes(
     edges: &mut Edges,
 ) -> Result<(), NoMemory>
     ensures met { OnOk result (met.new.items ≡ met.old.items) }
-    ensures edges { OnOk result (Adds (Causes is_bare met.old.items (plan_of plan.now)) edges.old edges.new) }
+    ensures edges { OnOk result (AddsEdges (Causes is_bare met.old.items (plan_of plan.now)) edges.old edges.new) }
 {
     match plan {
         Plan::Cause { name, .. } => {
@@ -74,14 +74,14 @@ fn add_causes(
 
 // Puts an edge from each of the names to one.
 fn add_each(met: &[NameId], to: NameId, edges: &mut Edges)
-    ensures { Adds (λ a b. Contains met.now a × (to ≡ b)) edges.old edges.new }
+    ensures { AddsEdges (λ a b. Contains met.now a × (to ≡ b)) edges.old edges.new }
 {
     for from in met {
         edges.add(*from, to);
     }
 }
 
-// Puts the triggers of a guard last, where the last start is without any. Whether it is so behind the guard.
+// Puts the triggers of a guard last, where the last start is without any. Whether it is so after the guard.
 fn meet(
     alloc: Global,
     test: &Formula,

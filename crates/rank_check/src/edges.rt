@@ -1,11 +1,11 @@
 //! Edges between names, as a square of marks.
 ghost use Rattle.std.specs.Prelude.{◌≡◌, ◌↔◌, ◌+◌, ◌*◌, ◌<◌, ◌≤◌, IfOk, IsTrue};
-ghost use Rattle.rank_check.specs.Matrix.{Adds, Joins};
-ghost use Rattle.enf_value.specs.declared.events.NameId.{NameId as Name};
+ghost use Rattle.rank_check.specs.machine.EdgeTables.{AddsEdges, HasEdge};
+ghost use Rattle.enf_data.specs.declared.events.NameId.{NameId as Name};
 
-use enf_value::MOST_NAMES;
-use enf_value::events::NameId;
-use enf_value::memory::NoMemory;
+use enf_data::MOST_NAMES;
+use enf_data::events::NameId;
+use enf_data::memory::NoMemory;
 use std::alloc::Global;
 use std::marker::Model;
 
@@ -18,10 +18,10 @@ pub struct Edges {
 
 impl Model for Edges {
     ghost use Rattle.std.specs.Prelude.{◌≡◌, ◌*◌, ◌≤◌, length};
-    ghost use Rattle.enf_value.specs.declared.limits.TheConstants.{MOST_NAMES};
-    ghost use Rattle.rank_check.specs.Matrix.{Table};
+    ghost use Rattle.enf_data.specs.declared.limits.TheConstants.{MOST_NAMES};
+    ghost use Rattle.rank_check.specs.machine.EdgeTables.{EdgeTable};
 
-    ghost Value = { Table };
+    ghost Value = { EdgeTable };
 
     ghost view = { λ e. record { width = e.names; marks = e.marks.items } };
 
@@ -33,7 +33,7 @@ impl Edges {
     pub fn new(alloc: Global, names: u32) -> Result<Edges, NoMemory>
         requires { names ≤ MOST_NAMES }
         ensures width { IfOk result (λ edges. edges.width ≡ names) }
-        ensures none { IfOk result (λ edges. (from to : Name) → Joins edges from to → ⊥) }
+        ensures none { IfOk result (λ edges. (from to : Name) → HasEdge edges from to → ⊥) }
     {
         let count = names as usize * names as usize;
         Ok(Edges {
@@ -42,7 +42,7 @@ impl Edges {
         })
     }
 
-    // The same edges once more.
+    // A copy of the edges.
     pub fn duplicate(&self, alloc: Global) -> Result<Edges, NoMemory>
         ensures { IfOk result (λ edges. edges ≡ self.now) }
     {
@@ -61,14 +61,14 @@ impl Edges {
 
     // Whether an edge leads from the one name to the other.
     pub fn has(&self, from: NameId, to: NameId) -> bool
-        ensures { IsTrue result ↔ Joins self.now from to }
+        ensures { IsTrue result ↔ HasEdge self.now from to }
     {
         from.0 < self.names && to.0 < self.names && self.marks[place_of(self.names, from, to)]
     }
 
     // Puts an edge from the one name to the other, where both are among the names.
     pub fn add(&mut self, from: NameId, to: NameId)
-        ensures { Adds (λ a b. (from ≡ a) × (to ≡ b)) self.old self.new }
+        ensures { AddsEdges (λ a b. (from ≡ a) × (to ≡ b)) self.old self.new }
     {
         if from.0 < self.names && to.0 < self.names {
             let place = place_of(self.names, from, to);

@@ -1,14 +1,14 @@
 //! The horizon: a bound by classes and interval ends.
 ghost use Rattle.std.specs.Prelude.{◌≡◌, ◌+◌, ◌*◌, ◌≤◌, ◌-◌, max, min, length, map};
 ghost use Rattle.std.specs.List.{AllByRecursion, flat_map};
-ghost use Rattle.plan_terms.specs.Nodes.{nodes};
-ghost use Rattle.plan_terms.specs.Plans.{plan_of};
-ghost use Rattle.rank_check.specs.Horizon.{greatest, horizon_of, rank_in, size as size_of};
-ghost use Rattle.plan_terms.specs.Limits.{EndsInTime, IsSmall};
-ghost use Rattle.rank_check.specs.Survey.{IsSurvey};
+ghost use Rattle.plan_terms.specs.meaning.Plans.{nodes};
+ghost use Rattle.plan_terms.specs.machine.StoredPlans.{plan_of};
+ghost use Rattle.rank_check.specs.meaning.Horizon.{greatest, horizon_of, rank_in, plan_size as size_of};
+ghost use Rattle.plan_terms.specs.machine.WellFormed.{EndsInTime, IsSmallPlan};
+ghost use Rattle.rank_check.specs.machine.Surveys.{IsSurvey};
 
-use enf_value::events::NameId;
-use enf_value::{MOST_NAMES, MOST_NODES};
+use enf_data::events::NameId;
+use enf_data::{MOST_NAMES, MOST_NODES};
 use plan_terms::Plan;
 
 /// The greatest horizon, in units of time: a class is at most 257 * 401 + 400, by the limits on names and nodes, and
@@ -36,7 +36,7 @@ struct Survey {
 // such a node's interval.
 pub fn horizon(plans: &[Plan], ranks: &[u32]) -> u64
     requires ranks { greatest ranks.now ≤ MOST_NAMES }
-    requires small { AllByRecursion IsSmall (map plan_of plans.now) }
+    requires small { AllByRecursion IsSmallPlan (map plan_of plans.now) }
     requires ends { AllByRecursion EndsInTime (flat_map nodes (map plan_of plans.now)) }
     ensures value { result ≡ horizon_of ranks.now (map plan_of plans.now) }
     ensures bounded { result ≤ MOST_HORIZON }
@@ -66,7 +66,7 @@ fn greatest_rank(ranks: &[u32]) -> u32
 }
 
 fn greatest_size(plans: &[Plan]) -> u32
-    requires { AllByRecursion IsSmall (map plan_of plans.now) }
+    requires { AllByRecursion IsSmallPlan (map plan_of plans.now) }
     ensures { result ≡ greatest (map size_of (map plan_of plans.now)) }
 {
     let mut most = 0;
@@ -78,7 +78,7 @@ fn greatest_size(plans: &[Plan]) -> u32
 
 // One pass over the nodes of a plan.
 fn survey_of(plan: &Plan, ranks: &[u32], scale: Scale) -> Survey
-    requires size { IsSmall (plan_of plan.now) }
+    requires size { IsSmallPlan (plan_of plan.now) }
     requires above { scale.above ≤ MOST_NAMES + 1 }
     requires step { scale.step ≤ MOST_NODES + 1 }
     ensures found { IsSurvey scale.above scale.step ranks.now (nodes (plan_of plan.now)) result }

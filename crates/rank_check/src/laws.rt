@@ -1,8 +1,8 @@
 //! Laws of ranks and of the transparent mark, each the contract of a function that does nothing.
-ghost use Rattle.rank_check.specs.Laws.{HasOneRank, ZeroHasNoEdge, RankIsOneMore, EdgesRise, CyclesHaveNoRank};
-ghost use Rattle.rank_check.specs.Laws.{AllHaveRanks, AcceptedPlansStay, ArePlansAnswered, OneReason};
-ghost use Rattle.rank_check.specs.Transparency.{DeadlinesAreNotLost, OwedNodesAreNotLost, OwedNodesHold};
-ghost use Rattle.rank_check.specs.Transparency.{RootsAreNotLost, RootsHold};
+ghost use Rattle.rank_check.specs.machine.Laws.{HasOneRank, ZeroHasNoEdge, RankIsOneMore, EdgesRise, CyclesHaveNoRank};
+ghost use Rattle.rank_check.specs.machine.Laws.{AllHaveRanks, AcceptedPlansStay, ArePlansAnswered, OneReason};
+ghost use Rattle.rank_check.specs.machine.TransparencyLaws.{DeadlinesAreNotLost, OwedNodesAreNotLost, OwedNodesHold};
+ghost use Rattle.rank_check.specs.machine.TransparencyLaws.{RootsAreNotLost, RootsHold};
 
 use enf_formula::laws::is_classical;
 use plan_terms::laws::{nodes_stand_in_plans, number_is_place, owed_stays_owed};

@@ -2,20 +2,20 @@
 //! the horizon. It stands on `plan_terms`.
 #![tactic(auto)]
 
-pub mod answers;
 mod causes;
 mod chains;
-pub mod checking;
 mod edges;
 mod horizon;
 pub mod laws;
+pub mod plan_check;
+pub mod rank_answers;
 pub mod ranked;
 mod roles;
 mod transparent;
-mod untriggered;
+mod untriggered_nodes;
 pub mod worked_cases;
 
-pub use answers::{RankRefusal, Role};
-pub use checking::check;
 pub use horizon::MOST_HORIZON;
+pub use plan_check::check;
+pub use rank_answers::{RankRefusal, Role};
 pub use ranked::Ranks;

@@ -1,18 +1,18 @@
 //! What is known of accepted plans: the ranks and roles of names, the horizon and the transparent mark.
 ghost use Rattle.std.specs.Prelude.{◌≡◌, ◌≤◌, map};
 ghost use Rattle.std.specs.List.{AllByRecursion, flat_map};
-ghost use Rattle.plan_terms.specs.Nodes.{nodes};
-ghost use Rattle.plan_terms.specs.Plans.{plan_of};
-ghost use Rattle.rank_check.specs.Horizon.{greatest, horizon_of, rank_in};
-ghost use Rattle.plan_terms.specs.Limits.{EndsInTime, IsSmall};
-ghost use Rattle.rank_check.specs.Ranked.{role_in};
-ghost use Rattle.rank_check.specs.Transparent.{is_transparent as are_transparent};
+ghost use Rattle.plan_terms.specs.meaning.Plans.{nodes};
+ghost use Rattle.plan_terms.specs.machine.StoredPlans.{plan_of};
+ghost use Rattle.rank_check.specs.meaning.Horizon.{greatest, horizon_of, rank_in};
+ghost use Rattle.plan_terms.specs.machine.WellFormed.{EndsInTime, IsSmallPlan};
+ghost use Rattle.rank_check.specs.meaning.Ranked.{role_in};
+ghost use Rattle.rank_check.specs.meaning.AcceptedPlans.{is_transparent as are_transparent};
 
-use crate::answers::Role;
 use crate::horizon::{MOST_HORIZON, horizon, rank_of};
+use crate::rank_answers::Role;
 use crate::transparent::is_transparent;
-use enf_value::MOST_NAMES;
-use enf_value::events::NameId;
+use enf_data::MOST_NAMES;
+use enf_data::events::NameId;
 use plan_terms::Plan;
 use std::marker::Model;
 
@@ -27,7 +27,7 @@ pub struct Ranks {
 
 impl Model for Ranks {
     ghost use Rattle.std.specs.Prelude.{◌≤◌};
-    ghost use Rattle.rank_check.specs.Ranked.{Ranked};
+    ghost use Rattle.rank_check.specs.meaning.Ranked.{Ranked};
     ghost use Rattle.rank_check.specs.declared.horizon.TheConstants.{MOST_HORIZON};
 
     ghost Value = { Ranked };
@@ -46,7 +46,7 @@ impl Ranks {
     // What is known by ranks and roles of the names of plans.
     pub(crate) fn of(plans: &[Plan], ranks: Vec<u32>, roles: Vec<Role>) -> Ranks
         requires ranks { greatest ranks.items ≤ MOST_NAMES }
-        requires small { AllByRecursion IsSmall (map plan_of plans.now) }
+        requires small { AllByRecursion IsSmallPlan (map plan_of plans.now) }
         requires ends { AllByRecursion EndsInTime (flat_map nodes (map plan_of plans.now)) }
         ensures ranks { result.ranks ≡ ranks.items }
         ensures roles { result.roles ≡ roles.items }

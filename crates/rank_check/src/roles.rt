@@ -1,17 +1,16 @@
 //! Which names are caused and which suppressed.
 ghost use Rattle.std.specs.Prelude.{◌≡◌, ◌↔◌, ◌<◌, ◌++◌, Contains, IfErr, IfOk, OnOk, length, map};
 ghost use Rattle.std.specs.List.{flat_map};
-ghost use Rattle.plan_terms.specs.Plans.{plan_of};
-ghost use Rattle.rank_check.specs.Ranked.{role_in};
-ghost use Rattle.rank_check.specs.Refusals.{IsFirstName};
-ghost use Rattle.plan_terms.specs.Changes.{NothingClashes, caused_below, suppressed_below, Clashes};
-ghost use Rattle.rank_check.specs.Roles.{role_for, IsMarked};
-ghost use Rattle.rank_check.specs.Roles.{AreNamesBelow, HasRole};
-ghost use Rattle.enf_value.specs.declared.events.NameId.{NameId as Name};
+ghost use Rattle.plan_terms.specs.machine.StoredPlans.{plan_of};
+ghost use Rattle.rank_check.specs.meaning.Ranked.{role_in, NameHasRole};
+ghost use Rattle.rank_check.specs.meaning.Refusals.{IsFirstName};
+ghost use Rattle.plan_terms.specs.meaning.Plans.{NothingClashes, caused_below, suppressed_below, Clashes};
+ghost use Rattle.rank_check.specs.machine.Roles.{role_for, IsMarkedName, AreNamesBelow};
+ghost use Rattle.enf_data.specs.declared.events.NameId.{NameId as Name};
 
-use crate::answers::Role;
-use enf_value::events::NameId;
-use enf_value::memory::NoMemory;
+use crate::rank_answers::Role;
+use enf_data::events::NameId;
+use enf_data::memory::NoMemory;
 use plan_terms::Plan;
 use std::alloc::Global;
 
@@ -92,7 +91,7 @@ pub fn roles_of(
     ensures clash { IfOk result (λ r. IfErr r (IsFirstName (Clashes (map plan_of plans.now)))) }
     ensures clear { IfOk result (λ r. OnOk r (NothingClashes (map plan_of plans.now))) }
     ensures roles { IfOk result (λ r. IfOk r (λ roles. (name : Name)
-        → HasRole (map plan_of plans.now) name (role_in roles.items name))) }
+        → NameHasRole (map plan_of plans.now) name (role_in roles.items name))) }
 {
     let causes = caused(alloc, plans)?;
     let causes = marks_of(alloc, causes.as_slice(), names)?;
@@ -113,7 +112,8 @@ pub fn roles_of(
 fn marks_of(alloc: Global, listed: &[NameId], names: u32) -> Result<Vec<bool>, NoMemory>
     requires { (name : Name) → Contains listed.now name → name.0 < names }
     ensures count { IfOk result (λ marks. length marks.items ≡ names) }
-    ensures marks { IfOk result (λ marks. (name : Name) → IsMarked marks.items name ↔ Contains listed.now name) }
+    ensures marks { IfOk result (λ marks. (name : Name)
+        → IsMarkedName marks.items name ↔ Contains listed.now name) }
 {
     let mut marks = vec![in alloc; false; names as usize]?;
     for name in listed {

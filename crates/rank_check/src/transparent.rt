@@ -1,9 +1,9 @@
 //! The transparent mark.
 ghost use Rattle.std.specs.Prelude.{◌≡◌, map};
 ghost use Rattle.std.specs.List.{list_all};
-ghost use Rattle.plan_terms.specs.Nodes.{nodes};
-ghost use Rattle.plan_terms.specs.Plans.{plan_of};
-ghost use Rattle.rank_check.specs.Transparent.{is_transparent as are_transparent, is_transparent_at};
+ghost use Rattle.plan_terms.specs.meaning.Plans.{nodes};
+ghost use Rattle.plan_terms.specs.machine.StoredPlans.{plan_of};
+ghost use Rattle.rank_check.specs.meaning.AcceptedPlans.{is_transparent as are_transparent, is_transparent_at};
 
 use plan_terms::Plan;
 

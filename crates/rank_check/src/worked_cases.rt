@@ -1,33 +1,29 @@
 //! Worked cases of roles, triggers, ranks and the mark, each a clause of a function with an empty body.
 ghost use Rattle.std.specs.Prelude.{◌≡◌, [], ◌∷◌, map, true, false, None, Some};
-ghost use Rattle.enf_value.specs.Valuations.{no_values};
-ghost use Rattle.enf_formula.specs.Cases.{empty_step, name_p, name_q, formula_p, formula_q, x};
-ghost use Rattle.enf_formula.specs.Formulas as tree;
-ghost use Rattle.trace_meaning.specs.Good.{Good};
-ghost use Rattle.plan_terms.specs.Cases.{each_soon, soon_q_x};
-ghost use Rattle.plan_terms.specs.Lost.{IsLost};
-ghost use Rattle.plan_terms.specs.Owed.{IsOwed};
-ghost use Rattle.plan_terms.specs.PlanFormula.{formula_for};
-ghost use Rattle.plan_terms.specs.Plans as plan;
-ghost use Rattle.rank_check.specs.Cases.{two_in_turn, three_in_turn, then_always_q, no_p_until_q, next_no_p};
-ghost use Rattle.rank_check.specs.Cases.{at_last_q_soon, no_p_until_q_soon, q_soon, q_soon_or_later};
-ghost use Rattle.rank_check.specs.Cases.{in_a_row, q_until_p, both_ways, name_r, guarded_twice, then_always_guarded};
-ghost use Rattle.rank_check.specs.Chains.{IsOnCycle, IsRank};
-ghost use Rattle.rank_check.specs.Horizon.{class_of, horizon_of};
-ghost use Rattle.rank_check.specs.Paths.{Edge, IsUntriggered};
-ghost use Rattle.plan_terms.specs.Triggers.{triggers};
-ghost use Rattle.rank_check.specs.Refusals.{AllIsTriggered, IsFirstPlace};
-ghost use Rattle.plan_terms.specs.Changes.{Clashes, IsCaused, IsSuppressed};
-ghost use Rattle.rank_check.specs.Transparent.{is_transparent};
+ghost use Rattle.enf_data.specs.meaning.Valuations.{no_values};
+ghost use Rattle.enf_formula.specs.machine.Cases.{empty_step, name_p, name_q, formula_p, formula_q, variable_x};
+ghost use Rattle.trace_meaning.specs.meaning.Traces.{Good};
+ghost use Rattle.plan_terms.specs.machine.Cases.{each_soon, soon_q_x};
+ghost use Rattle.plan_terms.specs.meaning.Owed.{IsLost, IsOwed};
+ghost use Rattle.plan_terms.specs.meaning.Plans.{formula_for, triggers, Clashes, IsCaused, IsSuppressed};
+ghost use Rattle.rank_check.specs.machine.Cases.{two_in_turn, three_in_turn, then_always_q, no_p_until_q, next_no_p};
+ghost use Rattle.rank_check.specs.machine.Cases.{at_last_q_soon, no_p_until_q_soon, q_soon, q_soon_or_later, in_a_row};
+ghost use Rattle.rank_check.specs.machine.Cases.{q_until_p, both_ways, name_r, guarded_twice, then_always_guarded};
+ghost use Rattle.rank_check.specs.meaning.AcceptedPlans.{IsOnCycle, Edge, IsUntriggered, AllIsTriggered};
+ghost use Rattle.rank_check.specs.meaning.AcceptedPlans.{is_transparent};
+ghost use Rattle.rank_check.specs.meaning.Ranked.{IsRank};
+ghost use Rattle.rank_check.specs.meaning.Horizon.{class_of, horizon_of};
+ghost use Rattle.rank_check.specs.meaning.Refusals.{IsFirstPlace};
+ghost use Rattle.plan_terms.specs.meaning.Plans as plan;
 
 /// Names that clash, nodes without a trigger, and edges.
 pub fn paths()
     ensures clash { Clashes (both_ways ∷ []) name_q }
-    ensures two_plans { Clashes (plan.Cause 0 1 name_q [] ∷ plan.Suppress 0 1 name_q [] ∷ []) name_q }
-    ensures root { IsUntriggered (plan.Eventually 0 8 1 5 (plan.Cause 1 9 name_q []))
-        (plan.Eventually 0 8 1 5 (plan.Cause 1 9 name_q [])) }
-    ensures below_always { IsUntriggered then_always_q (plan.Cause 2 6 name_q []) }
-    ensures left_of_until { IsUntriggered q_until_p (plan.Cause 1 5 name_q []) }
+    ensures two_plans { Clashes (plan.CausePlan 0 1 name_q [] ∷ plan.SuppressPlan 0 1 name_q [] ∷ []) name_q }
+    ensures root { IsUntriggered (plan.EventuallyPlan 0 8 1 5 (plan.CausePlan 1 9 name_q []))
+        (plan.EventuallyPlan 0 8 1 5 (plan.CausePlan 1 9 name_q [])) }
+    ensures below_always { IsUntriggered then_always_q (plan.CausePlan 2 6 name_q []) }
+    ensures left_of_until { IsUntriggered q_until_p (plan.CausePlan 1 5 name_q []) }
     ensures edge { Edge (each_soon ∷ []) name_p name_q }
     ensures cycle_of_two { IsOnCycle (Edge two_in_turn) name_p }
     ensures cycle_of_three { IsOnCycle (Edge three_in_turn) name_p }
@@ -63,12 +59,14 @@ pub fn horizons()
     ensures two_rules { horizon_of (0 ∷ 1 ∷ []) (each_soon ∷ no_p_until_q ∷ []) ≡ 270 }
     ensures no_deadline { horizon_of (0 ∷ 0 ∷ []) (then_always_q ∷ []) ≡ 0 }
     ensures marked { is_transparent (each_soon ∷ no_p_until_q ∷ next_no_p ∷ []) ≡ true }
-    ensures one_side_ahead { is_transparent (plan.Either 0 soon_q_x (plan.Cause 3 8 name_q []) ∷ []) ≡ true }
+    ensures one_side_ahead { is_transparent (plan.Either 0 soon_q_x (plan.CausePlan 3 8 name_q []) ∷ []) ≡ true }
     ensures two_sides_ahead { is_transparent (plan.Either 0 soon_q_x soon_q_x ∷ []) ≡ false }
-    ensures body_ahead { is_transparent (plan.Eventually 0 1 0 5 soon_q_x ∷ []) ≡ false }
-    ensures right_ahead { is_transparent (plan.Until 0 1 0 5 (plan.Cause 1 2 name_q []) soon_q_x ∷ []) ≡ false }
-    ensures left_ahead { is_transparent (plan.Until 0 1 0 5 soon_q_x (plan.Cause 1 2 name_q []) ∷ []) ≡ true }
-    ensures always_ahead { is_transparent (plan.Always 0 1 0 5 soon_q_x ∷ []) ≡ true }
+    ensures body_ahead { is_transparent (plan.EventuallyPlan 0 1 0 5 soon_q_x ∷ []) ≡ false }
+    ensures right_ahead { is_transparent (plan.UntilPlan 0 1 0 5 (plan.CausePlan 1 2 name_q []) soon_q_x ∷ [])
+        ≡ false }
+    ensures left_ahead { is_transparent (plan.UntilPlan 0 1 0 5 soon_q_x (plan.CausePlan 1 2 name_q []) ∷ [])
+        ≡ true }
+    ensures always_ahead { is_transparent (plan.AlwaysPlan 0 1 0 5 soon_q_x ∷ []) ≡ true }
 {}
 
 /// Without the mark a node can be owed and lost though the trace can be continued well: where it looks ahead as one of

@@ -1,24 +1,12 @@
 -- Values that are bound to the variables in scope, and the instance that has them.
-use Rattle.std.proofs.Common.{◌≡◌, ◌++◌, ◌∷◌, [], suc, List, Option, Some, None, cond, IsSome, length, map, refl, sym, ap, subst, ◌∙◌, arith, append_assoc}
+use Rattle.save_codec.proofs.Vocabulary.{◌≡◌, ◌++◌, ◌∷◌, [], suc, List, Option, Some, None, cond}
+use Rattle.save_codec.proofs.Vocabulary.{IsSome, length, map, refl, sym, ap, subst, ◌∙◌, arith, append_assoc}
+use Rattle.save_codec.proofs.Vocabulary.{by_order, find, put, IsStrictlySortedBy, is_eq, ordering_reverse, Less}
+use Rattle.save_codec.proofs.Vocabulary.{Greater, append-nil, map-append, sorted_head, sorted_tail, Valuation, bindings}
+use Rattle.save_codec.proofs.Vocabulary.{no_values, value_at, variable_cmp, variable_cmp_total, VarId, Value}
+use Rattle.save_codec.proofs.Vocabulary.{all_at_middle, nothing_bound, Sort, with_value, filled_from_row, with_new}
+use Rattle.save_codec.proofs.Vocabulary.{cell_some, filled_outside, filled_unbound, FitsScope, values_in, FitTold}
 use Rattle.std.specs.FinMap as finite
-use Rattle.std.specs.FinMap.Entries.{by_order, find, put}
-use Rattle.std.specs.List.{AllByRecursion}
-use Rattle.std.specs.List.Sorted.{IsStrictlySortedBy}
-use Rattle.std.specs.Ordering.{is_eq, ordering_reverse}
-use Rattle.std.specs.declared.cmp.Ordering.TheVariants.{Less, Greater}
-use Rattle.std.proofs.lemmas.List.{append-nil, map-append}
-use Rattle.std.proofs.lemmas.Map.Keys.{sorted_head, sorted_tail}
-use Rattle.enf_value.specs.Valuations.{Valuation, bindings, no_values, value_at, variable_cmp, variable_cmp_total}
-use Rattle.enf_value.specs.declared.terms.VarId.{VarId}
-use Rattle.enf_value.specs.declared.values.Value.{Value}
-use Rattle.signature.specs.declared.entries.Sort.{Sort}
-use Rattle.valuations.specs.Bindings.{with_value}
-use Rattle.valuations.specs.RowLaws.{cell_some}
-use Rattle.valuations.specs.ScopeLaws.{filled_outside, filled_unbound}
-use Rattle.valuations.specs.Scopes.{filled, with_new}
-use Rattle.obligations.specs.Asked.{FitsScope}
-use Rattle.save_codec.specs.Saved.{values_in}
-use Rattle.save_codec.specs.Sorts.{FitTold}
 
 abbrev pub Binding : Type 0
 Binding = VarId × Value
@@ -26,7 +14,7 @@ Binding = VarId × Value
 abbrev keys : List Binding → List VarId
 keys values = map (λ binding. binding.0) values
 
--- the variables that are bound rise, and those that are to be bound rise behind them
+-- the variables that are bound rise, and those that are to be bound rise after them
 abbrev IsRising : List Binding → (scope : List VarId) → Type 0
 IsRising values scope = IsStrictlySortedBy variable_cmp (keys values ++ scope)
 
@@ -34,14 +22,10 @@ abbrev IsBehind : VarId → List Binding → Type 0
 IsBehind x [] = Unit {0}
 IsBehind x (binding ∷ values) = (variable_cmp x binding.0 ≡ Greater) × IsBehind x values
 
-at_middle : (P : VarId → Type 0) (xs : List VarId) (x : VarId) (ys : List VarId) → AllByRecursion P (xs ++ x ∷ ys) → P x
-at_middle P [] x ys all = all.0
-at_middle P (y ∷ xs) x ys all = at_middle P xs x ys all.1
-
 behind_from_rising : (values : List Binding) (x : VarId) (xs : List VarId) → IsRising values (x ∷ xs) → IsBehind x values
 behind_from_rising [] x xs rise = tt
 behind_from_rising (binding ∷ values) x xs rise =
-    let less : variable_cmp binding.0 x ≡ Less = at_middle (λ y. variable_cmp binding.0 y ≡ Less) (keys values) x xs (sorted_head variable_cmp binding.0 (keys values ++ x ∷ xs) rise) in
+    let less : variable_cmp binding.0 x ≡ Less = all_at_middle (λ y. variable_cmp binding.0 y ≡ Less) (keys values) x xs (sorted_head variable_cmp binding.0 (keys values ++ x ∷ xs) rise) in
     (variable_cmp_total.antisymm x binding.0 ∙ ap ordering_reverse less, behind_from_rising values x xs (sorted_tail variable_cmp binding.0 (keys values ++ x ∷ xs) rise))
 
 put_behind : (x : VarId) (value : Value) (values : List Binding) → IsBehind x values → put variable_cmp x value values ≡ values ++ (x, value) ∷ []
@@ -68,35 +52,30 @@ rising_on v x value xs rise =
     ap (λ l. keys l ++ xs) list ∙ ap (λ l. l ++ xs) (map-append (λ (b : Binding). b.0) (bindings v) ((x, value) ∷ [])) ∙ append_assoc (keys (bindings v)) (x ∷ []) xs in
     subst (IsStrictlySortedBy variable_cmp) (sym same) rise
 
-pub nothing_bound : bindings no_values ≡ []
-nothing_bound = by (bindings no_values) (finite.len-entries no_values)
-  where
-    by : (l : List Binding) → finite.len no_values ≡ length l → l ≡ []
-    by [] e = refl
-    by (b ∷ l) e = absurd (omega (arith, sym (finite.len-empty variable_cmp Value) ∙ e))
-
 pub nothing_at : (x : VarId) → value_at no_values x ≡ None
 nothing_at x = finite.get-entries no_values x ∙ ap (find variable_cmp x) nothing_bound
 
 -- each variable in scope is bound to the value at its place, in order
-filled_values : (v : Valuation) (scope : List VarId) (values : List Value) → IsRising (bindings v) scope → length scope ≡ length values → map (λ (b : Binding). b.1) (bindings (filled v scope values)) ≡ map (λ (b : Binding). b.1) (bindings v) ++ values
+filled_values : (v : Valuation) (scope : List VarId) (values : List Value) → IsRising (bindings v) scope → length scope ≡ length values
+    → map (λ (b : Binding). b.1) (bindings (filled_from_row v scope values)) ≡ map (λ (b : Binding). b.1) (bindings v) ++ values
 filled_values v [] [] rise long = sym (append-nil (map (λ (b : Binding). b.1) (bindings v)))
 filled_values v [] (value ∷ values) rise long = absurd (omega (arith, long))
 filled_values v (x ∷ scope) [] rise long = absurd (omega (arith, long))
 filled_values v (x ∷ scope) (value ∷ values) rise long =
-    let start : filled v (x ∷ scope) (value ∷ values) ≡ filled (with_value v x value) scope values = ap (λ (o : Option Value). filled (with_new o v x value) scope values) (none_bound v x scope rise) in
+    let start : filled_from_row v (x ∷ scope) (value ∷ values) ≡ filled_from_row (with_value v x value) scope values = ap
+    (λ (o : Option Value). filled_from_row (with_new o v x value) scope values) (none_bound v x scope rise) in
     ap (λ (w : Valuation). map (λ (b : Binding). b.1) (bindings w)) start
     ∙ filled_values (with_value v x value) scope values (rising_on v x value scope rise) (omega (arith, long))
     ∙ ap (λ (l : List Binding). map (λ (b : Binding). b.1) l ++ values) (one_more_bound v x value scope rise)
     ∙ ap (λ l. l ++ values) (map-append (λ (b : Binding). b.1) (bindings v) ((x, value) ∷ []))
     ∙ append_assoc (map (λ (b : Binding). b.1) (bindings v)) (value ∷ []) values
 
-pub bound_values : (scope : List VarId) (values : List Value) → IsStrictlySortedBy variable_cmp scope → length scope ≡ length values → values_in (filled no_values scope values) ≡ values
+pub bound_values : (scope : List VarId) (values : List Value) → IsStrictlySortedBy variable_cmp scope → length scope ≡ length values → values_in (filled_from_row no_values scope values) ≡ values
 bound_values scope values rise long =
     filled_values no_values scope values (subst (λ (l : List Binding). IsRising l scope) (sym nothing_bound) rise) long
     ∙ ap (λ (l : List Binding). map (λ (b : Binding). b.1) l ++ values) nothing_bound
 
-pub bound_fits : (scope : List VarId) (values : List Value) → length scope ≡ length values → FitsScope scope (filled no_values scope values)
+pub bound_fits : (scope : List VarId) (values : List Value) → length scope ≡ length values → FitsScope scope (filled_from_row no_values scope values)
 bound_fits scope values long = record {
   binds = λ x there.
       let some = cell_some scope values x (sym long) there in

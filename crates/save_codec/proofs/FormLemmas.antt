@@ -1,19 +1,16 @@
 -- Lines that follow one another.
-use Rattle.std.proofs.Common.{◌≡◌, ◌++◌, ◌∷◌, [], suc, ℕ, Result, Err, IfErr, List, Option, Some, IsTrue, refl, sym, ap, subst, ◌∙◌, arith, append_assoc}
-use Rattle.std.proofs.lemmas.List.{append-nil}
-use Rattle.std.proofs.lemmas.List.Concat.{flat_map-append}
-use Rattle.save_codec.specs.Forms.{Follow, follows, last_line}
-use Rattle.save_codec.specs.Lines.{IsLine, head_text, line_text, lines_text}
-use Rattle.save_codec.specs.Reading.{IsFault, IsStop, IsSyntax}
-use Rattle.save_codec.specs.declared.refusals.StateRefusal.{StateRefusal}
-use Rattle.save_codec.specs.declared.refusals.StateRefusal.TheVariants.{Syntax, OtherPolicy, Inconsistent, NoMemory}
-use Rattle.save_codec.specs.declared.lines.Line.{Line}
+use Rattle.save_codec.proofs.Vocabulary.{◌≡◌, ◌++◌, ◌∷◌, [], suc, ℕ, Result, Err, IfErr, List, Option}
+use Rattle.save_codec.proofs.Vocabulary.{Some, IsTrue, refl, sym, ap, subst, ◌∙◌, arith, append_assoc, append-nil}
+use Rattle.save_codec.proofs.Vocabulary.{flat_map-append, LinesFollow, line_follows, last_line, IsLine, head_text}
+use Rattle.save_codec.proofs.Vocabulary.{line_text, lines_text, IsFault, IsStop, IsFormRefusal, StateRefusal, Syntax}
+use Rattle.save_codec.proofs.Vocabulary.{OtherPolicy, Inconsistent, NoMemory, Line}
 
 pub last_line_behind : (before : Option Line) (lines : List Line) (line : Line) → last_line before (lines ++ line ∷ []) ≡ Some line
 last_line_behind before [] line = refl
 last_line_behind before (first ∷ lines) line = last_line_behind (Some first) lines line
 
-pub follow_on : (before : Option Line) (lines : List Line) (line : Line) → Follow before lines → IsTrue (follows (last_line before lines) line) → IsLine line → Follow before (lines ++ line ∷ [])
+pub follow_on : (before : Option Line) (lines : List Line) (line : Line) → LinesFollow before lines → IsTrue (line_follows (last_line before lines) line) → IsLine line
+    → LinesFollow before (lines ++ line ∷ [])
 follow_on before [] line form next is = (next, is, tt)
 follow_on before (first ∷ lines) line form next is = (form.0, form.1, follow_on (Some first) lines line form.2 next is)
 
@@ -23,14 +20,15 @@ text_on text left after lines line begins read =
     begins ∙ ap (λ l. lines_text lines ++ l) read ∙ sym (append_assoc (lines_text lines) (line_text line) after)
     ∙ ap (λ l. l ++ after) (ap (λ l. lines_text lines ++ l) (sym (append-nil (line_text line))) ∙ sym (flat_map-append line_text lines (line ∷ [])))
 
--- behind a head, the lines that were read are those of the text
-stop_is_syntax : (bytes signature policy text : List ℕ) (why : StateRefusal) → bytes ≡ head_text signature policy ++ text → IsStop text why → IsSyntax bytes why
+-- after a head, the lines that were read are those of the text
+stop_is_syntax : (bytes signature policy text : List ℕ) (why : StateRefusal) → bytes ≡ head_text signature policy ++ text → IsStop text why → IsFormRefusal bytes why
 stop_is_syntax bytes signature policy text (Syntax line) is (count, stops, numbered) =
     subst (IsFault bytes) {x = suc count} {y = line} (omega (arith, numbered)) (signature, policy, text, is, stops)
 stop_is_syntax bytes signature policy text OtherPolicy is stop = stop
 stop_is_syntax bytes signature policy text (Inconsistent line) is stop = stop
 stop_is_syntax bytes signature policy text NoMemory is stop = tt
 
-pub refused_behind : {T : Type 0} (bytes signature policy text : List ℕ) (result : Result T StateRefusal) (why given : StateRefusal) → result ≡ Err why → why ≡ given → bytes ≡ head_text signature policy ++ text → IsStop text given → IfErr result (IsSyntax bytes)
+pub refused_behind : {T : Type 0} (bytes signature policy text : List ℕ) (result : Result T StateRefusal) (why given : StateRefusal) → result ≡ Err why → why ≡ given → bytes
+    ≡ head_text signature policy ++ text → IsStop text given → IfErr result (IsFormRefusal bytes)
 refused_behind {T = T} bytes signature policy text result why given is same begins stop =
-    subst (λ (r : Result T StateRefusal). IfErr r (IsSyntax bytes)) (sym is) (subst (IsSyntax bytes) (sym same) (stop_is_syntax bytes signature policy text given begins stop))
+    subst (λ (r : Result T StateRefusal). IfErr r (IsFormRefusal bytes)) (sym is) (subst (IsFormRefusal bytes) (sym same) (stop_is_syntax bytes signature policy text given begins stop))

@@ -1,30 +1,15 @@
 -- Rows, by what is known of windows.
-use Rattle.std.proofs.Common.{◌≡◌, ◌↔◌, ◌++◌, ◌∷◌, ◌+◌, ◌<◌, [], ℕ, zero, suc, List, Option, Some, None, Bool, true, false, All, IsTrue, length, take, map, slice_get, refl, sym, ap, subst, ◌∙◌, arith, length-append, append_assoc}
-use Rattle.std.specs.List.{AllByRecursion}
-use Rattle.std.specs.Option.{option_map}
-use Rattle.std.proofs.lemmas.List.{append-nil, take-append-le, take_at}
-use Rattle.std.proofs.lemmas.List.Elements.{All-contains}
-use Rattle.std.proofs.lemmas.Option.{get_or_from_slice_get, slice_get-map, slice_get_within}
-use Rattle.enf_value.specs.declared.terms.VarId.{VarId}
-use Rattle.enf_value.specs.declared.values.Value.{Value}
-use Rattle.enf_formula.specs.Formulas.{Formula}
-use Rattle.enf_formula.specs.FreeLaws.{same_free}
-use Rattle.enf_formula.specs.FreeVariables.{AreFreeVariables}
-use Rattle.signature.specs.declared.entries.Sort.{Sort}
-use Rattle.past_state.specs.Bounds.{AreWithinBounds}
-use Rattle.past_state.specs.Operators.{all_operators}
-use Rattle.past_state.specs.Saved.{kept_operand}
-use Rattle.past_state.specs.Shapes.{HasItsColumns, IsFirstOutOfBounds, numbered, numbered_operators, operator_of}
-use Rattle.past_state.specs.declared.kept.KeptRow.{KeptRow}
-use Rattle.past_state.specs.declared.shapes.WindowShape.{WindowShape}
-use Rattle.save_codec.specs.Bounds.{HasSorts, RowFits, Setting, kept_of}
-use Rattle.save_codec.specs.Judged.{BreaksAt, EndsFitting, IsFitting, IsJudge, RowsFit}
-use Rattle.save_codec.specs.Known.{Knows}
-use Rattle.save_codec.specs.Sorts.{FitTold, GuardTells}
-use Rattle.save_codec.specs.declared.judging.Fitting.{Fitting}
-use Rattle.save_codec.specs.declared.judging.Judge.{Judge}
-use Rattle.save_codec.specs.declared.parts.RowLine.{RowLine}
-use Rattle.save_codec.specs.declared.sorts.Known.{Known}
+use Rattle.save_codec.proofs.Vocabulary.{◌≡◌, ◌↔◌, ◌++◌, ◌∷◌, ◌+◌, ◌<◌, [], ℕ, zero}
+use Rattle.save_codec.proofs.Vocabulary.{suc, List, Option, Some, None, Bool, true, false, All, IsTrue, length, take}
+use Rattle.save_codec.proofs.Vocabulary.{map, slice_get, refl, sym, ap, subst, ◌∙◌, arith, length-append}
+use Rattle.save_codec.proofs.Vocabulary.{append_assoc, AllByRecursion, option_map, append-nil, take-append-le, take_at}
+use Rattle.save_codec.proofs.Vocabulary.{All-contains, get_or_from_slice_get, slice_get-map, slice_get_within, VarId}
+use Rattle.save_codec.proofs.Vocabulary.{Value, Formula, AreFreeVariables, same_free, Sort, AreWithinBounds}
+use Rattle.save_codec.proofs.Vocabulary.{numbered_operators, all_operators, kept_operand, HasItsColumns}
+use Rattle.save_codec.proofs.Vocabulary.{IsFirstOutOfBounds, numbered_operator, operator_of, KeptRow, WindowShape}
+use Rattle.save_codec.proofs.Vocabulary.{HasSorts, RowFits, SaveSetting, kept_row_of, BreaksAt, EndsFitting}
+use Rattle.save_codec.proofs.Vocabulary.{AreFittingRows, IsJudge, AreRowsWithin, Knows, FitTold, GuardTells, Fitting}
+use Rattle.save_codec.proofs.Vocabulary.{Judge, RowLine, Known}
 use Rattle.save_codec.proofs.KnowLemmas.{window_known}
 
 pub fit_as : (P Q : VarId → Sort → Type 0) → ((x : VarId) (sort : Sort) → Q x sort → P x sort) → (xs : List VarId) (values : List Value) → FitTold P xs values → FitTold Q xs values
@@ -36,32 +21,38 @@ fit_as P Q within (x ∷ xs) (value ∷ values) fit = ((λ sort told. fit.0 sort
 all_there : {X : Type 0} (P : X → Type 0) (xs : List X) (n : ℕ) (x : X) → All P xs → slice_get xs n ≡ Some x → P x
 all_there P xs n x all found = All-contains P xs x all (n, slice_get_within xs n x found, get_or_from_slice_get xs n x x found)
 
-window_at : (s : Setting) (judge : Judge) (number : ℕ) (shape : WindowShape) → IsJudge s judge → slice_get judge.shapes.items number ≡ Some shape → slice_get (map numbered judge.shapes.items) number ≡ Some (numbered shape)
-window_at s judge number shape is found = slice_get-map numbered judge.shapes.items number ∙ ap (option_map numbered) found
+window_at : (s : SaveSetting) (judge : Judge) (number : ℕ) (shape : WindowShape) → IsJudge s judge → slice_get judge.shapes.items number ≡ Some shape
+    → slice_get (map numbered_operator judge.shapes.items) number ≡ Some (numbered_operator shape)
+window_at s judge number shape is found = slice_get-map numbered_operator judge.shapes.items number ∙ ap (option_map numbered_operator) found
 
 -- what is known of each window that there is
-pub no_known : (s : Setting) (judge : Judge) (number : ℕ) (shape : WindowShape) → IsJudge s judge → slice_get judge.shapes.items number ≡ Some shape → slice_get judge.windows.items number ≡ None → ⊥
+pub no_known : (s : SaveSetting) (judge : Judge) (number : ℕ) (shape : WindowShape) → IsJudge s judge → slice_get judge.shapes.items number ≡ Some shape
+    → slice_get judge.windows.items number ≡ None → ⊥
 no_known s judge number shape is found none =
-    let k = window_known s.entries s.plans (map numbered judge.shapes.items) judge.windows.items number (numbered shape) is.windows (window_at s judge number shape is found) in
+    let k = window_known s.entries s.plans (map numbered_operator judge.shapes.items) judge.windows.items number (numbered_operator shape) is.windows (window_at s judge number shape is found) in
     let e : Some k.0 ≡ None = sym k.1 ∙ none in
     cc e
 
-pub sorts_known : (s : Setting) (judge : Judge) (row : RowLine) (shape : WindowShape) (known : Known) (columns : List VarId) (values : List Value) (fit : Bool) → IsJudge s judge → slice_get judge.shapes.items row.window ≡ Some shape
+pub sorts_known : (s : SaveSetting) (judge : Judge) (row : RowLine) (shape : WindowShape) (known : Known) (columns : List VarId) (values : List Value) (fit : Bool) → IsJudge s judge
+    → slice_get judge.shapes.items row.window ≡ Some shape
     → slice_get judge.windows.items row.window ≡ Some known → columns ≡ shape.columns → values ≡ row.values → (IsTrue fit ↔ FitTold (Knows known) columns values) → IsTrue fit ↔ HasSorts s row
 sorts_known s judge row shape known columns values fit is found knows columns_are values_are same =
-    let k = window_known s.entries s.plans (map numbered judge.shapes.items) judge.windows.items row.window (numbered shape) is.windows (window_at s judge row.window shape is found) in
+    let k = window_known s.entries s.plans (map numbered_operator judge.shapes.items) judge.windows.items row.window (numbered_operator shape) is.windows
+    (window_at s judge row.window shape is found) in
     let both : Some k.0 ≡ Some known = sym k.1 ∙ knows in
     let one : k.0 ≡ known = cc both in
-    let here : slice_get (numbered_operators 0 s.guards) row.window ≡ Some (numbered shape) = ap (λ l. slice_get l row.window) (sym is.listed) ∙ window_at s judge row.window shape is found in
+    let here : slice_get (numbered_operators 0 s.guards) row.window ≡ Some (numbered_operator shape) = ap (λ l. slice_get l row.window) (sym is.listed) ∙ window_at s judge row.window shape is found in
     let its : AreFreeVariables (kept_operand (operator_of shape)) shape.columns = all_there HasItsColumns judge.shapes.items row.window shape is.columns found in
     let Told : VarId → Sort → Type 0 = GuardTells s.entries s.plans shape.guard in
-    let to : IsTrue fit → FitTold Told shape.columns row.values = λ t. fit_as (Knows known) Told (λ x sort told. subst (λ (q : Known). Knows q x sort) one ((k.2 x sort).1 told)) shape.columns row.values
+    let to : IsTrue fit → FitTold Told shape.columns row.values = λ t. fit_as (Knows known) Told (λ x sort told. subst (λ (q : Known). Knows q x sort) one ((k.2 x sort).1 told))
+    shape.columns row.values
     (subst (λ (vs : List Value). FitTold (Knows known) shape.columns vs) values_are (subst (λ (xs : List VarId). FitTold (Knows known) xs values) columns_are (same.0 t))) in
-    let from : FitTold Told shape.columns row.values → IsTrue fit = λ f. same.1 (subst (λ (xs : List VarId). FitTold (Knows known) xs values) (sym columns_are) (subst (λ (vs : List Value). FitTold (Knows known) shape.columns vs) (sym values_are)
+    let from : FitTold Told shape.columns row.values → IsTrue fit = λ f. same.1 (subst (λ (xs : List VarId). FitTold (Knows known) xs values) (sym columns_are)
+    (subst (λ (vs : List Value). FitTold (Knows known) shape.columns vs) (sym values_are)
     (fit_as Told (Knows known) (λ x sort told. (k.2 x sort).0 (subst (λ (q : Known). Knows q x sort) (sym one) told)) shape.columns row.values f))) in (
       λ t. λ guard operator others listed free.
-          let same_window : Some (numbered shape) ≡ Some (guard, operator) = sym here ∙ listed in
-          let window : numbered shape ≡ (guard, operator) = cc same_window in
+          let same_window : Some (numbered_operator shape) ≡ Some (guard, operator) = sym here ∙ listed in
+          let window : numbered_operator shape ≡ (guard, operator) = cc same_window in
           let guards : shape.guard ≡ guard = ap (λ (w : ℕ × Formula). w.0) window in
           let operators : operator_of shape ≡ operator = ap (λ (w : ℕ × Formula). w.1) window in
           let lists : others ≡ shape.columns = same_free (kept_operand operator) others shape.columns free (subst (λ (f : Formula). AreFreeVariables (kept_operand f) shape.columns) operators its) in
@@ -92,50 +83,59 @@ map_long f [] = refl
 map_long f (x ∷ xs) = ap suc (map_long f xs)
 
 -- the first that cannot be kept
-pub broken_row : (s : Setting) (judge : Judge) (last : Option ℕ) (rows : List RowLine) (fitting : Fitting) (kept : List KeptRow) (place : ℕ) → IsJudge s judge → IsFitting s rows fitting → kept ≡ fitting.kept.items
-    → IsFirstOutOfBounds (map operator_of judge.shapes.items) last kept place → BreaksAt (RowsFit s last) rows place
+pub broken_row : (s : SaveSetting) (judge : Judge) (last : Option ℕ) (rows : List RowLine) (fitting : Fitting) (kept : List KeptRow) (place : ℕ) → IsJudge s judge
+    → AreFittingRows s rows fitting → kept ≡ fitting.kept.items
+    → IsFirstOutOfBounds (map operator_of judge.shapes.items) last kept place → BreaksAt (AreRowsWithin s last) rows place
 broken_row s judge last rows fitting kept place is f same out =
-    let are : kept ≡ map kept_of f.front = same ∙ f.kept in
-    let long : place < length f.front = omega (arith, out.there, ap length are, map_long kept_of f.front) in
+    let are : kept ≡ map kept_row_of f.front = same ∙ f.kept in
+    let long : place < length f.front = omega (arith, out.there, ap length are, map_long kept_row_of f.front) in
     let front : take place rows ≡ take place f.front = ap (take place) f.splits ∙ take-append-le place f.front f.rest (omega arith) in
     let more : take (place + 1) rows ≡ take (place + 1) f.front = ap (take (place + 1)) f.splits ∙ take-append-le (place + 1) f.front f.rest (omega arith) in
     let In : List KeptRow → Type 0 = λ l. AreWithinBounds (all_operators s.guards) last l in
-    let within : In (map kept_of (take place f.front)) =
-    subst In (ap (take place) are ∙ map_take kept_of place f.front) (subst (λ (fs : List Formula). AreWithinBounds fs last (take place kept)) is.operators out.before) in (
+    let within : In (map kept_row_of (take place f.front)) =
+    subst In (ap (take place) are ∙ map_take kept_row_of place f.front) (subst (λ (fs : List Formula). AreWithinBounds fs last (take place kept)) is.operators out.before) in (
       omega (arith, long, ap length f.splits, length-append f.front f.rest),
-      (subst (AllByRecursion (RowFits s)) (sym front) (all_take (RowFits s) place f.front f.fit), subst (λ (l : List RowLine). In (map kept_of l)) (sym front) within),
+      (subst (AllByRecursion (RowFits s)) (sym front) (all_take (RowFits s) place f.front f.fit), subst (λ (l : List RowLine). In (map kept_row_of l)) (sym front) within),
       λ fit. out.broken (subst (λ (fs : List Formula). AreWithinBounds fs last (take (place + 1) kept)) (sym is.operators)
-          (subst In (sym (ap (take (place + 1)) are ∙ map_take kept_of (place + 1) f.front)) (subst (λ (l : List RowLine). In (map kept_of l)) more fit.1))),
+          (subst In (sym (ap (take (place + 1)) are ∙ map_take kept_row_of (place + 1) f.front)) (subst (λ (l : List RowLine). In (map kept_row_of l)) more fit.1))),
     )
 
 -- the first that does not fit
-pub unfit_row : (s : Setting) (judge : Judge) (last : Option ℕ) (rows : List RowLine) (fitting : Fitting) (kept : List KeptRow) (place : ℕ) → IsJudge s judge → IsFitting s rows fitting → kept ≡ fitting.kept.items → fitting.all ≡ false
-    → place ≡ length fitting.kept.items → AreWithinBounds (map operator_of judge.shapes.items) last kept → BreaksAt (RowsFit s last) rows place
+pub unfit_row : (s : SaveSetting) (judge : Judge) (last : Option ℕ) (rows : List RowLine) (fitting : Fitting) (kept : List KeptRow) (place : ℕ) → IsJudge s judge
+    → AreFittingRows s rows fitting → kept ≡ fitting.kept.items → fitting.all ≡ false
+    → place ≡ length fitting.kept.items → AreWithinBounds (map operator_of judge.shapes.items) last kept → BreaksAt (AreRowsWithin s last) rows place
 unfit_row s judge last rows fitting kept place is f same all long within =
     by f.rest f.splits (subst (EndsFitting s f.rest) all f.ends)
   where
     place_is : place ≡ length f.front
-    place_is = long ∙ ap length f.kept ∙ map_long kept_of f.front
+    place_is = long ∙ ap length f.kept ∙ map_long kept_row_of f.front
 
-    kept_in : AreWithinBounds (all_operators s.guards) last (map kept_of f.front)
+    kept_in : AreWithinBounds (all_operators s.guards) last (map kept_row_of f.front)
     kept_in = subst (λ (l : List KeptRow). AreWithinBounds (all_operators s.guards) last l) (same ∙ f.kept) (subst (λ (fs : List Formula). AreWithinBounds fs last kept) is.operators within)
 
-    by : (rest : List RowLine) → rows ≡ f.front ++ rest → EndsFitting s rest false → BreaksAt (RowsFit s last) rows place
+    by : (rest : List RowLine) → rows ≡ f.front ++ rest → EndsFitting s rest false → BreaksAt (AreRowsWithin s last) rows place
     by [] splits ends = absurd ends
     by (row ∷ rest) splits ends =
         let front : take place rows ≡ f.front = ap (take place) splits ∙ take_at f.front (row ∷ rest) place (sym place_is) in
         let more : take (place + 1) rows ≡ f.front ++ row ∷ [] =
         ap (take (place + 1)) (splits ∙ sym (append_assoc f.front (row ∷ []) rest)) ∙ take_at (f.front ++ row ∷ []) rest (place + 1) (omega (arith, length-append f.front (row ∷ []), place_is)) in (
           omega (arith, place_is, ap length splits, length-append f.front (row ∷ rest)),
-          (subst (AllByRecursion (RowFits s)) (sym front) f.fit, subst (λ (l : List RowLine). AreWithinBounds (all_operators s.guards) last (map kept_of l)) (sym front) kept_in),
+          (subst (AllByRecursion (RowFits s)) (sym front) f.fit, subst (λ (l : List RowLine). AreWithinBounds (all_operators s.guards) last (map kept_row_of l)) (sym front) kept_in),
           λ fit. ends (all_last (RowFits s) f.front row (subst (AllByRecursion (RowFits s)) more fit.0)),
         )
 
 -- all of them
-pub rows_fit : (s : Setting) (judge : Judge) (last : Option ℕ) (rows : List RowLine) (fitting : Fitting) (kept : List KeptRow) → IsJudge s judge → IsFitting s rows fitting → kept ≡ fitting.kept.items → fitting.all ≡ true
-    → AreWithinBounds (map operator_of judge.shapes.items) last kept → (fitting.kept.items ≡ map kept_of rows) × RowsFit s last rows
+pub rows_fit : (s : SaveSetting) (judge : Judge) (last : Option ℕ) (rows : List RowLine) (fitting : Fitting) (kept : List KeptRow) → IsJudge s judge → AreFittingRows s rows fitting
+    → kept ≡ fitting.kept.items → fitting.all ≡ true
+    → AreWithinBounds (map operator_of judge.shapes.items) last kept → (fitting.kept.items ≡ map kept_row_of rows) × AreRowsWithin s last rows
 rows_fit s judge last rows fitting kept is f same all within =
     let none : f.rest ≡ [] = subst (EndsFitting s f.rest) all f.ends in
     let whole : rows ≡ f.front = f.splits ∙ ap (λ l. f.front ++ l) none ∙ append-nil f.front in
-    let are : fitting.kept.items ≡ map kept_of rows = f.kept ∙ ap (map kept_of) (sym whole) in
-    (are, (subst (AllByRecursion (RowFits s)) (sym whole) f.fit, subst (λ (l : List KeptRow). AreWithinBounds (all_operators s.guards) last l) (same ∙ are) (subst (λ (fs : List Formula). AreWithinBounds fs last kept) is.operators within)))
+    let are : fitting.kept.items ≡ map kept_row_of rows = f.kept ∙ ap (map kept_row_of) (sym whole) in (
+      are,
+      (
+        subst (AllByRecursion (RowFits s)) (sym whole) f.fit,
+        subst (λ (l : List KeptRow). AreWithinBounds (all_operators s.guards) last l) (same ∙ are)
+            (subst (λ (fs : List Formula). AreWithinBounds fs last kept) is.operators within),
+      ),
+    )

@@ -1,18 +1,12 @@
--- What is known of rules and windows, one behind the other.
-use Rattle.std.proofs.Common.{◌≡◌, ◌++◌, ◌∷◌, ◌+◌, ◌<◌, [], ℕ, zero, suc, List, Some, Contains, IsTrue, length, get_or, take, map, slice_get, inl, inr, ⊎_elim, refl, sym, ap, subst, ◌∙◌, arith}
-use Rattle.std.proofs.lemmas.List.{map-append, take_more}
-use Rattle.std.proofs.lemmas.List.Elements.{Contains-append_left, Contains-append_right}
-use Rattle.enf_value.specs.ListLaws.{Contains-append, here}
-use Rattle.enf_formula.specs.Formulas.{Formula}
-use Rattle.signature.specs.declared.entries.NameEntry.{NameEntry}
-use Rattle.plan_terms.specs.Plans.{Plan, plan_of}
+-- What is known of rules and windows, one after the other.
+use Rattle.save_codec.proofs.Vocabulary.{◌≡◌, ◌++◌, ◌∷◌, ◌+◌, ◌<◌, [], ℕ, zero, suc, List}
+use Rattle.save_codec.proofs.Vocabulary.{Some, Contains, IsTrue, length, get_or, take, map, slice_get, inl, inr}
+use Rattle.save_codec.proofs.Vocabulary.{⊎_elim, refl, sym, ap, subst, ◌∙◌, arith, map-append, take_more}
+use Rattle.save_codec.proofs.Vocabulary.{Contains-append_left, Contains-append_right, Contains-append, here, Formula}
+use Rattle.save_codec.proofs.Vocabulary.{NameEntry, Plan, plan_of, numbered_operator, WindowShape, KnowRules}
+use Rattle.save_codec.proofs.Vocabulary.{KnowWindows, KnowsJust, Learns, GuardedPlanTells, GuardTells, PlanTells}
+use Rattle.save_codec.proofs.Vocabulary.{has_guard, Known}
 use Rattle.plan_terms.specs.declared.plans.Plan.{Plan as Stored}
-use Rattle.past_state.specs.Shapes.{numbered}
-use Rattle.past_state.specs.declared.shapes.WindowShape.{WindowShape}
-use Rattle.save_codec.specs.Judged.{KnowRules, KnowWindows, KnowsJust}
-use Rattle.save_codec.specs.Known.{Learns}
-use Rattle.save_codec.specs.Sorts.{GuardTells, GuardedPlanTells, PlanTells, has_guard}
-use Rattle.save_codec.specs.declared.sorts.Known.{Known}
 
 pub rules_on : (entries : List NameEntry) (plans : List Plan) (known : List Known) (plan : Plan) (more : Known) → KnowRules entries plans known → KnowsJust (PlanTells entries plan) more
     → KnowRules entries (plans ++ plan ∷ []) (known ++ more ∷ [])
@@ -62,12 +56,14 @@ rules_step entries plans i plan known after more within is so_far just put =
     subst (λ (ps : List Plan). KnowRules entries ps after) (sym (map_item plan_of plans i plan within is))
     (subst (KnowRules entries (map plan_of (take i plans) ++ plan_of plan ∷ [])) (sym put) (rules_on entries (map plan_of (take i plans)) known (plan_of plan) more so_far just))
 
-pub windows_step : (entries : List NameEntry) (plans : List Plan) (shapes : List WindowShape) (i : ℕ) (shape : WindowShape) (known after : List Known) (more : Known) → i < length shapes → shape ≡ get_or shapes i shape
-    → KnowWindows entries plans (map numbered (take i shapes)) known → KnowsJust (GuardTells entries plans shape.guard) more → after ≡ known ++ more ∷ []
-    → KnowWindows entries plans (map numbered (take (i + 1) shapes)) after
+pub windows_step : (entries : List NameEntry) (plans : List Plan) (shapes : List WindowShape) (i : ℕ) (shape : WindowShape) (known after : List Known) (more : Known) → i < length shapes
+    → shape ≡ get_or shapes i shape
+    → KnowWindows entries plans (map numbered_operator (take i shapes)) known → KnowsJust (GuardTells entries plans shape.guard) more → after ≡ known ++ more ∷ []
+    → KnowWindows entries plans (map numbered_operator (take (i + 1) shapes)) after
 windows_step entries plans shapes i shape known after more within is so_far just put =
-    subst (λ (ws : List (ℕ × Formula)). KnowWindows entries plans ws after) (sym (map_item numbered shapes i shape within is))
-    (subst (KnowWindows entries plans (map numbered (take i shapes) ++ numbered shape ∷ [])) (sym put) (windows_on entries plans (map numbered (take i shapes)) known (numbered shape) more so_far just))
+    subst (λ (ws : List (ℕ × Formula)). KnowWindows entries plans ws after) (sym (map_item numbered_operator shapes i shape within is))
+    (subst (KnowWindows entries plans (map numbered_operator (take i shapes) ++ numbered_operator shape ∷ [])) (sym put)
+    (windows_on entries plans (map numbered_operator (take i shapes)) known (numbered_operator shape) more so_far just))
 
 one_more_plan : (entries : List NameEntry) (plans : List Plan) (guard : ℕ) (plan : Plan) (before after : Known) → KnowsJust (GuardTells entries plans guard) before
     → Learns (GuardedPlanTells entries guard plan) before after → KnowsJust (GuardTells entries (plans ++ plan ∷ []) guard) after

@@ -1,6 +1,8 @@
+pub mod Vocabulary
 pub mod BoundLemmas
+pub mod ByteFronts
+pub mod FirstFault
 pub mod FormLemmas
-pub mod Fronts
 pub mod InstanceLemmas
 pub mod JudgeLemmas
 pub mod KnowLemmas
@@ -17,5 +19,4 @@ pub mod SavedTexts
 pub mod SortLemmas
 pub mod SoundLemmas
 pub mod StateLemmas
-pub mod Stuck
 pub mod ValueLists

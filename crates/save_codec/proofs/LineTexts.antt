@@ -1,14 +1,15 @@
 -- The lines by their parts.
-use Rattle.std.proofs.Common.{◌≡◌, ◌++◌, ◌∷◌, ℕ, List, Option, Some, None, codes, decimal, slice_index, refl, sym, ap, ◌∙◌, append_assoc}
-use Rattle.enf_value.specs.declared.values.Value.{Value}
-use Rattle.save_codec.specs.Lines.{IsSmallTime, due_text, line_text, spaced, values_text}
-use Rattle.save_codec.specs.declared.lines.Line.TheVariants.{Last, Row, Due}
-use Rattle.save_codec.proofs.Fronts.{cancel, decimal_is_no_minus}
+use Rattle.save_codec.proofs.Vocabulary.{◌≡◌, ◌++◌, ◌∷◌, ℕ, List, Option, Some, None, codes, decimal}
+use Rattle.save_codec.proofs.Vocabulary.{slice_index, refl, sym, ap, ◌∙◌, append_assoc, Value}
+use Rattle.save_codec.proofs.Vocabulary.{cancel_front as cancel, IsSmallTime, due_text, line_text, spaced, values_text}
+use Rattle.save_codec.proofs.Vocabulary.{Last, Row, Due}
+use Rattle.save_codec.proofs.ByteFronts.{decimal_is_no_minus}
 
 pub no_dash : (last : Option ℕ) (rest left behind : List ℕ) → IsSmallTime last → left ≡ line_text (Last last) ++ rest → left ≡ codes "last -\n" ++ behind → None ≡ last
 no_dash None rest left behind small e dash = refl
 no_dash (Some time) rest left behind small e dash =
-    let text : decimal time ++ (10 ∷ rest) ≡ 45 ∷ 10 ∷ behind = cancel (codes "last ") (decimal time ++ (10 ∷ rest)) (45 ∷ 10 ∷ behind) (ap (λ l. codes "last " ++ l) (sym (append_assoc (decimal time) (codes "\n") rest)) ∙ sym e ∙ dash) in
+    let text : decimal time ++ (10 ∷ rest) ≡ 45 ∷ 10 ∷ behind = cancel (codes "last ") (decimal time ++ (10 ∷ rest)) (45 ∷ 10 ∷ behind)
+    (ap (λ l. codes "last " ++ l) (sym (append_assoc (decimal time) (codes "\n") rest)) ∙ sym e ∙ dash) in
     absurd (decimal_is_no_minus time (10 ∷ rest) (decimal time ++ (10 ∷ rest)) small refl (ap (λ l. slice_index l 0) text))
 
 -- a word, a number and the end of the line

@@ -1,28 +1,16 @@
 -- A text has one head and one list of lines.
-use Rattle.std.proofs.Common.{◌≡◌, ◌++◌, ◌∷◌, ◌<◌, ◌≤◌, ◌+◌, ◌^◌, [], pos, ℕ, List, Option, Some, None, codes, decimal, length, take, slice_index, refl, sym, ap, ◌∙◌, arith, append_assoc, length-append}
-use Rattle.std.specs.List.{AllByRecursion}
-use Rattle.std.proofs.lemmas.List.{take_at}
-use Rattle.enf_value.specs.Spelling.{spelled}
-use Rattle.enf_value.specs.ValueTokens.{EndsBefore, IsNoDigit, IsValue, OneTokenAtPlace, PrintedIsToken}
-use Rattle.enf_value.specs.declared.values.Value.{Value}
-use Rattle.enf_value.specs.declared.values.Value.TheVariants.{Num}
-use Rattle.save_codec.specs.Lines.{IsLine, IsSmall, IsSmallTime, head_text, last_text, line_text, lines_text, sized, spaced, values_text}
-use Rattle.save_codec.specs.Forms.{Follow}
-use Rattle.save_codec.specs.Laws.{OneText}
-use Rattle.save_codec.specs.Parts.{EndsValues}
-use Rattle.save_codec.specs.declared.lines.Line.{Line}
-use Rattle.save_codec.specs.declared.lines.Line.TheVariants.{Clock, Last, Position, Row, Due, End}
-use Rattle.save_codec.proofs.Fronts.{cancel, decimal_is_no_minus}
+use Rattle.save_codec.proofs.Vocabulary.{◌≡◌, ◌++◌, ◌∷◌, ◌<◌, ◌≤◌, ◌+◌, ◌^◌, [], pos}
+use Rattle.save_codec.proofs.Vocabulary.{ℕ, List, Option, Some, None, codes, decimal, length, take, slice_index, refl}
+use Rattle.save_codec.proofs.Vocabulary.{sym, ap, ◌∙◌, arith, append_assoc, length-append, AllByRecursion}
+use Rattle.save_codec.proofs.Vocabulary.{take_at, spelled, IsNoDigit, IsValue, OneTokenAtPlace, PrintedIsToken, Value}
+use Rattle.save_codec.proofs.Vocabulary.{Num, one_value, cancel_front as cancel, IsLine, IsSmallNumber, IsSmallTime}
+use Rattle.save_codec.proofs.Vocabulary.{head_text, last_text, line_text, lines_text, sized, spaced, values_text}
+use Rattle.save_codec.proofs.Vocabulary.{LinesFollow, OneText, EndsValues, Line, Clock, Last, Position, Row, Due, End}
+use Rattle.save_codec.proofs.ByteFronts.{decimal_is_no_minus}
 use Rattle.save_codec.proofs.LineTexts.{due_split, row_split}
-use Rattle.save_codec.proofs.ValueLists.{ends_value, newline_ends, values_no_digit}
+use Rattle.save_codec.proofs.ValueLists.{ends_value, newline_ends, values_no_digit, no_space}
 
--- at one place one value stands
-one_value : PrintedIsToken → OneTokenAtPlace → (v w : Value) (a b : List ℕ) → IsValue v → IsValue w → EndsBefore v a → EndsBefore w b → spelled v ++ a ≡ spelled w ++ b → (v ≡ w) × (a ≡ b)
-one_value printed one v w a b fits also ends too e =
-    let same : v ≡ w = (one (spelled v ++ a) 0 _ _ v w (printed (spelled v ++ a) 0 v a fits ends refl) (printed (spelled v ++ a) 0 w b also too e)).0 in
-    (same, cancel (spelled w) a b (ap (λ x. spelled x ++ a) (sym same) ∙ e))
-
-one_number : PrintedIsToken → OneTokenAtPlace → (m n : ℕ) (a b : List ℕ) → IsSmall m → IsSmall n → IsNoDigit a → IsNoDigit b → spaced m ++ a ≡ spaced n ++ b → (m ≡ n) × (a ≡ b)
+one_number : PrintedIsToken → OneTokenAtPlace → (m n : ℕ) (a b : List ℕ) → IsSmallNumber m → IsSmallNumber n → IsNoDigit a → IsNoDigit b → spaced m ++ a ≡ spaced n ++ b → (m ≡ n) × (a ≡ b)
 one_number printed one m n a b small also ends too e =
     let h = one_value printed one (Num (pos m)) (Num (pos n)) a b small also ends too (cancel (32 ∷ []) (decimal m ++ a) (decimal n ++ b) e) in
     (cc h.0, h.1)
@@ -37,14 +25,11 @@ one_last printed one (Some m) (Some n) a b small also ends too e =
     let h = one_number printed one m n a b small also ends too e in
     (ap Some h.0, h.1)
 
-no_space_behind : (a b : List ℕ) → EndsValues a → a ≡ 32 ∷ b → ⊥
-no_space_behind [] b ends e = cc
-no_space_behind (x ∷ a) b ends e = ends.0 (cc e)
-
-one_values : PrintedIsToken → OneTokenAtPlace → (vs ws : List Value) (a b : List ℕ) → AllByRecursion IsValue vs → AllByRecursion IsValue ws → EndsValues a → EndsValues b → values_text vs ++ a ≡ values_text ws ++ b → (vs ≡ ws) × (a ≡ b)
+one_values : PrintedIsToken → OneTokenAtPlace → (vs ws : List Value) (a b : List ℕ) → AllByRecursion IsValue vs → AllByRecursion IsValue ws → EndsValues a → EndsValues b
+    → values_text vs ++ a ≡ values_text ws ++ b → (vs ≡ ws) × (a ≡ b)
 one_values printed one [] [] a b are also ends too e = (refl, e)
-one_values printed one [] (w ∷ ws) a b are also ends too e = absurd (no_space_behind a _ ends e)
-one_values printed one (v ∷ vs) [] a b are also ends too e = absurd (no_space_behind b _ too (sym e))
+one_values printed one [] (w ∷ ws) a b are also ends too e = absurd (no_space a _ ends e)
+one_values printed one (v ∷ vs) [] a b are also ends too e = absurd (no_space b _ too (sym e))
 one_values printed one (v ∷ vs) (w ∷ ws) a b are also ends too e =
     let split : spelled v ++ (values_text vs ++ a) ≡ spelled w ++ (values_text ws ++ b) =
     cancel (32 ∷ []) (spelled v ++ (values_text vs ++ a)) (spelled w ++ (values_text ws ++ b))
@@ -80,11 +65,13 @@ one_of_kind printed one (Clock s) (Clock t) a b is also same e =
     (ap Clock h.0, cancel (10 ∷ []) a b h.1)
 one_of_kind printed one (Last s) (Last t) a b is also same e =
     let h = one_last printed one s t (10 ∷ a) (10 ∷ b) is also (λ low high. omega arith) (λ low high. omega arith)
-    (cancel (codes "last") (last_text s ++ 10 ∷ a) (last_text t ++ 10 ∷ b) (sym (append_assoc (codes "last" ++ last_text s) (codes "\n") a) ∙ e ∙ append_assoc (codes "last" ++ last_text t) (codes "\n") b)) in
+    (cancel (codes "last") (last_text s ++ 10 ∷ a) (last_text t ++ 10 ∷ b) (sym (append_assoc (codes "last" ++ last_text s) (codes "\n") a) ∙ e ∙ append_assoc
+    (codes "last" ++ last_text t) (codes "\n") b)) in
     (ap Last h.0, cancel (10 ∷ []) a b h.1)
 one_of_kind printed one (Position s) (Position t) a b is also same e =
     let h = one_number printed one s t (10 ∷ a) (10 ∷ b) is also (λ low high. omega arith) (λ low high. omega arith)
-    (cancel (codes "position") (spaced s ++ 10 ∷ a) (spaced t ++ 10 ∷ b) (sym (append_assoc (codes "position" ++ spaced s) (codes "\n") a) ∙ e ∙ append_assoc (codes "position" ++ spaced t) (codes "\n") b)) in
+    (cancel (codes "position") (spaced s ++ 10 ∷ a) (spaced t ++ 10 ∷ b) (sym (append_assoc (codes "position" ++ spaced s) (codes "\n") a) ∙ e ∙ append_assoc
+    (codes "position" ++ spaced t) (codes "\n") b)) in
     (ap Position h.0, cancel (10 ∷ []) a b h.1)
 one_of_kind printed one (Row w s vs) (Row x t ws) a b is also same e =
     let left = values_text vs ++ (10 ∷ a) in
@@ -97,9 +84,12 @@ one_of_kind printed one (Row w s vs) (Row x t ws) a b is also same e =
 one_of_kind printed one (Due r n o p q vs) (Due r' n' o' p' q' ws) a b is also same e =
     let left = values_text vs ++ (10 ∷ a) in
     let right = values_text ws ++ (10 ∷ b) in
-    let rule = one_number printed one r r' (spaced n ++ (spaced o ++ (spaced p ++ (spaced q ++ left)))) (spaced n' ++ (spaced o' ++ (spaced p' ++ (spaced q' ++ right)))) is.0 also.0 (λ low high. omega arith) (λ low high. omega arith)
-    (cancel (codes "due") (spaced r ++ (spaced n ++ (spaced o ++ (spaced p ++ (spaced q ++ left))))) (spaced r' ++ (spaced n' ++ (spaced o' ++ (spaced p' ++ (spaced q' ++ right))))) (sym (due_split r n o p q vs a) ∙ e ∙ due_split r' n' o' p' q' ws b)) in
-    let node = one_number printed one n n' (spaced o ++ (spaced p ++ (spaced q ++ left))) (spaced o' ++ (spaced p' ++ (spaced q' ++ right))) is.1 also.1 (λ low high. omega arith) (λ low high. omega arith) rule.1 in
+    let rule = one_number printed one r r' (spaced n ++ (spaced o ++ (spaced p ++ (spaced q ++ left)))) (spaced n' ++ (spaced o' ++ (spaced p' ++ (spaced q' ++ right)))) is.0 also.0
+    (λ low high. omega arith) (λ low high. omega arith)
+    (cancel (codes "due") (spaced r ++ (spaced n ++ (spaced o ++ (spaced p ++ (spaced q ++ left))))) (spaced r' ++ (spaced n' ++ (spaced o' ++ (spaced p' ++ (spaced q' ++ right)))))
+    (sym (due_split r n o p q vs a) ∙ e ∙ due_split r' n' o' p' q' ws b)) in
+    let node = one_number printed one n n' (spaced o ++ (spaced p ++ (spaced q ++ left))) (spaced o' ++ (spaced p' ++ (spaced q' ++ right))) is.1 also.1 (λ low high. omega arith)
+    (λ low high. omega arith) rule.1 in
     let origin = one_number printed one o o' (spaced p ++ (spaced q ++ left)) (spaced p' ++ (spaced q' ++ right)) is.2 also.2 (λ low high. omega arith) (λ low high. omega arith) node.1 in
     let from = one_number printed one p p' (spaced q ++ left) (spaced q' ++ right) is.3 also.3 (λ low high. omega arith) (λ low high. omega arith) origin.1 in
     let to = one_number printed one q q' left right is.4 also.4 (values_no_digit vs (10 ∷ a) (newline_ends a)) (values_no_digit ws (10 ∷ b) (newline_ends b)) from.1 in
@@ -133,8 +123,8 @@ one_lines printed one (l ∷ ls) (m ∷ ms) are also e =
     let rest = one_lines printed one ls ms are.1 also.1 h.1 in
     λ i. h.0 i ∷ rest i
 
--- bytes behind their number are told apart from what follows them
-one_sized : PrintedIsToken → OneTokenAtPlace → (word c d a b : List ℕ) → IsSmall (length c) → IsSmall (length d) → sized word c ++ a ≡ sized word d ++ b → (c ≡ d) × (a ≡ b)
+-- bytes after their number are told apart from what follows them
+one_sized : PrintedIsToken → OneTokenAtPlace → (word c d a b : List ℕ) → IsSmallNumber (length c) → IsSmallNumber (length d) → sized word c ++ a ≡ sized word d ++ b → (c ≡ d) × (a ≡ b)
 one_sized printed one word c d a b small also e =
     let number = one_number printed one (length c) (length d) (10 ∷ (c ++ 10 ∷ a)) (10 ∷ (d ++ 10 ∷ b)) small also (λ low high. omega arith) (λ low high. omega arith)
     (cancel word (spaced (length c) ++ 10 ∷ (c ++ 10 ∷ a)) (spaced (length d) ++ 10 ∷ (d ++ 10 ∷ b)) (sym (split c a) ∙ e ∙ split d b)) in
@@ -149,22 +139,24 @@ one_sized printed one word c d a b small also e =
         ∙ ap (λ l. spaced (length c) ++ 10 ∷ l) (append_assoc c (10 ∷ []) a))
 
 -- texts that are the same have the same head
-pub one_head : PrintedIsToken → OneTokenAtPlace → (s p s' p' a b : List ℕ) → IsSmall (length s) → IsSmall (length p) → IsSmall (length s') → IsSmall (length p')
+pub one_head : PrintedIsToken → OneTokenAtPlace → (s p s' p' a b : List ℕ) → IsSmallNumber (length s) → IsSmallNumber (length p) → IsSmallNumber (length s') → IsSmallNumber (length p')
     → head_text s p ++ a ≡ head_text s' p' ++ b → (s ≡ s') × (p ≡ p') × (a ≡ b)
 one_head printed one s p s' p' a b small few small' few' e =
     let first = one_sized printed one (codes "signature") s s' (sized (codes "policy") p ++ a) (sized (codes "policy") p' ++ b) small small'
-    (cancel (codes "enfstate 1\n") _ _ (sym (ap (λ l. codes "enfstate 1\n" ++ l) (append_assoc (sized (codes "signature") s) (sized (codes "policy") p) a)) ∙ e ∙ ap (λ l. codes "enfstate 1\n" ++ l) (append_assoc (sized (codes "signature") s') (sized (codes "policy") p') b))) in
+    (cancel (codes "enfstate 1\n") _ _ (sym (ap (λ l. codes "enfstate 1\n" ++ l) (append_assoc (sized (codes "signature") s) (sized (codes "policy") p) a)) ∙ e ∙ ap
+    (λ l. codes "enfstate 1\n" ++ l) (append_assoc (sized (codes "signature") s') (sized (codes "policy") p') b))) in
     let second = one_sized printed one (codes "policy") p p' a b few few' first.1 in
     (first.0, second.0, second.1)
 
-follow_lines : (before : Option Line) (lines : List Line) → Follow before lines → AllByRecursion IsLine lines
+follow_lines : (before : Option Line) (lines : List Line) → LinesFollow before lines → AllByRecursion IsLine lines
 follow_lines before [] form = tt
 follow_lines before (line ∷ lines) form = (form.1, follow_lines (Some line) lines form.2)
 
-pub head_small : (s p text bytes : List ℕ) → length bytes < 2 ^ 63 → bytes ≡ head_text s p ++ text → IsSmall (length s) × IsSmall (length p)
+pub head_small : (s p text bytes : List ℕ) → length bytes < 2 ^ 63 → bytes ≡ head_text s p ++ text → IsSmallNumber (length s) × IsSmallNumber (length p)
 head_small s p text bytes small e =
     let all = ap length e ∙ length-append (head_text s p) text in
-    let whole : length (head_text s p) ≡ 11 + length (sized (codes "signature") s ++ sized (codes "policy") p) = length-append (codes "enfstate 1\n") (sized (codes "signature") s ++ sized (codes "policy") p) in
+    let whole : length (head_text s p) ≡ 11 + length (sized (codes "signature") s ++ sized (codes "policy") p) = length-append (codes "enfstate 1\n")
+    (sized (codes "signature") s ++ sized (codes "policy") p) in
     let two = length-append (sized (codes "signature") s) (sized (codes "policy") p) in
     let left = sized_long (codes "signature") s in
     let right = sized_long (codes "policy") p in

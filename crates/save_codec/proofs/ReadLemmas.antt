@@ -1,37 +1,30 @@
 -- What was read of the lines of a text, and why none goes on.
-use Rattle.std.proofs.Common.{◌≡◌, ◌++◌, ◌∷◌, ◌+◌, ◌<◌, ◌≤◌, ◌^◌, [], ℕ, List, Option, Some, None, true, length, refl, sym, ap, subst, ◌∙◌, arith, length-append}
-use Rattle.std.specs.List.{flat_map}
-use Rattle.std.proofs.lemmas.List.{append-nil}
-use Rattle.std.specs.Option.{option_map}
-use Rattle.save_codec.specs.Forms.{AreLines, Follow, follows, last_line}
-use Rattle.save_codec.specs.LineKinds.{ends, kind_of, may_follow}
-use Rattle.save_codec.specs.LineParts.{clock_after, clock_from, due_in, last_after, last_from, lines_in, position_after, position_from, row_in}
-use Rattle.save_codec.specs.Lines.{IsLine, line_text, lines_text}
-use Rattle.save_codec.specs.Parts.{IsReadLine}
-use Rattle.save_codec.specs.Reading.{IsStop}
-use Rattle.save_codec.specs.declared.lines.Kind.{Kind}
-use Rattle.save_codec.specs.declared.lines.Line.{Line}
-use Rattle.save_codec.specs.declared.lines.Line.TheVariants.{Clock, Last, Position, Row, Due, End}
-use Rattle.save_codec.specs.declared.parts.LineParts.{LineParts}
-use Rattle.save_codec.specs.declared.refusals.StateRefusal.TheVariants.{Syntax}
+use Rattle.save_codec.proofs.Vocabulary.{◌≡◌, ◌++◌, ◌∷◌, ◌+◌, ◌<◌, ◌≤◌, ◌^◌, [], ℕ}
+use Rattle.save_codec.proofs.Vocabulary.{List, Option, Some, None, true, length, refl, sym, ap, subst, ◌∙◌, arith}
+use Rattle.save_codec.proofs.Vocabulary.{length-append, flat_map, append-nil, option_map, AreLines, LinesFollow}
+use Rattle.save_codec.proofs.Vocabulary.{line_follows, last_line, ends_text, line_kind, kind_may_follow, line_text}
+use Rattle.save_codec.proofs.Vocabulary.{lines_text, clock_behind_line, clock_from, due_in, last_behind_line}
+use Rattle.save_codec.proofs.Vocabulary.{last_time_from, position_behind_line, position_from, row_in, lines_in}
+use Rattle.save_codec.proofs.Vocabulary.{IsReadLine, Kind, Line, Clock, Last, Position, Row, Due, End, LineParts}
 use Rattle.save_codec.proofs.FormLemmas.{follow_on, last_line_behind, text_on}
 use Rattle.save_codec.proofs.PartLemmas.{all_of_them, clock_step, items_step, last_step, position_step}
 
 -- some lines were read
 pub record IsReadSoFar (text rest : List ℕ) (before : Option Kind) (count : ℕ) (parts : LineParts) : Type 0 where
   pub front : List Line
-  pub form : Follow None front
+  pub form : LinesFollow None front
   pub begins : text ≡ lines_text front ++ rest
-  pub kind : before ≡ option_map kind_of (last_line None front)
+  pub kind : before ≡ option_map line_kind (last_line None front)
   pub counted : count ≡ length front
   pub room : count + length rest ≤ length text
   pub clock : parts.clock ≡ clock_from 0 front
-  pub last : parts.last ≡ last_from None front
+  pub last : parts.last ≡ last_time_from None front
   pub position : parts.position ≡ position_from 0 front
   pub rows : parts.rows.items ≡ flat_map row_in front
   pub dues : parts.dues.items ≡ flat_map due_in front
 
-pub nothing_read : (text : List ℕ) (parts : LineParts) → (parts.clock ≡ 0) × (parts.last ≡ None) × (parts.position ≡ 0) → (parts.rows.items ≡ []) × (parts.dues.items ≡ []) → IsReadSoFar text text None 0 parts
+pub nothing_read : (text : List ℕ) (parts : LineParts) → (parts.clock ≡ 0) × (parts.last ≡ None) × (parts.position ≡ 0) → (parts.rows.items ≡ [])
+    × (parts.dues.items ≡ []) → IsReadSoFar text text None 0 parts
 nothing_read text parts numbers items = record {
   front = [];
   form = tt;
@@ -48,9 +41,9 @@ nothing_read text parts numbers items = record {
 
 -- what one more line says
 pub record HasPut (line : Line) (before after : LineParts) : Type 0 where
-  pub clock : after.clock ≡ clock_after before.clock line
-  pub last : after.last ≡ last_after before.last line
-  pub position : after.position ≡ position_after before.position line
+  pub clock : after.clock ≡ clock_behind_line before.clock line
+  pub last : after.last ≡ last_behind_line before.last line
+  pub position : after.position ≡ position_behind_line before.position line
   pub rows : after.rows.items ≡ before.rows.items ++ row_in line
   pub dues : after.dues.items ≡ before.dues.items ++ due_in line
 
@@ -63,16 +56,16 @@ line_is_long (Due r n o l h v) = omega arith
 line_is_long End = omega arith
 
 pub read_on : (text rest after : List ℕ) (before : Option Kind) (count : ℕ) (parts more : LineParts) (line : Line) (kind : Kind) → IsReadSoFar text rest before count parts → IsReadLine rest line after
-    → may_follow before kind ≡ true → kind ≡ kind_of line → HasPut line parts more → IsReadSoFar text after (Some kind) (count + 1) more
+    → kind_may_follow before kind ≡ true → kind ≡ line_kind line → HasPut line parts more → IsReadSoFar text after (Some kind) (count + 1) more
 read_on text rest after before count parts more line kind so read next is put =
-    let following : follows (last_line None so.front) line ≡ true =
-    (λ i. may_follow (sym so.kind i) (sym is i)) ∙ next
+    let following : line_follows (last_line None so.front) line ≡ true =
+    (λ i. kind_may_follow (sym so.kind i) (sym is i)) ∙ next
     in
     record {
       front = so.front ++ line ∷ [];
       form = follow_on None so.front line so.form following read.0;
       begins = text_on text rest after so.front line so.begins read.1;
-      kind = ap Some is ∙ ap (option_map kind_of) (sym (last_line_behind None so.front line));
+      kind = ap Some is ∙ ap (option_map line_kind) (sym (last_line_behind None so.front line));
       counted = omega (arith, so.counted, length-append so.front (line ∷ []));
       room = omega (arith, so.room, ap length read.1, length-append (line_text line) after, line_is_long line);
       clock = put.clock ∙ clock_step so.front line line parts.clock refl so.clock;
@@ -82,31 +75,13 @@ read_on text rest after before count parts more line kind so read next is put =
       dues = items_step due_in so.front line line parts.dues.items more.dues.items refl so.dues put.dues;
     }
 
--- none goes on
-pub stops : (text rest : List ℕ) (before : Option Kind) (count : ℕ) (parts : LineParts) → IsReadSoFar text rest before count parts → (ends before ≡ true → rest ≡ [] → ⊥)
-    → ((line : Line) (more : List ℕ) → IsLine line → may_follow before (kind_of line) ≡ true → rest ≡ line_text line ++ more → ⊥) → IsStop text (Syntax (count + 1))
-stops text rest before count parts so unfinished stuck = (
-  count,
-  (
-    so.front,
-    record {
-      rest = rest;
-      begins = so.begins;
-      form = so.form;
-      unfinished = λ end. unfinished (ap ends so.kind ∙ end);
-      stuck = λ line more is next. stuck line more is (ap (λ (o : Option Kind). may_follow o (kind_of line)) so.kind ∙ next);
-    },
-    sym so.counted,
-  ),
-  refl,
-)
-
 -- they are all
-pub all_read : (text rest : List ℕ) (before : Option Kind) (count : ℕ) (parts : LineParts) → IsReadSoFar text rest before count parts → ends before ≡ true → rest ≡ [] → length text < 2 ^ 63
+pub all_read : (text rest : List ℕ) (before : Option Kind) (count : ℕ) (parts : LineParts) → IsReadSoFar text rest before count parts → ends_text before ≡ true → rest ≡ [] → length text < 2 ^ 63
     → AreLines (lines_in parts) × (text ≡ lines_text (lines_in parts)) × (length (lines_in parts) < 2 ^ 63)
 all_read text rest before count parts so end none small =
-    let are : AreLines so.front = (so.form, ap ends (sym so.kind) ∙ end) in
-    let same : so.front ≡ lines_in parts = all_of_them so.front so.front parts.clock parts.last parts.position parts.rows.items parts.dues.items are refl so.clock so.last so.position so.rows so.dues in
+    let are : AreLines so.front = (so.form, ap ends_text (sym so.kind) ∙ end) in
+    let same : so.front ≡ lines_in parts = all_of_them so.front so.front parts.clock parts.last parts.position parts.rows.items parts.dues.items are refl so.clock so.last so.position
+    so.rows so.dues in
     let whole : text ≡ lines_text so.front = so.begins ∙ ap (λ l. lines_text so.front ++ l) none ∙ append-nil (lines_text so.front) in
     let few : length so.front < 2 ^ 63 = omega (arith, so.counted, so.room, small) in
     (subst AreLines same are, whole ∙ ap lines_text same, subst (λ (l : List Line). length l < 2 ^ 63) same few)

@@ -1,9 +1,6 @@
--- The parts of a saved text, one behind the other.
-use Rattle.std.proofs.Common.{◌≡◌, ◌++◌, ◌∷◌, [], ℕ, List, codes, sym, ap, ◌∙◌, append_assoc}
-use Rattle.std.proofs.lemmas.List.Concat.{flat_map-append}
-use Rattle.save_codec.specs.Lines.{line_text, lines_text}
-use Rattle.save_codec.specs.declared.lines.Line.{Line}
-use Rattle.save_codec.specs.declared.lines.Line.TheVariants.{End}
+-- The parts of a saved text, one after the other.
+use Rattle.save_codec.proofs.Vocabulary.{◌≡◌, ◌++◌, ◌∷◌, [], ℕ, List, codes, sym, ap, ◌∙◌}
+use Rattle.save_codec.proofs.Vocabulary.{append_assoc, flat_map-append, line_text, lines_text, Line, End}
 
 seven : (a b c d e f g : List ℕ) → (((((a ++ b) ++ c) ++ d) ++ e) ++ f) ++ g ≡ a ++ (b ++ (c ++ (d ++ (e ++ (f ++ g)))))
 seven a b c d e f g = simp append_assoc

@@ -1,36 +1,16 @@
 -- What is saved is a text of the grammar, and that of one state.
-use Rattle.std.proofs.Common.{◌≡◌, ◌++◌, ◌∷◌, [], ℕ, List, Option, Some, None, IsSome, IsTrue, All, Contains, length, map, refl, sym, ap, ◌∙◌, arith, append_assoc, ⊎_elim}
-use Rattle.std.specs.List.{AllByRecursion}
-use Rattle.std.specs.List.Sorted.{IsStrictlySortedBy}
-use Rattle.std.proofs.lemmas.List.Elements.{All-head, All-tail, recursion_from_All}
-use Rattle.std.proofs.lemmas.Option.{same_Some}
-use Rattle.enf_value.specs.Valuations.{Valuation, bindings, no_values, same_valuation, value_at, variable_cmp}
-use Rattle.enf_value.specs.ValueTokens.{IsValue, OneTokenAtPlace, PrintedIsToken}
-use Rattle.enf_value.specs.declared.terms.VarId.{VarId}
-use Rattle.enf_value.specs.declared.values.Value.{Value}
-use Rattle.signature.specs.declared.entries.Sort.{Sort}
-use Rattle.valuations.specs.Columns.{among_or_not, first_or_later, here, later, none_in_nil}
-use Rattle.valuations.specs.Just.{Binds}
-use Rattle.valuations.specs.RowLaws.{cell_here, cell_later}
-use Rattle.valuations.specs.ScopeLaws.{filled_outside, filled_unbound, same_or_other}
-use Rattle.valuations.specs.Scopes.{filled}
-use Rattle.valuations.specs.Tables.{cell}
-use Rattle.plan_terms.specs.Plans.{Plan}
-use Rattle.plan_terms.specs.ScopeLaws.{FoundHasRisingScope}
-use Rattle.plan_terms.specs.Scopes.{IsScoped}
-use Rattle.past_state.specs.declared.kept.KeptRow.{KeptRow}
-use Rattle.obligations.specs.Asked.{FitsScope}
-use Rattle.obligations.specs.Bounds.{CanBePending}
-use Rattle.obligations.specs.Scopes.{future_in}
-use Rattle.obligations.specs.declared.instances.Instance.{Instance}
-use Rattle.save_codec.specs.Forms.{Follow, is_end, last_line}
-use Rattle.save_codec.specs.Laws.{OneState, SavedIsText}
-use Rattle.save_codec.specs.Lines.{IsLine, IsSmall}
-use Rattle.save_codec.specs.Saved.{HasSmallNumbers, IsInstance, IsRow, due_line, lines_of, row_line, values_in}
-use Rattle.save_codec.specs.Sorts.{FitTold, FitsTold}
-use Rattle.save_codec.specs.declared.lines.Line.{Line}
-use Rattle.save_codec.specs.declared.lines.Line.TheVariants.{Position, End}
-use Rattle.save_codec.specs.declared.snapshots.Snapshot.{Snapshot}
+use Rattle.save_codec.proofs.Vocabulary.{◌≡◌, ◌++◌, ◌∷◌, [], ℕ, List, Option, Some, None, IsSome}
+use Rattle.save_codec.proofs.Vocabulary.{IsTrue, All, Contains, length, map, refl, sym, ap, ◌∙◌, arith}
+use Rattle.save_codec.proofs.Vocabulary.{append_assoc, ⊎_elim, AllByRecursion, IsStrictlySortedBy, All-head, All-tail}
+use Rattle.save_codec.proofs.Vocabulary.{recursion_from_All, same_Some, Valuation, bindings, no_values, value_at}
+use Rattle.save_codec.proofs.Vocabulary.{variable_cmp, BindsColumns, same_valuation, IsValue, OneTokenAtPlace}
+use Rattle.save_codec.proofs.Vocabulary.{PrintedIsToken, VarId, Value, Sort, among_or_not, first_or_later, here, later}
+use Rattle.save_codec.proofs.Vocabulary.{none_in_nil, cell_here, cell_later, filled_outside, filled_unbound}
+use Rattle.save_codec.proofs.Vocabulary.{same_or_other, filled_from_row, row_cell, Plan, FoundHasRisingScope}
+use Rattle.save_codec.proofs.Vocabulary.{IsScopedPlan, FitsScope, future_in, KeptRow, CanBePending, Instance}
+use Rattle.save_codec.proofs.Vocabulary.{LinesFollow, is_end_line, last_line, IsLine, IsSmallNumber, due_line, lines_of}
+use Rattle.save_codec.proofs.Vocabulary.{row_line, values_in, OneState, SavedIsText, HasSmallNumbers, IsStoredInstance}
+use Rattle.save_codec.proofs.Vocabulary.{IsStoredRow, FitTold, FitsTold, Line, Position, End, Snapshot}
 use Rattle.save_codec.proofs.BoundLemmas.{bound_values, nothing_at}
 use Rattle.save_codec.proofs.FormLemmas.{last_line_behind}
 use Rattle.save_codec.proofs.InstanceLemmas.{scope_rises}
@@ -41,24 +21,26 @@ use Rattle.save_codec.proofs.OneText.{one_text}
 abbrev due_end : List Instance → List Line
 due_end pending = map due_line pending ++ End ∷ []
 
-behind_due : (i : Instance) (pending : List Instance) → AllByRecursion IsLine (due_end pending) → Follow (Some (due_line i)) (due_end pending)
+behind_due : (i : Instance) (pending : List Instance) → AllByRecursion IsLine (due_end pending) → LinesFollow (Some (due_line i)) (due_end pending)
 behind_due i [] lines = (refl, lines.0, tt)
 behind_due i (j ∷ pending) lines = (refl, lines.0, behind_due j pending lines.1)
 
-behind_row : (r : KeptRow) (rows : List KeptRow) (pending : List Instance) → AllByRecursion IsLine (map row_line rows ++ due_end pending) → Follow (Some (row_line r)) (map row_line rows ++ due_end pending)
+behind_row : (r : KeptRow) (rows : List KeptRow) (pending : List Instance) → AllByRecursion IsLine (map row_line rows ++ due_end pending)
+    → LinesFollow (Some (row_line r)) (map row_line rows ++ due_end pending)
 behind_row r [] [] lines = (refl, lines.0, tt)
 behind_row r [] (j ∷ pending) lines = (refl, lines.0, behind_due j pending lines.1)
 behind_row r (q ∷ rows) pending lines = (refl, lines.0, behind_row q rows pending lines.1)
 
-behind_number : (position : ℕ) (rows : List KeptRow) (pending : List Instance) → AllByRecursion IsLine (map row_line rows ++ due_end pending) → Follow (Some (Position position)) (map row_line rows ++ due_end pending)
+behind_number : (position : ℕ) (rows : List KeptRow) (pending : List Instance) → AllByRecursion IsLine (map row_line rows ++ due_end pending)
+    → LinesFollow (Some (Position position)) (map row_line rows ++ due_end pending)
 behind_number position [] [] lines = (refl, lines.0, tt)
 behind_number position [] (j ∷ pending) lines = (refl, lines.0, behind_due j pending lines.1)
 behind_number position (q ∷ rows) pending lines = (refl, lines.0, behind_row q rows pending lines.1)
 
-ends : (before : Option Line) (rows : List KeptRow) (pending : List Instance) → IsTrue (is_end (last_line before (map row_line rows ++ due_end pending)))
+ends : (before : Option Line) (rows : List KeptRow) (pending : List Instance) → IsTrue (is_end_line (last_line before (map row_line rows ++ due_end pending)))
 ends before rows pending =
-    ap (λ lines. is_end (last_line before lines)) (sym (append_assoc (map row_line rows) (map due_line pending) (End ∷ [])))
-    ∙ ap is_end (last_line_behind before (map row_line rows ++ map due_line pending) End)
+    ap (λ lines. is_end_line (last_line before lines)) (sym (append_assoc (map row_line rows) (map due_line pending) (End ∷ [])))
+    ∙ ap is_end_line (last_line_behind before (map row_line rows ++ map due_line pending) End)
 
 pub saved_is_text : SavedIsText
 saved_is_text signature policy s lines = record {
@@ -75,24 +57,25 @@ values_are : (values : List (VarId × Value)) → All (λ b. IsValue b.1) values
 values_are [] all = tt
 values_are (b ∷ values) all = (All-head (λ b. IsValue b.1) b values all, values_are values (All-tail (λ b. IsValue b.1) b values all))
 
-dues_are : (pending : List Instance) → All (λ i. IsSmall i.origin × IsSmall i.low × IsSmall i.high) pending → All IsInstance pending → AllByRecursion IsLine (due_end pending)
+dues_are : (pending : List Instance) → All (λ i. IsSmallNumber i.origin × IsSmallNumber i.low × IsSmallNumber i.high) pending → All IsStoredInstance pending → AllByRecursion IsLine (due_end pending)
 dues_are [] small are = (tt, tt)
 dues_are (i ∷ pending) small are =
-    let n = All-head (λ i. IsSmall i.origin × IsSmall i.low × IsSmall i.high) i pending small in
-    let a = All-head IsInstance i pending are in (
+    let n = All-head (λ i. IsSmallNumber i.origin × IsSmallNumber i.low × IsSmallNumber i.high) i pending small in
+    let a = All-head IsStoredInstance i pending are in (
       (omega (arith, a.0), omega (arith, a.1), n.0, n.1, n.2, values_are (bindings i.valuation) a.2),
-      dues_are pending (All-tail (λ i. IsSmall i.origin × IsSmall i.low × IsSmall i.high) i pending small) (All-tail IsInstance i pending are),
+      dues_are pending (All-tail (λ i. IsSmallNumber i.origin × IsSmallNumber i.low × IsSmallNumber i.high) i pending small) (All-tail IsStoredInstance i pending are),
     )
 
-rows_are : (rows : List KeptRow) (pending : List Instance) → All (λ r. IsSmall r.time) rows → All IsRow rows → AllByRecursion IsLine (due_end pending) → AllByRecursion IsLine (map row_line rows ++ due_end pending)
+rows_are : (rows : List KeptRow) (pending : List Instance) → All (λ r. IsSmallNumber r.time) rows → All IsStoredRow rows → AllByRecursion IsLine (due_end pending)
+    → AllByRecursion IsLine (map row_line rows ++ due_end pending)
 rows_are [] pending small are dues = dues
 rows_are (r ∷ rows) pending small are dues =
-    let a = All-head IsRow r rows are in (
-      (omega (arith, a.0), All-head (λ r. IsSmall r.time) r rows small, recursion_from_All IsValue r.row a.1),
-      rows_are rows pending (All-tail (λ r. IsSmall r.time) r rows small) (All-tail IsRow r rows are) dues,
+    let a = All-head IsStoredRow r rows are in (
+      (omega (arith, a.0), All-head (λ r. IsSmallNumber r.time) r rows small, recursion_from_All IsValue r.row a.1),
+      rows_are rows pending (All-tail (λ r. IsSmallNumber r.time) r rows small) (All-tail IsStoredRow r rows are) dues,
     )
 
-pub lines_are : (s : Snapshot) → HasSmallNumbers s → All IsRow s.kept → All IsInstance s.pending → AllByRecursion IsLine (lines_of s)
+pub lines_are : (s : Snapshot) → HasSmallNumbers s → All IsStoredRow s.kept → All IsStoredInstance s.pending → AllByRecursion IsLine (lines_of s)
 lines_are s small rows dues = (small.clock, (small.last, (small.position, rows_are s.kept s.pending small.times rows (dues_are s.pending small.windows dues))))
 
 -- ---- what is bound is bound to its values
@@ -101,13 +84,13 @@ lines_are s small rows dues = (small.clock, (small.last, (small.position, rows_a
 pub record AreValuesOf (scope : List VarId) (v : Valuation) : Type 0 where
   pub values : List Value
   long : length scope ≡ length values
-  are : (x : VarId) → Contains scope x → value_at v x ≡ cell scope values x
+  are : (x : VarId) → Contains scope x → value_at v x ≡ row_cell scope values x
 
 has_value : (o : Option Value) → IsSome o → (value : Value) × (o ≡ Some value)
 has_value None some = absurd cc
 has_value (Some value) some = (value, refl)
 
-pub values_of_scope : (scope : List VarId) (v : Valuation) → Binds v scope → AreValuesOf scope v
+pub values_of_scope : (scope : List VarId) (v : Valuation) → BindsColumns v scope → AreValuesOf scope v
 values_of_scope [] v binds = record { values = []; long = refl; are = λ x there. absurd (none_in_nil x there) }
 values_of_scope (y ∷ scope) v binds =
     let first = has_value (value_at v y) (binds y (here y scope)) in
@@ -122,10 +105,10 @@ values_of_scope (y ∷ scope) v binds =
     }
 
 -- they are what is bound, in rising number
-filled_by : (scope : List VarId) (v : Valuation) (fits : FitsScope scope v) → v ≡ filled no_values scope (values_of_scope scope v fits.binds).values
+filled_by : (scope : List VarId) (v : Valuation) (fits : FitsScope scope v) → v ≡ filled_from_row no_values scope (values_of_scope scope v fits.binds).values
 filled_by scope v fits =
     let of = values_of_scope scope v fits.binds in
-    same_valuation v (filled no_values scope of.values) (λ x. ⊎_elim
+    same_valuation v (filled_from_row no_values scope of.values) (λ x. ⊎_elim
     (λ there. of.are x there ∙ sym (filled_unbound no_values scope of.values x (nothing_at x)))
     (λ absent. fits.only x absent ∙ sym (filled_outside no_values scope of.values x absent ∙ nothing_at x))
     (among_or_not scope x))
@@ -134,11 +117,12 @@ pub values_there : (scope : List VarId) (v : Valuation) → IsStrictlySortedBy v
 values_there scope v rise fits =
     let of = values_of_scope scope v fits.binds in ap values_in (filled_by scope v fits) ∙ bound_values scope of.values rise of.long
 
-bound_is : (scope : List VarId) (v : Valuation) → IsStrictlySortedBy variable_cmp scope → FitsScope scope v → v ≡ filled no_values scope (values_in v)
-bound_is scope v rise fits = filled_by scope v fits ∙ ap (filled no_values scope) (sym (values_there scope v rise fits))
+bound_is : (scope : List VarId) (v : Valuation) → IsStrictlySortedBy variable_cmp scope → FitsScope scope v → v ≡ filled_from_row no_values scope (values_in v)
+bound_is scope v rise fits = filled_by scope v fits ∙ ap (filled_from_row no_values scope) (sym (values_there scope v rise fits))
 
 -- and fit what is told, where each that is bound does
-pub fits_scope : (tells : VarId → Sort → Type 0) (scope : List VarId) (v : Valuation) (binds : Binds v scope) → ((x : VarId) (value : Value) → Contains scope x → value_at v x ≡ Some value → FitsTold tells x value)
+pub fits_scope : (tells : VarId → Sort → Type 0) (scope : List VarId) (v : Valuation) (binds : BindsColumns v scope)
+    → ((x : VarId) (value : Value) → Contains scope x → value_at v x ≡ Some value → FitsTold tells x value)
     → FitTold tells scope (values_of_scope scope v binds).values
 unfolding values_of_scope
 fits_scope tells [] v binds each = tt
@@ -148,7 +132,8 @@ fits_scope tells (y ∷ scope) v binds each =
 
 -- ---- one state
 
-same_rows : (rows others : List KeptRow) (pending more : List Instance) → map row_line rows ++ due_end pending ≡ map row_line others ++ due_end more → (rows ≡ others) × (due_end pending ≡ due_end more)
+same_rows : (rows others : List KeptRow) (pending more : List Instance) → map row_line rows ++ due_end pending ≡ map row_line others ++ due_end more → (rows ≡ others)
+    × (due_end pending ≡ due_end more)
 same_rows [] [] pending more e = (refl, e)
 same_rows [] (o ∷ others) [] more e = absurd cc
 same_rows [] (o ∷ others) (i ∷ pending) more e = absurd cc
@@ -173,7 +158,8 @@ same_scope plans r n r' n' a b found other rule node =
     let both : Some a ≡ Some b = sym found ∙ place ∙ other in
     ap (λ (m : Plan × List VarId). m.1) (same_Some a b both)
 
-same_instance : FoundHasRisingScope → (plans : List Plan) (c p c' p' : ℕ) (i j : Instance) → AllByRecursion (λ plan. IsScoped plan []) plans → CanBePending plans c p i → CanBePending plans c' p' j → due_line i ≡ due_line j → i ≡ j
+same_instance : FoundHasRisingScope → (plans : List Plan) (c p c' p' : ℕ) (i j : Instance) → AllByRecursion (λ plan. IsScopedPlan plan []) plans → CanBePending plans c p i
+    → CanBePending plans c' p' j → due_line i ≡ due_line j → i ≡ j
 same_instance rises plans c p c' p' i j each a b e =
     let rule : i.rule ≡ j.rule = cc e in
     let node : i.node ≡ j.node = cc e in
@@ -184,11 +170,12 @@ same_instance rises plans c p c' p' i j each a b e =
     let scope : a.scope ≡ b.scope = same_scope plans i.rule i.node j.rule j.node (a.node, a.scope) (b.node, b.scope) a.named b.named rule node in
     let left = bound_is a.scope i.valuation (scope_rises rises plans i.rule i.node a.node a.scope each a.named) a.binds in
     let right = bound_is b.scope j.valuation (scope_rises rises plans j.rule j.node b.node b.scope each b.named) b.binds in
-    let filling : filled no_values a.scope (values_in i.valuation) ≡ filled no_values b.scope (values_in j.valuation) = λ k. filled no_values (scope k) (values k) in
+    let filling : filled_from_row no_values a.scope (values_in i.valuation) ≡ filled_from_row no_values b.scope (values_in j.valuation) = λ k. filled_from_row no_values (scope k) (values k) in
     let valuation : i.valuation ≡ j.valuation = left ∙ filling ∙ sym right in
     λ k. record { rule = rule k; node = node k; valuation = valuation k; origin = origin k; low = low k; high = high k }
 
-same_dues : FoundHasRisingScope → (plans : List Plan) (c p c' p' : ℕ) (pending more : List Instance) → AllByRecursion (λ plan. IsScoped plan []) plans → Can plans c p pending → Can plans c' p' more → due_end pending ≡ due_end more → pending ≡ more
+same_dues : FoundHasRisingScope → (plans : List Plan) (c p c' p' : ℕ) (pending more : List Instance) → AllByRecursion (λ plan. IsScopedPlan plan []) plans → Can plans c p pending
+    → Can plans c' p' more → due_end pending ≡ due_end more → pending ≡ more
 same_dues rises plans c p c' p' [] [] each a b e = refl
 same_dues rises plans c p c' p' [] (j ∷ more) each a b e = absurd cc
 same_dues rises plans c p c' p' (i ∷ pending) [] each a b e = absurd cc

@@ -1,37 +1,14 @@
 -- What becomes known of the sorts of variables.
-use Rattle.std.proofs.Common.{◌≡◌, ◌⊎◌, ◌↔◌, Bool, true, false, not, IsTrue, Contains, Option, None, slice_get, List, ℤ, ℕ, [], ◌∷◌, Result, Ok, Err, OnOk, ⊎_elim, inl, inr, refl, sym, ap, subst, ◌∙◌}
-use Rattle.enf_value.specs.declared.events.NameId.{NameId}
-use Rattle.enf_value.specs.declared.terms.Term.{Term}
-use Rattle.enf_value.specs.declared.terms.Term.TheVariants.{Var}
-use Rattle.enf_value.specs.declared.terms.VarId.{VarId}
-use Rattle.enf_value.specs.declared.values.Value.{Value}
-use Rattle.enf_value.specs.declared.values.Value.TheVariants as values
-use Rattle.signature.specs.Columns.{columns}
-use Rattle.signature.specs.declared.entries.NameEntry.{NameEntry}
-use Rattle.signature.specs.declared.entries.Sort.{Sort}
-use Rattle.signature.specs.declared.entries.Sort.TheVariants.{Int, Text}
-use Rattle.save_codec.specs.Known.{HasBesides, Knows, Learns}
-use Rattle.save_codec.specs.Sorts.{AtomTells, FitsTold, TermTells, TermsTell}
-use Rattle.save_codec.specs.declared.sorts.Known.{Known}
-
-pub on_ok_from : {T E P Q : Type 0} (r : Result T E) → (P → Q) → OnOk r P → OnOk r Q
-on_ok_from (Ok x) f h = f h
-on_ok_from (Err e) f h = tt
+use Rattle.save_codec.proofs.Vocabulary.{◌≡◌, ◌⊎◌, ◌↔◌, Bool, true, false, not, IsTrue, Contains}
+use Rattle.save_codec.proofs.Vocabulary.{Option, None, slice_get, List, ℤ, ℕ, [], ◌∷◌, ⊎_elim, inl, inr}
+use Rattle.save_codec.proofs.Vocabulary.{refl, sym, ap, subst, ◌∙◌, NameId, Term, Var, VarId, Value, variable_is}
+use Rattle.save_codec.proofs.Vocabulary.{entry_columns, NameEntry, Sort, Int, HasBesides, Knows, Learns, AtomTells}
+use Rattle.save_codec.proofs.Vocabulary.{FitsTold, TermTells, TermsTell, Known}
+use Rattle.signature.specs.declared.entries.Sort.TheVariants.{Text}
+use Rattle.enf_data.specs.declared.values.Value.TheVariants as values
 
 pub learns_none : (P : VarId → Sort → Type 0) (a : Known) → ((x : VarId) (sort : Sort) → P x sort → ⊥) → Learns P a a
 learns_none P a none = λ x sort. (inl, λ k. ⊎_elim (λ h. h) (λ p. absurd (none x sort p)) k)
-
-pub learns_both : (P Q : VarId → Sort → Type 0) (a b c : Known) → Learns P a b → Learns Q b c → Learns (λ x sort. P x sort ⊎ Q x sort) a c
-learns_both P Q a b c first second = λ x sort. (
-  λ k. ⊎_elim (λ h. ⊎_elim inl (λ p. inr (inl p)) ((first x sort).0 h)) (λ q. inr (inr q)) ((second x sort).0 k),
-  λ k. ⊎_elim (λ h. (second x sort).1 (inl ((first x sort).1 (inl h)))) (λ pq. ⊎_elim (λ p. (second x sort).1 (inl ((first x sort).1 (inr p)))) (λ q. (second x sort).1 (inr q)) pq) k,
-)
-
-pub learns_as : (P Q : VarId → Sort → Type 0) (a b : Known) → ((x : VarId) (sort : Sort) → P x sort ↔ Q x sort) → Learns P a b → Learns Q a b
-learns_as P Q a b same learns = λ x sort. (
-  λ k. ⊎_elim inl (λ p. inr ((same x sort).0 p)) ((learns x sort).0 k),
-  λ k. (learns x sort).1 (⊎_elim inl (λ q. inr ((same x sort).1 q)) k),
-)
 
 int_is_no_text : Int ≡ Text → ⊥
 int_is_no_text e = cc
@@ -39,29 +16,28 @@ int_is_no_text e = cc
 text_is_no_int : Text ≡ Int → ⊥
 text_is_no_int e = cc
 
-same_var : (x y : VarId) → Var x ≡ Var y → x ≡ y
-same_var x y e = cc
-
-pub learns_int : (v : VarId) (term : Term) (before after : Known) → term ≡ Var v → HasBesides v before.ints.items after.ints.items → after.texts.items ≡ before.texts.items → Learns (TermTells term Int) before after
+pub learns_int : (v : VarId) (term : Term) (before after : Known) → term ≡ Var v → HasBesides v before.ints.items after.ints.items → after.texts.items ≡ before.texts.items
+    → Learns (TermTells term Int) before after
 learns_int v term before after is has stays = λ x sort. by x sort
   where
     by : (x : VarId) (sort : Sort) → Knows after x sort ↔ (Knows before x sort ⊎ TermTells term Int x sort)
     by x Int = (
       λ k. ⊎_elim inl (λ e. inr (is ∙ ap Var e, refl)) ((has x).0 k),
-      λ k. (has x).1 (⊎_elim inl (λ t. inr (same_var v x (sym is ∙ t.0))) k),
+      λ k. (has x).1 (⊎_elim inl (λ t. inr (variable_is v x (sym is ∙ t.0))) k),
     )
     by x Text = (
       λ k. inl (subst (λ (l : List VarId). Contains l x) stays k),
       λ k. ⊎_elim (λ h. subst (λ (l : List VarId). Contains l x) (sym stays) h) (λ t. absurd (int_is_no_text t.1)) k,
     )
 
-pub learns_text : (v : VarId) (term : Term) (before after : Known) → term ≡ Var v → HasBesides v before.texts.items after.texts.items → after.ints.items ≡ before.ints.items → Learns (TermTells term Text) before after
+pub learns_text : (v : VarId) (term : Term) (before after : Known) → term ≡ Var v → HasBesides v before.texts.items after.texts.items → after.ints.items ≡ before.ints.items
+    → Learns (TermTells term Text) before after
 learns_text v term before after is has stays = λ x sort. by x sort
   where
     by : (x : VarId) (sort : Sort) → Knows after x sort ↔ (Knows before x sort ⊎ TermTells term Text x sort)
     by x Text = (
       λ k. ⊎_elim inl (λ e. inr (is ∙ ap Var e, refl)) ((has x).0 k),
-      λ k. (has x).1 (⊎_elim inl (λ t. inr (same_var v x (sym is ∙ t.0))) k),
+      λ k. (has x).1 (⊎_elim inl (λ t. inr (variable_is v x (sym is ∙ t.0))) k),
     )
     by x Int = (
       λ k. inl (subst (λ (l : List VarId). Contains l x) stays k),
@@ -70,7 +46,8 @@ learns_text v term before after is has stays = λ x sort. by x sort
 
 -- ---- values
 
-pub fits_num : (known : Known) (x : VarId) (value : Value) (n : ℤ) (there : Bool) → value ≡ values.Num n → (IsTrue there ↔ Contains known.texts.items x) → IsTrue (not there) ↔ FitsTold (Knows known) x value
+pub fits_num : (known : Known) (x : VarId) (value : Value) (n : ℤ) (there : Bool) → value ≡ values.Num n → (IsTrue there ↔ Contains known.texts.items x)
+    → IsTrue (not there) ↔ FitsTold (Knows known) x value
 fits_num known x value n there is same = subst (λ (v : Value). IsTrue (not there) ↔ FitsTold (Knows known) x v) (sym is) (by there same)
   where
     fine : (sort : Sort) → (Contains known.texts.items x → ⊥) → Knows known x sort → Int ≡ sort
@@ -81,7 +58,8 @@ fits_num known x value n there is same = subst (λ (v : Value). IsTrue (not ther
     by true same = ((λ h. absurd cc), λ fits. let e : Int ≡ Text = fits Text (same.0 refl) in absurd cc)
     by false same = ((λ h. λ sort told. fine sort (λ there. let e : false ≡ true = same.1 there in absurd cc) told), λ fits. refl)
 
-pub fits_text : (known : Known) (x : VarId) (value : Value) (t : List ℕ) (there : Bool) → value ≡ values.Text t → (IsTrue there ↔ Contains known.ints.items x) → IsTrue (not there) ↔ FitsTold (Knows known) x value
+pub fits_text : (known : Known) (x : VarId) (value : Value) (t : List ℕ) (there : Bool) → value ≡ values.Text t → (IsTrue there ↔ Contains known.ints.items x)
+    → IsTrue (not there) ↔ FitsTold (Knows known) x value
 fits_text known x value t there is same = subst (λ (v : Value). IsTrue (not there) ↔ FitsTold (Knows known) x v) (sym is) (by there same)
   where
     fine : (sort : Sort) → (Contains known.ints.items x → ⊥) → Knows known x sort → Text ≡ sort
@@ -99,4 +77,4 @@ no_columns (term ∷ terms) x sort told = told
 -- a name without an entry tells nothing
 pub no_entry : (entries : List NameEntry) (name : NameId) (terms : List Term) → slice_get entries name.0 ≡ None → (x : VarId) (sort : Sort) → AtomTells entries name terms x sort → ⊥
 no_entry entries name terms none x sort told =
-    no_columns terms x sort (subst (λ (o : Option NameEntry). TermsTell terms (columns o) x sort) none told)
+    no_columns terms x sort (subst (λ (o : Option NameEntry). TermsTell terms (entry_columns o) x sort) none told)

@@ -1,28 +1,12 @@
 -- The lines of a sound state keep the bounds.
-use Rattle.std.proofs.Common.{◌≡◌, ◌++◌, ◌∷◌, [], ◌≤◌, List, true, Contains, map, refl, sym, ap, subst, arith}
-use Rattle.std.specs.List.{AllByRecursion}
-use Rattle.std.proofs.lemmas.List.Elements.{All-contains}
-use Rattle.enf_value.specs.ListLaws.{here, later}
-use Rattle.enf_value.specs.declared.terms.VarId.{VarId}
-use Rattle.enf_formula.specs.FreeLaws.{same_free}
-use Rattle.plan_terms.specs.ScopeLaws.{FoundHasRisingScope}
-use Rattle.plan_terms.specs.Scopes.{IsScoped}
-use Rattle.past_state.specs.Bounds.{AreWithinBounds}
-use Rattle.past_state.specs.Operators.{all_operators}
-use Rattle.past_state.specs.Saved.{kept_operand}
-use Rattle.past_state.specs.declared.kept.KeptRow.{KeptRow}
-use Rattle.obligations.specs.Bounds.{CanBePending}
-use Rattle.obligations.specs.declared.instances.Instance.{Instance}
-use Rattle.save_codec.specs.Bounds.{DueFits, IsWithin, RowFits, RuleTells, Setting, kept_of}
-use Rattle.save_codec.specs.LineParts.{line_of_due, line_of_row}
-use Rattle.save_codec.specs.Saved.{due_line, lines_of, row_line, values_in}
-use Rattle.save_codec.specs.Sorts.{FitTold, GuardTells}
-use Rattle.save_codec.specs.Sound.{IsSoundInstance, IsSoundRow, SoundKeepsBounds}
-use Rattle.save_codec.specs.declared.limits.TheConstants.{MOST_STATE_TIME}
-use Rattle.save_codec.specs.declared.lines.Line.TheVariants.{Clock, Last, Position, End}
-use Rattle.save_codec.specs.declared.parts.DueLine.{DueLine}
-use Rattle.save_codec.specs.declared.parts.RowLine.{RowLine}
-use Rattle.save_codec.specs.declared.snapshots.Snapshot.{Snapshot}
+use Rattle.save_codec.proofs.Vocabulary.{◌≡◌, ◌++◌, ◌∷◌, [], ◌≤◌, List, true, Contains, map, refl}
+use Rattle.save_codec.proofs.Vocabulary.{sym, ap, subst, arith, AllByRecursion, All-contains, here, later, VarId}
+use Rattle.save_codec.proofs.Vocabulary.{same_free, FoundHasRisingScope, IsScopedPlan, AreWithinBounds, all_operators}
+use Rattle.save_codec.proofs.Vocabulary.{kept_operand, KeptRow, CanBePending, Instance, DueFits, AreLinesWithin}
+use Rattle.save_codec.proofs.Vocabulary.{RowFits, RuleTells, SaveSetting, kept_row_of, line_of_due, line_of_row}
+use Rattle.save_codec.proofs.Vocabulary.{due_line, lines_of, row_line, values_in, FitTold, GuardTells, IsSoundInstance}
+use Rattle.save_codec.proofs.Vocabulary.{IsSoundRow, SoundKeepsBounds, MOST_STATE_TIME, Clock, Last, Position, End}
+use Rattle.save_codec.proofs.Vocabulary.{DueLine, RowLine, Snapshot}
 use Rattle.save_codec.proofs.InstanceLemmas.{scope_rises, wait_same}
 use Rattle.save_codec.proofs.SavedTexts.{fits_scope, values_there}
 use Rattle.save_codec.proofs.StateLemmas.{keep_is_within, whole}
@@ -35,7 +19,7 @@ row_of r = record { window = r.window; time = r.time; values = r.row }
 abbrev due_of : Instance → DueLine
 due_of i = record { rule = i.rule; node = i.node; origin = i.origin; low = i.low; high = i.high; values = values_in i.valuation }
 
-rows_back : (rows : List KeptRow) → map kept_of (map row_of rows) ≡ rows
+rows_back : (rows : List KeptRow) → map kept_row_of (map row_of rows) ≡ rows
 rows_back [] = refl
 rows_back (r ∷ rows) = ap (λ l. r ∷ l) (rows_back rows)
 
@@ -56,7 +40,7 @@ each_mapped P f (x ∷ xs) each = (each x (here x xs), each_mapped P f xs (λ y 
 
 -- ---- the bounds of each
 
-row_fits : (s : Setting) (r : KeptRow) → IsSoundRow s r → RowFits s (row_of r)
+row_fits : (s : SaveSetting) (r : KeptRow) → IsSoundRow s r → RowFits s (row_of r)
 row_fits s r sound = record {
   bits = sound.bits;
   sorts = λ guard operator columns numbered free.
@@ -64,7 +48,8 @@ row_fits s r sound = record {
       subst (λ (xs : List VarId). FitTold (GuardTells s.entries s.plans guard) xs r.row) (same_free (kept_operand operator) own.0 columns own.1 free) own.2;
 }
 
-due_fits : FoundHasRisingScope → (s : Setting) (state : Snapshot) (i : Instance) → AllByRecursion (λ plan. IsScoped plan []) s.plans → CanBePending s.plans state.clock state.position i → i.high ≤ MOST_STATE_TIME
+due_fits : FoundHasRisingScope → (s : SaveSetting) (state : Snapshot) (i : Instance) → AllByRecursion (λ plan. IsScopedPlan plan []) s.plans
+    → CanBePending s.plans state.clock state.position i → i.high ≤ MOST_STATE_TIME
     → IsSoundInstance s i → DueFits s state.clock state.position (due_of i)
 due_fits rises s state i scoped can early sound =
     let rise = scope_rises rises s.plans i.rule i.node can.node can.scope scoped can.named in
@@ -91,7 +76,7 @@ sound_keeps rises s state scoped sound = record {
   kept = sound.kept;
   pending = sound.pending;
   due = sound.due;
-  lines = subst (IsWithin s) (sym (lines_are state)) (keep_is_within s state.clock state.last state.position (map row_of state.kept) (map due_of state.pending) true (record {
+  lines = subst (AreLinesWithin s) (sym (lines_are state)) (keep_is_within s state.clock state.last state.position (map row_of state.kept) (map due_of state.pending) true (record {
     clock = sound.clock;
     last = sound.last;
     position = sound.position;

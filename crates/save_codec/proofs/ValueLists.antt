@@ -1,24 +1,14 @@
 -- What is left of a list of values of which some were read.
-use Rattle.std.proofs.Common.{◌≡◌, ◌++◌, ◌∷◌, [], ℕ, List, refl, sym, ap, subst, ◌∙◌, arith, append_assoc}
-use Rattle.std.proofs.lemmas.List.{append-nil}
-use Rattle.std.proofs.lemmas.List.Concat.{flat_map-append}
-use Rattle.std.specs.List.{AllByRecursion}
-use Rattle.enf_value.specs.Spelling.{spelled}
-use Rattle.enf_value.specs.ValueTokens.{EndsBefore, IsNoDigit, IsValue}
-use Rattle.enf_value.specs.declared.values.Value.{Value}
-use Rattle.enf_value.specs.declared.values.Value.TheVariants.{Num, Text}
-use Rattle.save_codec.specs.Lines.{values_text}
-use Rattle.save_codec.specs.Parts.{EndsValues}
-use Rattle.save_codec.proofs.Fronts.{cancel}
+use Rattle.save_codec.proofs.Vocabulary.{◌≡◌, ◌++◌, ◌∷◌, [], ℕ, List, sym, ap, subst, ◌∙◌}
+use Rattle.save_codec.proofs.Vocabulary.{arith, append_assoc, append-nil, flat_map-append, AllByRecursion, spelled}
+use Rattle.save_codec.proofs.Vocabulary.{EndsBefore, IsNoDigit, IsValue, Value, Num, Text, cancel_front as cancel}
+use Rattle.save_codec.proofs.Vocabulary.{values_text, EndsValues}
 
 -- where values stood at the front of the text, these were read of them, and this is left
 abbrev pub AreLeft : (text : List ℕ) → (read : List Value) → (left : List ℕ) → Type 0
 AreLeft text read left = (values : List Value) (rest : List ℕ) → AllByRecursion IsValue values → EndsValues rest
     → text ≡ values_text values ++ rest
     → (others : List Value) × (values ≡ read ++ others) × AllByRecursion IsValue others × (left ≡ values_text others ++ rest)
-
-pub all_left : (text : List ℕ) → AreLeft text [] text
-all_left text = λ values rest are ends e. (values, refl, are, e)
 
 pub ends_no_digit : (rest : List ℕ) → EndsValues rest → IsNoDigit rest
 ends_no_digit [] ends = tt
@@ -29,7 +19,7 @@ ends_value (Num number) [] rest ends = ends_no_digit rest ends
 ends_value (Num number) (next ∷ others) rest ends = λ low high. omega arith
 ends_value (Text text) others rest ends = tt
 
--- values stand behind digits
+-- values stand after digits
 pub values_no_digit : (values : List Value) (rest : List ℕ) → EndsValues rest → IsNoDigit (values_text values ++ rest)
 values_no_digit [] rest ends = ends_no_digit rest ends
 values_no_digit (value ∷ values) rest ends = λ low high. omega arith
@@ -44,11 +34,12 @@ pub record HasNext (behind : List ℕ) (read values : List Value) (rest : List �
   pub ends : EndsBefore value (values_text others ++ rest)
   pub there : behind ≡ spelled value ++ (values_text others ++ rest)
 
-no_space : (rest behind : List ℕ) → EndsValues rest → rest ≡ 32 ∷ behind → ⊥
+pub no_space : (rest behind : List ℕ) → EndsValues rest → rest ≡ 32 ∷ behind → ⊥
 no_space [] behind ends e = cc
 no_space (byte ∷ rest) behind ends e = ends.0 (cc e)
 
-pub next_of : (read values others : List Value) (rest left behind : List ℕ) → values ≡ read ++ others → AllByRecursion IsValue others → EndsValues rest → left ≡ values_text others ++ rest → left ≡ 32 ∷ behind → HasNext behind read values rest
+pub next_of : (read values others : List Value) (rest left behind : List ℕ) → values ≡ read ++ others → AllByRecursion IsValue others → EndsValues rest → left
+    ≡ values_text others ++ rest → left ≡ 32 ∷ behind → HasNext behind read values rest
 next_of read values [] rest left behind are fit ends e space = absurd (no_space rest behind ends (sym e ∙ space))
 next_of read values (value ∷ others) rest left behind are fit ends e space = record {
   value = value;
@@ -75,7 +66,8 @@ one_more text left behind after read row value are space put again = λ values r
     let a = again n.value (values_text n.others ++ rest) n.fits n.ends n.there in
     (n.others, n.are ∙ ap (λ v. read ++ v ∷ n.others) (sym a.0) ∙ sym (append_assoc read (value ∷ []) n.others) ∙ ap (λ r. r ++ n.others) (sym put), n.more, a.1)
 
-pub values_on : (text left behind after : List ℕ) (read row : List Value) (value : Value) → text ≡ values_text read ++ left → left ≡ 32 ∷ behind → behind ≡ spelled value ++ after → row ≡ read ++ value ∷ [] → text ≡ values_text row ++ after
+pub values_on : (text left behind after : List ℕ) (read row : List Value) (value : Value) → text ≡ values_text read ++ left → left ≡ 32 ∷ behind → behind
+    ≡ spelled value ++ after → row ≡ read ++ value ∷ [] → text ≡ values_text row ++ after
 values_on text left behind after read row value is space there put =
     is ∙ ap (λ l. values_text read ++ l) (space ∙ ap (λ l. 32 ∷ l) there)
     ∙ sym (append_assoc (values_text read) (32 ∷ spelled value) after)

@@ -1,15 +1,2 @@
-pub mod Bounds
-pub mod Cases
-pub mod Forms
-pub mod Judged
-pub mod Known
-pub mod Laws
-pub mod LineKinds
-pub mod LineParts
-pub mod Lines
-pub mod Parts
-pub mod Reading
-pub mod Resumed
-pub mod Saved
-pub mod Sorts
-pub mod Sound
+pub mod meaning
+pub mod machine

@@ -1,16 +1,17 @@
 //! What is left of a text, and the parts that are taken from its front.
-ghost use Rattle.std.specs.Prelude.{◌≡◌, ◌↔◌, ◌++◌, ℕ, List, IfOk, IfSome, IsTrue, decimal};
-ghost use Rattle.std.specs.Prelude.{false, slice_index, true};
+ghost use Rattle.std.specs.Prelude.{◌≡◌, ◌↔◌, ◌++◌, ℕ, List, IfOk, IfSome, IsTrue, decimal, false};
+ghost use Rattle.std.specs.Prelude.{slice_index, true};
 ghost use Rattle.std.specs.List.{AllByRecursion, flat_map};
-ghost use Rattle.enf_value.specs.Spelling.{escaped, quoted, spelled};
-ghost use Rattle.enf_value.specs.ValueTokens.{EndsBefore, IsNoDigit, IsValue};
-ghost use Rattle.enf_value.specs.declared.values.Value.{Value as AnyValue};
-ghost use Rattle.save_codec.specs.Lines.{IsSmall, spaced, values_text};
-ghost use Rattle.save_codec.specs.Parts.{EndsValues, IsRead};
+ghost use Rattle.enf_value.specs.meaning.Tokens.{escaped, quoted, spelled, EndsBefore, IsNoDigit};
+ghost use Rattle.enf_data.specs.meaning.Values.{IsValue};
+ghost use Rattle.enf_data.specs.declared.values.Value.{Value as AnyValue};
+ghost use Rattle.save_codec.specs.meaning.SavedTexts.{IsSmallNumber, spaced, values_text};
+ghost use Rattle.save_codec.specs.machine.LineParts.{EndsValues, IsPartRead};
 
+use enf_data::{NoMemory, Row, Value};
 use enf_value::laws::{one_token_at_place, printed_is_token};
 use enf_value::names::ByteKind;
-use enf_value::{NoMemory, Row, Value, print_value, read_digits, read_value};
+use enf_value::{print_value, read_digits, read_value};
 use std::alloc::Global;
 
 // What is left of a text.
@@ -52,10 +53,10 @@ impl<'a> Cursor<'a> {
 
     // Takes the number that stands next, where it has its canonical form.
     pub fn number(&mut self) -> Option<u64>
-        ensures told { IfSome result (λ number. IsSmall number
+        ensures told { IfSome result (λ number. IsSmallNumber number
             × (self.old.rest.now ≡ decimal number ++ self.new.rest.now)) }
-        ensures again { (number : ℕ) (rest : List ℕ) → IsSmall number → IsNoDigit rest
-            → self.old.rest.now ≡ decimal number ++ rest → IsRead result self.new.rest.now number rest }
+        ensures again { (number : ℕ) (rest : List ℕ) → IsSmallNumber number → IsNoDigit rest
+            → self.old.rest.now ≡ decimal number ++ rest → IsPartRead result self.new.rest.now number rest }
     {
         printed_is_token();
         one_token_at_place();
@@ -69,10 +70,10 @@ impl<'a> Cursor<'a> {
 
     // Takes a space and a number in its canonical form.
     pub fn spaced(&mut self) -> Option<u64>
-        ensures told { IfSome result (λ number. IsSmall number
+        ensures told { IfSome result (λ number. IsSmallNumber number
             × (self.old.rest.now ≡ spaced number ++ self.new.rest.now)) }
-        ensures again { (number : ℕ) (rest : List ℕ) → IsSmall number → IsNoDigit rest
-            → self.old.rest.now ≡ spaced number ++ rest → IsRead result self.new.rest.now number rest }
+        ensures again { (number : ℕ) (rest : List ℕ) → IsSmallNumber number → IsNoDigit rest
+            → self.old.rest.now ≡ spaced number ++ rest → IsPartRead result self.new.rest.now number rest }
     {
         if !self.take(b" ") {
             return None;
@@ -116,7 +117,7 @@ impl<'a> Cursor<'a> {
             × (self.old.rest.now ≡ spelled value ++ self.new.rest.now))) }
         ensures again { (value : AnyValue) (rest : List ℕ) → IsValue value → EndsBefore value rest
             → self.old.rest.now ≡ spelled value ++ rest
-            → IfOk result (λ found. IsRead found self.new.rest.now value rest) }
+            → IfOk result (λ found. IsPartRead found self.new.rest.now value rest) }
     {
         printed_is_token();
         one_token_at_place();
@@ -132,13 +133,13 @@ impl<'a> Cursor<'a> {
         }
     }
 
-    // Takes the values that stand next, each behind a space.
+    // Takes the values that stand next, each after a space.
     pub fn values(&mut self, alloc: Global, written: &mut Vec<u8>) -> Result<Option<Row>, NoMemory>
         ensures told { IfOk result (λ found. IfSome found (λ values. AllByRecursion IsValue values
             × (self.old.rest.now ≡ values_text values ++ self.new.rest.now))) }
         ensures again { (values : List AnyValue) (rest : List ℕ) → AllByRecursion IsValue values → EndsValues rest
             → self.old.rest.now ≡ values_text values ++ rest
-            → IfOk result (λ found. IsRead found self.new.rest.now values rest) }
+            → IfOk result (λ found. IsPartRead found self.new.rest.now values rest) }
     {
         let mut row = Row::new(alloc);
         while self.take(b" ") {

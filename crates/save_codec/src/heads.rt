@@ -1,9 +1,9 @@
 //! What stands before the lines of a saved text.
 ghost use Rattle.std.specs.Prelude.{◌≡◌, ◌++◌, ℕ, List, IfNone, IfSome, Some, length};
 ghost use Rattle.std.specs.Option.{option_copied};
-ghost use Rattle.save_codec.specs.Reading.{HasNoHead};
-ghost use Rattle.save_codec.specs.Lines.{head_text, sized};
-ghost use Rattle.save_codec.specs.Parts.{IsRead};
+ghost use Rattle.save_codec.specs.meaning.SaveRefusals.{HasNoHead};
+ghost use Rattle.save_codec.specs.meaning.SavedTexts.{head_text, sized};
+ghost use Rattle.save_codec.specs.machine.LineParts.{IsPartRead};
 
 use crate::cursor::Cursor;
 
@@ -21,7 +21,7 @@ impl<'a> Cursor<'a> {
         ensures told { IfSome result (λ taken. (length taken.now ≡ count)
             × (self.old.rest.now ≡ taken.now ++ self.new.rest.now)) }
         ensures again { (front rest : List ℕ) → length front ≡ count → self.old.rest.now ≡ front ++ rest
-            → IsRead (option_copied result) self.new.rest.now front rest }
+            → IsPartRead (option_copied result) self.new.rest.now front rest }
     {
         if (self.rest.len() as u64) < count {
             return None;
@@ -31,12 +31,12 @@ impl<'a> Cursor<'a> {
         Some(front)
     }
 
-    // Takes bytes behind a word and their number.
+    // Takes bytes after a word and their number.
     fn sized(&mut self, word: &[u8]) -> Option<&'a [u8]>
         ensures told { IfSome result
             (λ content. self.old.rest.now ≡ sized word.now content.now ++ self.new.rest.now) }
         ensures again { (content rest : List ℕ) → self.old.rest.now ≡ sized word.now content ++ rest
-            → IsRead (option_copied result) self.new.rest.now content rest }
+            → IsPartRead (option_copied result) self.new.rest.now content rest }
     {
         if !self.take(word) {
             return None;

@@ -1,20 +1,21 @@
 //! The instances of lines, where they keep the bounds of states.
 ghost use Rattle.std.specs.Prelude.{◌≡◌, ◌↔◌, ◌∷◌, ◌++◌, ◌<◌, ◌≤◌, ◌^◌, [], IfErr};
-ghost use Rattle.std.specs.Prelude.{IfNone, IfOk, IfSome, IsTrue, OnOk};
-ghost use Rattle.std.specs.Prelude.{Some, slice_get};
-ghost use Rattle.enf_value.specs.Valuations.{no_values};
-ghost use Rattle.valuations.specs.Scopes.{filled};
-ghost use Rattle.plan_terms.specs.Plans.{Plan as AnyPlan};
-ghost use Rattle.obligations.specs.Scopes.{future_in, node_with_scope};
-ghost use Rattle.save_codec.specs.Bounds.{RuleTells, Setting};
-ghost use Rattle.save_codec.specs.Judged.{AreInstancesOf, DuesFit, IsJudge, IsNamed, IsUnfit, JudgesLine};
-ghost use Rattle.save_codec.specs.Sorts.{FitTold};
+ghost use Rattle.std.specs.Prelude.{IfNone, IfOk, IfSome, IsTrue, OnOk, Some, slice_get};
+ghost use Rattle.enf_data.specs.meaning.Valuations.{no_values};
+ghost use Rattle.valuations.specs.machine.Bindings.{filled_from_row};
+ghost use Rattle.plan_terms.specs.meaning.Plans.{Plan as AnyPlan};
+ghost use Rattle.plan_terms.specs.meaning.Scopes.{future_in};
+ghost use Rattle.obligations.specs.machine.Parts.{node_with_scope};
+ghost use Rattle.save_codec.specs.meaning.SavedBounds.{RuleTells, SaveSetting};
+ghost use Rattle.save_codec.specs.machine.BoundJudgements.{AreInstancesOf, AreDuesWithin, IsJudge, IsFoundNode};
+ghost use Rattle.save_codec.specs.machine.BoundJudgements.{IsUnfit, JudgesLine};
+ghost use Rattle.save_codec.specs.meaning.ToldSorts.{FitTold};
 
 use crate::judging::{Judge, Unfit, item_at};
 use crate::limits::MOST_STATE_TIME;
 use crate::parts::DueLine;
-use enf_value::{NoMemory, Value, VarId};
-use obligations::bounds::can_wait;
+use crate::pending_bounds::can_wait;
+use enf_data::{NoMemory, Value, VarId};
 use obligations::scopes::{FutureNode, future_node};
 use obligations::{Instance, Instances};
 use plan_terms::laws::nodes_have_scopes;
@@ -49,7 +50,7 @@ fn is_early(due: &DueLine) -> bool
 }
 
 fn bound(alloc: Global, scope: &[VarId], values: &[Value]) -> Result<Valuation, NoMemory>
-    ensures { IfOk result (λ v. v ≡ filled no_values scope.now values.now) }
+    ensures { IfOk result (λ v. v ≡ filled_from_row no_values scope.now values.now) }
 {
     let nothing = Valuation::empty(alloc);
     let whole = Frame::Whole(&nothing);
@@ -66,7 +67,7 @@ fn put(instance: Instance, instances: &mut Vec<Instance>) -> Result<(), NoMemory
 impl<'a> Judge<'a> {
     // Whether these are values for the variables, of the sorts that the plan of the rule tells.
     fn fit_rule(&self, rule: u32, variables: &[VarId], values: &[Value]) -> bool
-        ensures { (s : Setting) (plan : AnyPlan) → IsJudge s self.now → slice_get s.plans rule ≡ Some plan
+        ensures { (s : SaveSetting) (plan : AnyPlan) → IsJudge s self.now → slice_get s.plans rule ≡ Some plan
             → IsTrue result ↔ FitTold (RuleTells s.entries s.plans rule) variables.now values.now }
     {
         match item_at(self.rules.as_slice(), rule as usize) {
@@ -78,7 +79,7 @@ impl<'a> Judge<'a> {
     // What two numbers name.
     fn named(&self, alloc: Global, rule: u32, node: u32) -> Result<Named<'a>, NoMemory>
         ensures numbers { IfOk result (λ named. (named.rule ≡ rule) × (named.node ≡ node)) }
-        ensures named { (s : Setting) → IsJudge s self.now → IfOk result (IsNamed s) }
+        ensures named { (s : SaveSetting) → IsJudge s self.now → IfOk result (IsFoundNode s) }
     {
         let found = future_node(alloc, self.plans, rule, node)?;
         Ok(Named { rule, node, found })
@@ -93,7 +94,8 @@ impl<'a> Judge<'a> {
         named: &mut Named<'a>,
     ) -> Result<(), NoMemory>
         ensures numbers { OnOk result ((named.new.rule ≡ rule) × (named.new.node ≡ node)) }
-        ensures named { (s : Setting) → IsJudge s self.now → IsNamed s named.old → IsNamed s named.new }
+        ensures named { (s : SaveSetting) → IsJudge s self.now → IsFoundNode s named.old
+            → IsFoundNode s named.new }
     {
         if named.rule != rule || named.node != node {
             *named = self.named(alloc, rule, node)?;
@@ -112,7 +114,7 @@ impl<'a> Judge<'a> {
     ) -> Result<Option<Instance>, NoMemory>
         requires rule { due.now.rule < 2 ^ 32 }
         requires node { due.now.node < 2 ^ 32 }
-        ensures { (s : Setting) → IsJudge s self.now
+        ensures { (s : SaveSetting) → IsJudge s self.now
             → future_in s.plans due.now.rule due.now.node ≡ Some (node_with_scope found.now)
             → IfOk result (JudgesLine s clock position due.now) }
     {
@@ -148,9 +150,10 @@ impl<'a> Judge<'a> {
         due: &DueLine,
         named: &mut Named<'a>,
     ) -> Result<Option<Instance>, NoMemory>
-        ensures judges { (s : Setting) → IsJudge s self.now → IsNamed s named.old
+        ensures judges { (s : SaveSetting) → IsJudge s self.now → IsFoundNode s named.old
             → IfOk result (JudgesLine s clock position due.now) }
-        ensures named { (s : Setting) → IsJudge s self.now → IsNamed s named.old → IsNamed s named.new }
+        ensures named { (s : SaveSetting) → IsJudge s self.now → IsFoundNode s named.old
+            → IsFoundNode s named.new }
     {
         let Some((rule, node)) = numbers_of(due) else {
             return Ok(None);
@@ -170,9 +173,10 @@ impl<'a> Judge<'a> {
         position: u64,
         dues: &[DueLine],
     ) -> Result<Instances, Unfit>
-        ensures ok { (s : Setting) → IsJudge s self.now → IfOk result (AreInstancesOf s clock position dues.now) }
-        ensures err { (s : Setting) → IsJudge s self.now
-            → IfErr result (IsUnfit (DuesFit s clock position) dues.now) }
+        ensures ok { (s : SaveSetting) → IsJudge s self.now
+            → IfOk result (AreInstancesOf s clock position dues.now) }
+        ensures err { (s : SaveSetting) → IsJudge s self.now
+            → IfErr result (IsUnfit (AreDuesWithin s clock position) dues.now) }
     {
         let mut instances = Vec::new(alloc);
         let mut named = self.named(alloc, 0, 0)?;

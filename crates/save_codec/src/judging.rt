@@ -1,13 +1,13 @@
 //! Whether rows and instances keep the bounds of states.
 ghost use Rattle.std.specs.Prelude.{◌≡◌, ◌↔◌, IfErr, IfNone, IfOk, IfSome, IsTrue, map, slice_get};
 ghost use Rattle.std.specs.Option.{option_copied};
-ghost use Rattle.save_codec.specs.Bounds.{HasSorts, RowFits, Setting, kept_of};
-ghost use Rattle.save_codec.specs.Judged.{IsFitting, IsJudge, IsUnfit, RowsFit};
+ghost use Rattle.save_codec.specs.meaning.SavedBounds.{HasSorts, RowFits, SaveSetting, kept_row_of};
+ghost use Rattle.save_codec.specs.machine.BoundJudgements.{AreFittingRows, IsJudge, IsUnfit, AreRowsWithin};
 ghost use Rattle.save_codec.specs.declared.judging.Unfit.TheVariants.{NoMemory as OutOfMemory};
 
 use crate::parts::RowLine;
 use crate::sorts::Known;
-use enf_value::NoMemory;
+use enf_data::NoMemory;
 use past_state::{KeptRow, KeptRows, WindowShape, check_rows};
 use plan_terms::Plan;
 use std::alloc::Global;
@@ -53,7 +53,7 @@ pub(crate) fn item_at<T>(items: &[T], place: usize) -> Option<&T>
 impl Judge<'_> {
     // Whether the values of a row are of the sorts that are known of its window's columns.
     fn has_sorts(&self, row: &RowLine) -> bool
-        ensures { (s : Setting) → IsJudge s self.now → IsTrue result ↔ HasSorts s row.now }
+        ensures { (s : SaveSetting) → IsJudge s self.now → IsTrue result ↔ HasSorts s row.now }
     {
         let window = row.window as usize;
         let Some(shape) = item_at(self.shapes.as_slice(), window) else {
@@ -66,9 +66,9 @@ impl Judge<'_> {
     }
 
     fn kept_row(&self, row: RowLine) -> Option<KeptRow>
-        ensures kept { IfSome result (λ kept. kept ≡ kept_of row) }
-        ensures fits { (s : Setting) → IsJudge s self.now → IfSome result (λ _. RowFits s row) }
-        ensures none { (s : Setting) → IsJudge s self.now → IfNone result (RowFits s row → ⊥) }
+        ensures kept { IfSome result (λ kept. kept ≡ kept_row_of row) }
+        ensures fits { (s : SaveSetting) → IsJudge s self.now → IfSome result (λ _. RowFits s row) }
+        ensures none { (s : SaveSetting) → IsJudge s self.now → IfNone result (RowFits s row → ⊥) }
     {
         if !self.has_sorts(&row) {
             return None;
@@ -84,7 +84,7 @@ impl Judge<'_> {
     }
 
     fn fitting_rows(&self, alloc: Global, rows: Vec<RowLine>) -> Result<Fitting, NoMemory>
-        ensures { (s : Setting) → IsJudge s self.now → IfOk result (IsFitting s rows.items) }
+        ensures { (s : SaveSetting) → IsJudge s self.now → IfOk result (AreFittingRows s rows.items) }
     {
         let mut kept = Vec::new(alloc);
         for row in rows {
@@ -103,10 +103,11 @@ impl Judge<'_> {
         last: Option<u64>,
         rows: Vec<RowLine>,
     ) -> Result<KeptRows, Unfit>
-        requires judge { (s : Setting) × IsJudge s self.now }
-        ensures ok { (s : Setting) → IsJudge s self.now
-            → IfOk result (λ kept. (kept ≡ map kept_of rows.items) × RowsFit s last rows.items) }
-        ensures err { (s : Setting) → IsJudge s self.now → IfErr result (IsUnfit (RowsFit s last) rows.items) }
+        requires judge { (s : SaveSetting) × IsJudge s self.now }
+        ensures ok { (s : SaveSetting) → IsJudge s self.now
+            → IfOk result (λ kept. (kept ≡ map kept_row_of rows.items) × AreRowsWithin s last rows.items) }
+        ensures err { (s : SaveSetting) → IsJudge s self.now
+            → IfErr result (IsUnfit (AreRowsWithin s last) rows.items) }
     {
         let fitting = self.fitting_rows(alloc, rows)?;
         if let Err(broken) = check_rows(self.shapes.as_slice(), last, fitting.kept.as_slice()) {

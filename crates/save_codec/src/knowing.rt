@@ -1,13 +1,12 @@
 //! What is known of the variables of rules and of windows.
 ghost use Rattle.std.specs.Prelude.{◌≡◌, IfOk, OnOk, map};
-ghost use Rattle.plan_terms.specs.Plans.{plan_of};
-ghost use Rattle.past_state.specs.Shapes.{numbered};
-ghost use Rattle.save_codec.specs.Judged.{KnowRules, KnowWindows, KnowsJust};
-ghost use Rattle.save_codec.specs.Known.{Learns};
-ghost use Rattle.save_codec.specs.Sorts.{GuardTells, GuardedPlanTells, PlanTells, has_guard};
+ghost use Rattle.plan_terms.specs.machine.StoredPlans.{plan_of};
+ghost use Rattle.past_state.specs.machine.WindowShapes.{numbered_operator};
+ghost use Rattle.save_codec.specs.machine.KnownSorts.{KnowRules, KnowWindows, KnowsJust, Learns, GuardedPlanTells};
+ghost use Rattle.save_codec.specs.meaning.ToldSorts.{GuardTells, PlanTells, has_guard};
 
 use crate::sorts::Known;
-use enf_value::NoMemory;
+use enf_data::NoMemory;
 use past_state::shapes::WindowShape;
 use plan_terms::Plan;
 use signature::Signature;
@@ -102,7 +101,7 @@ pub(crate) fn known_in_windows(
     shapes: &[WindowShape<'_>],
 ) -> Result<Vec<Known>, NoMemory>
     ensures { IfOk result
-        (λ known. KnowWindows signature.now (map plan_of plans.now) (map numbered shapes.now) known.items) }
+        (λ known. KnowWindows signature.now (map plan_of plans.now) (map numbered_operator shapes.now) known.items) }
 {
     let mut known = Vec::new(alloc);
     for shape in shapes {

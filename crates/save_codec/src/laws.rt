@@ -1,6 +1,6 @@
 //! Laws of saved texts, each the contract of a function.
-ghost use Rattle.save_codec.specs.Laws.{FrontKeeps, OneAnswer, OneState, OneText, SavedIsText};
-ghost use Rattle.save_codec.specs.Sound.{SoundKeepsBounds};
+ghost use Rattle.save_codec.specs.machine.Laws.{FrontKeeps, OneSaveAnswer, OneState, OneText, SavedIsText};
+ghost use Rattle.save_codec.specs.machine.Laws.{SoundKeepsBounds};
 
 use enf_value::laws::{one_token_at_place, printed_is_token};
 use plan_terms::laws::nodes_have_scopes;
@@ -30,7 +30,7 @@ pub fn one_state()
 /// Bytes have one answer at most, a state or a refusal; a front of lines that keep the bounds keeps them.
 pub fn one_answer()
     ensures front { FrontKeeps }
-    ensures answer { OneAnswer }
+    ensures answer { OneSaveAnswer }
 {
     printed_is_token();
     one_token_at_place();

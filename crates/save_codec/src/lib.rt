@@ -12,6 +12,7 @@ pub mod laws;
 pub mod limits;
 pub mod lines;
 mod parts;
+mod pending_bounds;
 mod reading;
 pub mod refusals;
 mod resuming;

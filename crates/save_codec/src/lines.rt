@@ -1,13 +1,13 @@
 //! The lines of a saved text, and how they are printed.
 ghost use Rattle.std.specs.Prelude.{◌≡◌, ◌∷◌, ◌++◌, All, OnOk, codes};
-ghost use Rattle.enf_value.specs.Spelling.{spelled};
-ghost use Rattle.enf_value.specs.ValueTokens.{IsValue};
-ghost use Rattle.save_codec.specs.LineKinds.{kind_of};
-ghost use Rattle.save_codec.specs.Lines.{due_text, last_text, spaced, values_text};
+ghost use Rattle.enf_value.specs.meaning.Tokens.{spelled};
+ghost use Rattle.enf_data.specs.meaning.Values.{IsValue};
+ghost use Rattle.save_codec.specs.meaning.SavedTexts.{line_kind, due_text, last_text, spaced, values_text};
 
-use enf_value::{NoMemory, Row, Value, print_byte, print_bytes, print_number, print_value};
+use enf_data::{NoMemory, Row, Value};
+use enf_value::{print_byte, print_bytes, print_number, print_value};
 
-/// A line of a saved text, behind the bytes of the signature and of the policy. Its numbers are below 2^63.
+/// A line of a saved text, after the bytes of the signature and of the policy. Its numbers are below 2^63.
 #[derive(Drop)]
 pub enum Line {
     Clock(u64),
@@ -42,7 +42,7 @@ pub(crate) enum Kind {
 
 impl Line {
     pub(crate) fn kind(&self) -> Kind
-        ensures { result ≡ kind_of self.now }
+        ensures { result ≡ line_kind self.now }
     {
         match self {
             Line::Clock(_) => Kind::Clock,
@@ -55,7 +55,7 @@ impl Line {
     }
 }
 
-// Appends a number behind a space.
+// Appends a number after a space.
 pub(crate) fn print_spaced(number: u64, out: &mut Vec<u8>) -> Result<(), NoMemory>
     ensures { OnOk result (out.new.items ≡ out.old.items ++ spaced number) }
 {
@@ -95,7 +95,7 @@ fn is_value(value: &Value)
     }
 }
 
-// Appends a value behind a space.
+// Appends a value after a space.
 pub(crate) fn print_spaced_value(value: &Value, out: &mut Vec<u8>) -> Result<(), NoMemory>
     ensures text { OnOk result (out.new.items ≡ out.old.items ++ 32 ∷ spelled value.now) }
     ensures value { IsValue value.now }
@@ -105,7 +105,7 @@ pub(crate) fn print_spaced_value(value: &Value, out: &mut Vec<u8>) -> Result<(),
     print_value(value, out)
 }
 
-// Appends values, each behind a space.
+// Appends values, each after a space.
 fn print_values(values: &[Value], out: &mut Vec<u8>) -> Result<(), NoMemory>
     ensures text { OnOk result (out.new.items ≡ out.old.items ++ values_text values.now) }
     ensures values { OnOk result (All IsValue values.now) }

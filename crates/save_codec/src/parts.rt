@@ -1,9 +1,10 @@
 //! The lines of a text by their kinds.
 ghost use Rattle.std.specs.Prelude.{◌≡◌, ◌++◌, [], None, OnOk};
-ghost use Rattle.save_codec.specs.LineParts.{clock_after, due_in, last_after, position_after, row_in};
+ghost use Rattle.save_codec.specs.meaning.SavedBounds.{clock_behind_line, due_in, last_behind_line};
+ghost use Rattle.save_codec.specs.meaning.SavedBounds.{position_behind_line, row_in};
 
 use crate::lines::Line;
-use enf_value::{NoMemory, Row};
+use enf_data::{NoMemory, Row};
 use std::alloc::Global;
 
 // What the line of a kept row says.
@@ -52,9 +53,9 @@ impl LineParts {
 
     // Puts what one more line says.
     pub fn put(&mut self, line: Line) -> Result<(), NoMemory>
-        ensures clock { OnOk result (self.new.clock ≡ clock_after self.old.clock line) }
-        ensures last { OnOk result (self.new.last ≡ last_after self.old.last line) }
-        ensures position { OnOk result (self.new.position ≡ position_after self.old.position line) }
+        ensures clock { OnOk result (self.new.clock ≡ clock_behind_line self.old.clock line) }
+        ensures last { OnOk result (self.new.last ≡ last_behind_line self.old.last line) }
+        ensures position { OnOk result (self.new.position ≡ position_behind_line self.old.position line) }
         ensures rows { OnOk result (self.new.rows.items ≡ self.old.rows.items ++ row_in line) }
         ensures dues { OnOk result (self.new.dues.items ≡ self.old.dues.items ++ due_in line) }
     {

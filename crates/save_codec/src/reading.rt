@@ -1,26 +1,28 @@
 //! The line that stands at the front of a text.
 ghost use Rattle.std.specs.Prelude.{◌≡◌, ◌++◌, ℕ, List, IfOk, IfSome, Option, Some, codes};
 ghost use Rattle.std.specs.List.{AllByRecursion};
-ghost use Rattle.enf_value.specs.ValueTokens.{IsNoDigit, IsValue};
-ghost use Rattle.enf_value.specs.declared.values.Value.{Value as AnyValue};
-ghost use Rattle.save_codec.specs.Lines.{IsLine, IsSmall, IsSmallTime, line_text, spaced, values_text};
-ghost use Rattle.save_codec.specs.Parts.{AreDueNumbers, IsRead, IsReadLine};
+ghost use Rattle.enf_value.specs.meaning.Tokens.{IsNoDigit};
+ghost use Rattle.enf_data.specs.meaning.Values.{IsValue};
+ghost use Rattle.enf_data.specs.declared.values.Value.{Value as AnyValue};
+ghost use Rattle.save_codec.specs.meaning.SavedTexts.{IsLine, IsSmallNumber, IsSmallTime, line_text, spaced};
+ghost use Rattle.save_codec.specs.meaning.SavedTexts.{values_text};
+ghost use Rattle.save_codec.specs.machine.LineParts.{AreDueNumbers, IsPartRead, IsReadLine};
 ghost use Rattle.save_codec.specs.declared.lines.Line.{Line as AnyLine};
 ghost use Rattle.save_codec.specs.declared.lines.Line.TheVariants as lines;
 
 use crate::cursor::Cursor;
 use crate::lines::Line;
-use enf_value::{NoMemory, Row};
+use enf_data::{NoMemory, Row};
 use std::alloc::Global;
 
 impl Cursor<'_> {
     // Takes a word and a number.
     fn numbered(&mut self, word: &[u8]) -> Option<u64>
-        ensures told { IfSome result (λ number. IsSmall number
+        ensures told { IfSome result (λ number. IsSmallNumber number
             × (self.old.rest.now ≡ word.now ++ (spaced number ++ self.new.rest.now))) }
-        ensures again { (number : ℕ) (rest : List ℕ) → IsSmall number → IsNoDigit rest
+        ensures again { (number : ℕ) (rest : List ℕ) → IsSmallNumber number → IsNoDigit rest
             → self.old.rest.now ≡ word.now ++ (spaced number ++ rest)
-            → IsRead result self.new.rest.now number rest }
+            → IsPartRead result self.new.rest.now number rest }
     {
         if !self.take(word) {
             return None;
@@ -30,9 +32,9 @@ impl Cursor<'_> {
 
     // Takes a line that has one number.
     fn single(&mut self, word: &[u8]) -> Option<u64>
-        ensures told { IfSome result (λ number. IsSmall number
+        ensures told { IfSome result (λ number. IsSmallNumber number
             × (self.old.rest.now ≡ (word.now ++ (spaced number ++ codes "\n")) ++ self.new.rest.now)) }
-        ensures again { (number : ℕ) (rest : List ℕ) → IsSmall number
+        ensures again { (number : ℕ) (rest : List ℕ) → IsSmallNumber number
             → self.old.rest.now ≡ (word.now ++ (spaced number ++ codes "\n")) ++ rest → result ≡ Some number }
     {
         let number = self.numbered(word)?;
@@ -105,7 +107,7 @@ impl Cursor<'_> {
             → IsNoDigit rest
             → self.old.rest.now ≡ codes "due" ++ (spaced rule ++ (spaced node ++ (spaced origin ++ (spaced low
             ++ (spaced high ++ rest)))))
-            → IsRead result self.new.rest.now (rule, node, origin, low, high) rest }
+            → IsPartRead result self.new.rest.now (rule, node, origin, low, high) rest }
     {
         let rule = self.numbered(b"due")?;
         let node = self.spaced()?;

@@ -2,7 +2,7 @@
 ghost use Rattle.std.specs.Prelude.{◌≡◌};
 ghost use Rattle.save_codec.specs.declared.refusals.StateRefusal.TheVariants.{NoMemory as OutOfMemory};
 
-use enf_value::NoMemory;
+use enf_data::NoMemory;
 
 /// Why no state is read. Lines are counted from 1 at that of the clock; what is before it is line 0.
 #[derive(Clone, Copy, Debug, PartialEq, Eq)]

@@ -1,20 +1,19 @@
 //! The state of a text.
 ghost use Rattle.std.specs.Prelude.{◌≡◌, ◌↔◌, ◌+◌, ◌<◌, ◌≤◌, ◌^◌, List, None, Ok, IfErr};
-ghost use Rattle.std.specs.Prelude.{IfNone, IfOk, IfSome, IsTrue};
-ghost use Rattle.std.specs.Prelude.{[], length, map};
+ghost use Rattle.std.specs.Prelude.{IfNone, IfOk, IfSome, IsTrue, [], length, map};
 ghost use Rattle.std.specs.List.{AllByRecursion};
-ghost use Rattle.signature.specs.Refusals.{IsAnswer};
+ghost use Rattle.signature.specs.meaning.Refusals.{AnswersSignature};
 ghost use Rattle.signature.specs.declared.entries.NameEntry.{NameEntry};
-ghost use Rattle.plan_terms.specs.Plans.{plan_of};
-ghost use Rattle.plan_terms.specs.Scopes.{IsScoped};
-ghost use Rattle.past_state.specs.LastTimes.{IsFrom};
-ghost use Rattle.save_codec.specs.Bounds.{Setting};
-ghost use Rattle.save_codec.specs.Forms.{IsText};
-ghost use Rattle.save_codec.specs.Judged.{AreNumbers, FitsBehind, IsJudge, IsStateOf, IsUnfitLine, IsUnfitNumber};
-ghost use Rattle.save_codec.specs.Judged.{refusal_at};
-ghost use Rattle.save_codec.specs.LineParts.{lines_in};
-ghost use Rattle.save_codec.specs.Resumed.{IsRefusal, IsSettingOf, KeepsBounds};
-ghost use Rattle.save_codec.specs.Saved.{lines_of};
+ghost use Rattle.plan_terms.specs.machine.StoredPlans.{plan_of};
+ghost use Rattle.plan_terms.specs.machine.WellFormed.{IsScopedPlan};
+ghost use Rattle.past_state.specs.meaning.RowBounds.{IsFrom};
+ghost use Rattle.save_codec.specs.meaning.SavedBounds.{SaveSetting, KeepsBounds};
+ghost use Rattle.save_codec.specs.meaning.SavedTexts.{IsTextOfLines, lines_of};
+ghost use Rattle.save_codec.specs.machine.BoundJudgements.{AreNumbers, FitsBehind, IsJudge, IsStateOf, IsUnfitLine};
+ghost use Rattle.save_codec.specs.machine.BoundJudgements.{IsUnfitNumber, unfit_refusal};
+ghost use Rattle.save_codec.specs.machine.LineParts.{lines_in};
+ghost use Rattle.save_codec.specs.meaning.SaveRefusals.{IsSaveRefusal};
+ghost use Rattle.save_codec.specs.machine.ResumeAnswers.{IsSettingOf};
 
 use crate::judging::{Judge, Unfit};
 use crate::knowing::{known_in_rules, known_in_windows};
@@ -23,7 +22,7 @@ use crate::parts::LineParts;
 use crate::refusals::StateRefusal;
 use crate::snapshots::Snapshot;
 use crate::texts::{StateText, read_text};
-use enf_value::{MOST_FILE_BYTES, NoMemory};
+use enf_data::{MOST_FILE_BYTES, NoMemory};
 use monitorable_guard::Guard;
 use past_state::window_shapes;
 use plan_terms::Plan;
@@ -69,7 +68,7 @@ fn unfit_number(clock: u64, last: Option<u64>, position: u64) -> Option<u64>
 // The refusal for the place of a line, where the first of the lines has this number.
 fn refusal_at(first: u64, unfit: Unfit) -> StateRefusal
     requires { FitsBehind first unfit }
-    ensures { result ≡ refusal_at first unfit }
+    ensures { result ≡ unfit_refusal first unfit }
 {
     match unfit {
         Unfit::At(place) => StateRefusal::Inconsistent {
@@ -82,10 +81,10 @@ fn refusal_at(first: u64, unfit: Unfit) -> StateRefusal
 impl Judge<'_> {
     // The state of lines, or the first line that breaks the bounds.
     fn state(&self, alloc: Global, parts: LineParts) -> Result<Snapshot, StateRefusal>
-        requires judge { (s : Setting) × IsJudge s self.now }
+        requires judge { (s : SaveSetting) × IsJudge s self.now }
         requires few { length (lines_in parts) < 2 ^ 63 }
-        ensures ok { (s : Setting) → IsJudge s self.now → IfOk result (IsStateOf s (lines_in parts)) }
-        ensures err { (s : Setting) → IsJudge s self.now → IfErr result (IsUnfitLine s (lines_in parts)) }
+        ensures ok { (s : SaveSetting) → IsJudge s self.now → IfOk result (IsStateOf s (lines_in parts)) }
+        ensures err { (s : SaveSetting) → IsJudge s self.now → IfErr result (IsUnfitLine s (lines_in parts)) }
     {
         let LineParts {
             clock,
@@ -123,9 +122,9 @@ fn judge_of<'a>(
     guards: &'a [Guard],
 ) -> Result<Judge<'a>, NoMemory>
     requires short { length signature.now ≤ MOST_FILE_BYTES }
-    requires spells { (entries : List NameEntry) × IsAnswer signature.now (Ok entries) }
-    requires scoped { AllByRecursion (λ plan. IsScoped plan []) (map plan_of plans.now) }
-    ensures { (s : Setting) → IsSettingOf signature.now plans.now guards.now s → IfOk result (IsJudge s) }
+    requires spells { (entries : List NameEntry) × AnswersSignature signature.now (Ok entries) }
+    requires scoped { AllByRecursion (λ plan. IsScopedPlan plan []) (map plan_of plans.now) }
+    ensures { (s : SaveSetting) → IsSettingOf signature.now plans.now guards.now s → IfOk result (IsJudge s) }
 {
     // The bytes are a signature, so that memory alone can be wanting.
     let Ok(signature) = Signature::read(alloc, signature) else {
@@ -159,13 +158,13 @@ pub fn resume(
     guards: &[Guard],
 ) -> Result<Snapshot, StateRefusal>
     requires short { length signature.now ≤ MOST_FILE_BYTES }
-    requires spells { (entries : List NameEntry) × IsAnswer signature.now (Ok entries) }
-    requires scoped { AllByRecursion (λ plan. IsScoped plan []) (map plan_of plans.now) }
-    ensures text { IfOk result (λ state. IsText bytes.now signature.now policy.now (lines_of state)) }
-    ensures bounds { (s : Setting) → IsSettingOf signature.now plans.now guards.now s
+    requires spells { (entries : List NameEntry) × AnswersSignature signature.now (Ok entries) }
+    requires scoped { AllByRecursion (λ plan. IsScopedPlan plan []) (map plan_of plans.now) }
+    ensures text { IfOk result (λ state. IsTextOfLines bytes.now signature.now policy.now (lines_of state)) }
+    ensures bounds { (s : SaveSetting) → IsSettingOf signature.now plans.now guards.now s
         → IfOk result (KeepsBounds s) }
-    ensures refused { (s : Setting) → IsSettingOf signature.now plans.now guards.now s
-        → IfErr result (IsRefusal s bytes.now signature.now policy.now) }
+    ensures refused { (s : SaveSetting) → IsSettingOf signature.now plans.now guards.now s
+        → IfErr result (IsSaveRefusal s bytes.now signature.now policy.now) }
 {
     let text = read_text(alloc, bytes)?;
     if !is_same(text.signature, signature) || !is_same(text.policy, policy) {

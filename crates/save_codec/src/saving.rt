@@ -1,15 +1,16 @@
 //! The text of a state.
 ghost use Rattle.std.specs.Prelude.{◌≡◌, ◌∷◌, ◌++◌, All, IfOk, OnOk, map};
-ghost use Rattle.enf_value.specs.ValueTokens.{IsValue};
-ghost use Rattle.save_codec.specs.Forms.{IsText};
-ghost use Rattle.save_codec.specs.Lines.{head_text, line_text, lines_text, sized, values_text};
-ghost use Rattle.save_codec.specs.Saved.{HasSmallNumbers, IsInstance, IsRow, due_line, lines_of, row_line, saved_text};
+ghost use Rattle.enf_data.specs.meaning.Values.{IsValue};
+ghost use Rattle.save_codec.specs.meaning.SavedTexts.{IsTextOfLines, head_text, line_text, lines_text, sized};
+ghost use Rattle.save_codec.specs.meaning.SavedTexts.{values_text, due_line, lines_of, row_line, saved_text};
+ghost use Rattle.save_codec.specs.machine.StoredStates.{HasSmallNumbers, IsStoredInstance, IsStoredRow};
 
 use crate::lines::{
     print_due, print_last, print_numbered, print_row, print_spaced, print_spaced_value,
 };
 use crate::snapshots::Snapshot;
-use enf_value::{NoMemory, Value, VarId, print_byte, print_bytes};
+use enf_data::{NoMemory, Value, VarId};
+use enf_value::{print_byte, print_bytes};
 use obligations::Instance;
 use past_state::KeptRow;
 use std::alloc::Global;
@@ -24,7 +25,7 @@ pub fn save(
 ) -> Result<Vec<u8>, NoMemory>
     ensures text { IfOk result (λ text. text.items ≡ saved_text signature.now policy.now snapshot.now) }
     ensures form { IfOk result (λ text. HasSmallNumbers snapshot.now
-        → IsText text.items signature.now policy.now (lines_of snapshot.now)) }
+        → IsTextOfLines text.items signature.now policy.now (lines_of snapshot.now)) }
 {
     let mut text = Vec::new(alloc);
     print_head(signature, policy, &mut text)?;
@@ -45,7 +46,7 @@ fn print_head(signature: &[u8], policy: &[u8], out: &mut Vec<u8>) -> Result<(), 
     print_sized(b"policy", policy, out)
 }
 
-// Appends the number of some bytes behind a word, and then the bytes.
+// Appends the number of some bytes after a word, and then the bytes.
 fn print_sized(word: &[u8], bytes: &[u8], out: &mut Vec<u8>) -> Result<(), NoMemory>
     ensures { OnOk result (out.new.items ≡ out.old.items ++ sized word.now bytes.now) }
 {
@@ -58,7 +59,7 @@ fn print_sized(word: &[u8], bytes: &[u8], out: &mut Vec<u8>) -> Result<(), NoMem
 
 fn print_rows(rows: &[KeptRow], out: &mut Vec<u8>) -> Result<(), NoMemory>
     ensures text { OnOk result (out.new.items ≡ out.old.items ++ lines_text (map row_line rows.now)) }
-    ensures rows { OnOk result (All IsRow rows.now) }
+    ensures rows { OnOk result (All IsStoredRow rows.now) }
 {
     for row in rows {
         print_row(u64::from(row.window), row.time, row.row.as_slice(), out)?;
@@ -68,7 +69,7 @@ fn print_rows(rows: &[KeptRow], out: &mut Vec<u8>) -> Result<(), NoMemory>
 
 fn print_instances(instances: &[Instance], out: &mut Vec<u8>) -> Result<(), NoMemory>
     ensures text { OnOk result (out.new.items ≡ out.old.items ++ lines_text (map due_line instances.now)) }
-    ensures instances { OnOk result (All IsInstance instances.now) }
+    ensures instances { OnOk result (All IsStoredInstance instances.now) }
 {
     for instance in instances {
         print_instance(instance, out)?;
@@ -78,7 +79,7 @@ fn print_instances(instances: &[Instance], out: &mut Vec<u8>) -> Result<(), NoMe
 
 fn print_instance(instance: &Instance, out: &mut Vec<u8>) -> Result<(), NoMemory>
     ensures text { OnOk result (out.new.items ≡ out.old.items ++ line_text (due_line instance.now)) }
-    ensures instance { OnOk result (IsInstance instance.now) }
+    ensures instance { OnOk result (IsStoredInstance instance.now) }
 {
     print_due(
         u64::from(instance.rule),
@@ -92,7 +93,7 @@ fn print_instance(instance: &Instance, out: &mut Vec<u8>) -> Result<(), NoMemory
     print_byte(b'\n', out)
 }
 
-// Appends the values of variables, each behind a space.
+// Appends the values of variables, each after a space.
 fn print_bound(bindings: &[(VarId, Value)], out: &mut Vec<u8>) -> Result<(), NoMemory>
     ensures text { OnOk result (out.new.items
         ≡ out.old.items ++ values_text (map (λ binding. binding.1) bindings.now)) }

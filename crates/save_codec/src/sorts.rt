@@ -1,15 +1,15 @@
 //! The sorts of a rule's variables, as far as its plan tells them.
 ghost use Rattle.std.specs.Prelude.{◌↔◌, Contains, IsTrue, OnOk};
-ghost use Rattle.enf_formula.specs.Formulas.{tree_of};
-ghost use Rattle.enf_value.specs.declared.terms.VarId.{VarId as Variable};
-ghost use Rattle.plan_terms.specs.Plans.{plan_of};
-ghost use Rattle.save_codec.specs.Known.{HasBesides, Knows, Learns};
-ghost use Rattle.save_codec.specs.Sorts.{AtomTells, FitTold, FitsTold, FormulaTells, PlanTells, SidesTell, TermTells};
-ghost use Rattle.save_codec.specs.Sorts.{TermsTell};
+ghost use Rattle.enf_formula.specs.machine.FormulaViews.{tree_of};
+ghost use Rattle.enf_data.specs.declared.terms.VarId.{VarId as Variable};
+ghost use Rattle.plan_terms.specs.machine.StoredPlans.{plan_of};
+ghost use Rattle.save_codec.specs.machine.KnownSorts.{HasBesides, Knows, Learns};
+ghost use Rattle.save_codec.specs.meaning.ToldSorts.{AtomTells, FitTold, FitsTold, FormulaTells, PlanTells, SidesTell};
+ghost use Rattle.save_codec.specs.meaning.ToldSorts.{TermTells, TermsTell};
 ghost use Rattle.signature.specs.declared.entries.Sort.{Sort as AnySort};
 
+use enf_data::{NameId, NoMemory, Term, Value, VarId};
 use enf_formula::Formula;
-use enf_value::{NameId, NoMemory, Term, Value, VarId};
 use plan_terms::Plan;
 use signature::{Signature, Sort};
 use std::alloc::Global;

@@ -1,10 +1,8 @@
 //! The lines of a whole text, and the first that has not the form.
 ghost use Rattle.std.specs.Prelude.{◌≡◌, ◌↔◌, ◌+◌, ◌<◌, ◌^◌, [], IfErr, IfOk, IsTrue, length};
-ghost use Rattle.save_codec.specs.Forms.{AreLines, IsText};
-ghost use Rattle.save_codec.specs.LineKinds.{ends, may_follow};
-ghost use Rattle.save_codec.specs.LineParts.{lines_in};
-ghost use Rattle.save_codec.specs.Lines.{lines_text};
-ghost use Rattle.save_codec.specs.Reading.{IsStop, IsSyntax};
+ghost use Rattle.save_codec.specs.meaning.SavedTexts.{AreLines, IsTextOfLines, ends_text, kind_may_follow, lines_text};
+ghost use Rattle.save_codec.specs.machine.LineParts.{lines_in};
+ghost use Rattle.save_codec.specs.machine.ResumeAnswers.{IsStop, IsFormRefusal};
 ghost use Rattle.save_codec.specs.declared.refusals.StateRefusal.TheVariants.{Syntax};
 
 use crate::cursor::Cursor;
@@ -15,13 +13,13 @@ use crate::refusals::StateRefusal;
 use std::alloc::Global;
 
 fn is_end(before: Option<Kind>) -> bool
-    ensures { result ≡ ends before }
+    ensures { result ≡ ends_text before }
 {
     matches!(before, Some(Kind::End))
 }
 
 fn follows(before: Option<Kind>, kind: Kind) -> bool
-    ensures { result ≡ may_follow before kind }
+    ensures { result ≡ kind_may_follow before kind }
 {
     match (before, kind) {
         (None, Kind::Clock)
@@ -33,7 +31,7 @@ fn follows(before: Option<Kind>, kind: Kind) -> bool
     }
 }
 
-// No line of the form stands behind so many.
+// No line of the form stands after so many.
 fn stops_behind(count: u64) -> StateRefusal
     requires { count < 2 ^ 63 }
     ensures { result ≡ Syntax (count + 1) }
@@ -54,7 +52,7 @@ fn are_few(text: &[u8])
     let _count = text.len();
 }
 
-// What the lines of the text say behind the bytes of the signature and of the policy.
+// What the lines of the text say after the bytes of the signature and of the policy.
 pub(crate) fn read_lines(alloc: Global, text: &[u8]) -> Result<LineParts, StateRefusal>
     ensures ok { IfOk result (λ parts. AreLines (lines_in parts) × (text.now ≡ lines_text (lines_in parts))) }
     ensures few { IfOk result (λ parts. length (lines_in parts) < 2 ^ 63) }
@@ -95,9 +93,9 @@ pub(crate) struct StateText<'a> {
 // A text by its parts, or the first line that has not the form.
 pub(crate) fn read_text(alloc: Global, bytes: &[u8]) -> Result<StateText<'_>, StateRefusal>
     ensures ok { IfOk result (λ text.
-        IsText bytes.now text.signature.now text.policy.now (lines_in text.parts)) }
+        IsTextOfLines bytes.now text.signature.now text.policy.now (lines_in text.parts)) }
     ensures few { IfOk result (λ text. length (lines_in text.parts) < 2 ^ 63) }
-    ensures err { IfErr result (IsSyntax bytes.now) }
+    ensures err { IfErr result (IsFormRefusal bytes.now) }
 {
     let Some(head) = read_head(bytes) else {
         return Err(StateRefusal::Syntax { line: 0 });

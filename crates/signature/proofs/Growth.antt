@@ -1,22 +1,16 @@
 -- What has come of a signature stays in the one that its tokens lead to.
-use Rattle.std.proofs.Common.{◌≡◌, ℕ, ◌+◌, ◌≤◌, ◌==◌, nat_lt, true, false, cond, List, [], ◌∷◌, ◌++◌, length, Option, None, Some, refl, sym, ap, subst, ◌∙◌, arith, append_assoc, length-append}
-use Rattle.std.specs.Option.{option_and_then}
-use Rattle.std.proofs.lemmas.Bool.{le-ltb}
-use Rattle.std.proofs.lemmas.Bool.Decides.{nat_tests}
-use Rattle.std.proofs.lemmas.List.{append-nil}
-use Rattle.enf_value.specs.Names.{is_name}
-use Rattle.signature.specs.declared.entries.NameEntry.{NameEntry}
-use Rattle.signature.specs.declared.reading.Part.{Part}
-use Rattle.signature.specs.declared.reading.Part.TheVariants as parts
-use Rattle.signature.specs.declared.refusals.SignatureLimit.TheVariants.{Names, Arity, Name}
-use Rattle.signature.specs.declared.refusals.SignatureRefusal.TheVariants.{Limit}
-use Rattle.signature.specs.Grammar.{IsSignature, IsNew}
-use Rattle.signature.specs.Reading.{State, entry_of, limit_refusal, name_refusal, next, repeated, sort_of}
-use Rattle.enf_value.specs.Tokens.{Token, Word, Mark}
-use Rattle.enf_value.specs.declared.tokens.Mark.TheVariants.{OpenParen, CloseParen, Comma, Semicolon, PlusMinus, Plus, Minus}
-use Rattle.signature.proofs.Fits.{chosen_some, sort_taken, some_is}
+use Rattle.signature.proofs.Vocabulary.{◌≡◌, ℕ, ◌+◌, ◌≤◌, ◌==◌, nat_lt, true, false, cond, List}
+use Rattle.signature.proofs.Vocabulary.{[], ◌∷◌, ◌++◌, length, Option, None, Some, refl, sym, ap, subst}
+use Rattle.signature.proofs.Vocabulary.{◌∙◌, arith, append_assoc, length-append, option_and_then, le-ltb}
+use Rattle.signature.proofs.Vocabulary.{nat_tests, append-nil, same_Some, is_name, Token, WordToken, SymbolToken}
+use Rattle.signature.proofs.Vocabulary.{NameEntry, Part, Names, Arity, Name, Limit, IsSignature, IsNewEntry}
+use Rattle.signature.proofs.Vocabulary.{SignatureState, made_entry, entry_limit_refusal, entry_name_refusal}
+use Rattle.signature.proofs.Vocabulary.{state_after_token, repeated_name_refusal, word_sort, OpenParen, CloseParen}
+use Rattle.signature.proofs.Vocabulary.{Comma, Semicolon, PlusMinus, Plus, Minus}
+use Rattle.signature.proofs.Fits.{chosen_some, sort_taken}
 use Rattle.signature.proofs.Numbers.{new_next}
 use Rattle.signature.proofs.Runs.{run}
+use Rattle.signature.specs.declared.reading.Part.TheVariants as parts
 
 -- the entries go on with one of this name that has so many sorts at least
 pub record GoesOn (entries : List NameEntry) (name : List ℕ) (count : ℕ) (all : List NameEntry) : Type 0 where
@@ -44,53 +38,60 @@ put entries entry all (more, is) = record { entry = entry; more = more; is = is 
 
 module _ (entries all : List NameEntry) where
   -- a token takes nothing back
-  grows_back : (part : Part) (token : Token) (after : State) → next entries part token ≡ Some after → Grows after.0 after.1 all → Grows entries part all
-  grows_back parts.Nothing (Word word) after e grows =
-      let g : GoesOn entries word 0 all = subst (λ (s : State). Grows s.0 s.1 all) (sym (some_is _ after (chosen_some (is_name word) _ after e).1)) grows in
+  grows_back : (part : Part) (token : Token) (after : SignatureState) → state_after_token entries part token ≡ Some after → Grows after.0 after.1 all → Grows entries part all
+  grows_back parts.Nothing (WordToken word) after e grows =
+      let g : GoesOn entries word 0 all = subst (λ (s : SignatureState). Grows s.0 s.1 all) (sym (same_Some _ after (chosen_some (is_name word) _ after e).1)) grows in
       (g.entry ∷ g.more, g.is)
-  grows_back (parts.Name name) (Mark OpenParen) after e grows = subst (λ (s : State). Grows s.0 s.1 all) (sym (some_is (entries, parts.Open name) after e)) grows
-  grows_back (parts.Open name) (Word word) after e grows =
-      let h = sort_taken entries name [] (sort_of word) after e in
-      fewer entries name 0 1 all (omega arith) (subst (λ (s : State). Grows s.0 s.1 all) (sym h.2) grows)
-  grows_back (parts.Open name) (Mark CloseParen) after e grows = subst (λ (s : State). Grows s.0 s.1 all) (sym (some_is (entries, parts.Close name []) after e)) grows
-  grows_back (parts.Sorts name sorts) (Mark Comma) after e grows = subst (λ (s : State). Grows s.0 s.1 all) (sym (some_is (entries, parts.Comma name sorts) after e)) grows
-  grows_back (parts.Sorts name sorts) (Mark CloseParen) after e grows = subst (λ (s : State). Grows s.0 s.1 all) (sym (some_is (entries, parts.Close name sorts) after e)) grows
-  grows_back (parts.Comma name sorts) (Word word) after e grows =
-      let h = sort_taken entries name sorts (sort_of word) after e in
-      fewer entries name (length sorts) (length (sorts ++ h.0 ∷ [])) all (omega (arith, length-append sorts (h.0 ∷ []))) (subst (λ (s : State). Grows s.0 s.1 all) (sym h.2) grows)
-  grows_back (parts.Close name sorts) (Mark Plus) after e grows = subst (λ (s : State). Grows s.0 s.1 all) (sym (some_is (entries, parts.Mark (entry_of name sorts true false)) after e)) grows
-  grows_back (parts.Close name sorts) (Mark Minus) after e grows = subst (λ (s : State). Grows s.0 s.1 all) (sym (some_is (entries, parts.Mark (entry_of name sorts false true)) after e)) grows
-  grows_back (parts.Close name sorts) (Mark PlusMinus) after e grows = subst (λ (s : State). Grows s.0 s.1 all) (sym (some_is (entries, parts.Mark (entry_of name sorts true true)) after e)) grows
-  grows_back (parts.Close name sorts) (Mark Semicolon) after e grows =
-      put entries (entry_of name sorts false false) all (subst (λ (s : State). Grows s.0 s.1 all) (sym (some_is (entries ++ entry_of name sorts false false ∷ [], parts.Nothing) after e)) grows)
-  grows_back (parts.Mark entry) (Mark Semicolon) after e grows =
-      put entries entry all (subst (λ (s : State). Grows s.0 s.1 all) (sym (some_is (entries ++ entry ∷ [], parts.Nothing) after e)) grows)
+  grows_back (parts.Name name) (SymbolToken OpenParen) after e grows = subst (λ (s : SignatureState). Grows s.0 s.1 all) (sym (same_Some (entries, parts.Open name) after e)) grows
+  grows_back (parts.Open name) (WordToken word) after e grows =
+      let h = sort_taken entries name [] (word_sort word) after e in
+      fewer entries name 0 1 all (omega arith) (subst (λ (s : SignatureState). Grows s.0 s.1 all) (sym h.2) grows)
+  grows_back (parts.Open name) (SymbolToken CloseParen) after e grows = subst (λ (s : SignatureState). Grows s.0 s.1 all) (sym (same_Some (entries, parts.Close name []) after e)) grows
+  grows_back (parts.Sorts name sorts) (SymbolToken Comma) after e grows = subst (λ (s : SignatureState). Grows s.0 s.1 all) (sym (same_Some (entries, parts.Comma name sorts) after e)) grows
+  grows_back (parts.Sorts name sorts) (SymbolToken CloseParen) after e grows = subst (λ (s : SignatureState). Grows s.0 s.1 all) (sym (same_Some (entries, parts.Close name sorts) after e)) grows
+  grows_back (parts.Comma name sorts) (WordToken word) after e grows =
+      let h = sort_taken entries name sorts (word_sort word) after e in
+      fewer entries name (length sorts) (length (sorts ++ h.0 ∷ [])) all (omega (arith, length-append sorts (h.0 ∷ []))) (subst (λ (s : SignatureState). Grows s.0 s.1 all) (sym h.2) grows)
+  grows_back (parts.Close name sorts) (SymbolToken Plus) after e grows = subst (λ (s : SignatureState). Grows s.0 s.1 all)
+      (sym (same_Some (entries, parts.Mark (made_entry name sorts true false)) after e)) grows
+  grows_back (parts.Close name sorts) (SymbolToken Minus) after e grows = subst (λ (s : SignatureState). Grows s.0 s.1 all)
+      (sym (same_Some (entries, parts.Mark (made_entry name sorts false true)) after e)) grows
+  grows_back (parts.Close name sorts) (SymbolToken PlusMinus) after e grows = subst (λ (s : SignatureState). Grows s.0 s.1 all)
+      (sym (same_Some (entries, parts.Mark (made_entry name sorts true true)) after e)) grows
+  grows_back (parts.Close name sorts) (SymbolToken Semicolon) after e grows =
+      put entries (made_entry name sorts false false) all (subst (λ (s : SignatureState). Grows s.0 s.1 all)
+      (sym (same_Some (entries ++ made_entry name sorts false false ∷ [], parts.Nothing) after e)) grows)
+  grows_back (parts.Mark entry) (SymbolToken Semicolon) after e grows =
+      put entries entry all (subst (λ (s : SignatureState). Grows s.0 s.1 all) (sym (same_Some (entries ++ entry ∷ [], parts.Nothing) after e)) grows)
   grows_back part token after e grows = absurd cc
 
 -- tokens that lead to entries
 pub grows : (entries : List NameEntry) (part : Part) (tokens : List Token) (all : List NameEntry) → run entries part tokens ≡ Some (all, parts.Nothing) → Grows entries part all
-grows entries part [] all e = subst (λ (s : State). Grows entries s.1 all) (sym (some_is (entries, part) (all, parts.Nothing) e)) ([], ap (λ (s : State). s.0) (sym (some_is (entries, part) (all, parts.Nothing) e)) ∙ sym (append-nil entries))
-grows entries part (token ∷ tokens) all e = by (next entries part token) refl e (λ (s : State). grows s.0 s.1 tokens all)
+grows entries part [] all e = subst (λ (s : SignatureState). Grows entries s.1 all) (sym (same_Some (entries, part) (all, parts.Nothing) e))
+    ([], ap (λ (s : SignatureState). s.0) (sym (same_Some (entries, part) (all, parts.Nothing) e)) ∙ sym (append-nil entries))
+grows entries part (token ∷ tokens) all e = by (state_after_token entries part token) refl e (λ (s : SignatureState). grows s.0 s.1 tokens all)
   where
-    by : (o : Option State) → next entries part token ≡ o → option_and_then (λ (s : State). run s.0 s.1 tokens) o ≡ Some (all, parts.Nothing) → ((s : State) → run s.0 s.1 tokens ≡ Some (all, parts.Nothing) → Grows s.0 s.1 all) → Grows entries part all
+    by : (o : Option SignatureState) → state_after_token entries part token ≡ o → option_and_then (λ (s : SignatureState). run s.0 s.1 tokens) o ≡ Some (all, parts.Nothing)
+        → ((s : SignatureState) → run s.0 s.1 tokens ≡ Some (all, parts.Nothing) → Grows s.0 s.1 all) → Grows entries part all
     by None h f rest = absurd cc
     by (Some after) h f rest = grows_back entries all part token after h (rest after f)
 
 -- in a signature no limit refuses the name of the next entry
-name_within : (entries : List NameEntry) (entry : NameEntry) (place : ℕ) → IsNew entries entry → name_refusal entries place entry.text ≡ None
+name_within : (entries : List NameEntry) (entry : NameEntry) (place : ℕ) → IsNewEntry entries entry → entry_name_refusal entries place entry.text ≡ None
 name_within entries entry place new =
     let room : (length entries == 256) ≡ false = grind (arith, nat_tests, new.room) in
     let fits : nat_lt 64 (length entry.text) ≡ false = le-ltb 64 (length entry.text) new.fits.short in
-    λ j. cond (room j) (Some (Limit Names place)) (cond (fits j) (Some (Limit Name place)) (repeated place (new.absent j)))
+    λ j. cond (room j) (Some (Limit Names place)) (cond (fits j) (Some (Limit Name place)) (repeated_name_refusal place (new.absent j)))
 
 -- and no token on the way to it
-pub within_limits : (entries : List NameEntry) (part : Part) (place : ℕ) (token : Token) (after : State) (all : List NameEntry) → IsSignature all → next entries part token ≡ Some after → Grows after.0 after.1 all → limit_refusal entries part place token ≡ None
-within_limits entries parts.Nothing place (Word word) after all signature e grows =
-    let g : GoesOn entries word 0 all = subst (λ (s : State). Grows s.0 s.1 all) (sym (some_is _ after (chosen_some (is_name word) _ after e).1)) grows in
-    ap (name_refusal entries place) (sym g.named) ∙ name_within entries g.entry place (new_next all entries g.more g.entry signature g.is)
-within_limits entries (parts.Comma name sorts) place (Word word) after all signature e grows =
-    let h = sort_taken entries name sorts (sort_of word) after e in
-    let g : GoesOn entries name (length (sorts ++ h.0 ∷ [])) all = subst (λ (s : State). Grows s.0 s.1 all) (sym h.2) grows in
+pub within_limits : (entries : List NameEntry) (part : Part) (place : ℕ) (token : Token) (after : SignatureState) (all : List NameEntry) → IsSignature all
+    → state_after_token entries part token ≡ Some after → Grows after.0 after.1 all → entry_limit_refusal entries part place token ≡ None
+within_limits entries parts.Nothing place (WordToken word) after all signature e grows =
+    let g : GoesOn entries word 0 all = subst (λ (s : SignatureState). Grows s.0 s.1 all) (sym (same_Some _ after (chosen_some (is_name word) _ after e).1)) grows in
+    ap (entry_name_refusal entries place) (sym g.named) ∙ name_within entries g.entry place (new_next all entries g.more g.entry signature g.is)
+within_limits entries (parts.Comma name sorts) place (WordToken word) after all signature e grows =
+    let h = sort_taken entries name sorts (word_sort word) after e in
+    let g : GoesOn entries name (length (sorts ++ h.0 ∷ [])) all = subst (λ (s : SignatureState). Grows s.0 s.1 all) (sym h.2) grows in
     let new = new_next all entries g.more g.entry signature g.is in
     let few : length sorts + 1 ≤ 8 = omega (arith, g.sorts, new.fits.narrow, length-append sorts (h.0 ∷ [])) in
     let under : (length sorts == 8) ≡ false = grind (arith, nat_tests) in

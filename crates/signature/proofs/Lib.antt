@@ -1,8 +1,10 @@
-pub mod Numbers
-pub mod Fits
-pub mod Runs
-pub mod Written
-pub mod Standing
-pub mod Growth
+pub mod Vocabulary
 pub mod Answering
+pub mod Fits
+pub mod Growth
 pub mod Loop
+pub mod Numbers
+pub mod Runs
+pub mod SignatureLaws
+pub mod Standing
+pub mod Written

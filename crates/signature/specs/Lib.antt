@@ -1,9 +1,2 @@
-pub mod ColumnLaws
-pub mod Columns
-pub mod Grammar
-pub mod Keys
-pub mod Laws
-pub mod NumberLaws
-pub mod Reading
-pub mod Refusals
-pub mod SignatureTokens
+pub mod meaning
+pub mod machine

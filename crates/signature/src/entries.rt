@@ -1,7 +1,7 @@
 //! Names with their columns and marks.
 ghost use Rattle.std.specs.Prelude.{◌≡◌, IfOk};
 
-use enf_value::{Duplicate, Items, NoMemory, TextValue};
+use enf_data::{Duplicate, Items, NoMemory, TextValue};
 use std::alloc::Global;
 
 /// What a column holds.

@@ -1,21 +1,19 @@
 //! The reader of signatures, token by token.
 ghost use Rattle.std.specs.Prelude.{◌≡◌, ◌≤◌, ◌<◌, ◌↔◌, IsTrue, List, Result, false, length};
-ghost use Rattle.enf_value.specs.Tokens as AnyToken;
-ghost use Rattle.enf_value.specs.Tokens.{IsProper};
-ghost use Rattle.enf_value.specs.TokenViews.{token_of};
-ghost use Rattle.signature.specs.Grammar.{IsNew};
-ghost use Rattle.signature.specs.Reading.{Adds, IsFit, RefusesArrow, Takes, entry_of, sort_of};
-ghost use Rattle.signature.specs.Refusals.{Gives, GivesAnswer, IsAnswer};
+ghost use Rattle.enf_value.specs.machine.TokenViews.{IsProper, token_of};
+ghost use Rattle.signature.specs.machine.Entries.{IsNewEntry};
+ghost use Rattle.signature.specs.machine.Reader.{AddsSort, IsFitPart, RefusesArrow, TakesToken, made_entry, word_sort};
+ghost use Rattle.signature.specs.machine.Reader.{GivesEntries, GivesSignatureAnswer};
+ghost use Rattle.signature.specs.meaning.Refusals.{AnswersSignature};
 ghost use Rattle.signature.specs.declared.entries.NameEntry.{NameEntry};
 ghost use Rattle.signature.specs.declared.refusals.SignatureRefusal.{SignatureRefusal};
+ghost use Rattle.enf_value.specs.meaning.Tokens as AnyToken;
 
 use crate::entries::{NameEntry, Sort, Sorts};
 use crate::refusals::{SignatureLimit, SignatureRefusal};
 use crate::signatures::Signature;
-use enf_value::{
-    MOST_COLUMNS, MOST_FILE_BYTES, MOST_NAME_BYTES, MOST_NAMES, Mark, Place, TextValue, Token,
-    is_reserved, name_text, next_token,
-};
+use enf_data::{MOST_COLUMNS, MOST_FILE_BYTES, MOST_NAME_BYTES, MOST_NAMES, Place, TextValue};
+use enf_value::{Mark, Token, is_reserved, name_text, next_token};
 use std::alloc::Global;
 
 // What has come of the next entry.
@@ -31,7 +29,7 @@ pub(crate) enum Part {
 }
 
 fn sort_of(word: &[u8]) -> Option<Sort>
-    ensures { result ≡ sort_of word.now }
+    ensures { result ≡ word_sort word.now }
 {
     match word {
         b"int" => Some(Sort::Int),
@@ -47,7 +45,7 @@ fn take_name(
     place: Place,
 ) -> Result<Part, SignatureRefusal>
     requires { IsProper (token_of token) }
-    ensures { Takes signature.now Part.Nothing place (token_of token.entry) signature.now result }
+    ensures { TakesToken signature.now Part.Nothing place (token_of token.entry) signature.now result }
 {
     let Token::Word(word) = token else {
         return Err(SignatureRefusal::Syntax { place });
@@ -71,7 +69,7 @@ fn take_name(
 
 fn take_open(name: TextValue, token: Token<'_>, place: Place) -> Result<Part, SignatureRefusal>
     ensures { (entries : List NameEntry)
-        → Takes entries (Part.Name name) place (token_of token.entry) entries result }
+        → TakesToken entries (Part.Name name) place (token_of token.entry) entries result }
 {
     match token {
         Token::Mark(Mark::OpenParen) => Ok(Part::Open(name)),
@@ -85,7 +83,7 @@ fn push_sort(
     word: &[u8],
     place: Place,
 ) -> Result<Part, SignatureRefusal>
-    ensures { Adds name sorts place (sort_of word.now) result }
+    ensures { AddsSort name sorts place (word_sort word.now) result }
 {
     let Some(sort) = sort_of(word) else {
         return Err(SignatureRefusal::Syntax { place });
@@ -103,7 +101,7 @@ fn take_first_sort(
     place: Place,
 ) -> Result<Part, SignatureRefusal>
     ensures { (entries : List NameEntry)
-        → Takes entries (Part.Open name) place (token_of token.entry) entries result }
+        → TakesToken entries (Part.Open name) place (token_of token.entry) entries result }
 {
     match token {
         Token::Word(word) => push_sort(name, Sorts::new(alloc), word, place),
@@ -119,7 +117,7 @@ fn take_comma(
     place: Place,
 ) -> Result<Part, SignatureRefusal>
     ensures { (entries : List NameEntry)
-        → Takes entries (Part.Sorts name sorts) place (token_of token.entry) entries result }
+        → TakesToken entries (Part.Sorts name sorts) place (token_of token.entry) entries result }
 {
     match token {
         Token::Mark(Mark::Comma) => Ok(Part::Comma(name, sorts)),
@@ -135,7 +133,7 @@ fn take_sort(
     place: Place,
 ) -> Result<Part, SignatureRefusal>
     ensures { (entries : List NameEntry)
-        → Takes entries (Part.Comma name sorts) place (token_of token.entry) entries result }
+        → TakesToken entries (Part.Comma name sorts) place (token_of token.entry) entries result }
 {
     let Token::Word(word) = token else {
         return Err(SignatureRefusal::Syntax { place });
@@ -155,8 +153,8 @@ fn take_mark(
     token: Token<'_>,
     place: Place,
 ) -> Result<Part, SignatureRefusal>
-    requires { IsNew signature.old (entry_of name sorts false false) }
-    ensures { Takes signature.old (Part.Close name sorts) place (token_of token.entry) signature.new result }
+    requires { IsNewEntry signature.old (made_entry name sorts false false) }
+    ensures { TakesToken signature.old (Part.Close name sorts) place (token_of token.entry) signature.new result }
 {
     let (causable, suppressible) = match token {
         Token::Mark(Mark::Semicolon) => (false, false),
@@ -185,8 +183,8 @@ fn take_end(
     token: Token<'_>,
     place: Place,
 ) -> Result<Part, SignatureRefusal>
-    requires { IsNew signature.old entry }
-    ensures { Takes signature.old (Part.Mark entry) place (token_of token.entry) signature.new result }
+    requires { IsNewEntry signature.old entry }
+    ensures { TakesToken signature.old (Part.Mark entry) place (token_of token.entry) signature.new result }
 {
     match token {
         Token::Mark(Mark::Semicolon) => {
@@ -206,8 +204,8 @@ pub(crate) fn take(
     place: Place,
 ) -> Result<Part, SignatureRefusal>
     requires proper { IsProper (token_of token) }
-    requires fits { IsFit signature.old part }
-    ensures { Takes signature.old part place (token_of token.entry) signature.new result }
+    requires fits { IsFitPart signature.old part }
+    ensures { TakesToken signature.old part place (token_of token.entry) signature.new result }
 {
     match part {
         Part::Nothing => take_name(alloc, signature, token, place),
@@ -222,12 +220,12 @@ pub(crate) fn take(
 
 // Whether the token is an arrow, which a signature does not have.
 fn is_arrow(token: &Token<'_>) -> bool
-    ensures { IsTrue result ↔ (token_of token.now ≡ AnyToken.Mark Mark.Arrow) }
+    ensures { IsTrue result ↔ (token_of token.now ≡ AnyToken.SymbolToken Mark.Arrow) }
 {
     matches!(token, Token::Mark(Mark::Arrow))
 }
 
-// The refusal of an arrow: a minus stands there, and a wrong byte behind it.
+// The refusal of an arrow: a minus stands there, and a wrong byte after it.
 fn arrow_refusal(
     alloc: Global,
     signature: &mut Signature,
@@ -235,7 +233,7 @@ fn arrow_refusal(
     place: Place,
 ) -> SignatureRefusal
     requires place { place < MOST_FILE_BYTES }
-    requires fits { IsFit signature.old part }
+    requires fits { IsFitPart signature.old part }
     ensures { RefusesArrow signature.old part place result }
 {
     match take(alloc, signature, part, Token::Mark(Mark::Minus), place) {
@@ -247,9 +245,9 @@ fn arrow_refusal(
 // Reads a signature, up to its end or the first refusal.
 pub(crate) fn read(alloc: Global, bytes: &[u8]) -> Result<Signature, SignatureRefusal>
     requires { length bytes.now ≤ MOST_FILE_BYTES }
-    ensures answer { GivesAnswer bytes.now result }
-    ensures only { (answer : Result (List NameEntry) SignatureRefusal) → IsAnswer bytes.now answer
-        → Gives result answer }
+    ensures answer { GivesSignatureAnswer bytes.now result }
+    ensures only { (answer : Result (List NameEntry) SignatureRefusal) → AnswersSignature bytes.now answer
+        → GivesEntries result answer }
 {
     let mut signature = Signature::new(alloc);
     let mut part = Part::Nothing;

@@ -2,7 +2,7 @@
 ghost use Rattle.std.specs.Prelude.{◌≡◌};
 ghost use Rattle.signature.specs.declared.refusals.SignatureRefusal.TheVariants.{NoMemory as OutOfMemory};
 
-use enf_value::{NameId, NoMemory, Place};
+use enf_data::{NameId, NoMemory, Place};
 
 /// Which limit a signature passes.
 #[derive(Clone, Copy, Debug, PartialEq, Eq)]

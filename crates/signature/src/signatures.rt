@@ -1,21 +1,22 @@
 //! The names of a log: a few are searched, more of them are found without a look at the others.
 ghost use Rattle.std.specs.Prelude.{◌≡◌, ◌≤◌, ◌++◌, ◌∷◌, [], Contains, IfNone, IfOk, IfSome};
-ghost use Rattle.std.specs.Prelude.{List, OnErr, OnOk};
-ghost use Rattle.std.specs.Prelude.{Result, Some, Vec as AnyVec, length, position, slice_get, ℕ};
+ghost use Rattle.std.specs.Prelude.{List, OnErr, OnOk, Result, Some, Vec as AnyVec, length, position, slice_get, ℕ};
 ghost use Rattle.std.specs.Map.{keys_of};
 ghost use Rattle.std.specs.Str.{bytes_eq};
 ghost use Rattle.std.specs.declared.alloc.Global.{Global as AnyGlobal};
 ghost use Rattle.std.specs.Option.{option_copied, option_map};
-ghost use Rattle.enf_value.specs.declared.events.NameId.{NameId as NameNumber};
-ghost use Rattle.signature.specs.Grammar.{IsNew, IsSignature, names, number_of};
-ghost use Rattle.signature.specs.Refusals.{Gives, GivesAnswer, IsAnswer};
+ghost use Rattle.enf_data.specs.declared.events.NameId.{NameId as NameNumber};
+ghost use Rattle.signature.specs.machine.Entries.{IsNewEntry};
+ghost use Rattle.signature.specs.meaning.Grammar.{IsSignature, entry_names, name_number};
+ghost use Rattle.signature.specs.machine.Reader.{GivesEntries, GivesSignatureAnswer};
+ghost use Rattle.signature.specs.meaning.Refusals.{AnswersSignature};
 ghost use Rattle.signature.specs.declared.entries.NameEntry.{NameEntry};
 ghost use Rattle.signature.specs.declared.refusals.SignatureRefusal.{SignatureRefusal};
 
 use crate::entries::NameEntry;
 use crate::reading;
 use crate::refusals::SignatureRefusal;
-use enf_value::{Duplicate, MOST_FILE_BYTES, NameId, NoMemory};
+use enf_data::{Duplicate, MOST_FILE_BYTES, NameId, NoMemory};
 use indexmap::IndexMap;
 use std::alloc::Global;
 use std::marker::Model;
@@ -32,14 +33,15 @@ pub struct Signature {
 impl Model for Signature {
     ghost use Rattle.std.specs.Prelude.{List, map};
     ghost use Rattle.signature.specs.declared.entries.NameEntry.{NameEntry};
-    ghost use Rattle.signature.specs.Grammar.{IsSignature};
-    ghost use Rattle.signature.specs.Keys.{AreKeyed};
+    ghost use Rattle.signature.specs.meaning.Grammar.{IsSignature};
+    ghost use Rattle.signature.specs.machine.Entries.{AreKeyedByName};
 
     ghost Value = { List NameEntry };
 
     ghost view = { λ s. map (λ pair. pair.1) s.entries.entries };
 
-    ghost invariant = { λ s. AreKeyed s.entries.entries × IsSignature (map (λ pair. pair.1) s.entries.entries) };
+    ghost invariant = { λ s. AreKeyedByName s.entries.entries
+        × IsSignature (map (λ pair. pair.1) s.entries.entries) };
 }
 
 // The number of the entry with a name.
@@ -53,7 +55,7 @@ fn index_of(entries: &IndexMap<Vec<u8>, NameEntry>, text: &[u8]) -> Option<usize
     searched(entries, text)
 }
 
-// The same by its hash.
+// The number of the entry with a name, by its hash.
 #[inline(never)]
 fn hashed(entries: &IndexMap<Vec<u8>, NameEntry>, text: &[u8]) -> Option<usize>
     ensures { result ≡ position (λ (name : AnyVec ℕ AnyGlobal). bytes_eq text.now name.items)
@@ -62,7 +64,7 @@ fn hashed(entries: &IndexMap<Vec<u8>, NameEntry>, text: &[u8]) -> Option<usize>
     entries.get_index_of(text)
 }
 
-// The same by a search, which takes no hash.
+// The number of the entry with a name, by a search, which takes no hash.
 fn searched(entries: &IndexMap<Vec<u8>, NameEntry>, text: &[u8]) -> Option<usize>
     ensures { result ≡ position (λ (name : AnyVec ℕ AnyGlobal). bytes_eq text.now name.items)
         (keys_of entries.now.entries) }
@@ -94,17 +96,17 @@ impl Signature {
     pub fn read(alloc: Global, bytes: &[u8]) -> Result<Signature, SignatureRefusal>
         requires { length bytes.now ≤ MOST_FILE_BYTES }
         // The text's answer, unless there is no memory.
-        ensures answer { GivesAnswer bytes.now result }
+        ensures answer { GivesSignatureAnswer bytes.now result }
         // No other answer than the text's.
-        ensures only { (answer : Result (List NameEntry) SignatureRefusal) → IsAnswer bytes.now answer
-            → Gives result answer }
+        ensures only { (answer : Result (List NameEntry) SignatureRefusal) → AnswersSignature bytes.now answer
+            → GivesEntries result answer }
     {
         reading::read(alloc, bytes)
     }
 
     /// Puts an entry last.
     pub(crate) fn push(&mut self, alloc: Global, entry: NameEntry) -> Result<(), NoMemory>
-        requires { IsNew self.old entry }
+        requires { IsNewEntry self.old entry }
         ensures ok { OnOk result (self.new ≡ self.old ++ entry ∷ []) }
         ensures err { OnErr result (self.new ≡ self.old) }
     {
@@ -131,13 +133,13 @@ impl Signature {
 
     /// The name with a text.
     pub fn find(&self, text: &[u8]) -> Option<NameId>
-        ensures number { option_map (λ name. name.0) result ≡ number_of self.now text.now }
+        ensures number { option_map (λ name. name.0) result ≡ name_number self.now text.now }
         ensures found { IfSome result
             (λ name. option_map (λ entry. entry.text) (slice_get self.now name.0) ≡ Some text.now) }
         ensures only { (name : NameNumber)
             → option_map (λ entry. entry.text) (slice_get self.now name.0) ≡ Some text.now
             → result ≡ Some name }
-        ensures none { IfNone result (Contains (names self.now) text.now → ⊥) }
+        ensures none { IfNone result (Contains (entry_names self.now) text.now → ⊥) }
     {
         let number = index_of(&self.entries, text)?;
         Some(NameId(number as u32))

@@ -1,25 +1,22 @@
 -- Lists of entries in the order of their places.
-use Rattle.std.proofs.Common.{◌≡◌, List, [], ◌∷◌, ◌++◌, Contains, ◌⊎◌, inl, inr, ⊎_elim, refl, ap, arith}
-use Rattle.std.specs.Borrow.{Bor}
-use Rattle.enf_value.specs.ListLaws.{later, first_or_later, none_in_nil}
-use Rattle.sleepers.specs.Entries.{places, shown}
-use Rattle.sleepers.specs.Order.{Place}
-use Rattle.sleepers.specs.declared.entries.Entry.{Entry}
+use Rattle.sleepers.proofs.Vocabulary.{◌≡◌, List, [], ◌∷◌, ◌++◌, Contains, ◌⊎◌, inl, inr}
+use Rattle.sleepers.proofs.Vocabulary.{⊎_elim, refl, ap, arith, Bor, later, first_or_later, none_in_nil, entry_places}
+use Rattle.sleepers.proofs.Vocabulary.{shown, Place, Entry}
 
 module _ {T : Type 0} where
   -- ---- one entry more
 
-  pub in_fewer : (front back : List (Entry T)) (entry : Entry T) (q : Place) → Contains (places (front ++ entry ∷ back)) q
-      → (entry.place ≡ q) ⊎ Contains (places (front ++ back)) q
-  in_fewer [] back entry q there = first_or_later q entry.place (places back) there
+  pub in_fewer : (front back : List (Entry T)) (entry : Entry T) (q : Place) → Contains (entry_places (front ++ entry ∷ back)) q
+      → (entry.place ≡ q) ⊎ Contains (entry_places (front ++ back)) q
+  in_fewer [] back entry q there = first_or_later q entry.place (entry_places back) there
   in_fewer (f ∷ front) back entry q there =
-      ⊎_elim (λ same. inr (0, omega arith, same)) (λ on. ⊎_elim (λ same. inl same) (λ more. inr (later q f.place (places (front ++ back)) more)) (in_fewer front back entry q on))
-      (first_or_later q f.place (places (front ++ entry ∷ back)) there)
+      ⊎_elim (λ same. inr (0, omega arith, same)) (λ on. ⊎_elim (λ same. inl same) (λ more. inr (later q f.place (entry_places (front ++ back)) more)) (in_fewer front back entry q on))
+      (first_or_later q f.place (entry_places (front ++ entry ∷ back)) there)
 
-  pub in_places : (entries : List (Entry T)) (entry : Entry T) → Contains entries entry → Contains (places entries) entry.place
+  pub in_places : (entries : List (Entry T)) (entry : Entry T) → Contains entries entry → Contains (entry_places entries) entry.place
   in_places [] entry there = absurd (none_in_nil entry there)
   in_places (e ∷ entries) entry there =
-      ⊎_elim (λ same. (0, omega arith, ap (λ (z : Entry T). z.place) same)) (λ on. later entry.place e.place (places entries) (in_places entries entry on)) (first_or_later entry e entries there)
+      ⊎_elim (λ same. (0, omega arith, ap (λ (z : Entry T). z.place) same)) (λ on. later entry.place e.place (entry_places entries) (in_places entries entry on)) (first_or_later entry e entries there)
 
 -- ---- references
 

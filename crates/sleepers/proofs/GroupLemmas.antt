@@ -1,16 +1,14 @@
 -- Entries in groups.
-use Rattle.std.proofs.Common.{◌≡◌, ℕ, zero, suc, ◌<◌, List, [], ◌∷◌, ◌++◌, Contains, Option, None, Some, ◌⊎◌, inl, inr, ⊎_elim, refl, sym, ap, subst, ◌∙◌, arith, length, append_assoc, set}
-use Rattle.std.specs.List.{AllByRecursion}
-use Rattle.cursor_list.specs.Split.{Split, items}
-use Rattle.enf_value.specs.ListLaws.{here, later, first_or_later, none_in_nil, Contains-append, AllByRecursion-contains}
-use Rattle.enf_value.specs.Membership.{HasNoRepeats}
-use Rattle.enf_value.specs.declared.events.Event.{Event}
+use Rattle.sleepers.proofs.Vocabulary.{◌≡◌, ℕ, zero, suc, ◌<◌, List, [], ◌∷◌, ◌++◌, Contains}
+use Rattle.sleepers.proofs.Vocabulary.{Option, None, Some, ◌⊎◌, inl, inr, ⊎_elim, refl, sym, ap, subst}
+use Rattle.sleepers.proofs.Vocabulary.{◌∙◌, arith, length, append_assoc, set, AllByRecursion, Split, items, here}
+use Rattle.sleepers.proofs.Vocabulary.{later, first_or_later, none_in_nil, Contains-append, AllByRecursion-contains}
+use Rattle.sleepers.proofs.Vocabulary.{HasNoRepeats, Event, IsAllBut, IsAsleep, entry_places, AreAwake, AreRewound}
+use Rattle.sleepers.proofs.Vocabulary.{HasIn, IsWalk, OthersStay, StandsAwake, StayGroups, WakeAlike, ahead_of}
+use Rattle.sleepers.proofs.Vocabulary.{by_place, entries_at, entries_of, group_at, held, Entry}
 use Rattle.sleepers.proofs.EntryLemmas.{in_places}
-use Rattle.sleepers.proofs.PlacedLemmas.{by_place_has, by_place_in}
+use Rattle.sleepers.proofs.PlaceListLemmas.{by_place_has, by_place_in}
 use Rattle.sleepers.proofs.StepLemmas.{apart_once, from_left, from_right}
-use Rattle.sleepers.specs.Entries.{IsAllBut, IsAsleep, places}
-use Rattle.sleepers.specs.Groups.{AreAwake, AreRewound, HasIn, IsWalk, OthersStay, StandsAwake, StayGroups, WakeAlike, ahead_of, by_place, entries_at, entries_of, group_at, held}
-use Rattle.sleepers.specs.declared.entries.Entry.{Entry}
 
 module _ {X : Type 0} where
   once_front : (xs ys : List X) → HasNoRepeats (xs ++ ys) → HasNoRepeats xs
@@ -67,13 +65,6 @@ module _ {T : Type 0} where
   at_set [] number s within = absurd (omega (arith, within))
   at_set (g ∷ groups) zero s within = refl
   at_set (g ∷ groups) (suc number) s within = at_set groups number s (omega (arith, within))
-
-  others_set : (groups : List (Split (Entry T))) (number : ℕ) (s : Split (Entry T)) → OthersStay number groups (set groups number s)
-  others_set [] number s other apart = refl
-  others_set (g ∷ groups) zero s zero apart = absurd (apart refl)
-  others_set (g ∷ groups) zero s (suc other) apart = refl
-  others_set (g ∷ groups) (suc number) s zero apart = refl
-  others_set (g ∷ groups) (suc number) s (suc other) apart = others_set groups number s other (λ same. apart (ap suc same))
 
   pub held_set : (groups : List (Split (Entry T))) (number : ℕ) (s : Split (Entry T)) → items s ≡ entries_at groups number → held (set groups number s) ≡ held groups
   held_set [] number s same = refl
@@ -146,7 +137,7 @@ module _ {T : Type 0} where
 
   -- ---- places
 
-  pub placed_once : (xs : List (Entry T)) → HasNoRepeats (places xs) → HasNoRepeats xs
+  pub placed_once : (xs : List (Entry T)) → HasNoRepeats (entry_places xs) → HasNoRepeats xs
   placed_once [] once = tt
   placed_once (x ∷ xs) once = ((λ there. once.0 (in_places xs x there)), placed_once xs once.1)
 
@@ -184,7 +175,7 @@ module _ {T : Type 0} where
     some_stay number numbers old new others (λ there. apart (later number n numbers there)) some.1,
   )
 
-  -- behind a change of the first group of a walk the others go on
+  -- after a change of the first group of a walk the others go on
   pub walk_rest : (number : ℕ) (numbers : List ℕ) (old new : List (Split (Entry T))) → OthersStay number old new
       → IsWalk old (number ∷ numbers) → IsWalk new numbers
   walk_rest number numbers old new others walk =
@@ -229,7 +220,7 @@ module _ {T : Type 0} where
         let on = held_in groups x (by_place_in (held groups) x there) in
         ⊎_elim (λ among. inl (of_has groups numbers on.0 x among on.1)) (λ asleep. inr asleep) (awake.others on.0 x on.1)
 
-    pub woken_all : HasNoRepeats (places (held groups)) → IsAllBut (IsAsleep events time) (by_place (held groups)) (entries_of groups numbers)
+    pub woken_all : HasNoRepeats (entry_places (held groups)) → IsAllBut (IsAsleep events time) (by_place (held groups)) (entries_of groups numbers)
     woken_all once = record {
       once = of_once groups numbers (placed_once (held groups) once) awake.once;
       without = woken_without;

@@ -1,28 +1,18 @@
 -- Keys of patterns, and what decides whether an event is of one.
-use Rattle.std.proofs.Common.{◌≡◌, ℕ, ◌≤◌, Bool, true, false, true≢false, List, [], ◌∷◌, Contains, Option, None, Some, ◌⊎◌, inl, inr, ⊎_elim, refl, sym, ap, subst, ◌∙◌, arith}
-use Rattle.std.specs.Bool.{Decides}
-use Rattle.std.specs.Cmp.Lexicographic.{pointwise}
-use Rattle.std.specs.Option.{option_eq}
-use Rattle.std.proofs.lemmas.Bool.{cases_eq, false≢true}
-use Rattle.std.proofs.lemmas.Bool.Decides.{Decides-and, Decides-eqb, Decides-like}
-use Rattle.std.proofs.lemmas.Option.{none-some, same_Some}
-use Rattle.std.proofs.lemmas.Slice.Eq.{slice_eq-Decides}
-use Rattle.enf_value.specs.Decided.{value_eq, value_eq-Decides}
-use Rattle.enf_value.specs.EqualityLaws.{derived_value_eq-Decides}
-use Rattle.enf_value.specs.ListLaws.{here, later, first_or_later, none_in_nil}
-use Rattle.enf_value.specs.contracts.values.ValuePartialEq.TheImpl as values
-use Rattle.enf_value.specs.declared.events.Event.{Event}
-use Rattle.enf_value.specs.declared.events.NameId.{NameId}
-use Rattle.enf_value.specs.declared.values.Value.{Value}
-use Rattle.sleepers.specs.Keys.{fixed_of, key, masked, shape_of}
-use Rattle.sleepers.specs.Patterns.{FitArgs, HasNone, Matches, MatchesNone}
+use Rattle.sleepers.proofs.Vocabulary.{◌≡◌, ℕ, ◌≤◌, Bool, true, false, true≢false, List, [], ◌∷◌}
+use Rattle.sleepers.proofs.Vocabulary.{Contains, Option, None, Some, ◌⊎◌, inl, inr, ⊎_elim, refl, sym, ap}
+use Rattle.sleepers.proofs.Vocabulary.{subst, ◌∙◌, arith, Decides, pointwise, option_eq, cases_eq, false≢true}
+use Rattle.sleepers.proofs.Vocabulary.{Decides-and, Decides-eqb, Decides-like, none-some, same_Some, slice_eq-Decides}
+use Rattle.sleepers.proofs.Vocabulary.{value_eq, value_eq-Decides, derived_value_eq-Decides, here, later}
+use Rattle.sleepers.proofs.Vocabulary.{first_or_later, none_in_nil, Event, NameId, Value, fixed_of, masked_values}
+use Rattle.sleepers.proofs.Vocabulary.{shape_of, FitArgs, HasNone, MatchesPattern, MatchesNone, Shape, Pattern}
+use Rattle.sleepers.specs.machine.PatternKeys.{pattern_key}
+use Rattle.enf_data.specs.contracts.values.ValuePartialEq.TheImpl as values
 use Rattle.sleepers.specs.contracts.patterns.PatternPartialEq.TheImpl as derived
-use Rattle.sleepers.specs.declared.keys.Shape.{Shape}
-use Rattle.sleepers.specs.declared.patterns.Pattern.{Pattern}
 
 -- ---- an event has the key of the patterns that it is of
 
-fits_masked : (args : List (Option Value)) (values : List Value) → FitArgs args values → masked (fixed_of args) values ≡ args
+fits_masked : (args : List (Option Value)) (values : List Value) → FitArgs args values → masked_values (fixed_of args) values ≡ args
 fits_masked [] [] fits = refl
 fits_masked [] (v ∷ values) fits = absurd fits
 fits_masked (a ∷ args) [] fits = absurd fits
@@ -32,23 +22,23 @@ fits_masked (Some x ∷ args) (v ∷ values) fits =
     let rest = fits_masked args values fits.1 in
     λ i. Some (same i) ∷ rest i
 
-pub key_matches : (pattern : Pattern) (event : Event) → Matches pattern event
-    → key event.name (masked (fixed_of pattern.args) event.args) ≡ key pattern.name pattern.args
+pub key_matches : (pattern : Pattern) (event : Event) → MatchesPattern pattern event
+    → pattern_key event.name (masked_values (fixed_of pattern.args) event.args) ≡ pattern_key pattern.name pattern.args
 key_matches pattern event matches =
     let name = matches.name in
     let args = fits_masked pattern.args event.args matches.args in
-    λ i. key (name i) (args i)
+    λ i. pattern_key (name i) (args i)
 
 -- what is found under the key of the event has all groups that are noted under such a pattern
 pub shape_found : (pairs : List (ℕ × ℕ)) (shape : Shape) (event : Event) (found : List ℕ)
-    → ((pair : ℕ × ℕ) → Contains pairs pair → key event.name (masked shape.fixed event.args) ≤ pair.0
-    → pair.0 ≤ key event.name (masked shape.fixed event.args) → Contains found pair.1)
-    → (group : ℕ) (pattern : Pattern) → shape ≡ shape_of pattern → Contains pairs (key pattern.name pattern.args, group)
-    → Matches pattern event → Contains found group
+    → ((pair : ℕ × ℕ) → Contains pairs pair → pattern_key event.name (masked_values shape.fixed event.args) ≤ pair.0
+    → pair.0 ≤ pattern_key event.name (masked_values shape.fixed event.args) → Contains found pair.1)
+    → (group : ℕ) (pattern : Pattern) → shape ≡ shape_of pattern → Contains pairs (pattern_key pattern.name pattern.args, group)
+    → MatchesPattern pattern event → Contains found group
 shape_found pairs shape event found finds group pattern is there matches =
-    let same : key event.name (masked shape.fixed event.args) ≡ key pattern.name pattern.args =
-    ap (λ (s : Shape). key event.name (masked s.fixed event.args)) is ∙ key_matches pattern event matches in
-    finds (key pattern.name pattern.args, group) there (omega (arith, same)) (omega (arith, same))
+    let same : pattern_key event.name (masked_values shape.fixed event.args) ≡ pattern_key pattern.name pattern.args =
+    ap (λ (s : Shape). pattern_key event.name (masked_values s.fixed event.args)) is ∙ key_matches pattern event matches in
+    finds (pattern_key pattern.name pattern.args, group) there (omega (arith, same)) (omega (arith, same))
 
 -- ---- whether an event is of a pattern
 
@@ -67,7 +57,7 @@ fits_or (None ∷ args) (v ∷ values) = ⊎_elim (λ f. inl (tt, f)) (λ n. inr
 fits_or (Some x ∷ args) (v ∷ values) =
     ⊎_elim (λ same. ⊎_elim (λ f. inl (same, f)) (λ n. inr (λ f. n f.1)) (fits_or args values)) (λ other. inr (λ f. other f.0)) (value_or v x)
 
-pub matches_or : (pattern : Pattern) (event : Event) → Matches pattern event ⊎ (Matches pattern event → ⊥)
+pub matches_or : (pattern : Pattern) (event : Event) → MatchesPattern pattern event ⊎ (MatchesPattern pattern event → ⊥)
 matches_or pattern event =
     ⊎_elim
     (λ (same : event.name.0 ≡ pattern.name.0). ⊎_elim (λ f. inl (record { name = λ i. record { 0 = same i }; args = f })) (λ n. inr (λ m. n m.args)) (fits_or pattern.args event.args))
@@ -75,13 +65,14 @@ matches_or pattern event =
 
 -- an event of one of the patterns
 abbrev pub HasOne : List Pattern → List Event → Type 0
-HasOne patterns events = (pattern : Pattern) × (event : Event) × Contains patterns pattern × Contains events event × Matches pattern event
+HasOne patterns events = (pattern : Pattern) × (event : Event) × Contains patterns pattern × Contains events event × MatchesPattern pattern event
 
-event_or : (pattern : Pattern) (events : List Event) → ((event : Event) × Contains events event × Matches pattern event) ⊎ MatchesNone pattern events
+event_or : (pattern : Pattern) (events : List Event) → ((event : Event) × Contains events event × MatchesPattern pattern event) ⊎ MatchesNone pattern events
 event_or pattern [] = inr (λ event there m. none_in_nil event there)
 event_or pattern (e ∷ events) =
     ⊎_elim (λ m. inl (e, here e events, m))
-    (λ n. ⊎_elim (λ f. inl (f.0, later f.0 e events f.1, f.2)) (λ none. inr (λ event there m. ⊎_elim (λ same. n (subst (λ (x : Event). Matches pattern x) (sym same) m)) (λ on. none event on m) (first_or_later event e events there))) (event_or pattern events))
+    (λ n. ⊎_elim (λ f. inl (f.0, later f.0 e events f.1, f.2)) (λ none. inr (λ event there m.
+    ⊎_elim (λ same. n (subst (λ (x : Event). MatchesPattern pattern x) (sym same) m)) (λ on. none event on m) (first_or_later event e events there))) (event_or pattern events))
     (matches_or pattern e)
 
 pub none_or : (patterns : List Pattern) (events : List Event) → HasOne patterns events ⊎ HasNone patterns events

@@ -1,9 +1,7 @@
 -- The next item of a list that is gone over.
-use Rattle.std.proofs.Common.{◌≡◌, ℕ, ◌+◌, ◌<◌, List, [], ◌∷◌, ◌++◌, Contains, ◌⊎◌, sym, subst, ap, ◌∙◌, length, take, get_or}
-use Rattle.std.specs.List.{AllByRecursion}
-use Rattle.std.proofs.lemmas.List.{take_more}
-use Rattle.std.proofs.lemmas.List.Elements.{Contains-push_cases}
-use Rattle.enf_value.specs.ListLaws.{AllByRecursion-append}
+use Rattle.sleepers.proofs.Vocabulary.{◌≡◌, ℕ, ◌+◌, ◌<◌, List, [], ◌∷◌, ◌++◌, Contains}
+use Rattle.sleepers.proofs.Vocabulary.{◌⊎◌, sym, subst, ap, ◌∙◌, length, take, get_or, AllByRecursion}
+use Rattle.sleepers.proofs.Vocabulary.{take_more, Contains-push_cases, AllByRecursion-append}
 
 module _ {X : Type 0} where
   one_more : (xs : List X) (i : ℕ) (x : X) → i < length xs → x ≡ get_or xs i x → take (i + 1) xs ≡ take i xs ++ x ∷ []

@@ -1,20 +1,14 @@
 -- Sets of numbers and of pairs of numbers, as lists in order.
-use Rattle.std.proofs.Common.{Option, None, IsSome, length, ◌≡◌, ℕ, ◌<◌, ◌≤◌, ◌-◌, ◌^◌, Bool, true, false, true≢false, cond, not, ◌&&◌, List, [], ◌∷◌, ◌++◌, Contains, ◌⊎◌, inl, inr, ⊎_elim, refl, sym, ap, subst, subst₂, ◌∙◌, arith}
-use Rattle.std.specs.BTreeMap.{is_at}
-use Rattle.std.specs.BTreeMap.Range.{IsLeBy, range_contains}
-use Rattle.std.specs.BTreeSet.{insert_key}
-use Rattle.std.specs.List.{AllByRecursion, filter}
-use Rattle.std.specs.Option.{is_some}
+use Rattle.sleepers.proofs.Vocabulary.{Option, None, IsSome, length, ◌≡◌, ℕ, ◌<◌, ◌≤◌, ◌-◌}
+use Rattle.sleepers.proofs.Vocabulary.{◌^◌, Bool, true, false, true≢false, cond, not, ◌&&◌, List, []}
+use Rattle.sleepers.proofs.Vocabulary.{◌∷◌, ◌++◌, Contains, ◌⊎◌, inl, inr, ⊎_elim, refl, sym, ap}
+use Rattle.sleepers.proofs.Vocabulary.{subst, subst₂, ◌∙◌, arith, is_at, IsLeBy, range_contains, insert_key}
+use Rattle.sleepers.proofs.Vocabulary.{AllByRecursion, filter, is_some, is_eq, is_gt, is_le, is_lt, match_ordering}
+use Rattle.sleepers.proofs.Vocabulary.{nat_cmp, ordering_then, remove_key, Ordering, Less, Equal, Greater, Included}
+use Rattle.sleepers.proofs.Vocabulary.{Contains-append_left, Contains-push, Contains-push_cases, le_from_not_gt}
+use Rattle.sleepers.proofs.Vocabulary.{sorted_head, sorted_tail, here, later, first_or_later, none_in_nil}
+use Rattle.sleepers.proofs.Vocabulary.{AllByRecursion-contains, HasNoRepeats}
 use Rattle.std.specs.List.Sorted.{IsStrictlySortedBy}
-use Rattle.std.specs.Ordering.{is_eq, is_gt, is_le, is_lt, match_ordering, nat_cmp, ordering_then}
-use Rattle.std.specs.Set.{remove_key}
-use Rattle.std.specs.declared.cmp.Ordering.{Ordering}
-use Rattle.std.specs.declared.cmp.Ordering.TheVariants.{Less, Equal, Greater}
-use Rattle.std.specs.declared.ops.Bound.TheVariants.{Included}
-use Rattle.std.proofs.lemmas.List.Elements.{Contains-append_left, Contains-push, Contains-push_cases}
-use Rattle.std.proofs.lemmas.Map.Keys.{le_from_not_gt, sorted_head, sorted_tail}
-use Rattle.enf_value.specs.ListLaws.{here, later, first_or_later, none_in_nil, AllByRecursion-contains}
-use Rattle.enf_value.specs.Membership.{HasNoRepeats}
 
 -- ---- a key that is put in
 

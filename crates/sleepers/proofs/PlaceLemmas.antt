@@ -1,13 +1,10 @@
 -- The order of places, as a comparison tells it.
-use Rattle.std.proofs.Common.{◌≡◌, ◌↔◌, ◌<◌, true, false, true≢false, [], ◌∷◌, ⊎_elim, refl, sym, ap, subst, ◌∙◌, arith}
-use Rattle.std.specs.Cmp.{IsTotalOrder}
-use Rattle.std.specs.Ordering.{is_lt, nat_cmp, ordering_then, ordering_reverse}
-use Rattle.std.specs.declared.cmp.Ordering.{Ordering}
-use Rattle.std.specs.declared.cmp.Ordering.TheVariants.{Less, Equal, Greater}
-use Rattle.std.proofs.lemmas.Cmp.{lists_total, nat_cmp_total, on_total, then_total, tied_itself}
+use Rattle.sleepers.proofs.Vocabulary.{◌≡◌, ◌↔◌, ◌<◌, true, false, true≢false, [], ◌∷◌}
+use Rattle.sleepers.proofs.Vocabulary.{⊎_elim, refl, sym, ap, subst, ◌∙◌, arith, IsTotalOrder, is_lt, nat_cmp}
+use Rattle.sleepers.proofs.Vocabulary.{ordering_then, ordering_reverse, Ordering, Less, Equal, Greater, lists_total}
+use Rattle.sleepers.proofs.Vocabulary.{nat_cmp_total, on_total, then_total, tied_itself, Less_from_test, BeginsBefore}
+use Rattle.sleepers.proofs.Vocabulary.{IsPlaceBefore, Place, beginning_cmp, place_cmp, Beginning}
 use Rattle.sleepers.proofs.OrderLemmas.{place_order}
-use Rattle.sleepers.specs.Order.{BeginsBefore, IsBefore, Place, beginning_cmp, place_cmp}
-use Rattle.sleepers.specs.declared.places.Beginning.{Beginning}
 
 beginning_total : IsTotalOrder beginning_cmp
 beginning_total =
@@ -29,12 +26,12 @@ beginning_less s t before =
 beginning_itself : (s t : Beginning) → s ≡ t → beginning_cmp s t ≡ Equal
 beginning_itself s t same = subst (λ (u : Beginning). beginning_cmp s u ≡ Equal) same (tied_itself beginning_total s)
 
-less_before : (p q : Place) → IsBefore p q → place_cmp p q ≡ Less
+less_before : (p q : Place) → IsPlaceBefore p q → place_cmp p q ≡ Less
 less_before p [] before = absurd before
 less_before [] (t ∷ q) before = refl
 less_before (s ∷ p) (t ∷ q) before =
     ⊎_elim (λ (b : BeginsBefore s t). ap (λ o. ordering_then o (place_cmp p q)) (beginning_less s t b))
-    (λ (b : (s ≡ t) × IsBefore p q). ap (λ o. ordering_then o (place_cmp p q)) (beginning_itself s t b.0) ∙ less_before p q b.1) before
+    (λ (b : (s ≡ t) × IsPlaceBefore p q). ap (λ o. ordering_then o (place_cmp p q)) (beginning_itself s t b.0) ∙ less_before p q b.1) before
 
 apart_orders : (o : Ordering) → o ≡ Less → o ≡ Equal → ⊥
 apart_orders o less equal = cc
@@ -43,7 +40,7 @@ not_less_itself : (p q : Place) → p ≡ q → place_cmp p q ≡ Less → ⊥
 not_less_itself p q same less =
     apart_orders (place_cmp p q) less (subst (λ (z : Place). place_cmp p z ≡ Equal) same (tied_itself place_total p))
 
-not_less_behind : (p q : Place) → IsBefore q p → place_cmp p q ≡ Less → ⊥
+not_less_behind : (p q : Place) → IsPlaceBefore q p → place_cmp p q ≡ Less → ⊥
 not_less_behind p q behind less =
     let turned : place_cmp p q ≡ ordering_reverse (place_cmp q p) = place_total.antisymm p q in
     let greater : place_cmp p q ≡ Greater = turned ∙ ap ordering_reverse (less_before q p behind) in
@@ -53,7 +50,7 @@ not_less_behind p q behind less =
     by o l g = cc
 
 -- the comparison tells which comes first
-pub before_is : (p q : Place) → (place_cmp p q ≡ Less) ↔ IsBefore p q
+pub before_is : (p q : Place) → (place_cmp p q ≡ Less) ↔ IsPlaceBefore p q
 before_is p q = (
   (λ less. ⊎_elim (λ same. absurd (not_less_itself p q same less)) (λ o. ⊎_elim (λ b. b) (λ b. absurd (not_less_behind p q b less)) o) (place_order p q)),
   less_before p q,
@@ -68,13 +65,8 @@ tied_is p q equal =
     let turned : place_cmp q p ≡ ordering_reverse (place_cmp p q) = place_total.antisymm q p in
     absurd (apart_orders (place_cmp q p) (less_before q p b) (turned ∙ ap ordering_reverse equal))) o) (place_order p q)
 
-less_from_test : (o : Ordering) → is_lt o ≡ true → o ≡ Less
-less_from_test Less is = refl
-less_from_test Equal is = cc
-less_from_test Greater is = cc
+pub before_from_test : (p q : Place) → is_lt (place_cmp p q) ≡ true → IsPlaceBefore p q
+before_from_test p q is = (before_is p q).0 (Less_from_test (place_cmp p q) is)
 
-pub before_from_test : (p q : Place) → is_lt (place_cmp p q) ≡ true → IsBefore p q
-before_from_test p q is = (before_is p q).0 (less_from_test (place_cmp p q) is)
-
-pub not_before_from_test : (p q : Place) → is_lt (place_cmp p q) ≡ false → IsBefore p q → ⊥
+pub not_before_from_test : (p q : Place) → is_lt (place_cmp p q) ≡ false → IsPlaceBefore p q → ⊥
 not_before_from_test p q is before = true≢false (sym (ap is_lt ((before_is p q).1 before)) ∙ is)

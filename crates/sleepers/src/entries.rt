@@ -1,11 +1,11 @@
 //! Entries that sleep until an event or a time wakes them.
 ghost use Rattle.std.specs.Prelude.{◌↔◌, IsTrue};
-ghost use Rattle.sleepers.specs.Entries.{IsAsleep};
-ghost use Rattle.sleepers.specs.Groups.{WakeAlike};
+ghost use Rattle.sleepers.specs.machine.Entries.{IsAsleep};
+ghost use Rattle.sleepers.specs.machine.Groups.{WakeAlike};
 
 use crate::patterns::{Patterns, has_none};
 use crate::places::Place;
-use enf_value::Event;
+use enf_data::Event;
 
 /// An item with its place, the patterns of the events that wake it, or none where each step does, and the time from
 /// which on it is awake.

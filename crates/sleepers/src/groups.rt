@@ -1,14 +1,14 @@
 //! Entries in groups, each a list with a cursor.
-ghost use Rattle.std.specs.Prelude.{◌≡◌, ◌↔◌, ◌++◌, ◌∷◌, ℕ, [], length};
-ghost use Rattle.std.specs.Prelude.{IfErr, IfNone, IfOk, IfSome, IsNone, OnErr, OnOk, drop};
+ghost use Rattle.std.specs.Prelude.{◌≡◌, ◌↔◌, ◌++◌, ◌∷◌, ℕ, [], length, IfErr, IfNone, IfOk};
+ghost use Rattle.std.specs.Prelude.{IfSome, IsNone, OnErr, OnOk, drop};
 ghost use Rattle.std.specs.Option.{option_to_list};
-ghost use Rattle.cursor_list.specs.Split.{items};
-ghost use Rattle.sleepers.specs.Entries.{shown};
-ghost use Rattle.sleepers.specs.Groups.{HasIn, OthersStay, StayGroups, entries_at, entries_of, group_at, held};
+ghost use Rattle.cursor_list.specs.machine.Split.{items};
+ghost use Rattle.sleepers.specs.machine.Entries.{shown};
+ghost use Rattle.sleepers.specs.machine.Groups.{HasIn, OthersStay, StayGroups, entries_at, entries_of, group_at, held};
 
 use crate::entries::Entry;
 use cursor_list::CursorList;
-use enf_value::NoMemory;
+use enf_data::NoMemory;
 use std::alloc::Global;
 use std::marker::Model;
 
@@ -23,7 +23,7 @@ pub struct Groups<T> {
 
 impl<T> Model for Groups<T> {
     ghost use Rattle.std.specs.Prelude.{List};
-    ghost use Rattle.cursor_list.specs.Split.{Split};
+    ghost use Rattle.cursor_list.specs.machine.Split.{Split};
     ghost use Rattle.sleepers.specs.declared.entries.Entry.{Entry};
 
     ghost Value = { List (Split (Entry T)) };
@@ -59,7 +59,7 @@ impl<T: Drop> Groups<T> {
         self.lists.get(number)?.walk().next()
     }
 
-    // The entry behind the cursor of a group.
+    // The entry after the cursor of a group.
     pub(crate) fn peek(&self, number: usize) -> Option<&Entry<T>>
         ensures none { IsNone result ↔ ((group_at self.now number).after ≡ []) }
         ensures some { IfSome result (λ entry. (group_at self.now number).after
@@ -104,7 +104,7 @@ impl<T: Drop> Groups<T> {
         }
     }
 
-    // Puts an entry into a group, or hands it back for want of memory.
+    // Puts an entry into a group, or hands it back where memory runs out.
     pub(crate) fn put(&mut self, number: usize, entry: Entry<T>) -> Result<(), Entry<T>>
         ensures ok { OnOk result (HasIn entry (held self.old) (held self.new)) }
         ensures group { OnOk result (HasIn entry (entries_at self.old number) (entries_at self.new number)) }
@@ -130,7 +130,7 @@ impl<T: Drop> Groups<T> {
         }
     }
 
-    // Passes the entry behind the cursor of a group.
+    // Passes the entry after the cursor of a group.
     pub(crate) fn pass(&mut self, number: usize)
         ensures after { (group_at self.new number).after ≡ drop 1 (group_at self.old number).after }
         ensures entries { (other : ℕ) → entries_at self.new other ≡ entries_at self.old other }
@@ -142,7 +142,7 @@ impl<T: Drop> Groups<T> {
         }
     }
 
-    // Takes the entry behind the cursor out of a group.
+    // Takes the entry after the cursor out of a group.
     pub(crate) fn take(&mut self, number: usize) -> Option<Entry<T>>
         ensures after { (group_at self.old number).after ≡ option_to_list result ++ (group_at self.new number).after }
         ensures some { IfSome result (λ entry. HasIn entry (held self.new) (held self.old)) }
@@ -165,7 +165,7 @@ impl<T: Drop> Groups<T> {
         Ok(all)
     }
 
-    // Puts the entries of a group behind others.
+    // Puts the entries of a group after others.
     pub(crate) fn push_entries<'a>(
         &'a self,
         number: usize,
@@ -197,7 +197,7 @@ impl<T: Drop> Groups<T> {
     }
 }
 
-// Puts the entries of a list behind others.
+// Puts the entries of a list after others.
 fn push_all<'a, T>(
     list: &'a CursorList<Entry<T>>,
     all: &mut Vec<&'a Entry<T>>,

@@ -1,12 +1,13 @@
 //! Numbers by which the patterns are found of which an event is.
 ghost use Rattle.std.specs.Prelude.{◌≡◌, ◌↔◌, IsTrue, Contains, IfOk, OnOk, None, Some, cond, fold};
-ghost use Rattle.std.specs.Hash.FoldHasher as hasher;
 ghost use Rattle.std.specs.Option.{option_copied};
-ghost use Rattle.sleepers.specs.Keys.{arg_writes, fixed_of, key, masked, shape_of, writes};
-ghost use Rattle.sleepers.specs.Noted.{IsWithin};
+ghost use Rattle.sleepers.specs.machine.PatternKeys.{arg_writes, fixed_of, pattern_key, masked_values, shape_of};
+ghost use Rattle.sleepers.specs.machine.PatternKeys.{args_writes};
+ghost use Rattle.sleepers.specs.machine.NotedGroups.{IsContainedIn};
+ghost use Rattle.std.specs.Hash.FoldHasher as hasher;
 
 use crate::patterns::Pattern;
-use enf_value::{Event, Items, NameId, NoMemory, Value};
+use enf_data::{Event, Items, NameId, NoMemory, Value};
 use std::alloc::Global;
 use std::default::Default;
 use std::hash::{FoldHasher, Hasher};
@@ -20,7 +21,7 @@ pub struct Shape {
 
 // The number of a pattern. Others may have it too.
 pub(crate) fn key_of(pattern: &Pattern) -> u64
-    ensures { result ≡ key pattern.now.name pattern.now.args }
+    ensures { result ≡ pattern_key pattern.now.name pattern.now.args }
 {
     let mut state = FoldHasher::default();
     state.write_u32(pattern.name.0);
@@ -30,7 +31,7 @@ pub(crate) fn key_of(pattern: &Pattern) -> u64
 
 // The number of the pattern of which the event is and of which just these arguments are fixed.
 pub(crate) fn key_at(event: &Event, fixed: &[bool]) -> u64
-    ensures { result ≡ key event.now.name (masked fixed.now event.now.args) }
+    ensures { result ≡ pattern_key event.now.name (masked_values fixed.now event.now.args) }
 {
     let mut state = FoldHasher::default();
     state.write_u32(event.name.0);
@@ -39,7 +40,7 @@ pub(crate) fn key_at(event: &Event, fixed: &[bool]) -> u64
 }
 
 fn feed_all(args: &[Option<Value>], state: &mut FoldHasher)
-    ensures { state.new ≡ fold hasher.write state.old (writes args.now) }
+    ensures { state.new ≡ fold hasher.write state.old (args_writes args.now) }
 {
     let Some((arg, others)) = args.split_first() else {
         return;
@@ -49,7 +50,7 @@ fn feed_all(args: &[Option<Value>], state: &mut FoldHasher)
 }
 
 fn feed_fixed(values: &[Value], fixed: &[bool], state: &mut FoldHasher)
-    ensures { state.new ≡ fold hasher.write state.old (writes (masked fixed.now values.now)) }
+    ensures { state.new ≡ fold hasher.write state.old (args_writes (masked_values fixed.now values.now)) }
 {
     let Some((is_fixed, others)) = fixed.split_first() else {
         return;
@@ -78,7 +79,7 @@ pub(crate) fn note_shape(
     pattern: &Pattern,
 ) -> Result<(), NoMemory>
     ensures ok { OnOk result (Contains shapes.new.items (shape_of pattern.now)) }
-    ensures kept { IsWithin shapes.old.items shapes.new.items }
+    ensures kept { IsContainedIn shapes.old.items shapes.new.items }
 {
     if has_shape(shapes.as_slice(), pattern) {
         return Ok(());

@@ -1,6 +1,5 @@
 //! Laws of the order of places, each the contract of a function that does nothing.
-ghost use Rattle.sleepers.specs.Order.{OneOrder, StepsKeepOrder};
-ghost use Rattle.sleepers.specs.Steps.{StepsAreMade, StepsCanPutIn, StepsGoInOrder};
+ghost use Rattle.sleepers.specs.machine.Laws.{OneOrder, StepsKeepOrder, StepsAreMade, StepsCanPutIn, StepsGoInOrder};
 
 /// Lists in order with the same places are the same.
 pub fn one_order()

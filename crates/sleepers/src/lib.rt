@@ -1,17 +1,17 @@
 //! Entries by place, which sleep until an event of a pattern or a time wakes them. It stands on `cursor_list` and
-//! `enf_value`.
+//! `enf_data`.
 #![tactic(auto)]
 
+mod awake_groups;
 pub mod entries;
-mod finding;
 mod groups;
-mod index;
 mod keys;
 pub mod laws;
 mod pairs;
 pub mod patterns;
 pub mod places;
-pub mod sleeping;
+pub mod sleeper_list;
+mod wake_index;
 pub mod worked_cases;
 
 pub use entries::Entry;
@@ -19,11 +19,11 @@ pub use entries::Entry;
 #[doc(hidden)]
 pub use groups::Groups;
 #[doc(hidden)]
-pub use index::Index;
-#[doc(hidden)]
 pub use keys::Shape;
 #[doc(hidden)]
 pub use pairs::Pairs;
 pub use patterns::{Pattern, Patterns};
 pub use places::{Beginning, Place};
-pub use sleeping::Sleepers;
+pub use sleeper_list::Sleepers;
+#[doc(hidden)]
+pub use wake_index::Index;

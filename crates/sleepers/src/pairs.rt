@@ -1,8 +1,8 @@
 //! Numbers of groups under keys.
 ghost use Rattle.std.specs.Prelude.{◌≡◌, ◌≤◌, ℕ, [], Contains, IsTrue, OnOk};
-ghost use Rattle.sleepers.specs.Noted.{IsWithin, IsWithinBut};
+ghost use Rattle.sleepers.specs.machine.NotedGroups.{IsContainedIn, IsWithinBut};
 
-use enf_value::NoMemory;
+use enf_data::NoMemory;
 use std::alloc::Global;
 use std::collections::BTreeSet;
 use std::marker::Model;
@@ -37,7 +37,7 @@ impl Pairs {
     // Puts a group under a key.
     pub(crate) fn add(&mut self, key: u64, group: usize) -> Result<(), NoMemory>
         ensures ok { OnOk result (Contains self.new (key, group)) }
-        ensures kept { IsWithin self.old self.new }
+        ensures kept { IsContainedIn self.old self.new }
     {
         self.pairs.insert((key, group))?;
         Ok(())
@@ -60,7 +60,7 @@ impl Pairs {
         requires { least ≤ greatest }
         ensures ok { OnOk result ((pair : ℕ × ℕ) → Contains self.now pair → least ≤ pair.0
             → pair.0 ≤ greatest → Contains found.new.items pair.1) }
-        ensures kept { IsWithin found.old.items found.new.items }
+        ensures kept { IsContainedIn found.old.items found.new.items }
     {
         for pair in self.pairs.range((least, 0)..=(greatest, usize::MAX)) {
             found.push(pair.1)?;
@@ -72,7 +72,7 @@ impl Pairs {
     pub(crate) fn find_up_to(&self, greatest: u64, found: &mut Vec<usize>) -> Result<(), NoMemory>
         ensures ok { OnOk result ((pair : ℕ × ℕ) → Contains self.now pair → pair.0 ≤ greatest
             → Contains found.new.items pair.1) }
-        ensures kept { IsWithin found.old.items found.new.items }
+        ensures kept { IsContainedIn found.old.items found.new.items }
     {
         if self.is_above(greatest) {
             return Ok(());

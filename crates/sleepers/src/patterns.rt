@@ -1,8 +1,8 @@
 //! Patterns of events.
 ghost use Rattle.std.specs.Prelude.{◌↔◌, IsTrue};
-ghost use Rattle.sleepers.specs.Patterns.{FitArgs, FitsArg, HasNone, Matches, MatchesNone};
+ghost use Rattle.sleepers.specs.machine.Patterns.{FitArgs, FitsArg, HasNone, MatchesPattern, MatchesNone};
 
-use enf_value::{Event, Items, NameId, Value};
+use enf_data::{Event, Items, NameId, Value};
 
 /// A name, and of its arguments those that are fixed.
 #[derive(Debug, PartialEq, Eq, Drop)]
@@ -17,7 +17,7 @@ pub type Patterns = Items<Pattern>;
 impl Pattern {
     /// Whether the event is of the pattern.
     pub fn matches(&self, event: &Event) -> bool
-        ensures { IsTrue result ↔ Matches self.now event.now }
+        ensures { IsTrue result ↔ MatchesPattern self.now event.now }
     {
         self.name.0 == event.name.0 && fit_args(self.args.as_slice(), event.args.as_slice())
     }

@@ -1,9 +1,9 @@
 //! Places, and which of two comes first.
 ghost use Rattle.std.specs.Prelude.{◌≡◌, ◌↔◌};
 ghost use Rattle.std.specs.declared.cmp.Ordering.TheVariants.{Less};
-ghost use Rattle.sleepers.specs.Order.{IsBefore, beginning_cmp, place_cmp};
+ghost use Rattle.sleepers.specs.machine.Places.{IsPlaceBefore, beginning_cmp, place_cmp};
 
-use enf_value::Items;
+use enf_data::Items;
 use std::cmp::Ordering;
 
 /// A number that tells when something was begun, and which it is of those that were begun with it.
@@ -31,7 +31,7 @@ impl Beginning {
 /// Which of two places comes first.
 pub fn compare(place: &[Beginning], other: &[Beginning]) -> Ordering
     ensures order { result ≡ place_cmp place.now other.now }
-    ensures before { (result ≡ Less) ↔ IsBefore place.now other.now }
+    ensures before { (result ≡ Less) ↔ IsPlaceBefore place.now other.now }
 {
     let Some((beginning, rest)) = place.split_first() else {
         return if other.is_empty() {

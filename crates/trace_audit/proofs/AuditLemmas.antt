@@ -1,44 +1,22 @@
 -- What an auditor stands for, and the verdict that it gives.
-use Rattle.std.proofs.Common.{◌≡◌, ℕ, zero, suc, ◌+◌, ◌<◌, ◌≤◌, List, [], ◌∷◌, ◌++◌, length, length-append, map, take, get_or, Option, None, Some, IsTrue, refl, sym, ap, subst, arith, inl, inr, ⊎_elim, ◌∙◌, append_assoc}
+use Rattle.trace_audit.proofs.Vocabulary.{◌≡◌, ℕ, zero, suc, ◌+◌, ◌<◌, ◌≤◌, List, [], ◌∷◌}
+use Rattle.trace_audit.proofs.Vocabulary.{◌++◌, length, length-append, map, take, get_or, Option, None, Some}
+use Rattle.trace_audit.proofs.Vocabulary.{IsTrue, refl, sym, ap, subst, arith, inl, inr, ⊎_elim, ◌∙◌}
+use Rattle.trace_audit.proofs.Vocabulary.{append_assoc, AllByRecursion, append-nil, get_or-take, get_or_append_left}
+use Rattle.trace_audit.proofs.Vocabulary.{length-take-le, get_or-append_seam, none-some, same_Some, slice_get-get_or}
+use Rattle.trace_audit.proofs.Vocabulary.{IsTrace, no_step, step_at, AllByRecursion-weaker, none_in_nil, no_values}
+use Rattle.trace_audit.proofs.Vocabulary.{variable_cmp, HasNoRepeats, Event, Step, VarId, Formula, Sat, PastDecides}
+use Rattle.trace_audit.proofs.Vocabulary.{AgreeUpTo, is_past, BoundFormula, AreCopies, GuardsWillHold, IsGuard, Past}
+use Rattle.trace_audit.proofs.Vocabulary.{PastStands, PastTables, guard_formula, AreUpToTimeOf, typed_of}
+use Rattle.trace_audit.proofs.Vocabulary.{LastIsAtTheEnd, LastIsTheNew, NoneIsLater, TraceGrows, PlacedGuard}
+use Rattle.trace_audit.proofs.Vocabulary.{IsListedNode, IsSafeNode, LooksBack, EndsInTime, AreWellFormed, IsWellFormed}
+use Rattle.trace_audit.proofs.Vocabulary.{guards_of, Plan, CausePlan, SuppressPlan, Both, Either, TestOr, Guarded}
+use Rattle.trace_audit.proofs.Vocabulary.{EventuallyPlan, AlwaysPlan, UntilPlan, NextPlan, AtEach-from_nodes, AtEach}
+use Rattle.trace_audit.proofs.Vocabulary.{IsScopedNode, last_time, CanEvaluatePlan, IsAskable, Auditing, Audits, end_of}
+use Rattle.trace_audit.proofs.Vocabulary.{audited_rules, NothingElse, AreJudged, IsJudged, rule_at, IsAt, AuditMoment}
+use Rattle.trace_audit.proofs.Vocabulary.{audit_moment, placed_guard, IsVerdict, formulas_for, OpenRule, RuleAt, Holds}
+use Rattle.trace_audit.proofs.Vocabulary.{Fails}
 use Rattle.std.specs.FinMap as finite
-use Rattle.std.specs.List.{AllByRecursion}
-use Rattle.std.proofs.lemmas.List.{append-nil, get_or-take, get_or_append_left, length-take-le}
-use Rattle.std.proofs.Math.Seq.{get_or-append_seam}
-use Rattle.std.proofs.lemmas.Option.{none-some, same_Some, slice_get-get_or}
-use Rattle.enf_value.specs.Data.{IsTrace, no_step, step_at}
-use Rattle.enf_value.specs.ListLaws.{AllByRecursion-weaker, none_in_nil}
-use Rattle.enf_value.specs.Valuations.{no_values, variable_cmp}
-use Rattle.enf_value.specs.Membership.{HasNoRepeats}
-use Rattle.enf_value.specs.declared.events.Event.{Event}
-use Rattle.enf_value.specs.declared.steps.Step.{Step}
-use Rattle.enf_value.specs.declared.terms.VarId.{VarId}
-use Rattle.enf_formula.specs.Formulas.{Formula}
-use Rattle.enf_formula.specs.Laws.{PastDecides}
-use Rattle.enf_formula.specs.Past.{AgreeUpTo, is_past}
-use Rattle.enf_formula.specs.Satisfaction.{Sat}
-use Rattle.monitorable_guard.specs.Guards.{BoundFormula}
-use Rattle.past_state.specs.Guarded.{AreCopies}
-use Rattle.past_state.specs.Past.{GuardsWillHold, IsGuard, Past, PastStands, PastTables, formula_of}
-use Rattle.past_state.specs.Runs.{AreUpToTimeOf}
-use Rattle.enforce_types.specs.Typed.{typed_of}
-use Rattle.trace_meaning.specs.Laws.{LastIsAtTheEnd, LastIsTheNew, NoneIsLater, TraceGrows}
-use Rattle.past_state.specs.declared.guards.PlacedGuard.{PlacedGuard}
-use Rattle.plan_terms.specs.Guards.{IsListedNode, IsSafeNode, LooksBack, guards_of}
-use Rattle.plan_terms.specs.Limits.{EndsInTime}
-use Rattle.plan_terms.specs.Plans.{Plan, Cause, Suppress, Both, Either, TestOr, Guarded, Eventually, Always}
-use Rattle.plan_terms.specs.Plans.{Until, Next}
-use Rattle.plan_terms.specs.ScopeLaws.{AtEach-from_nodes}
-use Rattle.plan_terms.specs.Scopes.{AtEach, IsScopedNode}
-use Rattle.plan_terms.specs.WellFormed.{AreWellFormed, IsWellFormed}
-use Rattle.trace_meaning.specs.Continuation.{last_time}
-use Rattle.trace_audit.specs.Asking.{CanAsk, IsAskable}
-use Rattle.trace_audit.specs.Auditing.{Auditing, Audits, end_of, rules_of}
-use Rattle.trace_audit.specs.Judging.{Anything, AreJudged, IsBefore, IsJudged, rule_at}
-use Rattle.trace_audit.specs.Presents.{IsAt, Moment, moment, placed_guard}
-use Rattle.trace_audit.specs.Verdicts.{IsVerdict, formulas_for}
-use Rattle.trace_audit.specs.declared.following.OpenRule.{OpenRule}
-use Rattle.trace_audit.specs.declared.verdicts.RuleAt.{RuleAt}
-use Rattle.trace_audit.specs.declared.verdicts.Verdict.TheVariants.{Holds, Fails}
 
 -- ---- guards that are placed
 
@@ -51,9 +29,9 @@ same_guards (g ∷ guards) (p ∷ placed) copies =
     λ i. (sym copies.0 i, sym copies.1 i) ∷ same_guards guards placed copies.2 i
 
 placed_back : (placed : List PlacedGuard) (number : ℕ) (g : PlacedGuard) → AllByRecursion LooksBack (map placed_guard placed)
-    → IsGuard placed number g → IsTrue (is_past (formula_of g))
+    → IsGuard placed number g → IsTrue (is_past (guard_formula g))
 placed_back [] number g back is = absurd (none-some g is)
-placed_back (p ∷ placed) zero g back is = subst (λ (h : PlacedGuard). IsTrue (is_past (formula_of h))) (same_Some p g is) back.0
+placed_back (p ∷ placed) zero g back is = subst (λ (h : PlacedGuard). IsTrue (is_past (guard_formula h))) (same_Some p g is) back.0
 placed_back (p ∷ placed) (suc number) g back is = placed_back placed number g back.1 is
 
 -- ---- a plan of a policy can be asked where nothing is bound
@@ -61,8 +39,8 @@ placed_back (p ∷ placed) (suc number) g back is = placed_back placed number g 
 each_askable : (guards : List (Formula × List VarId)) (plan : Plan) (scope : List VarId) → AtEach IsScopedNode plan scope
     → AtEach IsSafeNode plan scope → AtEach (IsListedNode guards) plan scope → AtEach (λ node inner. EndsInTime node) plan scope
     → AtEach (IsAskable guards) plan scope
-each_askable gs (Cause node place name terms) scope s f l e = record { scoped = s; safe = f; listed = l; ends = e }
-each_askable gs (Suppress node place name terms) scope s f l e = record { scoped = s; safe = f; listed = l; ends = e }
+each_askable gs (CausePlan node place name terms) scope s f l e = record { scoped = s; safe = f; listed = l; ends = e }
+each_askable gs (SuppressPlan node place name terms) scope s f l e = record { scoped = s; safe = f; listed = l; ends = e }
 each_askable gs (Both node left right) scope s f l e =
     (record { scoped = s.0; safe = f.0; listed = l.0; ends = e.0 }, each_askable gs left scope s.1 f.1 l.1 e.1, each_askable gs right scope s.2 f.2 l.2 e.2)
 each_askable gs (Either node left right) scope s f l e =
@@ -71,16 +49,16 @@ each_askable gs (TestOr node guard test body) scope s f l e =
     (record { scoped = s.0; safe = f.0; listed = l.0; ends = e.0 }, each_askable gs body scope s.1 f.1 l.1 e.1)
 each_askable gs (Guarded node xs guard test body) scope s f l e =
     (record { scoped = s.0; safe = f.0; listed = l.0; ends = e.0 }, each_askable gs body (scope ++ xs) s.1 f.1 l.1 e.1)
-each_askable gs (Eventually node place low high body) scope s f l e =
+each_askable gs (EventuallyPlan node place low high body) scope s f l e =
     (record { scoped = s.0; safe = f.0; listed = l.0; ends = e.0 }, each_askable gs body scope s.1 f.1 l.1 e.1)
-each_askable gs (Always node place low high body) scope s f l e =
+each_askable gs (AlwaysPlan node place low high body) scope s f l e =
     (record { scoped = s.0; safe = f.0; listed = l.0; ends = e.0 }, each_askable gs body scope s.1 f.1 l.1 e.1)
-each_askable gs (Until node place low high left right) scope s f l e =
+each_askable gs (UntilPlan node place low high left right) scope s f l e =
     (record { scoped = s.0; safe = f.0; listed = l.0; ends = e.0 }, each_askable gs left scope s.1 f.1 l.1 e.1, each_askable gs right scope s.2 f.2 l.2 e.2)
-each_askable gs (Next node place high body) scope s f l e =
+each_askable gs (NextPlan node place high body) scope s f l e =
     (record { scoped = s.0; safe = f.0; listed = l.0; ends = e.0 }, each_askable gs body scope s.1 f.1 l.1 e.1)
 
-root_can : (guards : List (Formula × List VarId)) (plan : Plan) → IsWellFormed guards plan → CanAsk guards plan no_values
+root_can : (guards : List (Formula × List VarId)) (plan : Plan) → IsWellFormed guards plan → CanEvaluatePlan guards plan no_values
 root_can guards plan formed = record {
   scope = [];
   can = each_askable guards plan [] formed.scoped formed.safe formed.listed (AtEach-from_nodes EndsInTime plan [] formed.ends);
@@ -88,10 +66,10 @@ root_can guards plan formed = record {
 }
 
 pub roots_can : (guards : List BoundFormula) (placed : List PlacedGuard) (plans : List Plan) → AreCopies guards placed
-    → AreWellFormed plans (guards_of guards) → AllByRecursion (λ plan. CanAsk (map placed_guard placed) plan no_values) plans
+    → AreWellFormed plans (guards_of guards) → AllByRecursion (λ plan. CanEvaluatePlan (map placed_guard placed) plan no_values) plans
 roots_can guards placed plans copies formed =
-    subst (λ gs. AllByRecursion (λ plan. CanAsk gs plan no_values) plans) (same_guards guards placed copies)
-    (AllByRecursion-weaker (IsWellFormed (guards_of guards)) (λ plan. CanAsk (guards_of guards) plan no_values) plans
+    subst (λ gs. AllByRecursion (λ plan. CanEvaluatePlan gs plan no_values) plans) (same_guards guards placed copies)
+    (AllByRecursion-weaker (IsWellFormed (guards_of guards)) (λ plan. CanEvaluatePlan (guards_of guards) plan no_values) plans
     (root_can (guards_of guards)) formed.each)
 
 -- ---- the step in a longer trace
@@ -107,7 +85,7 @@ module _ (trace more : List Step) (step : Step) where
   pub step_here : step_at (trace ++ step ∷ more) (length trace) ≡ step
   step_here = get_or-append_seam trace step more no_step
 
-  pub is_at : PastDecides → (past : Past) (now : Moment) (guards : List BoundFormula) → AreCopies guards now.tables.guards
+  pub is_at : PastDecides → (past : Past) (now : AuditMoment) (guards : List BoundFormula) → AreCopies guards now.tables.guards
       → AllByRecursion LooksBack (guards_of guards) → now.position ≡ length trace → now.time ≡ step.time
       → now.events ≡ step.events → GuardsWillHold past now.time now.events now.tables
       → PastStands trace past → last_time trace ≤ now.time → IsTrace (trace ++ step ∷ more) → IsAt now (trace ++ step ∷ more)
@@ -119,8 +97,8 @@ module _ (trace more : List Step) (step : Step) where
     guards = λ number g is v binds.
         let told = hold trace step (sym time) (sym events) later stands number g is v binds in
         let past_of = placed_back now.tables.guards number g (subst (AllByRecursion LooksBack) (same_guards guards now.tables.guards copies) back) is in
-        let same = decides (trace ++ step ∷ []) (trace ++ step ∷ more) (length trace) v (formula_of g) past_of agree in
-        let at = λ (p : ℕ). Sat (trace ++ step ∷ more) p v (formula_of g) in (
+        let same = decides (trace ++ step ∷ []) (trace ++ step ∷ more) (length trace) v (guard_formula g) past_of agree in
+        let at = λ (p : ℕ). Sat (trace ++ step ∷ more) p v (guard_formula g) in (
           λ now_holds. subst at (sym position) (same.0 (told.0 now_holds)),
           λ sat. told.1 (same.1 (subst at position sat)),
         );
@@ -130,7 +108,7 @@ module _ (trace more : List Step) (step : Step) where
 
 module _ (policy : List Formula) (trace : List Step) where
   abbrev pub IsVerdictBy : Option RuleAt → Type 0
-  IsVerdictBy first = IsJudged policy trace (length trace) (end_of trace) Anything [] first
+  IsVerdictBy first = IsJudged policy trace (length trace) (end_of trace) NothingElse [] first
 
   pub holds_by : IsVerdictBy None → IsVerdict policy trace Holds
   holds_by judged = λ k d within i there.
@@ -151,30 +129,6 @@ module _ (policy : List Formula) (trace : List Step) where
 
 -- ---- an auditor and one step more
 
--- nothing is asked before the first step
-pub judged_none : (policy : List Formula) (trace : List Step) → AreJudged policy trace (rule_at 0 0) [] None
-judged_none policy trace = record {
-  items = tt;
-  failed = λ at same. absurd (none-some at same);
-  others = λ at rule of before any met rest. absurd (none_before at before);
-}
-  where
-    none_before : (at : RuleAt) → IsBefore at (rule_at 0 0) → ⊥
-    none_before at (inl p) = omega (arith, p)
-    none_before at (inr p) = let less = p.1 in omega (arith, less)
-
-pub audits_none : (auditor : Auditing) → auditor.position ≡ 0 → auditor.last ≡ 0 → auditor.asked ≡ [] → auditor.broken ≡ None
-    → PastStands [] auditor.past → ((time : ℕ) → AreUpToTimeOf time auditor.past.operators) → Audits auditor []
-audits_none auditor position last asked broken past up_to = record {
-  is_trace = record { distinct = λ i less. absurd (omega (arith, less)); ordered = λ i j le less. absurd (omega (arith, less)) };
-  position = position;
-  last = last;
-  past = past;
-  up_to = λ time later. up_to time;
-  judged = λ more is. subst (λ items. AreJudged (rules_of auditor) more (rule_at 0 0) items auditor.broken) (sym asked)
-      (subst (AreJudged (rules_of auditor) more (rule_at 0 0) []) (sym broken) (judged_none (rules_of auditor) more));
-}
-
 module _ (decides : PastDecides) (grows : TraceGrows) (new : LastIsTheNew) (before after : Auditing) (time : ℕ) (events : List Event)
     (trace : List Step) (audits : Audits before trace) (later : before.last ≤ time) where
   abbrev step : Step
@@ -185,19 +139,20 @@ module _ (decides : PastDecides) (grows : TraceGrows) (new : LastIsTheNew) (befo
 
   module _ (tables : PastTables) (copies : AreCopies before.policy.guards tables.guards)
       (back : AllByRecursion LooksBack (guards_of before.policy.guards)) (hold : GuardsWillHold before.past time events tables)
-      (takes : (longer : List Step) → IsAt (moment time before.position events tables) longer
-      → AreJudged (rules_of before) longer (rule_at 0 before.position) before.asked before.broken
-      → AreJudged (rules_of before) longer (rule_at 0 (before.position + 1)) after.asked after.broken) where
+      (takes : (longer : List Step) → IsAt (audit_moment time before.position events tables) longer
+      → AreJudged (audited_rules before) longer (rule_at 0 before.position) before.asked before.broken
+      → AreJudged (audited_rules before) longer (rule_at 0 (before.position + 1)) after.asked after.broken) where
     judged_more : (more : List Step) → IsTrace ((trace ++ step ∷ []) ++ more)
-        → AreJudged (rules_of before) ((trace ++ step ∷ []) ++ more) (end_of (trace ++ step ∷ [])) after.asked after.broken
+        → AreJudged (audited_rules before) ((trace ++ step ∷ []) ++ more) (end_of (trace ++ step ∷ [])) after.asked after.broken
     judged_more more is_trace =
         let longer = trace ++ step ∷ more in
         let is = subst IsTrace (one_more trace more step) is_trace in
-        let at = is_at trace more step decides before.past (moment time before.position events tables) before.policy.guards copies back audits.position refl refl hold audits.past not_before is in
-        let was = subst (λ n. AreJudged (rules_of before) longer (rule_at 0 n) before.asked before.broken) (sym audits.position) (audits.judged (step ∷ more) is) in
+        let at = is_at trace more step decides before.past (audit_moment time before.position events tables) before.policy.guards copies back audits.position refl refl hold audits.past
+        not_before is in
+        let was = subst (λ n. AreJudged (audited_rules before) longer (rule_at 0 n) before.asked before.broken) (sym audits.position) (audits.judged (step ∷ more) is) in
         let long : before.position + 1 ≡ length (trace ++ step ∷ []) = omega (arith, audits.position, length-append trace (step ∷ [])) in
-        subst (λ l. AreJudged (rules_of before) l (end_of (trace ++ step ∷ [])) after.asked after.broken) (sym (one_more trace more step))
-        (subst (λ n. AreJudged (rules_of before) longer (rule_at 0 n) after.asked after.broken) long (takes longer at was))
+        subst (λ l. AreJudged (audited_rules before) l (end_of (trace ++ step ∷ [])) after.asked after.broken) (sym (one_more trace more step))
+        (subst (λ n. AreJudged (audited_rules before) longer (rule_at 0 n) after.asked after.broken) long (takes longer at was))
 
     pub audits_more : after.policy ≡ before.policy → after.position ≡ before.position + 1 → after.last ≡ time → HasNoRepeats events
         → PastStands (trace ++ step ∷ []) after.past → ((t : ℕ) → time ≤ t → AreUpToTimeOf t after.past.operators)
@@ -215,27 +170,27 @@ module _ (decides : PastDecides) (grows : TraceGrows) (new : LastIsTheNew) (befo
 -- ---- the verdict of an auditor
 
 judged_now : (auditor : Auditing) (trace : List Step) → Audits auditor trace
-    → IsJudged (rules_of auditor) trace (length trace) (end_of trace) Anything auditor.asked auditor.broken
+    → IsJudged (audited_rules auditor) trace (length trace) (end_of trace) NothingElse auditor.asked auditor.broken
 judged_now auditor trace audits =
-    subst (λ l. AreJudged (rules_of auditor) l (end_of trace) auditor.asked auditor.broken) (append-nil trace)
+    subst (λ l. AreJudged (audited_rules auditor) l (end_of trace) auditor.asked auditor.broken) (append-nil trace)
     (audits.judged [] (subst IsTrace (sym (append-nil trace)) audits.is_trace))
 
 module _ (auditor : Auditing) (first : Option RuleAt) (seen : List OpenRule) (is : seen ≡ auditor.asked)
-    (finds : (policy : List Formula) (trace : List Step) (end : RuleAt) → IsJudged policy trace (length trace) end Anything seen auditor.broken
-    → IsJudged policy trace (length trace) end Anything [] first) where
-  found : (trace : List Step) → Audits auditor trace → IsVerdictBy (rules_of auditor) trace first
-  found trace audits = finds (rules_of auditor) trace (end_of trace)
-      (subst (λ asked. IsJudged (rules_of auditor) trace (length trace) (end_of trace) Anything asked auditor.broken) (sym is)
+    (finds : (policy : List Formula) (trace : List Step) (end : RuleAt) → IsJudged policy trace (length trace) end NothingElse seen auditor.broken
+    → IsJudged policy trace (length trace) end NothingElse [] first) where
+  found : (trace : List Step) → Audits auditor trace → IsVerdictBy (audited_rules auditor) trace first
+  found trace audits = finds (audited_rules auditor) trace (end_of trace)
+      (subst (λ asked. IsJudged (audited_rules auditor) trace (length trace) (end_of trace) NothingElse asked auditor.broken) (sym is)
       (judged_now auditor trace audits))
 
-  pub verdict_holds : first ≡ None → (trace : List Step) → Audits auditor trace → IsVerdict (rules_of auditor) trace Holds
+  pub verdict_holds : first ≡ None → (trace : List Step) → Audits auditor trace → IsVerdict (audited_rules auditor) trace Holds
   verdict_holds none trace audits =
-      holds_by (rules_of auditor) trace (subst (IsVerdictBy (rules_of auditor) trace) none (found trace audits))
+      holds_by (audited_rules auditor) trace (subst (IsVerdictBy (audited_rules auditor) trace) none (found trace audits))
 
   pub verdict_fails : (at : RuleAt) → first ≡ Some at → (trace : List Step) → Audits auditor trace
-      → IsVerdict (rules_of auditor) trace (Fails at.rule at.position)
+      → IsVerdict (audited_rules auditor) trace (Fails at.rule at.position)
   verdict_fails at some trace audits =
-      fails_by (rules_of auditor) trace at (subst (IsVerdictBy (rules_of auditor) trace) some (found trace audits))
+      fails_by (audited_rules auditor) trace at (subst (IsVerdictBy (audited_rules auditor) trace) some (found trace audits))
 
 -- ---- the front of a trace
 

@@ -1,21 +1,10 @@
 -- There is one verdict, and policies that mean the same have the same one.
-use Rattle.std.proofs.Common.{◌≡◌, ℕ, zero, suc, ◌<◌, List, [], ◌∷◌, length, get_or, Some, refl, sym, subst, arith, ⊎_elim}
-use Rattle.std.specs.Prelude.{slice_get}
-use Rattle.std.specs.List.{AllZip}
-use Rattle.std.proofs.lemmas.Bool.{cases_lt}
-use Rattle.std.proofs.lemmas.Option.{get_or_from_slice_get, none-some, same_Some, slice_get-get_or, slice_get_within}
-use Rattle.enf_value.specs.Valuations.{no_values}
-use Rattle.enf_value.specs.declared.steps.Step.{Step}
-use Rattle.enf_formula.specs.Formulas.{Formula}
-use Rattle.enf_formula.specs.Satisfaction.{Sat}
-use Rattle.enforce_types.specs.PolicyLaws.{MeansSame, PolicyKeepsMeaning}
-use Rattle.plan_terms.specs.PlanFormula.{formula_for}
-use Rattle.plan_terms.specs.Plans.{Plan}
-use Rattle.trace_meaning.specs.Satisfies.{Satisfies}
-use Rattle.trace_audit.specs.Laws.{VerdictIsOfPolicy, VerdictIsOne}
-use Rattle.trace_audit.specs.Verdicts.{HoldsAt, IsBroken, IsFirstBroken, IsVerdict, formulas_for}
-use Rattle.trace_audit.specs.declared.verdicts.Verdict.{Verdict}
-use Rattle.trace_audit.specs.declared.verdicts.Verdict.TheVariants.{Holds, Fails}
+use Rattle.trace_audit.proofs.Vocabulary.{◌≡◌, ℕ, zero, suc, ◌<◌, List, [], ◌∷◌, length, get_or, Some}
+use Rattle.trace_audit.proofs.Vocabulary.{refl, sym, subst, slice_get, AllZip, get_or_from_slice_get, none-some}
+use Rattle.trace_audit.proofs.Vocabulary.{same_Some, slice_get-get_or, slice_get_within, no_values, Step}
+use Rattle.trace_audit.proofs.Vocabulary.{eq_from_neither_less, Formula, Sat, PlanMeans, PolicyKeepsMeaning}
+use Rattle.trace_audit.proofs.Vocabulary.{formula_for, Plan, formulas_for, Satisfies, VerdictIsOfPolicy, VerdictIsOne}
+use Rattle.trace_audit.proofs.Vocabulary.{HoldsAt, IsBroken, IsFirstBroken, IsVerdict, Verdict, Holds, Fails}
 
 -- where a trace satisfies a policy, no rule is broken at a position of it
 satisfied_at : (policy : List Formula) (trace : List Step) → Satisfies trace policy → (rule position : ℕ) → position < length trace
@@ -40,33 +29,27 @@ none_less : (policy : List Formula) (trace : List Step) (rule position other at 
 none_less policy trace rule position other at first too same less =
     first.broken.2 (subst (λ p. Sat trace p no_values first.broken.0) (sym same) (too.first rule less first.broken.0 first.broken.1))
 
-equal_by : (a b : ℕ) → (a < b → ⊥) → (b < a → ⊥) → a ≡ b
-equal_by a b not_less not_more = ⊎_elim
-    (λ less. absurd (not_less less))
-    (λ most. ⊎_elim (λ more. absurd (not_more more)) (λ least. omega (arith, most, least)) (cases_lt b a))
-    (cases_lt a b)
-
 pub verdict_is_one : VerdictIsOne
 verdict_is_one policy trace Holds Holds is too = refl
 verdict_is_one policy trace Holds (Fails rule position) is too = absurd (not_both policy trace rule position is too)
 verdict_is_one policy trace (Fails rule position) Holds is too = absurd (not_both policy trace rule position too is)
 verdict_is_one policy trace (Fails rule position) (Fails other at) is too =
-    let same : position ≡ at = equal_by position at (none_before policy trace rule position other at is too)
+    let same : position ≡ at = eq_from_neither_less position at (none_before policy trace rule position other at is too)
     (none_before policy trace other at rule position too is) in
-    let of : rule ≡ other = equal_by rule other (none_less policy trace rule position other at is too same)
+    let of : rule ≡ other = eq_from_neither_less rule other (none_less policy trace rule position other at is too same)
     (none_less policy trace other at rule position too is (sym same)) in
     λ i. Fails (of i) (same i)
 
 -- ---- policies that mean the same
 
-plan_at : (policy : List Formula) (plans : List Plan) → AllZip MeansSame policy plans → (rule : ℕ) (f : Formula)
-    → slice_get policy rule ≡ Some f → (plan : Plan) × (slice_get (formulas_for plans) rule ≡ Some (formula_for plan)) × MeansSame f plan
+plan_at : (policy : List Formula) (plans : List Plan) → AllZip PlanMeans policy plans → (rule : ℕ) (f : Formula)
+    → slice_get policy rule ≡ Some f → (plan : Plan) × (slice_get (formulas_for plans) rule ≡ Some (formula_for plan)) × PlanMeans f plan
 plan_at [] plans zip rule f of = absurd (none-some f of)
 plan_at (g ∷ policy) [] zip rule f of = absurd zip
-plan_at (g ∷ policy) (plan ∷ plans) zip zero f of = (plan, refl, subst (λ h. MeansSame h plan) (same_Some g f of) zip.0)
+plan_at (g ∷ policy) (plan ∷ plans) zip zero f of = (plan, refl, subst (λ h. PlanMeans h plan) (same_Some g f of) zip.0)
 plan_at (g ∷ policy) (plan ∷ plans) zip (suc rule) f of = plan_at policy plans zip.1 rule f of
 
-formula_at : (policy : List Formula) (plans : List Plan) → AllZip MeansSame policy plans → (rule : ℕ) (f : Formula)
+formula_at : (policy : List Formula) (plans : List Plan) → AllZip PlanMeans policy plans → (rule : ℕ) (f : Formula)
     → slice_get (formulas_for plans) rule ≡ Some f
     → (g : Formula) × (slice_get policy rule ≡ Some g) × ((trace : List Step) (i : ℕ) → Sat trace i no_values g → Sat trace i no_values f)
 formula_at [] [] zip rule f of = absurd (none-some f of)
@@ -76,7 +59,7 @@ formula_at (g ∷ policy) (plan ∷ plans) zip zero f of =
     (g, refl, λ trace i sat. subst (Sat trace i no_values) (same_Some (formula_for plan) f of) ((zip.0 trace i no_values).1 sat))
 formula_at (g ∷ policy) (plan ∷ plans) zip (suc rule) f of = formula_at policy plans zip.1 rule f of
 
-module _ (policy : List Formula) (plans : List Plan) (zip : AllZip MeansSame policy plans) (trace : List Step) where
+module _ (policy : List Formula) (plans : List Plan) (zip : AllZip PlanMeans policy plans) (trace : List Step) where
   holds_too : (rule position : ℕ) → HoldsAt (formulas_for plans) trace rule position → HoldsAt policy trace rule position
   holds_too rule position holds f of =
       let plan = plan_at policy plans zip rule f of in

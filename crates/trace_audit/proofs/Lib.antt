@@ -1,7 +1,8 @@
-pub mod ResidualLemmas
+pub mod Vocabulary
 pub mod AskLemmas
-pub mod WindowLemmas
-pub mod TellLemmas
-pub mod JudgeLemmas
 pub mod AuditLemmas
+pub mod EvaluationLemmas
+pub mod JudgementLemmas
 pub mod LawLemmas
+pub mod ResidualLemmas
+pub mod WindowLemmas

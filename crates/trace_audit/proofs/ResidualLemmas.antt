@@ -1,24 +1,16 @@
 -- What is asked is met where its denial is false, and what two residuals ask for together.
-use Rattle.std.proofs.Common.{◌≡◌, ℕ, ◌<◌, ◌≤◌, Bool, true, false, ◌+◌, List, [], ◌∷◌, ◌++◌, length, take, get_or, refl, sym, ap, ◌∙◌, subst, arith, ⊎_elim, true≢false, Vec, Global}
-use Rattle.std.specs.Prelude.{◌↔◌, IsTrue}
-use Rattle.std.specs.List.{AllByRecursion}
-use Rattle.std.proofs.lemmas.Bool.{cases_lt}
-use Rattle.std.proofs.lemmas.List.{take_more}
-use Rattle.enf_value.specs.ListLaws.{AllByRecursion-append}
-use Rattle.enf_value.specs.Valuations.{Valuation}
-use Rattle.enf_value.specs.declared.steps.Step.{Step}
-use Rattle.enf_value.specs.declared.terms.VarId.{VarId}
-use Rattle.enf_formula.specs.Formulas.{Formula}
-use Rattle.enf_formula.specs.Laws.{IsStable}
-use Rattle.enf_formula.specs.Satisfaction.{Classically, Sat}
-use Rattle.plan_terms.specs.PlanFormula.{formula_for}
-use Rattle.plan_terms.specs.Plans.{Plan, Cause, Suppress, Both, Either, TestOr, Guarded, Eventually, Always}
-use Rattle.plan_terms.specs.Plans.{Until, Next, plan_of}
-use Rattle.trace_audit.specs.Residuals.{Asks, CanGoOn, CanLinkGoOn, CanRowGoOn, IsAllOf, IsAnyOf, IsHung, LinkMeans, LinksMean, Means, Or, RowMeans}
-use Rattle.trace_audit.specs.declared.residuals.Link.{Link}
-use Rattle.trace_audit.specs.declared.residuals.Link.TheBlock.{hidden-the_row-Link-0}
+use Rattle.trace_audit.proofs.Vocabulary.{◌≡◌, ℕ, ◌<◌, ◌≤◌, Bool, ◌+◌, List, [], ◌∷◌}
+use Rattle.trace_audit.proofs.Vocabulary.{◌++◌, length, take, get_or, sym, ap, ◌∙◌, subst, arith, ⊎_elim}
+use Rattle.trace_audit.proofs.Vocabulary.{Vec, Global, ◌↔◌, AllByRecursion, cases_lt, take_more}
+use Rattle.trace_audit.proofs.Vocabulary.{AllByRecursion-append, Valuation, Step, VarId, Formula, Classically, Sat}
+use Rattle.trace_audit.proofs.Vocabulary.{IsStable, formula_for, Plan, CausePlan, SuppressPlan, Both, Either, TestOr}
+use Rattle.trace_audit.proofs.Vocabulary.{Guarded, EventuallyPlan, AlwaysPlan, UntilPlan, NextPlan, plan_of}
+use Rattle.trace_audit.proofs.Vocabulary.{OperatorAsks, ResidualCanGoOn, CanLinkGoOn, CanRowGoOn, IsAllOf, IsAnyOf}
+use Rattle.trace_audit.proofs.Vocabulary.{IsHung, LinkMeans, LinksMean, Means, RowMeans, Link, hidden-the_row-Link-0}
+use Rattle.trace_audit.proofs.Vocabulary.{Residual, Row_of-Link, end_of-Link, more_of-Link, items-the_row-Link}
+use Rattle.trace_audit.proofs.Vocabulary.{items_hidden-the_row-Link-0}
+use Rattle.std.specs.Prelude.{IsTrue}
 use Rattle.trace_audit.specs.declared.residuals.Link.TheVariants as link
-use Rattle.trace_audit.specs.declared.residuals.Residual.{Residual, Row_of-Link, end_of-Link, more_of-Link, items-the_row-Link, items_hidden-the_row-Link-0}
 use Rattle.trace_audit.specs.declared.residuals.Residual.TheVariants as stored
 
 stable_less : (a b : ℕ) → Classically (a < b) → a < b
@@ -35,19 +27,19 @@ rest_of (link.Both rest) = rest
 rest_of (link.Either rest) = rest
 
 module _ (classical : IsClassical) (trace : List Step) (from : ℕ) where
-  stable_asks : (plan : Plan) (v : Valuation) (low high : ℕ) → Classically (Asks trace from plan v low high)
-      → Asks trace from plan v low high
-  stable_asks (Cause node place name terms) v low high twice = twice (λ asks. asks)
-  stable_asks (Suppress node place name terms) v low high twice = twice (λ asks. asks)
+  stable_asks : (plan : Plan) (v : Valuation) (low high : ℕ) → Classically (OperatorAsks trace from plan v low high)
+      → OperatorAsks trace from plan v low high
+  stable_asks (CausePlan node place name terms) v low high twice = twice (λ asks. asks)
+  stable_asks (SuppressPlan node place name terms) v low high twice = twice (λ asks. asks)
   stable_asks (Both node left right) v low high twice = twice (λ asks. asks)
   stable_asks (Either node left right) v low high twice = twice (λ asks. asks)
   stable_asks (TestOr node guard test body) v low high twice = twice (λ asks. asks)
   stable_asks (Guarded node xs guard test body) v low high twice = twice (λ asks. asks)
-  stable_asks (Eventually node place a b body) v low high twice = λ never. twice (λ met. met never)
-  stable_asks (Always node place a b body) v low high twice = λ j left.
+  stable_asks (EventuallyPlan node place a b body) v low high twice = λ never. twice (λ met. met never)
+  stable_asks (AlwaysPlan node place a b body) v low high twice = λ j left.
       classical trace j v (formula_for body) (λ fails. twice (λ all. fails (all j left)))
-  stable_asks (Until node place a b left right) v low high twice = λ never. twice (λ met. met never)
-  stable_asks (Next node place b body) v low high twice = (
+  stable_asks (UntilPlan node place a b left right) v low high twice = λ never. twice (λ met. met never)
+  stable_asks (NextPlan node place b body) v low high twice = (
     stable_less from (length trace) (λ no. twice (λ met. no met.0)),
     stable_most _ high (λ no. twice (λ met. no met.1)),
     classical trace from v (formula_for body) (λ fails. twice (λ met. fails met.2)),
@@ -135,8 +127,8 @@ module _ (guards : List (Formula × List VarId)) where
       let behind = row_can row in (λ can. (can.0, behind.0 can.1), λ can. (can.0, behind.1 can.1))
 
   pub chain_can : (links : Vec Link Global)
-      → CanGoOn guards (stored.Chain links) ↔ AllByRecursion (CanLinkGoOn guards) links.items
-  chain_can links = subst (λ items. CanGoOn guards (stored.Chain links) ↔ AllByRecursion (CanLinkGoOn guards) items)
+      → ResidualCanGoOn guards (stored.Chain links) ↔ AllByRecursion (CanLinkGoOn guards) links.items
+  chain_can links = subst (λ items. ResidualCanGoOn guards (stored.Chain links) ↔ AllByRecursion (CanLinkGoOn guards) items)
       (items_hidden-the_row-Link-0 links) (row_can (hidden-the_row-Link-0 links))
 
 pub hung_on_chain : (links after : Vec Link Global) (one : Link) → after.items ≡ links.items ++ one ∷ []
@@ -162,18 +154,6 @@ hung_on_one rest after one two = record {
 
 -- ---- both of two
 
-pub all_of_met : (right : Residual) → IsAllOf stored.Met right right
-all_of_met right = record { means = λ trace from. (λ m. (tt, m), λ m. m.1); can = λ guards l r. r }
-
-pub all_of_failed : (right : Residual) → IsAllOf stored.Failed right stored.Failed
-all_of_failed right = record { means = λ trace from. (λ m. absurd m, λ m. m.0); can = λ guards l r. tt }
-
-pub all_with_met : (left : Residual) → IsAllOf left stored.Met left
-all_with_met left = record { means = λ trace from. (λ m. (m, tt), λ m. m.0); can = λ guards l r. l }
-
-pub all_with_failed : (left : Residual) → IsAllOf left stored.Failed stored.Failed
-all_with_failed left = record { means = λ trace from. (λ m. absurd m, λ m. m.1); can = λ guards l r. tt }
-
 pub all_turned : (left right rest : Residual) → IsAllOf left right rest → IsAllOf right left rest
 all_turned left right rest both = record {
   means = λ trace from. let m = both.means trace from in
@@ -190,9 +170,6 @@ any_turned left right rest one = record {
   can = λ guards l r. one.can guards r l;
 }
 
-pub any_of_met : (right : Residual) → IsAnyOf stored.Met right stored.Met
-any_of_met right = record { means = λ trace from. (λ m not_left not_right. not_left tt, λ m. tt); can = λ guards l r. tt }
-
 pub any_of_failed : IsClassical → (right : Residual) → IsAnyOf stored.Failed right right
 any_of_failed classical right = record {
   means = λ trace from. (
@@ -202,9 +179,6 @@ any_of_failed classical right = record {
   can = λ guards l r. r;
 }
 
-pub any_with_met : (left : Residual) → IsAnyOf left stored.Met stored.Met
-any_with_met left = record { means = λ trace from. (λ m not_left not_right. not_right tt, λ m. tt); can = λ guards l r. tt }
-
 pub any_with_failed : IsClassical → (left : Residual) → IsAnyOf left stored.Failed left
 any_with_failed classical left = record {
   means = λ trace from. (
@@ -213,10 +187,3 @@ any_with_failed classical left = record {
   );
   can = λ guards l r. l;
 }
-
--- ---- what is met or not
-
--- where the first of two does not hold, the second decides
-pub second_decides : (b : Bool) (P Q : Type 0) → (P → ⊥) → IsTrue b ↔ Q → Or P Q → IsTrue b
-second_decides true P Q fails told either = refl
-second_decides false P Q fails told either = absurd (either fails (λ q. true≢false (sym (told.1 q))))

@@ -1,21 +1,14 @@
 -- What an operator on the future asks for from a position on is what it asks for there and from the next position on.
-use Rattle.std.proofs.Common.{◌≡◌, ℕ, ◌+◌, ◌<◌, ◌≤◌, List, length, sym, subst, arith, inl, inr, ⊎_elim, ◌⊎◌}
-use Rattle.std.specs.Prelude.{◌↔◌}
-use Rattle.std.proofs.lemmas.Bool.{cases_lt}
-use Rattle.enf_value.specs.Data.{step_at}
-use Rattle.enf_value.specs.Membership.{IsIn}
-use Rattle.enf_value.specs.Valuations.{Valuation}
-use Rattle.enf_value.specs.declared.steps.Step.{Step}
-use Rattle.enf_formula.specs.Satisfaction.{elapsed}
-use Rattle.plan_terms.specs.PlanFormula.{formula_for, from_to}
-use Rattle.plan_terms.specs.Plans.{Plan, Eventually, Always, Until, Next}
-use Rattle.trace_audit.specs.Presents.{IsAt, Moment}
-use Rattle.trace_audit.specs.Residuals.{Asks, HoldsFor, IsLeft, Or}
+use Rattle.trace_audit.proofs.Vocabulary.{◌≡◌, ℕ, ◌+◌, ◌<◌, ◌≤◌, List, length, sym, subst, arith}
+use Rattle.trace_audit.proofs.Vocabulary.{inl, inr, ⊎_elim, ◌⊎◌, ◌↔◌, cases_lt, step_at, IsIn, Valuation}
+use Rattle.trace_audit.proofs.Vocabulary.{Step, elapsed, formula_for, interval_from_to, Plan, EventuallyPlan}
+use Rattle.trace_audit.proofs.Vocabulary.{AlwaysPlan, UntilPlan, IsAt, AuditMoment, OperatorAsks, PlanHoldsAt}
+use Rattle.trace_audit.proofs.Vocabulary.{IsLeftInWindow, ClassicallyOr}
 use Rattle.trace_audit.proofs.ResidualLemmas.{IsClassical}
 
 -- ---- positions in a window
 
-module _ (classical : IsClassical) (now : Moment) (trace : List Step) (is : IsAt now trace) where
+module _ (classical : IsClassical) (now : AuditMoment) (trace : List Step) (is : IsAt now trace) where
   abbrev here : ℕ
   here = now.position
 
@@ -26,7 +19,7 @@ module _ (classical : IsClassical) (now : Moment) (trace : List Step) (is : IsAt
   no_earlier j from there = let later = is.is_trace.ordered here j from there in omega (arith, later, time_here)
 
   module _ (low high : ℕ) where
-    behind : (j : ℕ) → IsLeft trace low high (here + 1) j → IsLeft trace low high here j
+    behind : (j : ℕ) → IsLeftInWindow trace low high (here + 1) j → IsLeftInWindow trace low high here j
     behind j left = record {
       from_there = omega (arith, left.from_there);
       is_there = left.is_there;
@@ -34,7 +27,7 @@ module _ (classical : IsClassical) (now : Moment) (trace : List Step) (is : IsAt
       asked = left.asked;
     }
 
-    now_or_behind : (j : ℕ) → IsLeft trace low high here j → (here ≡ j) ⊎ IsLeft trace low high (here + 1) j
+    now_or_behind : (j : ℕ) → IsLeftInWindow trace low high here j → (here ≡ j) ⊎ IsLeftInWindow trace low high (here + 1) j
     now_or_behind j left = ⊎_elim
         (λ less. inr (record {
           from_there = omega (arith, less);
@@ -45,10 +38,7 @@ module _ (classical : IsClassical) (now : Moment) (trace : List Step) (is : IsAt
         (λ most. inl (omega (arith, most, left.from_there)))
         (cases_lt here j)
 
-    not_over : (j : ℕ) → IsLeft trace low high here j → now.time ≤ high
-    not_over j left = let later = no_earlier j left.from_there left.is_there in omega (arith, later, left.asked)
-
-    at_once : low ≤ now.time → now.time ≤ high → IsLeft trace low high here here
+    at_once : low ≤ now.time → now.time ≤ high → IsLeftInWindow trace low high here here
     at_once lower upper = record {
       from_there = omega arith;
       is_there = is.there;
@@ -59,7 +49,7 @@ module _ (classical : IsClassical) (now : Moment) (trace : List Step) (is : IsAt
     time_at : (j : ℕ) → here ≡ j → (step_at trace j).time ≡ now.time
     time_at j same = subst (λ k. (step_at trace k).time ≡ now.time) same time_here
 
-    early : now.time < low → (j : ℕ) → IsLeft trace low high here j → IsLeft trace low high (here + 1) j
+    early : now.time < low → (j : ℕ) → IsLeftInWindow trace low high here j → IsLeftInWindow trace low high (here + 1) j
     early below j left = ⊎_elim
         (λ same. absurd (let time = time_at j same in omega (arith, below, time, left.begun)))
         (λ later. later)
@@ -68,34 +58,19 @@ module _ (classical : IsClassical) (now : Moment) (trace : List Step) (is : IsAt
     -- ---- what is over, and what is too early
 
     module _ (v : Valuation) (node place a b : ℕ) where
-      pub eventually_over : (body : Plan) → high < now.time → Asks trace here (Eventually node place a b body) v low high → ⊥
-      eventually_over body over asks = asks (λ met. let still = not_over met.0 met.1 in omega (arith, over, still))
-
-      pub always_over : (body : Plan) → high < now.time → Asks trace here (Always node place a b body) v low high
-      always_over body over = λ j left. absurd (let still = not_over j left in omega (arith, over, still))
-
-      pub until_over : (left right : Plan) → high < now.time → Asks trace here (Until node place a b left right) v low high → ⊥
-      until_over left right over asks = asks (λ met. let still = not_over met.0 met.1 in omega (arith, over, still))
-
       pub eventually_early : (body : Plan) → now.time < low
-          → Asks trace here (Eventually node place a b body) v low high ↔ Asks trace (here + 1) (Eventually node place a b body) v low high
+          → OperatorAsks trace here (EventuallyPlan node place a b body) v low high ↔ OperatorAsks trace (here + 1) (EventuallyPlan node place a b body) v low high
       eventually_early body below = (
         λ asks never. asks (λ met. never (met.0, early below met.0 met.1, met.2)),
         λ asks never. asks (λ met. never (met.0, behind met.0 met.1, met.2)),
       )
 
-      pub always_early : (body : Plan) → now.time < low
-          → Asks trace here (Always node place a b body) v low high ↔ Asks trace (here + 1) (Always node place a b body) v low high
-      always_early body below = (λ asks j left. asks j (behind j left), λ asks j left. asks j (early below j left))
-
-      -- ---- what is asked for at the position, and behind it
-
       pub eventually_now : (body : Plan) → low ≤ now.time → now.time ≤ high
-          → Asks trace here (Eventually node place a b body) v low high
-          ↔ Or (HoldsFor trace v body here) (Asks trace (here + 1) (Eventually node place a b body) v low high)
+          → OperatorAsks trace here (EventuallyPlan node place a b body) v low high
+          ↔ ClassicallyOr (PlanHoldsAt trace v body here) (OperatorAsks trace (here + 1) (EventuallyPlan node place a b body) v low high)
       eventually_now body lower upper = (
         λ asks not_now not_later. asks (λ met. ⊎_elim
-            (λ same. not_now (subst (HoldsFor trace v body) (sym same) met.2))
+            (λ same. not_now (subst (PlanHoldsAt trace v body) (sym same) met.2))
             (λ later. not_later (λ never. never (met.0, later, met.2)))
             (now_or_behind met.0 met.1)),
         λ either never. either
@@ -103,28 +78,17 @@ module _ (classical : IsClassical) (now : Moment) (trace : List Step) (is : IsAt
             (λ asks. asks (λ met. never (met.0, behind met.0 met.1, met.2))),
       )
 
-      pub always_now : (body : Plan) → low ≤ now.time → now.time ≤ high
-          → Asks trace here (Always node place a b body) v low high
-          ↔ (HoldsFor trace v body here × Asks trace (here + 1) (Always node place a b body) v low high)
-      always_now body lower upper = (
-        λ asks. (asks here (at_once lower upper), λ j left. asks j (behind j left)),
-        λ both j left. ⊎_elim
-            (λ same. subst (HoldsFor trace v body) same both.0)
-            (λ later. both.1 j later)
-            (now_or_behind j left),
-      )
-
-      left_before : (left : Plan) (j : ℕ) → HoldsFor trace v left here
-          → ((k : ℕ) → here + 1 ≤ k → k < j → HoldsFor trace v left k) → (k : ℕ) → here ≤ k → k < j
-          → HoldsFor trace v left k
+      left_before : (left : Plan) (j : ℕ) → PlanHoldsAt trace v left here
+          → ((k : ℕ) → here + 1 ≤ k → k < j → PlanHoldsAt trace v left k) → (k : ℕ) → here ≤ k → k < j
+          → PlanHoldsAt trace v left k
       left_before left j holds rest k from before = ⊎_elim
           (λ less. rest k (omega (arith, less)) before)
-          (λ most. subst (HoldsFor trace v left) {x = here} {y = k} (omega (arith, most, from)) holds)
+          (λ most. subst (PlanHoldsAt trace v left) {x = here} {y = k} (omega (arith, most, from)) holds)
           (cases_lt here k)
 
       pub until_early : (left right : Plan) → now.time < low
-          → Asks trace here (Until node place a b left right) v low high
-          ↔ (HoldsFor trace v left here × Asks trace (here + 1) (Until node place a b left right) v low high)
+          → OperatorAsks trace here (UntilPlan node place a b left right) v low high
+          ↔ (PlanHoldsAt trace v left here × OperatorAsks trace (here + 1) (UntilPlan node place a b left right) v low high)
       until_early left right below = (
         λ asks. (
           asks_left asks,
@@ -133,18 +97,18 @@ module _ (classical : IsClassical) (now : Moment) (trace : List Step) (is : IsAt
         λ both never. both.1 (λ met. never (met.0, behind met.0 met.1, met.2, left_before left met.0 both.0 met.3)),
       )
         where
-          asks_left : Asks trace here (Until node place a b left right) v low high → HoldsFor trace v left here
+          asks_left : OperatorAsks trace here (UntilPlan node place a b left right) v low high → PlanHoldsAt trace v left here
           asks_left asks = classical trace here v (formula_for left) (λ fails. asks (λ met.
               let later = early below met.0 met.1 in
               fails (met.3 here (omega arith) (omega (arith, later.from_there)))))
 
       pub until_now : (left right : Plan) → low ≤ now.time → now.time ≤ high
-          → Asks trace here (Until node place a b left right) v low high
-          ↔ Or (HoldsFor trace v right here)
-          (HoldsFor trace v left here × Asks trace (here + 1) (Until node place a b left right) v low high)
+          → OperatorAsks trace here (UntilPlan node place a b left right) v low high
+          ↔ ClassicallyOr (PlanHoldsAt trace v right here)
+          (PlanHoldsAt trace v left here × OperatorAsks trace (here + 1) (UntilPlan node place a b left right) v low high)
       until_now left right lower upper = (
         λ asks not_now not_later. asks (λ met. ⊎_elim
-            (λ same. not_now (subst (HoldsFor trace v right) (sym same) met.2))
+            (λ same. not_now (subst (PlanHoldsAt trace v right) (sym same) met.2))
             (λ later. not_later (
               met.3 here (omega arith) (omega (arith, later.from_there)),
               λ never. never (met.0, later, met.2, λ k from before. met.3 k (omega (arith, from)) before),
@@ -157,8 +121,8 @@ module _ (classical : IsClassical) (now : Moment) (trace : List Step) (is : IsAt
 
   -- ---- operators that begin to wait at the position
 
-  in_window : (a b j : ℕ) → here ≤ j → j < length trace → IsIn (from_to a b) (elapsed trace here j)
-      → IsLeft trace (now.time + a) (now.time + b) here j
+  in_window : (a b j : ℕ) → here ≤ j → j < length trace → IsIn (interval_from_to a b) (elapsed trace here j)
+      → IsLeftInWindow trace (now.time + a) (now.time + b) here j
   in_window a b j from there within =
       let later = no_earlier j from there in record {
         from_there = from;
@@ -167,35 +131,28 @@ module _ (classical : IsClassical) (now : Moment) (trace : List Step) (is : IsAt
         asked = omega (arith, time_here, later, within.1);
       }
 
-  is_in : (a b j : ℕ) → IsLeft trace (now.time + a) (now.time + b) here j → IsIn (from_to a b) (elapsed trace here j)
+  is_in : (a b j : ℕ) → IsLeftInWindow trace (now.time + a) (now.time + b) here j → IsIn (interval_from_to a b) (elapsed trace here j)
   is_in a b j left = (omega (arith, time_here, left.begun), omega (arith, time_here, left.asked))
 
   module _ (v : Valuation) (node place a b : ℕ) where
-    pub eventually_begun : (body : Plan) → HoldsFor trace v (Eventually node place a b body) here
-        ↔ Asks trace here (Eventually node place a b body) v (now.time + a) (now.time + b)
+    pub eventually_begun : (body : Plan) → PlanHoldsAt trace v (EventuallyPlan node place a b body) here
+        ↔ OperatorAsks trace here (EventuallyPlan node place a b body) v (now.time + a) (now.time + b)
     eventually_begun body = (
       λ holds never. holds (λ met. never (met.0, in_window a b met.0 met.1 met.2 met.3, met.4)),
       λ asks never. asks (λ met. never (met.0, met.1.from_there, met.1.is_there, is_in a b met.0 met.1, met.2, λ k from before. tt)),
     )
 
-    pub always_begun : (body : Plan) → HoldsFor trace v (Always node place a b body) here
-        ↔ Asks trace here (Always node place a b body) v (now.time + a) (now.time + b)
+    pub always_begun : (body : Plan) → PlanHoldsAt trace v (AlwaysPlan node place a b body) here
+        ↔ OperatorAsks trace here (AlwaysPlan node place a b body) v (now.time + a) (now.time + b)
     always_begun body = (
       λ holds j left. classical trace j v (formula_for body) (λ fails.
           holds (λ never. never (j, left.from_there, left.is_there, is_in a b j left, fails, λ k from before. tt))),
       λ asks some. some (λ met. met.4 (asks met.0 (in_window a b met.0 met.1 met.2 met.3))),
     )
 
-    pub until_begun : (left right : Plan) → HoldsFor trace v (Until node place a b left right) here
-        ↔ Asks trace here (Until node place a b left right) v (now.time + a) (now.time + b)
+    pub until_begun : (left right : Plan) → PlanHoldsAt trace v (UntilPlan node place a b left right) here
+        ↔ OperatorAsks trace here (UntilPlan node place a b left right) v (now.time + a) (now.time + b)
     until_begun left right = (
       λ holds never. holds (λ met. never (met.0, in_window a b met.0 met.1 met.2 met.3, met.4, met.5)),
       λ asks never. asks (λ met. never (met.0, met.1.from_there, met.1.is_there, is_in a b met.0 met.1, met.2, met.3)),
-    )
-
-    pub next_begun : (body : Plan) → HoldsFor trace v (Next node place b body) here
-        ↔ Asks trace (here + 1) (Next node place b body) v (now.time + a) (now.time + b)
-    next_begun body = (
-      λ holds. (holds.0, omega (arith, time_here, holds.1.1), holds.2),
-      λ asks. (asks.0, (omega arith, omega (arith, time_here, asks.1)), asks.2),
     )

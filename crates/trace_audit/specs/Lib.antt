@@ -1,8 +1,2 @@
-pub mod Asking
-pub mod Auditing
-pub mod Cases
-pub mod Judging
-pub mod Laws
-pub mod Presents
-pub mod Residuals
-pub mod Verdicts
+pub mod meaning
+pub mod machine

@@ -1,18 +1,18 @@
 //! Auditors, which take a trace step by step.
 ghost use Rattle.std.specs.Prelude.{◌≡◌, ◌+◌, ◌≤◌, ◌<◌, ◌^◌, [], IfOk, List, OnOk, length};
-ghost use Rattle.enf_value.specs.declared.steps.Step.{Step};
-ghost use Rattle.enforce_types.specs.Typed.{typed_of};
-ghost use Rattle.trace_meaning.specs.Continuation.{last_time};
-ghost use Rattle.trace_meaning.specs.Records.{most_time};
+ghost use Rattle.enf_data.specs.declared.steps.Step.{Step};
+ghost use Rattle.enforce_types.specs.machine.TypedPolicies.{typed_of};
+ghost use Rattle.trace_meaning.specs.meaning.Traces.{last_time, most_time};
 ghost use Rattle.trace_meaning.specs.declared.kinds.StepKind.TheVariants.{Inserted};
-ghost use Rattle.trace_audit.specs.Auditing.{Audits, HasTaken, IsNewOf, IsStanding, rules_of};
-ghost use Rattle.trace_audit.specs.Verdicts.{IsVerdict, formulas_for};
+ghost use Rattle.trace_audit.specs.machine.Auditors.{Audits, HasTaken, IsNewAuditor, AuditsSome, audited_rules};
+ghost use Rattle.trace_audit.specs.meaning.Verdicts.{IsVerdict};
+ghost use Rattle.plan_terms.specs.machine.StoredPlans.{formulas_for};
 
-use crate::following::{Followed, first_broken, follow_step};
+use crate::followed_rules::{Followed, first_broken, follow_step};
 use crate::verdicts::{RuleAt, Verdict};
+use enf_data::event_sets::EventSet;
+use enf_data::memory::NoMemory;
 use enf_formula::laws::dependence;
-use enf_value::event_sets::EventSet;
-use enf_value::memory::NoMemory;
 use enforce_types::TypedPolicy;
 use monitorable_guard::StepEvents;
 use past_state::PastState;
@@ -33,14 +33,14 @@ pub struct Auditor<'p> {
 }
 
 impl<'p> Model for Auditor<'p> {
-    ghost use Rattle.trace_audit.specs.Auditing.{Auditing, IsAuditing};
-    ghost use Rattle.enforce_types.specs.contracts.typed_policy.TypedPolicy as typed;
-    ghost use Rattle.past_state.specs.PastCodes.{past_code};
-    ghost use Rattle.plan_terms.specs.contracts.plans.Plan as plan;
+    ghost use Rattle.trace_audit.specs.machine.Auditors.{Auditing, IsAuditing};
+    ghost use Rattle.past_state.specs.machine.PastCodes.{past_code};
     ghost use Rattle.std.specs.Coded.{codes};
     ghost use Rattle.std.specs.Prelude.{[]};
-    ghost use Rattle.trace_audit.specs.contracts.residuals.Residual as residual;
     ghost use mir.Syntax.{named};
+    ghost use Rattle.enforce_types.specs.contracts.typed_policy.TypedPolicy as typed;
+    ghost use Rattle.plan_terms.specs.contracts.plans.Plan as plan;
+    ghost use Rattle.trace_audit.specs.contracts.residuals.Residual as residual;
 
     ghost Value = { Auditing };
 
@@ -74,7 +74,7 @@ impl<'p> Model for Auditor<'p> {
 impl<'p> Auditor<'p> {
     /// An auditor of the policy that has taken no step.
     pub fn new(alloc: Global, policy: &'p TypedPolicy) -> Result<Auditor<'p>, NoMemory>
-        ensures made { IfOk result (IsNewOf policy.now) }
+        ensures made { IfOk result (IsNewAuditor policy.now) }
         ensures stands { IfOk result (λ auditor. Audits auditor []) }
     {
         let past = PastState::new(alloc, policy.guards())?;
@@ -90,10 +90,10 @@ impl<'p> Auditor<'p> {
         })
     }
 
-    /// Takes a step, whose time is not before that of the last one. After want of memory it stands for no trace: it is
-    /// fit to be dropped.
+    /// Takes a step, whose time is not before that of the last one. Once memory has run out, it stands for no trace:
+    /// it is fit to be dropped.
     pub fn step(&mut self, alloc: Global, time: u64, events: &EventSet) -> Result<(), NoMemory>
-        requires stands { IsStanding self.old }
+        requires stands { AuditsSome self.old }
         requires later { self.old.last ≤ time }
         requires in_time { time ≤ most_time Inserted }
         requires room { self.old.position + 1 < 2 ^ 64 }
@@ -123,7 +123,7 @@ impl<'p> Auditor<'p> {
 
     /// The verdict on the steps that were taken, where no other one comes.
     pub fn verdict(&self) -> Verdict
-        ensures { (trace : List Step) → Audits self.now trace → IsVerdict (rules_of self.now) trace result }
+        ensures { (trace : List Step) → Audits self.now trace → IsVerdict (audited_rules self.now) trace result }
     {
         match first_broken(self.followed.asked.as_slice(), self.followed.broken) {
             None => Verdict::Holds,

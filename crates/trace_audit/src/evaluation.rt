@@ -1,23 +1,25 @@
-//! What a plan still asks of the steps behind the one that is looked at, where its formula is to hold there.
+//! What a plan still asks of the steps after the one that is looked at, where its formula is to hold there.
 ghost use Rattle.std.specs.Prelude.{◌≡◌, ◌≤◌, IfOk, List, Contains};
 ghost use Rattle.std.specs.List.{AllByRecursion};
-ghost use Rattle.enf_formula.specs.Satisfaction.{Sat};
-ghost use Rattle.enf_value.specs.declared.limits.TheConstants.{MOST_INTERVAL_END};
-ghost use Rattle.enf_value.specs.declared.values.Value.{Value as AnyValue};
-ghost use Rattle.plan_terms.specs.Limits.{EndsInTime};
-ghost use Rattle.plan_terms.specs.PlanFormula.{formula_for};
-ghost use Rattle.plan_terms.specs.Plans.{plan_of};
-ghost use Rattle.trace_meaning.specs.Records.{most_time};
+ghost use Rattle.enf_formula.specs.meaning.Satisfaction.{Sat};
+ghost use Rattle.enf_data.specs.declared.limits.TheConstants.{MOST_INTERVAL_END};
+ghost use Rattle.enf_data.specs.declared.values.Value.{Value as AnyValue};
+ghost use Rattle.plan_terms.specs.machine.WellFormed.{EndsInTime};
+ghost use Rattle.plan_terms.specs.meaning.Plans.{formula_for};
+ghost use Rattle.plan_terms.specs.machine.StoredPlans.{plan_of};
+ghost use Rattle.trace_meaning.specs.meaning.Traces.{most_time};
 ghost use Rattle.trace_meaning.specs.declared.kinds.StepKind.TheVariants.{Inserted};
-ghost use Rattle.valuations.specs.Scopes.{bound_in, filled};
-ghost use Rattle.trace_audit.specs.Asking.{CanAsk};
-ghost use Rattle.trace_audit.specs.Presents.{IsBegun, Tells, guards_at, moment_of};
-ghost use Rattle.trace_audit.specs.Residuals.{AsksFor, CanGoOn, CanLinkGoOn, HoldsFor, LinksMean, Means};
+ghost use Rattle.valuations.specs.machine.Bindings.{bound_in, filled_from_row};
+ghost use Rattle.trace_audit.specs.machine.AskablePlans.{CanEvaluatePlan};
+ghost use Rattle.trace_audit.specs.machine.Moments.{IsBegunWaiting, TellsRest, moment_of};
+ghost use Rattle.past_state.specs.machine.GuardPlaces.{guards_at};
+ghost use Rattle.trace_audit.specs.machine.Residuals.{WaitingAsks, ResidualCanGoOn, CanLinkGoOn, PlanHoldsAt};
+ghost use Rattle.trace_audit.specs.machine.Residuals.{LinksMean, Means};
 
-use crate::present::Present;
+use crate::present_step::Present;
 use crate::residuals::{Link, Residual, Waiting, all, any, settled};
+use enf_data::memory::NoMemory;
 use enf_formula::laws::is_classical;
-use enf_value::memory::NoMemory;
 use plan_terms::Plan;
 use plan_terms::laws::columns_are_variables;
 use std::alloc::Global;
@@ -32,10 +34,10 @@ pub fn evaluate<'p, 'a>(
     v: &'a Frame<'a>,
     now: &Present<'_>,
 ) -> Result<Residual<'p>, NoMemory>
-    requires can { CanAsk (guards_at now.now.tables.now) (plan_of plan.now) (bound_in v.now) }
+    requires can { CanEvaluatePlan (guards_at now.now.tables.now) (plan_of plan.now) (bound_in v.now) }
     requires in_time { now.now.time ≤ most_time Inserted }
-    ensures { IfOk result (Tells (moment_of now.now)
-        (λ trace. HoldsFor trace (bound_in v.now) (plan_of plan.now) now.now.position)) }
+    ensures { IfOk result (TellsRest (moment_of now.now)
+        (λ trace. PlanHoldsAt trace (bound_in v.now) (plan_of plan.now) now.now.position)) }
 {
     is_classical();
     match plan {
@@ -79,7 +81,7 @@ pub fn evaluate<'p, 'a>(
     }
 }
 
-// The same under each row of a table.
+// What is asked where the plan's formula is to hold at the step under each row of a table.
 #[cycle(evaluating)]
 fn evaluate_under<'p, 'a>(
     alloc: Global,
@@ -88,11 +90,12 @@ fn evaluate_under<'p, 'a>(
     v: &'a Frame<'a>,
     now: &Present<'_>,
 ) -> Result<Residual<'p>, NoMemory>
-    requires can { (row : List AnyValue) → Contains rows.now.rows row → CanAsk (guards_at now.now.tables.now)
-        (plan_of body.now) (filled (bound_in v.now) rows.now.columns row) }
+    requires can { (row : List AnyValue) → Contains rows.now.rows row
+        → CanEvaluatePlan (guards_at now.now.tables.now)
+        (plan_of body.now) (filled_from_row (bound_in v.now) rows.now.columns row) }
     requires in_time { now.now.time ≤ most_time Inserted }
-    ensures { IfOk result (Tells (moment_of now.now) (λ trace. AllByRecursion (λ row. HoldsFor trace
-        (filled (bound_in v.now) rows.now.columns row) (plan_of body.now) now.now.position) rows.now.rows)) }
+    ensures { IfOk result (TellsRest (moment_of now.now) (λ trace. AllByRecursion (λ row. PlanHoldsAt trace
+        (filled_from_row (bound_in v.now) rows.now.columns row) (plan_of body.now) now.now.position) rows.now.rows)) }
 {
     let mut rest = Residual::Met;
     for row in rows.rows() {
@@ -110,9 +113,9 @@ pub fn wake<'p>(
     waiting: Waiting<'p>,
     now: &Present<'_>,
 ) -> Result<Residual<'p>, NoMemory>
-    requires can { CanAsk (guards_at now.now.tables.now) (plan_of waiting.node.now) waiting.valuation }
+    requires can { CanEvaluatePlan (guards_at now.now.tables.now) (plan_of waiting.node.now) waiting.valuation }
     requires in_time { now.now.time ≤ most_time Inserted }
-    ensures { IfOk result (Tells (moment_of now.now) (λ trace. AsksFor trace now.now.position waiting.entry)) }
+    ensures { IfOk result (TellsRest (moment_of now.now) (λ trace. WaitingAsks trace now.now.position waiting.entry)) }
 {
     is_classical();
     let node = waiting.node;
@@ -174,7 +177,7 @@ fn begin<'p>(
 ) -> Result<Waiting<'p>, NoMemory>
     requires ends { (window.0 ≤ window.1) × (window.1 ≤ MOST_INTERVAL_END) }
     requires in_time { now.now.time ≤ most_time Inserted }
-    ensures { IfOk result (IsBegun (moment_of now.now) (plan_of node.now) (bound_in v.now) window.0 window.1) }
+    ensures { IfOk result (IsBegunWaiting (moment_of now.now) (plan_of node.now) (bound_in v.now) window.0 window.1) }
 {
     let valuation = valuation_in(alloc, v)?;
     Ok(Waiting {
@@ -192,9 +195,9 @@ pub fn progress<'p>(
     rest: Residual<'p>,
     now: &Present<'_>,
 ) -> Result<Residual<'p>, NoMemory>
-    requires can { CanGoOn (guards_at now.now.tables.now) rest }
+    requires can { ResidualCanGoOn (guards_at now.now.tables.now) rest }
     requires in_time { now.now.time ≤ most_time Inserted }
-    ensures { IfOk result (Tells (moment_of now.now) (λ trace. Means trace now.now.position rest.entry)) }
+    ensures { IfOk result (TellsRest (moment_of now.now) (λ trace. Means trace now.now.position rest.entry)) }
 {
     match rest {
         Residual::Met => Ok(Residual::Met),
@@ -212,7 +215,7 @@ fn progress_chain<'p>(
 ) -> Result<Residual<'p>, NoMemory>
     requires can { AllByRecursion (CanLinkGoOn (guards_at now.now.tables.now)) links.items }
     requires in_time { now.now.time ≤ most_time Inserted }
-    ensures { IfOk result (Tells (moment_of now.now)
+    ensures { IfOk result (TellsRest (moment_of now.now)
         (λ trace. LinksMean trace now.now.position (Unit {0}) links.entry.items)) }
 {
     let mut rest = Residual::Met;

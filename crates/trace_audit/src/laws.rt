@@ -1,5 +1,5 @@
 //! Laws of verdicts, each the contract of a function that does nothing.
-ghost use Rattle.trace_audit.specs.Laws.{VerdictIsOfPolicy, VerdictIsOne};
+ghost use Rattle.trace_audit.specs.machine.Laws.{VerdictIsOfPolicy, VerdictIsOne};
 
 use enforce_types::laws::policy_plans_keep_meaning;
 

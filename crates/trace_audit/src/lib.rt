@@ -4,9 +4,9 @@
 
 pub mod auditor;
 mod evaluation;
-mod following;
+mod followed_rules;
 pub mod laws;
-mod present;
+mod present_step;
 mod residuals;
 pub mod verdicts;
 pub mod worked_cases;

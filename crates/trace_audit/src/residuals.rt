@@ -1,11 +1,12 @@
 //! What is still asked of the steps to come. What an operator on the future asks for at one step after the other stands
 //! in one list, so that a residual is no deeper than the plan that it is of, however long the trace is.
 ghost use Rattle.std.specs.Prelude.{◌↔◌, IfOk, IsTrue, List, length};
-ghost use Rattle.enf_value.specs.declared.steps.Step.{Step};
-ghost use Rattle.trace_audit.specs.Residuals.{IsAllOf, IsAnyOf, IsHung, IsSettled, LinkMeans, LinksMean, Means};
+ghost use Rattle.enf_data.specs.declared.steps.Step.{Step};
+ghost use Rattle.trace_audit.specs.machine.Residuals.{IsAllOf, IsAnyOf, IsHung, IsSettledResidual, LinkMeans};
+ghost use Rattle.trace_audit.specs.machine.Residuals.{LinksMean, Means};
 
+use enf_data::memory::NoMemory;
 use enf_formula::laws::is_classical;
-use enf_value::memory::NoMemory;
 use plan_terms::Plan;
 use std::alloc::Global;
 use valuations::Valuation;
@@ -40,7 +41,7 @@ pub enum Link<'p> {
 
 // What is met or failed.
 pub fn settled<'p>(met: bool) -> Residual<'p>
-    ensures { IsSettled met result }
+    ensures { IsSettledResidual met result }
 {
     if met { Residual::Met } else { Residual::Failed }
 }
@@ -126,7 +127,7 @@ fn is_chain_met(links: &Vec<Link<'_>>) -> bool
     met
 }
 
-// With a link behind what is met or not.
+// With a link after what is met or not.
 #[cycle(meeting)]
 fn is_link_met(met: bool, link: &Link<'_>) -> bool
     ensures { (trace : List Step) → IsTrue result ↔ LinkMeans trace (length trace) (IsTrue met) link.now }

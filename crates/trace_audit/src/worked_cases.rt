@@ -1,8 +1,8 @@
 //! Worked cases of verdicts at the last position of a trace, each a clause of a function with an empty body.
 ghost use Rattle.std.specs.Prelude.{[], ◌∷◌};
-ghost use Rattle.enf_formula.specs.Cases.{formula_p, formula_q};
-ghost use Rattle.trace_audit.specs.Cases.{one_step, p_always_later, q_later, q_next, q_now, q_until_q_later};
-ghost use Rattle.trace_audit.specs.Verdicts.{IsVerdict};
+ghost use Rattle.enf_formula.specs.machine.Cases.{formula_p, formula_q};
+ghost use Rattle.trace_audit.specs.machine.Cases.{one_step, p_always_later, q_later, q_next, q_now, q_until_q_later};
+ghost use Rattle.trace_audit.specs.meaning.Verdicts.{IsVerdict};
 ghost use Rattle.trace_audit.specs.declared.verdicts.Verdict.TheVariants.{Fails, Holds};
 
 /// What needs a position that does not exist fails, what speaks of all such positions holds.

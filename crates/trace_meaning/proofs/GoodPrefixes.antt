@@ -2,9 +2,10 @@
 use Rattle.std.proofs.Common.{◌≡◌, ◌≤◌, [], ◌++◌, sym, subst, ◌∙◌, append_assoc, arith}
 use Rattle.std.proofs.lemmas.List.{append-nil}
 use Rattle.std.proofs.lemmas.List.Elements.{All-nil, All-weaker, All-append, All-from_get_or}
-use Rattle.enf_value.specs.Data.{IsTrace}
-use Rattle.enf_value.specs.declared.steps.Step.{Step}
-use Rattle.trace_meaning.specs.Laws.{SatisfyingIsGood, GoodFromEarlier, GoodFromLonger, FrontIsGood, GoodIsTrace}
+use Rattle.enf_data.specs.meaning.Data.{IsTrace}
+use Rattle.enf_data.specs.declared.steps.Step.{Step}
+use Rattle.trace_meaning.specs.machine.Laws.{SatisfyingIsGood, GoodFromEarlier, GoodFromLonger, FrontIsGood}
+use Rattle.trace_meaning.specs.machine.Laws.{GoodIsTrace}
 use Rattle.trace_meaning.proofs.Growth.{not_earlier, trace_front}
 
 pub satisfying_is_good : SatisfyingIsGood
@@ -13,13 +14,30 @@ satisfying_is_good policy trace clock t h =
 
 pub good_from_earlier : GoodFromEarlier
 good_from_earlier policy trace clock earlier le good =
-    let c = good.1 in
-    (good.0, record { more = c.more; begins = c.begins; later = All-weaker (λ (step : Step). clock ≤ step.time) (λ step. earlier ≤ step.time) (λ step h. omega arith) c.more c.later; is_trace = c.is_trace }, good.2)
+    let c = good.1 in (
+      good.0,
+      record {
+        more = c.more;
+        begins = c.begins;
+        later = All-weaker (λ (step : Step). clock ≤ step.time) (λ step. earlier ≤ step.time) (λ step h. omega arith) c.more c.later;
+        is_trace = c.is_trace;
+      },
+      good.2,
+    )
 
 pub good_from_longer : GoodFromLonger
 good_from_longer policy trace more clock later good =
-    let c = good.1 in
-    (good.0, record { more = more ++ c.more; begins = c.begins ∙ append_assoc trace more c.more; later = All-append (λ (step : Step). clock ≤ step.time) more c.more (All-from_get_or (λ (step : Step). clock ≤ step.time) more (record { time = 0; events = [] }) later) c.later; is_trace = c.is_trace }, good.2)
+    let c = good.1 in (
+      good.0,
+      record {
+        more = more ++ c.more;
+        begins = c.begins ∙ append_assoc trace more c.more;
+        later = All-append (λ (step : Step). clock ≤ step.time) more c.more
+            (All-from_get_or (λ (step : Step). clock ≤ step.time) more (record { time = 0; events = [] }) later) c.later;
+        is_trace = c.is_trace;
+      },
+      good.2,
+    )
 
 pub front_is_good : FrontIsGood
 front_is_good policy trace more clock good =

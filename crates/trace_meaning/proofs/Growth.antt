@@ -1,13 +1,14 @@
 -- Traces that grow.
-use Rattle.std.proofs.Common.{◌≡◌, ℕ, zero, suc, ◌+◌, ◌<◌, ◌≤◌, List, [], ◌∷◌, ◌++◌, length, get_or, refl, sym, ap, subst, ◌∙◌, arith, length-append, ⊎_elim}
+use Rattle.std.proofs.Common.{◌≡◌, ℕ, zero, suc, ◌+◌, ◌<◌, ◌≤◌, List, [], ◌∷◌, ◌++◌}
+use Rattle.std.proofs.Common.{length, get_or, refl, sym, ap, subst, ◌∙◌, arith, length-append, ⊎_elim}
 use Rattle.std.specs.List.{All}
 use Rattle.std.proofs.lemmas.Bool.{cases_lt}
 use Rattle.std.proofs.lemmas.List.{get_or-append-add, get_or_append_left, get_or_at, get_or_default}
-use Rattle.enf_value.specs.Data.{IsTrace, step_at, no_step}
-use Rattle.enf_value.specs.Membership.{HasNoRepeats}
-use Rattle.enf_value.specs.declared.steps.Step.{Step}
-use Rattle.trace_meaning.specs.Continuation.{last_time}
-use Rattle.trace_meaning.specs.Laws.{TraceGrows, LastIsTheNew, LastIsAtTheEnd, NoneIsLater}
+use Rattle.enf_data.specs.meaning.Data.{IsTrace, step_at, no_step}
+use Rattle.enf_data.specs.meaning.Membership.{HasNoRepeats}
+use Rattle.enf_data.specs.declared.steps.Step.{Step}
+use Rattle.trace_meaning.specs.meaning.Traces.{last_time}
+use Rattle.trace_meaning.specs.machine.Laws.{TraceGrows, LastIsTheNew, LastIsAtTheEnd, NoneIsLater}
 
 pub last_is_the_new : LastIsTheNew
 last_is_the_new [] step = refl
@@ -75,7 +76,7 @@ trace_front trace more t = record {
     left : (i : ℕ) → i < length trace → step_at (trace ++ more) i ≡ step_at trace i
     left i below = get_or_append_left trace more no_step i below
 
--- what stands behind steps of a trace is not earlier than the last of them
+-- what stands after steps of a trace is not earlier than the last of them
 pub not_earlier : (trace more : List Step) → IsTrace (trace ++ more) → All (λ step. last_time trace ≤ step.time) more
 not_earlier [] more t k d l = omega arith
 not_earlier (step ∷ trace) more t k d l =

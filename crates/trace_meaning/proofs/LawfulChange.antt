@@ -1,12 +1,11 @@
--- Lawful change, one list of records behind another.
+-- Lawful change, one list of records after another.
 use Rattle.std.proofs.Common.{ℕ, zero, suc, ◌≤◌, List, [], ◌∷◌, ◌++◌, map, arith}
 use Rattle.std.specs.List.{All}
 use Rattle.std.proofs.lemmas.List.Elements.{All-append, All-head, All-tail, All-weaker}
-use Rattle.enf_value.specs.Membership.{HasNoRepeats}
-use Rattle.trace_meaning.specs.Laws.{OrderOfAny, WithinJoins, LawfulJoins}
-use Rattle.trace_meaning.specs.Lawful.{AreInOrder, IsInsertedLawfully, IsLaterThan}
-use Rattle.trace_meaning.specs.OutSteps.{OutStep, IsUntil, event_of}
-use Rattle.trace_meaning.specs.RecordLaws.{records_changed_join}
+use Rattle.enf_data.specs.meaning.Membership.{HasNoRepeats}
+use Rattle.trace_meaning.specs.machine.Laws.{OrderOfAny, WithinJoins, LawfulJoins}
+use Rattle.trace_meaning.specs.meaning.Traces.{AreInOrder, IsInsertedLawfully, IsLaterThan, OutStep, IsUntil, event_of}
+use Rattle.trace_meaning.proofs.RecordLaws.{records_changed_join}
 use Rattle.trace_meaning.specs.declared.kinds.StepKind.{StepKind}
 use Rattle.trace_meaning.specs.declared.kinds.StepKind.TheVariants.{System, Inserted}
 
@@ -26,7 +25,8 @@ in_order_join : (c : ℕ) (out more : List OutStep) → All (λ o. IsUntil c o.k
 in_order_join c [] more until from a b = b
 in_order_join c (o ∷ out) more until from a b = (
   All-append (λ p. IsLaterThan o.kind p.kind o.step.time p.step.time) out more a.0
-      (All-weaker (λ p. c ≤ p.step.time) (λ p. IsLaterThan o.kind p.kind o.step.time p.step.time) (λ p h. later_from o.kind p.kind o.step.time p.step.time c (All-head (λ o. IsUntil c o.kind o.step.time) o out until) h) more from),
+      (All-weaker (λ p. c ≤ p.step.time) (λ p. IsLaterThan o.kind p.kind o.step.time p.step.time)
+      (λ p h. later_from o.kind p.kind o.step.time p.step.time c (All-head (λ o. IsUntil c o.kind o.step.time) o out until) h) more from),
   in_order_join c out more (All-tail (λ o. IsUntil c o.kind o.step.time) o out until) from a.1 b,
 )
 
@@ -37,7 +37,8 @@ until_weaker Inserted c d t le h = omega arith
 pub within_joins : WithinJoins
 within_joins a b c out more ab bc first then = record {
   from = All-append (λ o. a ≤ o.step.time) out more first.from (All-weaker (λ o. b ≤ o.step.time) (λ o. a ≤ o.step.time) (λ o h. omega arith) more then.from);
-  until = All-append (λ o. IsUntil c o.kind o.step.time) out more (All-weaker (λ o. IsUntil b o.kind o.step.time) (λ o. IsUntil c o.kind o.step.time) (λ o h. until_weaker o.kind b c o.step.time bc h) out first.until) then.until;
+  until = All-append (λ o. IsUntil c o.kind o.step.time) out more (All-weaker (λ o. IsUntil b o.kind o.step.time) (λ o. IsUntil c o.kind o.step.time)
+      (λ o h. until_weaker o.kind b c o.step.time bc h) out first.until) then.until;
 }
 
 pub lawful_joins : LawfulJoins

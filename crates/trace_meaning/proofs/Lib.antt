@@ -1,4 +1,5 @@
-pub mod Records
+pub mod GoodPrefixes
 pub mod Growth
 pub mod LawfulChange
-pub mod GoodPrefixes
+pub mod RecordLaws
+pub mod Records

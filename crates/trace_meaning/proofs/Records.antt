@@ -1,7 +1,7 @@
--- Records, one list behind another.
+-- Records, one list after another.
 use Rattle.std.proofs.Common.{[], ◌∷◌, refl, arith}
-use Rattle.trace_meaning.specs.Laws.{RecordsJoin, ClockJoins, ClockRises}
-use Rattle.trace_meaning.specs.Records.{time_of}
+use Rattle.trace_meaning.specs.machine.Laws.{RecordsJoin, ClockJoins, ClockRises}
+use Rattle.trace_meaning.specs.meaning.Traces.{time_of}
 
 pub records_join : RecordsJoin
 records_join clock [] more first then = then

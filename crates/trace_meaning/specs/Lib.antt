@@ -1,14 +1,2 @@
-pub use Rattle.enf_value.specs.Data
-pub use Rattle.enf_formula.specs.Formulas
-pub use Rattle.enf_formula.specs.Satisfaction
-pub mod Cases
-pub mod Continuation
-pub mod Enforced
-pub mod Good
-pub mod Laws
-pub mod Lawful
-pub mod OutSteps
-pub mod RecordLaws
-pub mod Records
-pub mod Satisfies
-pub mod Start
+pub mod meaning
+pub mod machine

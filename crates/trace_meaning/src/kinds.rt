@@ -1,4 +1,4 @@
-//! Kinds of steps that go out.
+//! Kinds of steps that are emitted.
 
 /// Whose step it is: the system's, or one that was inserted.
 #[derive(Clone, Copy, Debug, PartialEq, Eq)]

@@ -1,10 +1,10 @@
 //! Laws of records, traces, lawful change and good prefixes, each the contract of a function with an empty body.
-ghost use Rattle.trace_meaning.specs.Laws.{RecordsJoin, ClockJoins, ClockRises, TraceGrows, LastIsTheNew};
-ghost use Rattle.trace_meaning.specs.Laws.{LastIsAtTheEnd, NoneIsLater};
-ghost use Rattle.trace_meaning.specs.Laws.{OrderOfAny, WithinJoins, LawfulJoins};
-ghost use Rattle.trace_meaning.specs.Laws.{SatisfyingIsGood, GoodFromEarlier, GoodFromLonger, FrontIsGood, GoodIsTrace};
+ghost use Rattle.trace_meaning.specs.machine.Laws.{RecordsJoin, ClockJoins, ClockRises, TraceGrows, LastIsTheNew};
+ghost use Rattle.trace_meaning.specs.machine.Laws.{LastIsAtTheEnd, NoneIsLater, OrderOfAny, WithinJoins, LawfulJoins};
+ghost use Rattle.trace_meaning.specs.machine.Laws.{SatisfyingIsGood, GoodFromEarlier, GoodFromLonger, FrontIsGood};
+ghost use Rattle.trace_meaning.specs.machine.Laws.{GoodIsTrace};
 
-/// Records one behind another.
+/// Records one after another.
 pub fn records_join()
     ensures never_fall { RecordsJoin }
     ensures clock { ClockJoins }
@@ -23,7 +23,7 @@ pub fn last_time_of_trace()
     ensures none_later { NoneIsLater }
 {}
 
-/// Lawful changes one behind another.
+/// Lawful changes one after another.
 pub fn lawful_joins()
     ensures order { OrderOfAny }
     ensures within { WithinJoins }

@@ -2,10 +2,10 @@
 ghost use Rattle.std.specs.Prelude.{◌≡◌, ◌≤◌, [], ◌∷◌, ◌++◌, length, slice_get, IsTrue};
 ghost use Rattle.std.specs.Prelude.{◌↔◌, IfErr, OnOk, OnErr};
 ghost use Rattle.std.specs.Option.{option_copied};
-ghost use Rattle.enf_value.specs.Data.{IsTrace};
-ghost use Rattle.trace_meaning.specs.Continuation.{last_time};
+ghost use Rattle.enf_data.specs.meaning.Data.{IsTrace};
+ghost use Rattle.trace_meaning.specs.meaning.Traces.{last_time};
 
-use enf_value::steps::Step;
+use enf_data::steps::Step;
 use std::alloc::Global;
 use std::marker::Model;
 
@@ -17,8 +17,8 @@ pub struct Trace {
 
 impl Model for Trace {
     ghost use Rattle.std.specs.Prelude.{List};
-    ghost use Rattle.enf_value.specs.Data.{IsTrace};
-    ghost use Rattle.enf_value.specs.declared.steps.Step.{Step as Seen};
+    ghost use Rattle.enf_data.specs.meaning.Data.{IsTrace};
+    ghost use Rattle.enf_data.specs.declared.steps.Step.{Step as Seen};
 
     ghost Value = { List Seen };
 
@@ -37,7 +37,7 @@ impl Trace {
         }
     }
 
-    /// Puts a step last, or hands it back for want of memory.
+    /// Puts a step last, or hands it back where memory runs out.
     pub fn push(&mut self, step: Step) -> Result<(), Step>
         requires { last_time self.old ≤ step.time }
         ensures ok { OnOk result (self.new ≡ self.old ++ step ∷ []) }

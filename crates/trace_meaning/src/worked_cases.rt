@@ -1,15 +1,12 @@
 //! Worked cases of the definitions, each a clause of a function with an empty body.
 ghost use Rattle.std.specs.Prelude.{[], ◌∷◌};
-ghost use Rattle.enf_formula.specs.Cases.{event_p, event_q, at_time};
-ghost use Rattle.trace_meaning.specs.Cases.{IsLawful, IsUnlawful, IsNeverLawful, recorded_at};
-ghost use Rattle.trace_meaning.specs.Cases.{may_cause, may_suppress, system_at, inserted_at};
-ghost use Rattle.trace_meaning.specs.Cases.{q_at_1, q_then_p, p_in_time};
-ghost use Rattle.trace_meaning.specs.Continuation.{Continuation};
-ghost use Rattle.trace_meaning.specs.Enforced.{Enforced, KeepsUp};
-ghost use Rattle.trace_meaning.specs.Good.{Good, GoodPrefix};
-ghost use Rattle.trace_meaning.specs.OutSteps.{Cause, Suppress};
-ghost use Rattle.trace_meaning.specs.Records.{Tick, NeverFall};
-ghost use Rattle.trace_meaning.specs.Start.{from_nothing};
+ghost use Rattle.enf_formula.specs.machine.Cases.{event_p, event_q, at_time};
+ghost use Rattle.trace_meaning.specs.machine.Cases.{IsLawful, IsUnlawful, IsNeverLawful, recorded_at, may_cause};
+ghost use Rattle.trace_meaning.specs.machine.Cases.{may_suppress, system_at, inserted_at, q_at_1, q_then_p};
+ghost use Rattle.trace_meaning.specs.machine.Cases.{policy_p_in_time};
+ghost use Rattle.trace_meaning.specs.meaning.Traces.{Continuation, Good, Cause, Suppress, from_nothing, Tick};
+ghost use Rattle.trace_meaning.specs.meaning.Traces.{NeverFall};
+ghost use Rattle.trace_meaning.specs.meaning.Enforced.{GoodPrefix, Enforced, KeepsUp};
 
 /// Changes of the records' own steps.
 pub fn changes()
@@ -62,16 +59,16 @@ pub fn continuing()
     ensures from_its_time { Continuation q_at_1 3 q_then_p }
     ensures from_a_later_time { Continuation q_at_1 4 q_then_p → ⊥ }
     ensures from_no_front { Continuation (at_time 1 (event_p ∷ []) ∷ []) 0 q_then_p → ⊥ }
-    ensures good_at_the_last_moment { Good p_in_time q_at_1 3 }
-    ensures good_prefix { GoodPrefix p_in_time q_at_1 }
-    ensures too_late { Good p_in_time q_at_1 4 → ⊥ }
-    ensures keeps_up { KeepsUp may_cause may_suppress p_in_time from_nothing
+    ensures good_at_the_last_moment { Good policy_p_in_time q_at_1 3 }
+    ensures good_prefix { GoodPrefix policy_p_in_time q_at_1 }
+    ensures too_late { Good policy_p_in_time q_at_1 4 → ⊥ }
+    ensures keeps_up { KeepsUp may_cause may_suppress policy_p_in_time from_nothing
         (recorded_at 1 (event_q ∷ []) ∷ Tick 3 ∷ []) (system_at 1 (event_q ∷ []) [] ∷ []) }
-    ensures keeps_up_no_more { KeepsUp may_cause may_suppress p_in_time from_nothing
+    ensures keeps_up_no_more { KeepsUp may_cause may_suppress policy_p_in_time from_nothing
         (recorded_at 1 (event_q ∷ []) ∷ Tick 4 ∷ []) (system_at 1 (event_q ∷ []) [] ∷ []) → ⊥ }
-    ensures not_all_that_is_owed { Enforced may_cause may_suppress p_in_time from_nothing
+    ensures not_all_that_is_owed { Enforced may_cause may_suppress policy_p_in_time from_nothing
         (recorded_at 1 (event_q ∷ []) ∷ Tick 3 ∷ []) (system_at 1 (event_q ∷ []) [] ∷ []) → ⊥ }
-    ensures all_that_is_owed { Enforced may_cause may_suppress p_in_time
+    ensures all_that_is_owed { Enforced may_cause may_suppress policy_p_in_time
         (record { trace = q_at_1; clock = 2 }) []
         (inserted_at 3 (event_p ∷ []) (Cause event_p ∷ []) ∷ []) }
 {}

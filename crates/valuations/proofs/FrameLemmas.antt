@@ -1,37 +1,31 @@
 -- Valuations that are made of a frame's values, one after another.
-use Rattle.std.proofs.Common.{◌≡◌, ℕ, ◌+◌, ◌<◌, ◌≤◌, List, [], ◌∷◌, ◌++◌, length, take, drop, get_or, min, Contains, Option, None, Some, refl, sym, ap, subst, ◌∙◌, arith, ⊎_elim, Bool, true, false, true≢false, not}
-use Rattle.std.proofs.lemmas.Bool.{cases_lt}
-use Rattle.std.proofs.lemmas.List.{drop_all, take_more}
-use Rattle.std.proofs.lemmas.List.Elements.{Contains-append_left, Contains-append_right}
-use Rattle.std.proofs.lemmas.Option.{none-some}
-use Rattle.std.specs.Borrow.{Bor}
-use Rattle.std.specs.Option.{is_some, option_copied}
-use Rattle.enf_value.specs.ListLaws.{Contains-append, first_or_later, here, none_in_nil}
-use Rattle.enf_value.specs.Valuations.{Valuation, same_valuation, value_at}
-use Rattle.enf_value.specs.declared.terms.VarId.{VarId}
-use Rattle.enf_value.specs.declared.values.Value.{Value}
-use Rattle.valuations.specs.Bindings.{with_value}
-use Rattle.valuations.specs.Columns.{among_or_not}
-use Rattle.valuations.specs.RowLaws.{value_at-bound, value_at-other}
-use Rattle.valuations.specs.ScopeLaws.{part_inside, part_outside, same_or_other}
-use Rattle.valuations.specs.Scopes.{IsPartOf, filled, part_of}
+use Rattle.valuations.proofs.Vocabulary.{◌≡◌, ℕ, ◌+◌, ◌<◌, ◌≤◌, List, [], ◌∷◌, ◌++◌}
+use Rattle.valuations.proofs.Vocabulary.{length, take, drop, get_or, min, Contains, Option, None, Some, refl, sym, ap}
+use Rattle.valuations.proofs.Vocabulary.{subst, ◌∙◌, arith, ⊎_elim, Bool, true, false, true≢false, not}
+use Rattle.valuations.proofs.Vocabulary.{cases_lt, drop_all, take_more, Contains-append_left, Contains-append_right}
+use Rattle.valuations.proofs.Vocabulary.{none-some, Bor, is_some, option_copied, Contains-append, first_or_later, here}
+use Rattle.valuations.proofs.Vocabulary.{none_in_nil, Valuation, value_at, same_valuation, VarId, Value, with_value}
+use Rattle.valuations.proofs.Vocabulary.{filled_from_row, valuation_part}
+use Rattle.valuations.proofs.ColumnLaws.{among_or_not}
+use Rattle.valuations.proofs.RowLaws.{value_at-bound, value_at-other}
+use Rattle.valuations.proofs.ScopeLaws.{part_inside, part_outside, same_or_other, IsPartOfValuation}
 
 -- what binds just what v binds of some variables is that part of v
-pub part_same : (v : Valuation) (xs : List VarId) (part : Valuation) → IsPartOf v xs part → part ≡ part_of v xs
-part_same v xs part is = same_valuation part (part_of v xs) (λ x. ⊎_elim
+pub part_same : (v : Valuation) (xs : List VarId) (part : Valuation) → IsPartOfValuation v xs part → part ≡ valuation_part v xs
+part_same v xs part is = same_valuation part (valuation_part v xs) (λ x. ⊎_elim
     (λ there. is.inside x there ∙ sym (part_inside v xs x there))
     (λ absent. is.outside x absent ∙ sym (part_outside v xs x absent))
     (among_or_not xs x))
 
 -- one variable more
 module _ (v : Valuation) (xs : List VarId) (k : ℕ) (x d : VarId) (within : k < length xs) (at : x ≡ get_or xs k d)
-    (part : Valuation) (is : IsPartOf v (take k xs) part) where
+    (part : Valuation) (is : IsPartOfValuation v (take k xs) part) where
   more : take (k + 1) xs ≡ take k xs ++ x ∷ []
   more = take_more xs k d within ∙ ap (λ y. take k xs ++ y ∷ []) (sym at)
 
   grown : (after : Valuation) → value_at after x ≡ value_at v x
-      → ((y : VarId) → (x ≡ y → ⊥) → value_at after y ≡ value_at part y) → IsPartOf v (take (k + 1) xs) after
-  grown after bound others = subst (λ l. IsPartOf v l after) (sym more) (record {
+      → ((y : VarId) → (x ≡ y → ⊥) → value_at after y ≡ value_at part y) → IsPartOfValuation v (take (k + 1) xs) after
+  grown after bound others = subst (λ l. IsPartOfValuation v l after) (sym more) (record {
     inside = λ y there. ⊎_elim
         (λ same. subst (λ z. value_at after z ≡ value_at v z) same bound)
         (λ other. others y other ∙ is.inside y (⊎_elim
@@ -45,30 +39,30 @@ module _ (v : Valuation) (xs : List VarId) (k : ℕ) (x d : VarId) (within : k <
         (same_or_other x y);
   })
 
-  pub part_bound : (value : Value) → value_at v x ≡ Some value → IsPartOf v (take (k + 1) xs) (with_value part x value)
+  pub part_bound : (value : Value) → value_at v x ≡ Some value → IsPartOfValuation v (take (k + 1) xs) (with_value part x value)
   part_bound value has =
       grown (with_value part x value) (value_at-bound part x x value refl ∙ sym has) (λ y other. value_at-other part x y value other)
 
   -- it had its value before
-  pub part_kept : (value_at part x ≡ None → ⊥) → IsPartOf v (take (k + 1) xs) part
+  pub part_kept : (value_at part x ≡ None → ⊥) → IsPartOfValuation v (take (k + 1) xs) part
   part_kept some = grown part (⊎_elim
       (λ there. is.inside x there)
       (λ absent. absurd (some (is.outside x absent)))
       (among_or_not (take k xs) x)) (λ y other. refl)
 
   -- it has none
-  pub part_without : value_at part x ≡ None → value_at v x ≡ None → IsPartOf v (take (k + 1) xs) part
+  pub part_without : value_at part x ≡ None → value_at v x ≡ None → IsPartOfValuation v (take (k + 1) xs) part
   part_without none absent = grown part (none ∙ sym absent) (λ y other. refl)
 
 -- where columns or values are used up, nothing more is bound
 pub filled_end : (v : Valuation) (columns : List VarId) (row : List Value) (n : ℕ) → n ≡ min (length columns) (length row)
-    → filled v (drop n columns) (drop n row) ≡ v
+    → filled_from_row v (drop n columns) (drop n row) ≡ v
 filled_end v columns row n is = ⊎_elim
-    (λ lt. let short : length row ≤ n = omega arith in ap (λ l. filled v (drop n columns) l) (drop_all n row short) ∙ no_more (drop n columns))
-    (λ le. let short : length columns ≤ n = omega arith in ap (λ l. filled v l (drop n row)) (drop_all n columns short))
+    (λ lt. let short : length row ≤ n = omega arith in ap (λ l. filled_from_row v (drop n columns) l) (drop_all n row short) ∙ no_more (drop n columns))
+    (λ le. let short : length columns ≤ n = omega arith in ap (λ l. filled_from_row v l (drop n row)) (drop_all n columns short))
     (cases_lt (length row) (length columns))
   where
-    no_more : (columns : List VarId) → filled v columns [] ≡ v
+    no_more : (columns : List VarId) → filled_from_row v columns [] ≡ v
     no_more [] = refl
     no_more (column ∷ columns) = refl
 

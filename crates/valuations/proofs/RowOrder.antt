@@ -1,19 +1,16 @@
 -- The order of rows is total, and what a sort, a `dedup` and a search by it leave and find.
-use Rattle.std.proofs.Common.{◌≡◌, ℕ, ◌+◌, true, List, length, get_or, Result, Ok, Err, Contains, IsTrue, ◌↔◌, refl, sym, ap, subst, ◌∙◌, arith, is_ok, inl, inr, ⊎_elim}
-use Rattle.std.specs.Cmp.{IsTotalOrder, tied_itself, eq_by_cmp_equiv}
-use Rattle.std.specs.FinMap.{IsAntisymmetric}
-use Rattle.std.specs.List.{dedup}
-use Rattle.std.specs.List.Sorted.{IsSorted, IsStrictlySortedBy, IsPermutation, IsBinarySearchResult, IsSearchInRange}
-use Rattle.std.specs.Ordering.{is_lt, is_eq, eq_by_cmp, ordering_reverse}
-use Rattle.std.specs.declared.cmp.Ordering.{Ordering}
-use Rattle.std.specs.declared.cmp.Ordering.TheVariants.{Less, Equal, Greater}
-use Rattle.std.proofs.lemmas.Bool.{false≢true, cases_lt}
-use Rattle.std.proofs.lemmas.List.Sorted.{searchable_from_sorted, Contains-permutation, IsPermutation-sym}
-use Rattle.std.proofs.lemmas.List.Kept.{Contains-dedup, Contains-from_dedup, IsStrictlySortedBy-dedup}
-use Rattle.std.proofs.lemmas.Map.Keys.{Less-from_sorted}
-use Rattle.enf_value.specs.Order.{row_cmp}
-use Rattle.enf_value.specs.declared.values.Value.{Value}
-pub use Rattle.valuations.specs.KeyLaws.{value_cmp_total, value_cmp_exact, row_cmp_total, row_cmp_exact, key_cmp_total, key_cmp_exact, no_tie}
+use Rattle.valuations.proofs.Vocabulary.{◌≡◌, ℕ, ◌+◌, true, List, length, get_or, Result, Ok, Err, Contains}
+use Rattle.valuations.proofs.Vocabulary.{IsTrue, ◌↔◌, refl, sym, ap, subst, ◌∙◌, arith, is_ok, inl, inr}
+use Rattle.valuations.proofs.Vocabulary.{⊎_elim, IsTotalOrder, tied_itself, eq_by_cmp_equiv, IsAntisymmetric, dedup}
+use Rattle.valuations.proofs.Vocabulary.{IsSorted, IsPermutation, IsBinarySearchResult, IsSearchInRange, is_lt, is_eq}
+use Rattle.valuations.proofs.Vocabulary.{eq_by_cmp, ordering_reverse, Ordering, Less, Equal, Greater, false≢true}
+use Rattle.valuations.proofs.Vocabulary.{cases_lt, searchable_from_sorted, Contains-permutation, IsPermutation-sym}
+use Rattle.valuations.proofs.Vocabulary.{Contains-dedup, Contains-from_dedup, IsStrictlySortedBy-dedup}
+use Rattle.valuations.proofs.Vocabulary.{Less-from_sorted, row_cmp, Value}
+use Rattle.std.specs.List.Sorted.{IsStrictlySortedBy}
+pub use Rattle.enf_data.proofs.ValueOrder.{value_cmp_total, value_cmp_exact, row_cmp_total, row_cmp_exact}
+pub use Rattle.valuations.proofs.KeyLaws.{key_cmp_total, key_cmp_exact}
+pub use Rattle.enf_data.proofs.SortedSearch.{no_tie}
 
 ties_same : {K : Type 0} (R : K → K → Ordering) → IsAntisymmetric R → (x y : K) → eq_by_cmp R x y ≡ true → x ≡ y
 ties_same R exact x y e = by (R x y) refl e
@@ -29,11 +26,15 @@ sorted_from_strict {R = R} o xs rising k d low within =
     ap is_lt (o.antisymm (get_or xs (k + 1) d) (get_or xs k d) ∙ ap ordering_reverse (Less-from_sorted R xs k (k + 1) d rising (omega arith) within))
 
 -- where a search by the order ends tells whether the key is there
-pub search_tells : {K : Type 0} {R : K → K → Ordering} → IsTotalOrder R → IsAntisymmetric R → (xs : List K) (x : K) (r : Result ℕ ℕ) → IsStrictlySortedBy R xs → IsSearchInRange r (length xs) → IsBinarySearchResult (λ y. R y x) xs r → IsTrue (is_ok r) ↔ Contains xs x
+pub search_tells : {K : Type 0} {R : K → K → Ordering} → IsTotalOrder R → IsAntisymmetric R → (xs : List K) (x : K) (r : Result ℕ ℕ) → IsStrictlySortedBy R xs
+    → IsSearchInRange r (length xs) → IsBinarySearchResult (λ y. R y x) xs r → IsTrue (is_ok r) ↔ Contains xs x
 search_tells {R = R} o exact xs x (Ok i) rising within at = (λ _. (i, within, exact _ _ (at x)), λ _. refl)
 search_tells {R = R} o exact xs x (Err i) rising within at =
-    let parted = at (searchable_from_sorted o (λ k. k) xs x (sorted_from_strict o xs rising)) in
-    (λ t. absurd (false≢true t), λ there. absurd (no_tie _ (ap (λ y. R y x) there.2 ∙ tied_itself o x) (⊎_elim (λ below. inl (parted.0 there.0 x (omega arith) below)) (λ above. inr (parted.1 there.0 x above there.1)) (cases_lt there.0 i))))
+    let parted = at (searchable_from_sorted o (λ k. k) xs x (sorted_from_strict o xs rising)) in (
+      λ t. absurd (false≢true t),
+      λ there. absurd (no_tie _ (ap (λ y. R y x) there.2 ∙ tied_itself o x)
+          (⊎_elim (λ below. inl (parted.0 there.0 x (omega arith) below)) (λ above. inr (parted.1 there.0 x above there.1)) (cases_lt there.0 i))),
+    )
 
 -- what a sort and a `dedup` leave: the rows strictly rise, and they are those that were there
 pub record IsSortedSet (before after : List (List Value)) : Type 0 where

@@ -1,12 +1,1 @@
-pub mod Bindings
-pub mod Tables
-pub mod Columns
-pub mod RowLaws
-pub mod Cells
-pub mod Comparisons
-pub mod Terms
-pub mod Just
-pub mod Scopes
-pub mod ScopeLaws
-pub mod KeyLaws
-pub mod SearchLaws
+pub mod machine

@@ -1,17 +1,16 @@
 //! The values of rows at some places.
-ghost use Rattle.std.specs.Prelude.{◌≡◌, [], ◌∷◌, ◌++◌, Some, IfOk, OnOk};
-ghost use Rattle.std.specs.Prelude.{IfSome, IfNone, All, Contains};
-ghost use Rattle.std.specs.Prelude.{length, slice_get};
+ghost use Rattle.std.specs.Prelude.{◌≡◌, [], ◌∷◌, ◌++◌, Some, IfOk, OnOk, IfSome, IfNone, All};
+ghost use Rattle.std.specs.Prelude.{Contains, length, slice_get};
 ghost use Rattle.std.specs.Option.{option_cmp, option_copied};
-ghost use Rattle.enf_value.specs.Order.{value_cmp};
-ghost use Rattle.valuations.specs.Cells.{key, part, key_cmp, ArePlaces};
-ghost use Rattle.valuations.specs.Tables.{shared, not_shared};
+ghost use Rattle.enf_data.specs.meaning.Values.{value_cmp};
+ghost use Rattle.valuations.specs.machine.RowParts.{row_key, row_part, key_cmp, ArePlaces};
+ghost use Rattle.valuations.specs.machine.Tables.{columns_shared, columns_unshared};
 
-use enf_value::items::Duplicate;
-use enf_value::memory::NoMemory;
-use enf_value::rows::Row;
-use enf_value::terms::VarId;
-use enf_value::values::Value;
+use enf_data::items::Duplicate;
+use enf_data::memory::NoMemory;
+use enf_data::rows::Row;
+use enf_data::terms::VarId;
+use enf_data::values::Value;
 use std::alloc::Global;
 use std::cmp::Ordering;
 
@@ -21,7 +20,7 @@ pub fn shared_columns(
     columns: &[VarId],
     others: &[VarId],
 ) -> Result<Vec<VarId>, NoMemory>
-    ensures { IfOk result (λ found. found.items ≡ shared columns.now others.now) }
+    ensures { IfOk result (λ found. found.items ≡ columns_shared columns.now others.now) }
 {
     let mut found = Vec::new(alloc);
     for other in others {
@@ -38,7 +37,7 @@ pub fn new_columns(
     columns: &[VarId],
     others: &[VarId],
 ) -> Result<Vec<VarId>, NoMemory>
-    ensures { IfOk result (λ found. found.items ≡ not_shared columns.now others.now) }
+    ensures { IfOk result (λ found. found.items ≡ columns_unshared columns.now others.now) }
 {
     let mut found = Vec::new(alloc);
     for other in others {
@@ -76,7 +75,7 @@ pub fn place_of(columns: &[VarId], wanted: VarId) -> Option<usize>
 
 pub fn compare_keys(a: &Row, left: &[usize], b: &Row, right: &[usize]) -> Ordering
     requires { length left.now ≡ length right.now }
-    ensures { result ≡ key_cmp (key a.now left.now) (key b.now right.now) }
+    ensures { result ≡ key_cmp (row_key a.now left.now) (row_key b.now right.now) }
 {
     for (at, other) in left.iter().zip(right) {
         match compare_cells(a.get(*at), b.get(*other)) {
@@ -93,7 +92,7 @@ pub fn append_part(
     places: &[usize],
     out: &mut Row,
 ) -> Result<(), NoMemory>
-    ensures { OnOk result (out.new ≡ out.old ++ part row.now places.now) }
+    ensures { OnOk result (out.new ≡ out.old ++ row_part row.now places.now) }
 {
     for place in places {
         if let Some(value) = row.get(*place) {

@@ -1,20 +1,20 @@
 //! The rows for which a comparison holds, and those that agree with a valuation.
 ghost use Rattle.std.specs.Prelude.{◌≡◌, ◌↔◌, IfOk, IsTrue, Contains, map, filter, length};
 ghost use Rattle.std.specs.Option.{option_copied};
-ghost use Rattle.enf_value.specs.Valuations.{Valuation as Bound, value_at, value_of};
-ghost use Rattle.enf_value.specs.declared.terms.VarId.{VarId as Variable};
-ghost use Rattle.valuations.specs.Comparisons.{Compares, compares, is_as_bound, is_bound_same};
-ghost use Rattle.valuations.specs.Tables.{IsTable, Has, AgreesWhereBound};
-ghost use Rattle.valuations.specs.Terms.{IsColumnOf, operand_value, ReadsTerm};
+ghost use Rattle.enf_data.specs.meaning.Valuations.{Valuation as Bound, value_at, value_of_term};
+ghost use Rattle.enf_data.specs.declared.terms.VarId.{VarId as Variable};
+ghost use Rattle.valuations.specs.machine.Comparisons.{ComparesValues, compares_values, is_row_as_bound};
+ghost use Rattle.valuations.specs.machine.Comparisons.{is_bound_value, IsColumnOf, operand_value, ReadsTerm};
+ghost use Rattle.valuations.specs.machine.Tables.{IsTable, HasValuation, AgreesWhereBound};
 
 use crate::cells::place_of;
 use crate::scope::Lookup;
 use crate::tables::Table;
-use enf_value::items::Duplicate;
-use enf_value::memory::NoMemory;
-use enf_value::rows::Row;
-use enf_value::terms::{Term, VarId};
-use enf_value::values::Value;
+use enf_data::items::Duplicate;
+use enf_data::memory::NoMemory;
+use enf_data::rows::Row;
+use enf_data::terms::{Term, VarId};
+use enf_data::values::Value;
 use std::alloc::Global;
 
 /// What a comparison asks of two values.
@@ -46,8 +46,9 @@ impl Table {
         requires right { IsColumnOf self.now.columns right.now }
         ensures table { IfOk result IsTable }
         ensures columns { IfOk result (λ t. t.columns ≡ self.now.columns) }
-        ensures rows { IfOk result (λ t. (v : Bound) → Has t v
-            ↔ (Has self.now v × Compares kind (value_of v left.now) (value_of v right.now))) }
+        ensures rows { IfOk result (λ t. (v : Bound) → HasValuation t v
+            ↔ (HasValuation self.now v × ComparesValues kind (value_of_term v left.now)
+            (value_of_term v right.now))) }
     {
         let columns = self.columns().as_slice();
         let rows = compared_rows(
@@ -64,8 +65,8 @@ impl Table {
     pub fn rows_under<V: Lookup>(&self, alloc: Global, v: &V) -> Result<Table, NoMemory>
         ensures table { IfOk result IsTable }
         ensures columns { IfOk result (λ t. t.columns ≡ self.now.columns) }
-        ensures rows { IfOk result (λ t. (w : Bound) → Has t w
-            ↔ (Has self.now w × AgreesWhereBound self.now.columns (V.valuation v.now) w)) }
+        ensures rows { IfOk result (λ t. (w : Bound) → HasValuation t w
+            ↔ (HasValuation self.now w × AgreesWhereBound self.now.columns (V.valuation v.now) w)) }
     {
         let bounds = bounds_of(alloc, self.columns().as_slice(), v)?;
         let rows = agreeing_rows(alloc, self.rows(), bounds.as_slice())?;
@@ -96,7 +97,7 @@ fn value_under<'a>(operand: &Operand<'a>, row: &'a Row) -> Option<&'a Value>
 }
 
 fn compares(kind: Compare, left: Option<&Value>, right: Option<&Value>) -> bool
-    ensures { result ≡ compares kind (option_copied left.entry) (option_copied right.entry) }
+    ensures { result ≡ compares_values kind (option_copied left.entry) (option_copied right.entry) }
 {
     match (kind, left, right) {
         (Compare::Equal, Some(a), Some(b)) => a.compare(b).is_eq(),
@@ -113,7 +114,7 @@ fn compared_rows(
     right: &Operand,
     kind: Compare,
 ) -> Result<Vec<Row>, NoMemory>
-    ensures { IfOk result (λ out. out.items ≡ filter (λ row. compares kind
+    ensures { IfOk result (λ out. out.items ≡ filter (λ row. compares_values kind
         (operand_value left.now row) (operand_value right.now row)) rows.now) }
 {
     let mut out = Vec::new(alloc);
@@ -141,7 +142,7 @@ fn bounds_of<'a, V: Lookup>(
 }
 
 fn is_bound_same(bound: Option<&Value>, value: &Value) -> bool
-    ensures { result ≡ is_bound_same (option_copied bound.entry) value.now }
+    ensures { result ≡ is_bound_value (option_copied bound.entry) value.now }
 {
     match bound {
         Some(bound) => bound.compare(value).is_eq(),
@@ -150,7 +151,7 @@ fn is_bound_same(bound: Option<&Value>, value: &Value) -> bool
 }
 
 fn is_as_bound(bounds: &[Option<&Value>], row: &[Value]) -> bool
-    ensures { result ≡ is_as_bound (map option_copied bounds.now) row.now }
+    ensures { result ≡ is_row_as_bound (map option_copied bounds.now) row.now }
 {
     for (bound, value) in bounds.iter().zip(row) {
         if !is_bound_same(*bound, value) {
@@ -166,7 +167,7 @@ fn agreeing_rows(
     bounds: &[Option<&Value>],
 ) -> Result<Vec<Row>, NoMemory>
     ensures { IfOk result (λ out. out.items
-        ≡ filter (λ row. is_as_bound (map option_copied bounds.now) row) rows.now) }
+        ≡ filter (λ row. is_row_as_bound (map option_copied bounds.now) row) rows.now) }
 {
     let mut out = Vec::new(alloc);
     for row in rows {

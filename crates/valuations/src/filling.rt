@@ -1,12 +1,12 @@
 //! Valuations that frames stand for.
 ghost use Rattle.std.specs.Prelude.{◌≡◌, IfOk, OnOk};
-ghost use Rattle.valuations.specs.Scopes.{bound_in, filled, part_of};
+ghost use Rattle.valuations.specs.machine.Bindings.{bound_in, filled_from_row, valuation_part};
 
 use crate::{Frame, Valuation};
-use enf_value::items::Duplicate;
-use enf_value::memory::NoMemory;
-use enf_value::terms::VarId;
-use enf_value::values::Value;
+use enf_data::items::Duplicate;
+use enf_data::memory::NoMemory;
+use enf_data::terms::VarId;
+use enf_data::values::Value;
 use std::alloc::Global;
 
 /// The valuation that the frame stands for, in memory of its own.
@@ -31,7 +31,7 @@ fn fill(
     row: &[Value],
     filling: &mut Valuation,
 ) -> Result<(), NoMemory>
-    ensures { OnOk result (filling.new ≡ filled filling.old columns.now row.now) }
+    ensures { OnOk result (filling.new ≡ filled_from_row filling.old columns.now row.now) }
 {
     for (column, value) in columns.iter().zip(row) {
         if filling.get(*column).is_none() {
@@ -43,7 +43,7 @@ fn fill(
 
 // What the frame binds of these variables.
 fn part_in(alloc: Global, v: &Frame<'_>, variables: &[VarId]) -> Result<Valuation, NoMemory>
-    ensures { IfOk result (λ w. w ≡ part_of (bound_in v.now) variables.now) }
+    ensures { IfOk result (λ w. w ≡ valuation_part (bound_in v.now) variables.now) }
 {
     let mut part = Valuation::empty(alloc);
     for variable in variables {

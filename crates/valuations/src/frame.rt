@@ -1,14 +1,14 @@
 //! Values of variables over others that stay where they are.
 ghost use Rattle.std.specs.Prelude.{◌≡◌};
 ghost use Rattle.std.specs.Option.{option_copied};
-ghost use Rattle.enf_value.specs.Valuations.{value_at};
-ghost use Rattle.valuations.specs.Scopes.{bound_in};
-ghost use Rattle.valuations.specs.Tables.{cell};
+ghost use Rattle.enf_data.specs.meaning.Valuations.{value_at};
+ghost use Rattle.valuations.specs.machine.Bindings.{bound_in};
+ghost use Rattle.valuations.specs.machine.Tables.{row_cell};
 
 use crate::scope::Lookup;
 use crate::valuation::Valuation;
-use enf_value::terms::VarId;
-use enf_value::values::Value;
+use enf_data::terms::VarId;
+use enf_data::values::Value;
 
 /// Values of variables that stand elsewhere. One that is made over another takes no memory, and leaves the other as
 /// it is.
@@ -46,7 +46,7 @@ impl<'a> Frame<'a> {
 
 // The row's value of the variable, where it is a column.
 fn cell_of<'a>(columns: &[VarId], row: &'a [Value], variable: VarId) -> Option<&'a Value>
-    ensures { option_copied result ≡ cell columns.now row.now variable }
+    ensures { option_copied result ≡ row_cell columns.now row.now variable }
 {
     for (column, value) in columns.iter().zip(row) {
         if *column == variable {

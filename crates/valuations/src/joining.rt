@@ -1,13 +1,14 @@
 //! The natural join, and the rows without a partner.
-ghost use Rattle.std.specs.Prelude.{◌≡◌, ◌↔◌, ◌++◌, ◌∷◌, [], List, map, IfOk};
-ghost use Rattle.std.specs.Prelude.{OnOk, All, Contains, length};
-ghost use Rattle.enf_value.specs.declared.values.Value.{Value as AnyValue};
-ghost use Rattle.valuations.specs.Cells.{key, part, IsInOrder, IsJoined, IsSingle, shown};
+ghost use Rattle.std.specs.Prelude.{◌≡◌, ◌↔◌, ◌++◌, ◌∷◌, [], List, map, IfOk, OnOk, All};
+ghost use Rattle.std.specs.Prelude.{Contains, length};
+ghost use Rattle.enf_data.specs.declared.values.Value.{Value as AnyValue};
+ghost use Rattle.valuations.specs.machine.RowParts.{row_key, row_part, IsInKeyOrder, AreJoinedRows, AreSingleRows};
+ghost use Rattle.valuations.specs.machine.RowParts.{shown_rows};
 
 use crate::cells::{append_part, compare_keys};
-use enf_value::items::Duplicate;
-use enf_value::memory::NoMemory;
-use enf_value::rows::Row;
+use enf_data::items::Duplicate;
+use enf_data::memory::NoMemory;
+use enf_data::rows::Row;
 use std::alloc::Global;
 use std::cmp::Ordering;
 
@@ -17,9 +18,9 @@ pub fn in_order<'a>(
     rows: &'a [Row],
     places: &[usize],
 ) -> Result<Vec<&'a Row>, NoMemory>
-    ensures order { IfOk result (λ order. IsInOrder places.now order.items) }
+    ensures order { IfOk result (λ order. IsInKeyOrder places.now order.items) }
     ensures rows { IfOk result (λ order. (row : List AnyValue)
-        → Contains (shown order.items) row ↔ Contains rows.now row) }
+        → Contains (shown_rows order.items) row ↔ Contains rows.now row) }
 {
     let mut order = Vec::with_capacity(alloc, rows.len())?;
     for row in rows {
@@ -36,10 +37,10 @@ pub fn partners<'s, 'a>(
     row: &Row,
     left: &[usize],
 ) -> &'s [&'a Row]
-    requires order { IsInOrder right.now order.now }
+    requires order { IsInKeyOrder right.now order.now }
     requires same { length right.now ≡ length left.now }
-    ensures { (other : List AnyValue) → Contains (shown result.now) other
-        ↔ (Contains (shown order.now) other × (key other right.now ≡ key row.now left.now)) }
+    ensures { (other : List AnyValue) → Contains (shown_rows result.now) other
+        ↔ (Contains (shown_rows order.now) other × (row_key other right.now ≡ row_key row.now left.now)) }
 {
     let from = order.partition_point(|other| compare_keys(other, right, row, left).is_lt());
     let rest = &order[from..];
@@ -56,9 +57,9 @@ pub fn joined_rows(
     right: &[usize],
     rest: &[usize],
 ) -> Result<Vec<Row>, NoMemory>
-    requires order { IsInOrder right.now order.now }
+    requires order { IsInKeyOrder right.now order.now }
     requires same { length right.now ≡ length left.now }
-    ensures { IfOk result (λ out. IsJoined left.now right.now rest.now rows.now (shown order.now)
+    ensures { IfOk result (λ out. AreJoinedRows left.now right.now rest.now rows.now (shown_rows order.now)
         out.items) }
 {
     let mut joined = Vec::new(alloc);
@@ -82,7 +83,7 @@ fn push_joined(
     out: &mut Vec<Row>,
 ) -> Result<(), NoMemory>
     ensures { OnOk result (out.new.items
-        ≡ out.old.items ++ map (λ other. row.now ++ part other rest.now) (shown partners.now)) }
+        ≡ out.old.items ++ map (λ other. row.now ++ row_part other rest.now) (shown_rows partners.now)) }
 {
     for other in partners {
         let mut joined = row.duplicate(alloc)?;
@@ -100,9 +101,9 @@ pub fn single_rows(
     order: &[&Row],
     right: &[usize],
 ) -> Result<Vec<Row>, NoMemory>
-    requires order { IsInOrder right.now order.now }
+    requires order { IsInKeyOrder right.now order.now }
     requires same { length right.now ≡ length left.now }
-    ensures { IfOk result (λ out. IsSingle left.now right.now rows.now (shown order.now)
+    ensures { IfOk result (λ out. AreSingleRows left.now right.now rows.now (shown_rows order.now)
         out.items) }
 {
     let mut single = Vec::new(alloc);

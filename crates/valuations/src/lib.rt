@@ -1,5 +1,5 @@
 //! Valuations, and tables of them: finite sets of valuations of the same variables, kept as rows, with the
-//! operations of relations. It stands on `enf_value`.
+//! operations of relations. It stands on `enf_data`.
 #![tactic(auto)]
 
 pub mod arguments;

@@ -1,18 +1,19 @@
 //! The operations of relations on tables.
 ghost use Rattle.std.specs.Prelude.{◌≡◌, ◌↔◌, ◌⊎◌, ◌++◌, IfOk, OnOk, Contains, map};
-ghost use Rattle.enf_value.specs.Membership.{HasNoRepeats};
-ghost use Rattle.enf_value.specs.Valuations.{Valuation as Bound};
-ghost use Rattle.enf_value.specs.declared.terms.VarId.{VarId as Variable};
-ghost use Rattle.valuations.specs.Cells.{part};
-ghost use Rattle.valuations.specs.Tables.{IsTable, Has, not_shared, AreSameColumns, AgreeOn};
+ghost use Rattle.enf_data.specs.meaning.Membership.{HasNoRepeats};
+ghost use Rattle.enf_data.specs.meaning.Valuations.{Valuation as Bound};
+ghost use Rattle.enf_data.specs.declared.terms.VarId.{VarId as Variable};
+ghost use Rattle.valuations.specs.machine.RowParts.{row_part};
+ghost use Rattle.valuations.specs.machine.Tables.{IsTable, HasValuation, columns_unshared, AreSameColumns};
+ghost use Rattle.valuations.specs.machine.Tables.{AgreeOnColumns};
 
 use crate::cells::{append_part, new_columns, places_of, shared_columns};
 use crate::joining::{in_order, joined_rows, single_rows};
 use crate::tables::Table;
-use enf_value::items::{Duplicate, Items};
-use enf_value::memory::NoMemory;
-use enf_value::rows::Row;
-use enf_value::terms::{VarId, Vars};
+use enf_data::items::{Duplicate, Items};
+use enf_data::memory::NoMemory;
+use enf_data::rows::Row;
+use enf_data::terms::{VarId, Vars};
 use std::alloc::Global;
 
 impl Table {
@@ -20,9 +21,9 @@ impl Table {
     pub fn join(&self, alloc: Global, other: &Table) -> Result<Table, NoMemory>
         ensures table { IfOk result IsTable }
         ensures columns { IfOk result (λ t. t.columns
-            ≡ self.now.columns ++ not_shared self.now.columns other.now.columns) }
+            ≡ self.now.columns ++ columns_unshared self.now.columns other.now.columns) }
         ensures rows { IfOk result (λ t. (v : Bound)
-            → Has t v ↔ (Has self.now v × Has other.now v)) }
+            → HasValuation t v ↔ (HasValuation self.now v × HasValuation other.now v)) }
     {
         let columns = self.columns().as_slice();
         let others = other.columns().as_slice();
@@ -49,7 +50,7 @@ impl Table {
         ensures table { IfOk result IsTable }
         ensures columns { IfOk result (λ t. t.columns ≡ self.now.columns) }
         ensures rows { IfOk result (λ t. (v : Bound)
-            → Has t v ↔ (Has self.now v × (Has other.now v → ⊥))) }
+            → HasValuation t v ↔ (HasValuation self.now v × (HasValuation other.now v → ⊥))) }
     {
         let columns = self.columns().as_slice();
         let others = other.columns().as_slice();
@@ -72,7 +73,7 @@ impl Table {
         ensures table { IfOk result IsTable }
         ensures columns { IfOk result (λ t. t.columns ≡ self.now.columns) }
         ensures rows { IfOk result (λ t. (v : Bound)
-            → Has t v ↔ (Has self.now v ⊎ Has other.now v)) }
+            → HasValuation t v ↔ (HasValuation self.now v ⊎ HasValuation other.now v)) }
     {
         let places = places_of(alloc, other.columns().as_slice(), self.columns().as_slice())?;
         let mut rows = Vec::new(alloc);
@@ -88,7 +89,7 @@ impl Table {
         ensures table { IfOk result IsTable }
         ensures columns { IfOk result (λ t. t.columns ≡ columns.now) }
         ensures rows { IfOk result (λ t. (v : Bound)
-            → Has t v ↔ ((w : Bound) × Has self.now w × AgreeOn columns.now v w)) }
+            → HasValuation t v ↔ ((w : Bound) × HasValuation self.now w × AgreeOnColumns columns.now v w)) }
     {
         let places = places_of(alloc, self.columns().as_slice(), columns.as_slice())?;
         let mut rows = Vec::new(alloc);
@@ -121,7 +122,7 @@ fn push_parts(
     out: &mut Vec<Row>,
 ) -> Result<(), NoMemory>
     ensures { OnOk result (out.new.items
-        ≡ out.old.items ++ map (λ row. part row places.now) rows.now) }
+        ≡ out.old.items ++ map (λ row. row_part row places.now) rows.now) }
 {
     for row in rows {
         let mut part = Row::new(alloc);

@@ -1,15 +1,14 @@
 //! Values of variables by reference, and what tells the values of variables.
 ghost use Rattle.std.specs.Prelude.{◌≡◌, OnOk, OnErr};
 ghost use Rattle.std.specs.Option.{option_copied};
-ghost use Rattle.enf_value.specs.Valuations.{Valuation as Bound, value_at};
-ghost use Rattle.valuations.specs.Bindings.{with_value};
-ghost use Rattle.valuations.specs.Scopes.{bound_in};
+ghost use Rattle.enf_data.specs.meaning.Valuations.{Valuation as Bound, value_at};
+ghost use Rattle.valuations.specs.machine.Bindings.{with_value, bound_in};
 
 use crate::frame::Frame;
 use crate::valuation::Valuation;
-use enf_value::memory::NoMemory;
-use enf_value::terms::VarId;
-use enf_value::values::Value;
+use enf_data::memory::NoMemory;
+use enf_data::terms::VarId;
+use enf_data::values::Value;
 use std::alloc::Global;
 use std::marker::Model;
 
@@ -39,8 +38,9 @@ pub struct Scope<'a> {
 }
 
 impl<'a> Model for Scope<'a> {
-    ghost use Rattle.enf_value.specs.Valuations.{Valuation as Bound, valuation_code};
-    ghost use Rattle.valuations.specs.Scopes.{bound_by, bound_in};
+    ghost use Rattle.enf_data.specs.meaning.Valuations.{Valuation as Bound};
+    ghost use Rattle.enf_data.specs.machine.Codes.{valuation_code};
+    ghost use Rattle.valuations.specs.machine.Bindings.{bound_by, bound_in};
 
     ghost Value = { Bound };
 

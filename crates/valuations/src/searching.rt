@@ -1,21 +1,21 @@
 //! The look-up of a valuation in a table.
 ghost use Rattle.std.specs.Prelude.{◌≡◌, ◌↔◌, IsTrue, Some, map, length};
 ghost use Rattle.std.specs.Option.{option_copied, option_cmp};
-ghost use Rattle.enf_value.specs.Order.{value_cmp};
-ghost use Rattle.enf_value.specs.Valuations.{value_at};
-ghost use Rattle.valuations.specs.Cells.{key_cmp};
-ghost use Rattle.valuations.specs.Tables.{IsTable, Has};
+ghost use Rattle.enf_data.specs.meaning.Values.{value_cmp};
+ghost use Rattle.enf_data.specs.meaning.Valuations.{value_at};
+ghost use Rattle.valuations.specs.machine.RowParts.{key_cmp};
+ghost use Rattle.valuations.specs.machine.Tables.{IsTable, HasValuation};
 
 use crate::scope::Lookup;
 use crate::tables::Table;
-use enf_value::terms::VarId;
-use enf_value::values::Value;
+use enf_data::terms::VarId;
+use enf_data::values::Value;
 use std::cmp::Ordering;
 
 impl Table {
     /// Whether the valuation has for each column the value of one and the same row; it takes no memory.
     pub fn has_valuation<V: Lookup>(&self, v: &V) -> bool
-        ensures has { IsTrue result ↔ Has self.now (V.valuation v.now) }
+        ensures has { IsTrue result ↔ HasValuation self.now (V.valuation v.now) }
         ensures table { IsTable self.now }
     {
         let columns = self.columns().as_slice();

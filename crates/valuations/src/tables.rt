@@ -1,14 +1,14 @@
 //! Tables: columns and rows.
-ghost use Rattle.std.specs.Prelude.{◌≡◌, ◌↔◌, [], ◌∷◌, List, IsTrue, IfOk};
-ghost use Rattle.std.specs.Prelude.{All, Contains, length, slice_get};
+ghost use Rattle.std.specs.Prelude.{◌≡◌, ◌↔◌, [], ◌∷◌, List, IsTrue, IfOk, All, Contains, length};
+ghost use Rattle.std.specs.Prelude.{slice_get};
 ghost use Rattle.std.specs.Option.{option_copied};
-ghost use Rattle.enf_value.specs.Membership.{HasNoRepeats};
-ghost use Rattle.enf_value.specs.declared.values.Value.{Value as AnyValue};
+ghost use Rattle.enf_data.specs.meaning.Membership.{HasNoRepeats};
+ghost use Rattle.enf_data.specs.declared.values.Value.{Value as AnyValue};
 
-use enf_value::items::Duplicate;
-use enf_value::memory::NoMemory;
-use enf_value::rows::Row;
-use enf_value::terms::{VarId, Vars};
+use enf_data::items::Duplicate;
+use enf_data::memory::NoMemory;
+use enf_data::rows::Row;
+use enf_data::terms::{VarId, Vars};
 use std::alloc::Global;
 use std::marker::Model;
 
@@ -21,7 +21,7 @@ pub struct Table {
 }
 
 impl Model for Table {
-    ghost use Rattle.valuations.specs.Tables.{Relation, IsTable, relation_code};
+    ghost use Rattle.valuations.specs.machine.Tables.{Relation, IsTable, relation_code};
 
     ghost Value = { Relation };
 
@@ -33,7 +33,7 @@ impl Model for Table {
 }
 
 impl Table {
-    ghost use Rattle.valuations.specs.Tables.{Relation, IsTable};
+    ghost use Rattle.valuations.specs.machine.Tables.{Relation, IsTable};
 
     /// No column and one row: the valuation that binds nothing.
     pub fn unit(alloc: Global) -> Result<Table, NoMemory>

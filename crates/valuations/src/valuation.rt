@@ -1,13 +1,13 @@
 //! Valuations of variables.
 ghost use Rattle.std.specs.Prelude.{◌≡◌, OnOk, OnErr, None, slice_get};
 ghost use Rattle.std.specs.Option.{option_copied, option_map};
-ghost use Rattle.enf_value.specs.Valuations.{value_at, bindings, no_values};
-ghost use Rattle.valuations.specs.Bindings.{place_before, with_value};
+ghost use Rattle.enf_data.specs.meaning.Valuations.{value_at, bindings, no_values};
+ghost use Rattle.valuations.specs.machine.Bindings.{binding_place, with_value};
 
-use enf_value::items::Duplicate;
-use enf_value::memory::NoMemory;
-use enf_value::terms::VarId;
-use enf_value::values::Value;
+use enf_data::items::Duplicate;
+use enf_data::memory::NoMemory;
+use enf_data::terms::VarId;
+use enf_data::values::Value;
 use std::alloc::Global;
 use std::marker::Model;
 
@@ -19,8 +19,9 @@ pub struct Valuation {
 
 impl Model for Valuation {
     ghost use Rattle.std.specs.Prelude.{T};
+    ghost use Rattle.enf_data.specs.meaning.Valuations.{Valuation as Bound, variable_cmp};
+    ghost use Rattle.enf_data.specs.machine.Codes.{valuation_code};
     ghost use Rattle.std.specs.FinMap as map;
-    ghost use Rattle.enf_value.specs.Valuations.{Valuation as Bound, valuation_code, variable_cmp};
 
     ghost Value = { Bound };
 
@@ -85,7 +86,7 @@ impl Duplicate for Valuation {
 }
 
 fn place_in(bindings: &[(VarId, Value)], var: VarId) -> usize
-    ensures { result ≡ place_before var bindings.now }
+    ensures { result ≡ binding_place var bindings.now }
 {
     let mut place = 0;
     while place < bindings.len() && bindings[place].0 < var {

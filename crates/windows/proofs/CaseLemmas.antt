@@ -1,31 +1,17 @@
 -- Whether steps over one variable give a number can be computed.
-use Rattle.std.proofs.Common.{◌≡◌, ◌∙◌, ⊎_elim, ℕ, ◌-◌, ◌≤◌, Bool, true, false, not, ◌&&◌, ◌||◌, List, [], ◌∷◌, ◌++◌, length, map, Contains, Option, None, Some, refl, sym, ap, subst, arith, append_assoc, append-nil}
-use Rattle.std.specs.Bool.{Decides}
-use Rattle.std.specs.List.{list_any}
+use Rattle.windows.proofs.Vocabulary.{◌≡◌, ◌∙◌, ⊎_elim, ℕ, ◌-◌, ◌≤◌, Bool, true, false, not}
+use Rattle.windows.proofs.Vocabulary.{◌&&◌, ◌||◌, List, [], ◌∷◌, ◌++◌, length, map, Contains, Option}
+use Rattle.windows.proofs.Vocabulary.{None, Some, refl, sym, ap, subst, arith, append_assoc, append-nil, Decides}
+use Rattle.windows.proofs.Vocabulary.{list_any, false≢true, Decides-and, Decides-or, Decides-like, Decides-eqb}
+use Rattle.windows.proofs.Vocabulary.{map-append, Contains-append_right, list_any-Decides, none_in_nil, here, later}
+use Rattle.windows.proofs.Vocabulary.{first_or_later, HasNoRepeats, IsIn, IsUpTo, Interval, Value, agrees_itself}
+use Rattle.windows.proofs.Vocabulary.{agrees_once, Valuation, AgreesWithRow, HasValuation, StepsAnswer, IsHeld}
+use Rattle.windows.proofs.Vocabulary.{CommittedStep, HasPair, x_columns, number_row, x_number, number_table, Entry}
+use Rattle.windows.proofs.Vocabulary.{IsKeptByEntries, step_of, last_at, with_1, ChosenBy, GivesLast, WindowRemembersIn}
 use Rattle.std.specs.Prelude.{nat_eq}
 use Rattle.std.proofs.Math.Dec.{leb}
-use Rattle.std.proofs.lemmas.Bool.{false≢true}
-use Rattle.std.proofs.lemmas.Bool.Decides.{Decides-and, Decides-or, Decides-like, Decides-eqb, leb_tells}
-use Rattle.std.proofs.lemmas.List.{map-append}
-use Rattle.std.proofs.lemmas.List.Elements.{Contains-append_right}
-use Rattle.enf_value.specs.Decided.{list_any-Decides}
-use Rattle.enf_value.specs.Membership.{HasNoRepeats, IsIn, IsUpTo}
-use Rattle.enf_value.specs.declared.intervals.Interval.{Interval}
-use Rattle.enf_value.specs.declared.values.Value.{Value}
-use Rattle.valuations.specs.Columns.{none_in_nil, here, later, first_or_later}
-use Rattle.valuations.specs.RowLaws.{agrees_itself, agrees_once}
-use Rattle.enf_value.specs.Valuations.{Valuation}
-use Rattle.valuations.specs.Tables.{Agrees, Has}
-use Rattle.windows.specs.CommittedSteps.{StepsAnswer, IsHeld}
-use Rattle.windows.specs.Cases.{columns, row, number, table, Entry, IsKept, step_of, last_at, with_1}
-use Rattle.windows.specs.Kept.{ChosenBy, HasPair}
-use Rattle.windows.specs.Slots.{GivesLast}
-use Rattle.windows.specs.Windows.{RemembersIn}
-use Rattle.windows.specs.declared.steps.CommittedStep.{CommittedStep}
+use Rattle.windows.proofs.GivenLaws.{leb-Decides}
 use Rattle.windows.proofs.HeldLemmas.{held_more, none_held}
-
-leb-Decides : (a b : ℕ) → Decides (leb a b) (a ≤ b)
-leb-Decides a b = ⊎_elim (λ yes. (λ e. yes.1, λ h. yes.0)) (λ no. (λ e. absurd (false≢true (sym no.0 ∙ e)), λ h. absurd (omega (arith, no.1)))) (leb_tells a b)
 
 abbrev pub is_up_to : Option ℕ → ℕ → Bool
 is_up_to None d = true
@@ -41,30 +27,33 @@ is_in interval d = leb interval.low d && is_up_to interval.high d
 pub is_in-Decides : (interval : Interval) (d : ℕ) → Decides (is_in interval d) (IsIn interval d)
 is_in-Decides interval d = Decides-and _ _ (leb-Decides interval.low d) (is_up_to-Decides interval.high d)
 
-pub distinct : HasNoRepeats columns
+pub distinct : HasNoRepeats x_columns
 distinct = (none_in_nil _, tt)
 
-same_number : (m n : ℕ) → row m ≡ row n → m ≡ n
+pub same_number : (m n : ℕ) → number_row m ≡ number_row n → m ≡ n
 same_number m n e = cc
 
-in_rows : (ns : List ℕ) (n : ℕ) → Contains ns n → Contains (map row ns) (row n)
+in_rows : (ns : List ℕ) (n : ℕ) → Contains ns n → Contains (map number_row ns) (number_row n)
 in_rows [] n there = absurd (none_in_nil n there)
-in_rows (m ∷ ns) n there = ⊎_elim (λ same. (0, omega arith, λ i. row (same i))) (λ behind. later (row n) (row m) (map row ns) (in_rows ns n behind)) (first_or_later n m ns there)
+in_rows (m ∷ ns) n there = ⊎_elim (λ same. (0, omega arith, λ i. number_row (same i))) (λ behind. later (number_row n) (number_row m) (map number_row ns) (in_rows ns n behind))
+    (first_or_later n m ns there)
 
-pub from_rows : (ns : List ℕ) (r : List Value) → Contains (map row ns) r → (n : ℕ) × Contains ns n × (r ≡ row n)
+pub from_rows : (ns : List ℕ) (r : List Value) → Contains (map number_row ns) r → (n : ℕ) × Contains ns n × (r ≡ number_row n)
 from_rows [] r there = absurd (none_in_nil r there)
 from_rows (m ∷ ns) r there =
-    ⊎_elim (λ same. (m, here m ns, sym same)) (λ behind. let found = from_rows ns r behind in (found.0, later found.0 m ns found.1, found.2)) (first_or_later r (row m) (map row ns) there)
+    ⊎_elim (λ same. (m, here m ns, sym same)) (λ behind. let found = from_rows ns r behind in (found.0, later found.0 m ns found.1, found.2))
+    (first_or_later r (number_row m) (map number_row ns) there)
 
 abbrev pub has : List ℕ → ℕ → Bool
 has ns n = list_any (nat_eq n) ns
 
-pub has-Decides : (ns : List ℕ) (n : ℕ) → Decides (has ns n) (Has (table ns) (number n))
+pub has-Decides : (ns : List ℕ) (n : ℕ) → Decides (has ns n) (HasValuation (number_table ns) (x_number n))
 has-Decides ns n =
     Decides-like (has ns n)
-    (λ there. (row n, in_rows ns n there, agrees_itself columns (row n) distinct refl))
+    (λ there. (number_row n, in_rows ns n there, agrees_itself x_columns (number_row n) distinct refl))
     (λ h. let found = from_rows ns h.0 h.1 in
-    subst (Contains ns) (same_number found.0 n (sym found.2 ∙ agrees_once (number n) columns h.0 (row n) distinct (ap length found.2) refl h.2 (agrees_itself columns (row n) distinct refl))) found.1)
+    subst (Contains ns) (same_number found.0 n (sym found.2 ∙ agrees_once (x_number n) x_columns h.0 (number_row n) distinct (ap length found.2) refl h.2
+    (agrees_itself x_columns (number_row n) distinct refl))) found.1)
     (list_any-Decides nat_eq (λ a b. Decides-eqb a b) ns n)
 
 -- one pass over the steps
@@ -73,22 +62,22 @@ walk counts n held [] = held
 walk counts n held (e ∷ entries) = walk counts n ((counts e.time && has e.right n) || (held && has e.surviving n)) entries
 
 module _ (C : ℕ → Type 0) (counts : ℕ → Bool) (decided : (t : ℕ) → Decides (counts t) (C t)) (n : ℕ) where
-  walk-Decides : (held : Bool) (before entries : List Entry) → Decides held (IsHeld C (map step_of before) (number n))
-      → Decides (walk counts n held entries) (IsHeld C (map step_of (before ++ entries)) (number n))
-  walk-Decides held before [] d = subst (λ l. Decides held (IsHeld C (map step_of l) (number n))) (sym (append-nil before)) d
+  walk-Decides : (held : Bool) (before entries : List Entry) → Decides held (IsHeld C (map step_of before) (x_number n))
+      → Decides (walk counts n held entries) (IsHeld C (map step_of (before ++ entries)) (x_number n))
+  walk-Decides held before [] d = subst (λ l. Decides held (IsHeld C (map step_of l) (x_number n))) (sym (append-nil before)) d
   walk-Decides held before (e ∷ entries) d =
-      let more = held_more C (map step_of before) (step_of e) (number n) in
+      let more = held_more C (map step_of before) (step_of e) (x_number n) in
       let held' : Bool = (counts e.time && has e.right n) || (held && has e.surviving n) in
-      let with_e : Decides held' (IsHeld C (map step_of before ++ step_of e ∷ []) (number n)) =
+      let with_e : Decides held' (IsHeld C (map step_of before ++ step_of e ∷ []) (x_number n)) =
       Decides-like held' more.1 more.0 (Decides-or _ _ (Decides-and _ _ (decided e.time) (has-Decides e.right n)) (Decides-and _ _ d (has-Decides e.surviving n))) in
-      subst (λ l. Decides (walk counts n held' entries) (IsHeld C (map step_of l) (number n))) (append_assoc before (e ∷ []) entries)
-      (walk-Decides held' (before ++ e ∷ []) entries (subst (λ l. Decides held' (IsHeld C l (number n))) (sym (map-append step_of before (e ∷ []))) with_e))
+      subst (λ l. Decides (walk counts n held' entries) (IsHeld C (map step_of l) (x_number n))) (append_assoc before (e ∷ []) entries)
+      (walk-Decides held' (before ++ e ∷ []) entries (subst (λ l. Decides held' (IsHeld C l (x_number n))) (sym (map-append step_of before (e ∷ []))) with_e))
 
-  held-Decides : (entries : List Entry) → Decides (walk counts n false entries) (IsHeld C (map step_of entries) (number n))
-  held-Decides entries = walk-Decides false [] entries (λ e. absurd (false≢true e), λ h. absurd (none_held C (number n) h))
+  held-Decides : (entries : List Entry) → Decides (walk counts n false entries) (IsHeld C (map step_of entries) (x_number n))
+  held-Decides entries = walk-Decides false [] entries (λ e. absurd (false≢true e), λ h. absurd (none_held C (x_number n) h))
 
 pub given-Decides : (interval : Interval) (time n : ℕ) (entries : List Entry)
-    → Decides (walk (λ t. is_in interval (time - t)) n false entries) (StepsAnswer interval time (map step_of entries) (number n))
+    → Decides (walk (λ t. is_in interval (time - t)) n false entries) (StepsAnswer interval time (map step_of entries) (x_number n))
 given-Decides interval time n entries = held-Decides (λ t. IsIn interval (time - t)) (λ t. is_in interval (time - t)) (λ t. is_in-Decides interval (time - t)) n entries
 
 -- ---- what has to be kept
@@ -96,13 +85,14 @@ given-Decides interval time n entries = held-Decides (λ t. IsIn interval (time 
 abbrev pub pair : List Entry → ℕ → ℕ → Bool
 pair entries n time = walk (λ t. nat_eq t time) n false entries
 
-pub pair-Decides : (entries : List Entry) (n time : ℕ) → Decides (pair entries n time) (HasPair (map step_of entries) (number n) time)
+pub pair-Decides : (entries : List Entry) (n time : ℕ) → Decides (pair entries n time) (HasPair (map step_of entries) (x_number n) time)
 pair-Decides entries n time = held-Decides (λ t. t ≡ time) (λ t. nat_eq t time) (λ t. Decides-eqb t time) n entries
 
 from_map : (entries : List Entry) (s : CommittedStep) → Contains (map step_of entries) s → (e : Entry) × Contains entries e × (step_of e ≡ s)
 from_map [] s there = absurd (none_in_nil s there)
 from_map (e ∷ entries) s there =
-    ⊎_elim (λ same. (e, here e entries, same)) (λ behind. let found = from_map entries s behind in (found.0, later found.0 e entries found.1, found.2)) (first_or_later s (step_of e) (map step_of entries) there)
+    ⊎_elim (λ same. (e, here e entries, same)) (λ behind. let found = from_map entries s behind in (found.0, later found.0 e entries found.1, found.2))
+    (first_or_later s (step_of e) (map step_of entries) there)
 
 -- a time at which it was right is the time of one of them
 time_among : (entries : List Entry) (v : Valuation) (time : ℕ) → HasPair (map step_of entries) v time → (e : Entry) × Contains entries e × (e.time ≡ time)
@@ -133,39 +123,54 @@ chosen (Some high) low last entries n time =
 
 -- it is enough to look at the times of the steps
 at_times : (entries : List Entry) (n : ℕ) (p : ℕ → Bool) (Q : ℕ → Type 0) → ((t : ℕ) → Decides (p t) (Q t))
-    → Decides (each (λ i. not (pair entries n i) || p i) entries) ((i : ℕ) → HasPair (map step_of entries) (number n) i → Q i)
+    → Decides (each (λ i. not (pair entries n i) || p i) entries) ((i : ℕ) → HasPair (map step_of entries) (x_number n) i → Q i)
 at_times entries n p Q decided =
     Decides-like (each (λ i. not (pair entries n i) || p i) entries)
-    (λ all i held. let e = time_among entries (number n) i held in subst Q e.2 (all e.0 e.1 (subst (HasPair (map step_of entries) (number n)) (sym e.2) held)))
+    (λ all i held. let e = time_among entries (x_number n) i held in subst Q e.2 (all e.0 e.1 (subst (HasPair (map step_of entries) (x_number n)) (sym e.2) held)))
     (λ all e there. all e.time)
-    (each-Decides (λ i. not (pair entries n i) || p i) (λ i. HasPair (map step_of entries) (number n) i → Q i) (λ i. Decides-implies (pair entries n i) (p i) (pair-Decides entries n i) (decided i)) entries)
+    (each-Decides (λ i. not (pair entries n i) || p i) (λ i. HasPair (map step_of entries) (x_number n) i → Q i)
+    (λ i. Decides-implies (pair entries n i) (p i) (pair-Decides entries n i) (decided i)) entries)
 
-chosen-Decides : (high : Option ℕ) (low last : ℕ) (entries : List Entry) (n time : ℕ) → Decides (chosen high low last entries n time) (ChosenBy high low last (HasPair (map step_of entries) (number n)) time)
+chosen-Decides : (high : Option ℕ) (low last : ℕ) (entries : List Entry) (n time : ℕ) → Decides (chosen high low last entries n time)
+    (ChosenBy high low last (HasPair (map step_of entries) (x_number n)) time)
 chosen-Decides None low last entries n time = at_times entries n (λ i. leb time i) (λ i. time ≤ i) (λ i. leb-Decides time i)
 chosen-Decides (Some high) low last entries n time =
     Decides-and _ _ (leb-Decides (last - time) high)
     (Decides-implies (leb low (last - time)) _ (leb-Decides low (last - time))
-    (at_times entries n (λ i. not (leb low (last - i)) || leb i time) (λ i. low ≤ last - i → i ≤ time) (λ i. Decides-implies (leb low (last - i)) (leb i time) (leb-Decides low (last - i)) (leb-Decides i time))))
+    (at_times entries n (λ i. not (leb low (last - i)) || leb i time) (λ i. low ≤ last - i → i ≤ time)
+    (λ i. Decides-implies (leb low (last - i)) (leb i time) (leb-Decides low (last - i)) (leb-Decides i time))))
 
 pub kept-Decides : (interval : Interval) (last : ℕ) (entries : List Entry) (n time : ℕ)
-    → Decides (pair entries n time && chosen interval.high interval.low last entries n time) (IsKept interval last entries n time)
+    → Decides (pair entries n time && chosen interval.high interval.low last entries n time) (IsKeptByEntries interval last entries n time)
 kept-Decides interval last entries n time = Decides-and _ _ (pair-Decides entries n time) (chosen-Decides interval.high interval.low last entries n time)
 
 -- ---- a window of one row
 
-pub only_row : (time : ℕ) (e : List Value × List ℕ) → Contains (with_1 (record { low = 0; high = None }) time).kept e → (e.0 ≡ row 1) × (e.1 ≡ time ∷ [])
-only_row time e there = ⊎_elim (λ same. (ap (λ x. x.0) (sym same), ap (λ x. x.1) (sym same))) (λ none. absurd (none_in_nil e none)) (first_or_later e (row 1, time ∷ []) [] there)
+pub only_row : (time : ℕ) (e : List Value × List ℕ) → Contains (with_1 (record { low = 0; high = None }) time).kept e → (e.0 ≡ number_row 1) × (e.1 ≡ time ∷ [])
+only_row time e there = ⊎_elim (λ same. (ap (λ x. x.0) (sym same), ap (λ x. x.1) (sym same))) (λ none. absurd (none_in_nil e none)) (first_or_later e (number_row 1, time ∷ []) [] there)
 
-pub remembered-Decides : (by interval : Interval) (time at n : ℕ) → Decides (is_in by (at - time) && nat_eq 1 n) (RemembersIn by (with_1 interval time) at (number n))
+pub remembered-Decides : (by interval : Interval) (time at n : ℕ) → Decides (is_in by (at - time) && nat_eq 1 n) (WindowRemembersIn by (with_1 interval time) at (x_number n))
 remembered-Decides by interval time at n =
     Decides-like (is_in by (at - time) && nat_eq 1 n)
-    (λ both. (time, both.0, (row 1, time ∷ [], (0, omega arith, refl), here time [], subst (λ m. Agrees (number m) columns (row 1)) both.1 (agrees_itself columns (row 1) distinct refl))))
+    (λ both. (
+      time,
+      both.0,
+      (
+        number_row 1,
+        time ∷ [],
+        (0, omega arith, refl),
+        here time [],
+        subst (λ m. AgreesWithRow (x_number m) x_columns (number_row 1)) both.1
+            (agrees_itself x_columns (number_row 1) distinct refl),
+      ),
+    ))
     (λ h. let entry = only_row time (h.2.0, h.2.1) h.2.2 in (
       subst (λ t. IsIn by (at - t)) (⊎_elim (λ same. sym same) (λ none. absurd (none_in_nil h.0 none)) (first_or_later h.0 time [] (subst (λ l. Contains l h.0) entry.1 h.2.3))) h.1,
-      same_number 1 n (agrees_once (number n) columns (row 1) (row n) distinct refl refl (subst (Agrees (number n) columns) entry.0 h.2.4) (agrees_itself columns (row n) distinct refl)),
+      same_number 1 n (agrees_once (x_number n) x_columns (number_row 1) (number_row n) distinct refl refl (subst (AgreesWithRow (x_number n) x_columns) entry.0 h.2.4)
+          (agrees_itself x_columns (number_row n) distinct refl)),
     ))
     (Decides-and _ _ (is_in-Decides by (at - time)) (Decides-eqb 1 n))
 
 pub last-Decides : (interval : Interval) (time n earlier : ℕ) (ns : List ℕ)
-    → Decides (is_in interval (time - earlier) && has ns n) (GivesLast interval time (last_at earlier ns) (number n))
+    → Decides (is_in interval (time - earlier) && has ns n) (GivesLast interval time (last_at earlier ns) (x_number n))
 last-Decides interval time n earlier ns = Decides-and _ _ (is_in-Decides interval (time - earlier)) (has-Decides ns n)

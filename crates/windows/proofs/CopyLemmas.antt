@@ -1,26 +1,13 @@
 -- Copies of rows with their times.
-use Rattle.std.proofs.Common.{◌≡◌, ◌∙◌, ⊎_elim, ℕ, ◌<◌, Bool, true, false, List, [], ◌∷◌, ◌++◌, map, drop, length, Contains, None, Some, refl, sym, ap, subst, append_assoc, append-nil, arith}
-use Rattle.std.proofs.lemmas.List.{map-append}
-use Rattle.std.proofs.lemmas.List.Elements.{All-contains, Contains-append_right}
-use Rattle.std.specs.Prelude.{cond}
-use Rattle.std.specs.HashMap.{HashMap}
-use Rattle.std.specs.Map.{lookup}
-use Rattle.smallvec.specs.SmallVec.{SmallVec}
-use Rattle.indexmap.specs.IndexMap.{insert_entry}
-use Rattle.enf_value.specs.Membership.{HasNoRepeats}
-use Rattle.enf_value.specs.contracts.rows.RowPartialEq.TheImpl as rows
-use Rattle.enf_value.specs.declared.intervals.Interval.{Interval}
-use Rattle.enf_value.specs.declared.terms.VarId.{VarId}
-use Rattle.enf_value.specs.declared.values.Value.{Value}
-use Rattle.valuations.specs.Columns.{here, later, first_or_later, none_in_nil}
-use Rattle.windows.specs.Pairs.{HasBehind, HasTime}
-use Rattle.windows.specs.Queues.{Queue}
-use Rattle.windows.specs.Times.{IsLeast, RiseTo}
-use Rattle.windows.specs.Windows.{IsWindow, kept_of}
-use Rattle.enf_value.specs.EqualityLaws.{derived_row_eq-Decides}
+use Rattle.windows.proofs.Vocabulary.{◌≡◌, ◌∙◌, ℕ, ◌<◌, Bool, true, false, List, [], ◌∷◌}
+use Rattle.windows.proofs.Vocabulary.{◌++◌, map, drop, length, Contains, None, Some, refl, sym, ap, subst}
+use Rattle.windows.proofs.Vocabulary.{append_assoc, append-nil, arith, map-append, All-contains, cond, HashMap, lookup}
+use Rattle.windows.proofs.Vocabulary.{SmallVec, insert_entry, HasNoRepeats, Interval, VarId, Value, here, later}
+use Rattle.windows.proofs.Vocabulary.{HasNoRepeats-middle, HasBehind, HasTime, Queue, AreLeastTimes, RiseTo, IsWindow}
+use Rattle.windows.proofs.Vocabulary.{kept_entries, derived_row_eq-Decides, all_from}
 use Rattle.windows.proofs.EntryLemmas.{grown_by}
-use Rattle.windows.proofs.TimeLemmas.{all_from}
 use Rattle.windows.proofs.WindowLemmas.{from_view, same_rows, to_view}
+use Rattle.enf_data.specs.contracts.rows.RowPartialEq.TheImpl as rows
 
 -- ---- item by item
 
@@ -35,12 +22,6 @@ all_pushed xs (x ∷ rest) all whole none = absurd (omega (arith, none))
 
 -- ---- entry by entry
 
-absent_before : {X : Type 0} (xs ys : List X) (x : X) → HasNoRepeats (xs ++ x ∷ ys) → Contains xs x → ⊥
-absent_before [] ys x distinct there = none_in_nil x there
-absent_before (y ∷ xs) ys x distinct there =
-    ⊎_elim (λ same. distinct.0 (subst (Contains (xs ++ x ∷ ys)) (sym same) (Contains-append_right xs (x ∷ ys) x (here x ys))))
-    (λ behind. absent_before xs ys x distinct.1 behind) (first_or_later x y xs there)
-
 no_entry : (row : List Value) (es : List (List Value × SmallVec ℕ)) → (Contains (map (λ e. e.0) es) row → ⊥)
     → lookup (rows.eq-value.it row) es ≡ None
 no_entry row [] absent = refl
@@ -52,25 +33,25 @@ no_entry row (e ∷ es) absent = by (rows.eq-value.it row e.0) refl (no_entry ro
 
 pub entry_copied : {S : Type 0} (m : HashMap (List Value) (SmallVec ℕ) S) (row key : List Value) (times new : SmallVec ℕ) (after : List (List Value × SmallVec ℕ))
     → (Contains (map (λ e. e.0) m.entries) row → ⊥) → key ≡ row → new.items ≡ times.items → after ≡ insert_entry rows.eq-value.it m.entries key new
-    → kept_of after ≡ kept_of m.entries ++ (row, times.items) ∷ []
+    → kept_entries after ≡ kept_entries m.entries ++ (row, times.items) ∷ []
 entry_copied m row key times new after absent same items inserted =
-    ap kept_of (grown_by m row key new after (no_entry row m.entries absent) same inserted)
+    ap kept_entries (grown_by m row key new after (no_entry row m.entries absent) same inserted)
     ∙ map-append (λ e. (e.0, e.1.items)) m.entries ((row, new) ∷ [])
-    ∙ ap (λ l. kept_of m.entries ++ (row, l) ∷ []) items
+    ∙ ap (λ l. kept_entries m.entries ++ (row, l) ∷ []) items
 
 -- where what is copied and what is left are all, the row that comes next is not copied yet
 pub not_copied : (copy rest next es : List (List Value × SmallVec ℕ)) (row : List Value) (times : SmallVec ℕ) → HasNoRepeats (map (λ e. e.0) es)
-    → kept_of copy ++ kept_of rest ≡ kept_of es → rest ≡ (row, times) ∷ next → Contains (map (λ e. e.0) copy) row → ⊥
+    → kept_entries copy ++ kept_entries rest ≡ kept_entries es → rest ≡ (row, times) ∷ next → Contains (map (λ e. e.0) copy) row → ⊥
 not_copied copy rest next es row times distinct whole is there =
-    let split : map (λ e. e.0) es ≡ map (λ e. e.0) copy ++ row ∷ map (λ e. e.0) (kept_of next) =
-    sym (same_rows es) ∙ ap (map (λ e. e.0)) (sym whole ∙ ap (λ l. kept_of copy ++ kept_of l) is)
-    ∙ map-append (λ e. e.0) (kept_of copy) ((row, times.items) ∷ kept_of next)
-    ∙ ap (λ l. l ++ row ∷ map (λ e. e.0) (kept_of next)) (same_rows copy) in
-    absent_before (map (λ e. e.0) copy) (map (λ e. e.0) (kept_of next)) row (subst HasNoRepeats split distinct) there
+    let split : map (λ e. e.0) es ≡ map (λ e. e.0) copy ++ row ∷ map (λ e. e.0) (kept_entries next) =
+    sym (same_rows es) ∙ ap (map (λ e. e.0)) (sym whole ∙ ap (λ l. kept_entries copy ++ kept_entries l) is)
+    ∙ map-append (λ e. e.0) (kept_entries copy) ((row, times.items) ∷ kept_entries next)
+    ∙ ap (λ l. l ++ row ∷ map (λ e. e.0) (kept_entries next)) (same_rows copy) in
+    HasNoRepeats-middle (map (λ e. e.0) copy) (map (λ e. e.0) (kept_entries next)) row (subst HasNoRepeats split distinct) there
 
 -- ---- a window of such a copy
 
-module _ (es fs : List (List Value × SmallVec ℕ)) (same : kept_of fs ≡ kept_of es) where
+module _ (es fs : List (List Value × SmallVec ℕ)) (same : kept_entries fs ≡ kept_entries es) where
   -- each entry of the copy has an entry with its row and its times
   pub entry_before : (e : List Value × SmallVec ℕ) → Contains fs e → (times : SmallVec ℕ) × Contains es (e.0, times) × (times.items ≡ e.1.items)
   entry_before e there = from_view es e.0 e.1.items (subst (λ l. Contains l (e.0, e.1.items)) same (to_view fs e.0 e.1 there))
@@ -94,10 +75,10 @@ module _ (es fs : List (List Value × SmallVec ℕ)) (same : kept_of fs ≡ kept
           (All-contains (λ d. (length d.0 ≡ length columns) × RiseTo last d.1.items × (0 < length d.1.items)) es (e.0, found.0) is.kept.fit found.1));
       unique = subst HasNoRepeats (sym (same_rows es) ∙ ap (map (λ e. e.0)) (sym same) ∙ same_rows fs) is.kept.unique;
     };
-    least = all_from (λ e. IsLeast interval.high interval.low last e.1.items) fs (λ e there.
+    least = all_from (λ e. AreLeastTimes interval.high interval.low last e.1.items) fs (λ e there.
         let found = entry_before e there in
-        subst (IsLeast interval.high interval.low last) found.2
-        (All-contains (λ d. IsLeast interval.high interval.low last d.1.items) es (e.0, found.0) is.least found.1));
+        subst (AreLeastTimes interval.high interval.low last) found.2
+        (All-contains (λ d. AreLeastTimes interval.high interval.low last d.1.items) es (e.0, found.0) is.least found.1));
     up_to = is.up_to;
     in_reach = is.in_reach;
     queued = λ high bounded. record {

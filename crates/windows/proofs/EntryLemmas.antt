@@ -1,31 +1,23 @@
 -- Rows with their times.
-use Rattle.std.proofs.Common.{◌≡◌, ◌∙◌, ◌↔◌, ◌⊎◌, inl, inr, ⊎_elim, ℕ, zero, suc, ◌+◌, ◌-◌, ◌<◌, ◌≤◌, Bool, true, false, List, [], ◌∷◌, ◌++◌, length, map, take, drop, get_or, All, Contains, Option, None, Some, refl, sym, ap, subst, arith}
-use Rattle.std.proofs.lemmas.Bool.{false≢true}
-use Rattle.std.proofs.lemmas.List.Elements.{All-contains, All-nil, All-push, Contains-append_cases, Contains-append_left, Contains-append_right, Contains-get_or, Contains-push}
-use Rattle.std.proofs.lemmas.Option.{same_Some, none-some}
-use Rattle.std.specs.Prelude.{position, is_some, slice_get, swap_remove, IfSome, IsTrue, cond}
-use Rattle.std.specs.List.{IsDistinct}
-use Rattle.std.specs.List.Sorted.{IsPermutation}
-use Rattle.std.specs.Map.Calls.{RetainsPairs}
-use Rattle.std.proofs.lemmas.List.{take_more}
-use Rattle.std.proofs.lemmas.List.Sorted.{IsPermutation-swap_remove, IsPermutation-sym, Contains-permutation}
-use Rattle.std.proofs.lemmas.List.Quantifiers.{position-Some}
-use Rattle.std.specs.Map.{keys_of, lookup, values_of}
-use Rattle.smallvec.specs.SmallVec.{SmallVec}
-use Rattle.indexmap.specs.Layout.{set_value_at}
-use Rattle.indexmap.specs.IndexMap.{get_by, insert_entry}
-use Rattle.indexmap.proofs.CallerLemmas.{insert_entry-new}
-use Rattle.std.specs.HashMap.{HashMap}
-use Rattle.enf_value.specs.EqualityLaws.{HasNoRepeats-from_distinct, derived_row_eq-Decides}
-use Rattle.enf_value.specs.Membership.{HasNoRepeats}
-use Rattle.enf_value.specs.contracts.rows.RowPartialEq.TheImpl as rows
-use Rattle.enf_value.specs.declared.intervals.Interval.{Interval}
-use Rattle.enf_value.specs.declared.values.Value.{Value}
-use Rattle.valuations.specs.Columns.{here, later, first_or_later, none_in_nil}
-use Rattle.windows.specs.Pairs.{AddAtMost, AddsAtMost, AddsTime, AddsTimes, AreKept, AreLeast, Forgets, ForgetsTimes, Gives, HasGiven, HasTime, IsAnyRow, IsSettled, IsSomeIn, KeepsRows}
-use Rattle.windows.specs.Times.{IsEnded, IsLeast, IsServed, RiseTo}
+use Rattle.windows.proofs.Vocabulary.{◌≡◌, ◌∙◌, ◌↔◌, ◌⊎◌, inl, inr, ⊎_elim, ℕ, zero, suc}
+use Rattle.windows.proofs.Vocabulary.{◌+◌, ◌-◌, ◌<◌, ◌≤◌, Bool, true, false, List, [], ◌∷◌}
+use Rattle.windows.proofs.Vocabulary.{◌++◌, length, map, take, drop, get_or, All, Contains, Option, None, Some}
+use Rattle.windows.proofs.Vocabulary.{refl, sym, ap, subst, arith, false≢true, All-contains, All-nil, All-push}
+use Rattle.windows.proofs.Vocabulary.{Contains-append_cases, Contains-append_left, Contains-append_right}
+use Rattle.windows.proofs.Vocabulary.{Contains-get_or, Contains-push, same_Some, none-some, position, slice_get}
+use Rattle.windows.proofs.Vocabulary.{swap_remove, IfSome, cond, IsDistinct, IsPermutation, RetainsPairs, take_more}
+use Rattle.windows.proofs.Vocabulary.{IsPermutation-swap_remove, IsPermutation-sym, Contains-permutation, position-Some}
+use Rattle.windows.proofs.Vocabulary.{keys_of, lookup, values_of, SmallVec, set_value_at, get_by, insert_entry}
+use Rattle.windows.proofs.Vocabulary.{insert_entry-new, HashMap, HasNoRepeats-from_distinct, here, later}
+use Rattle.windows.proofs.Vocabulary.{first_or_later, none_in_nil, derived_row_eq-Decides, HasNoRepeats, Interval}
+use Rattle.windows.proofs.Vocabulary.{Value, all_from, AddAtMost, AddsAtMost, AddsTime, AddsTimes, AreWindowEntries}
+use Rattle.windows.proofs.Vocabulary.{AreLeast, Forgets, ForgetsTimes, GivesRow, GivesSomeRow, HasTime, IsAnyRow}
+use Rattle.windows.proofs.Vocabulary.{IsSettledRow, IsSomeIn, KeepsRows, IsEndedTime, AreLeastTimes, IsServedTime}
+use Rattle.windows.proofs.Vocabulary.{RiseTo}
+use Rattle.std.specs.Prelude.{is_some, IsTrue}
 use Rattle.windows.proofs.LeastLemmas.{one_entry}
-use Rattle.windows.proofs.TimeLemmas.{all_from, itself, least_live, least_near, rise_later}
+use Rattle.windows.proofs.TimeLemmas.{itself, least_live, least_near, rise_later}
+use Rattle.enf_data.specs.contracts.rows.RowPartialEq.TheImpl as rows
 
 -- ---- an entry whose times are changed
 
@@ -36,7 +28,8 @@ pub record SetsAt (es after : List (List Value × SmallVec ℕ)) (row : List Val
   pub rest : (e : List Value × SmallVec ℕ) → Contains es e → Contains after e ⊎ (e ≡ (row, old))
 
 -- at the place of the row
-sets_there : (test : List Value → Bool) (row d : List Value) → ((k : List Value) → test k ≡ true → row ≡ k) → (es : List (List Value × SmallVec ℕ)) (place : ℕ) (old new : SmallVec ℕ) → place < length (keys_of es)
+sets_there : (test : List Value → Bool) (row d : List Value) → ((k : List Value) → test k ≡ true → row ≡ k)
+    → (es : List (List Value × SmallVec ℕ)) (place : ℕ) (old new : SmallVec ℕ) → place < length (keys_of es)
     → test (get_or (keys_of es) place d) ≡ true → slice_get (values_of es) place ≡ Some old → SetsAt es (set_value_at es place new) row old new
 sets_there test row d same [] place old new within passes value = absurd (omega (arith, within))
 sets_there test row d same (e ∷ es) zero old new within passes value =
@@ -54,8 +47,10 @@ sets_there test row d same (e ∷ es) (suc place) old new within passes value =
     let inner = sets_there test row d same es place old new (omega (arith, within)) passes value in record {
       was = later (row, old) e es inner.was;
       is = later (row, new) e (set_value_at es place new) inner.is;
-      from = λ other there. ⊎_elim (λ h. inl (0, omega arith, h)) (λ behind. ⊎_elim (λ b. inl (later other e es b)) (λ same_one. inr same_one) (inner.from other behind)) (first_or_later other e (set_value_at es place new) there);
-      rest = λ other there. ⊎_elim (λ h. inl (0, omega arith, h)) (λ behind. ⊎_elim (λ b. inl (later other e (set_value_at es place new) b)) (λ same_one. inr same_one) (inner.rest other behind)) (first_or_later other e es there);
+      from = λ other there. ⊎_elim (λ h. inl (0, omega arith, h)) (λ behind. ⊎_elim (λ b. inl (later other e es b)) (λ same_one. inr same_one) (inner.from other behind))
+          (first_or_later other e (set_value_at es place new) there);
+      rest = λ other there. ⊎_elim (λ h. inl (0, omega arith, h)) (λ behind. ⊎_elim (λ b. inl (later other e (set_value_at es place new) b)) (λ same_one. inr same_one)
+          (inner.rest other behind)) (first_or_later other e es there);
     }
 
 pub sets_at : (row : List Value) (es : List (List Value × SmallVec ℕ)) (place : ℕ) (old new : SmallVec ℕ) → Some place ≡ position (rows.eq-value.it row) (keys_of es)
@@ -66,13 +61,14 @@ sets_at row es place old new found value =
 
 -- ---- times that serve
 
-pub served_by : (high : Option ℕ) (low now : ℕ) (P Q : ℕ → Type 0) (time : ℕ) → ((other : ℕ) → P other → Q other) → IsServed high low now P time → IsServed high low now Q time
+pub served_by : (high : Option ℕ) (low now : ℕ) (P Q : ℕ → Type 0) (time : ℕ) → ((other : ℕ) → P other → Q other) → IsServedTime high low now P time → IsServedTime high low now Q time
 served_by None low now P Q time weaker served = (served.0, served.1, weaker served.0 served.2)
 served_by (Some high) low now P Q time weaker served = (served.0, served.1, served.2, weaker served.0 served.3)
 
 -- what serves in the place of one that serves does so too
-pub served_on : (high : Option ℕ) (low now : ℕ) (P Q : ℕ → Type 0) (time : ℕ) → ((other : ℕ) → P other → IsServed high low now Q other ⊎ IsEnded high now other) → IsServed high low now P time
-    → IsServed high low now Q time ⊎ IsEnded high now time
+pub served_on : (high : Option ℕ) (low now : ℕ) (P Q : ℕ → Type 0) (time : ℕ) → ((other : ℕ) → P other → IsServedTime high low now Q other ⊎ IsEndedTime high now other)
+    → IsServedTime high low now P time
+    → IsServedTime high low now Q time ⊎ IsEndedTime high now time
 served_on None low now P Q time serves served =
     ⊎_elim (λ by. inl (by.0, omega (arith, by.1, served.1), by.2)) (λ ended. absurd ended) (serves served.0 served.2)
 served_on (Some high) low now P Q time serves served =
@@ -83,7 +79,7 @@ served_on (Some high) low now P Q time serves served =
       by.3,
     )) (λ ended. inr (omega (arith, ended, served.1))) (serves served.0 served.3)
 
-pub not_ended_now : (high : Option ℕ) (now : ℕ) → IsEnded high now now → ⊥
+pub not_ended_now : (high : Option ℕ) (now : ℕ) → IsEndedTime high now now → ⊥
 not_ended_now None now ended = ended
 not_ended_now (Some high) now ended = omega (arith, ended)
 
@@ -92,20 +88,22 @@ not_ended_now (Some high) now ended = omega (arith, ended)
 abbrev Fit : ℕ → ℕ → List Value × SmallVec ℕ → Type 0
 Fit long last e = (length e.0 ≡ long) × RiseTo last e.1.items × (0 < length e.1.items)
 
-pub fit_of : (long last : ℕ) (es : List (List Value × SmallVec ℕ)) (row : List Value) (times : SmallVec ℕ) → AreKept long last es → Contains es (row, times)
+pub fit_of : (long last : ℕ) (es : List (List Value × SmallVec ℕ)) (row : List Value) (times : SmallVec ℕ) → AreWindowEntries long last es → Contains es (row, times)
     → (length row ≡ long) × RiseTo last times.items × (0 < length times.items)
 fit_of long last es row times kept there = All-contains (Fit long last) es (row, times) kept.fit there
 
-pub least_of : (interval : Interval) (last : ℕ) (es : List (List Value × SmallVec ℕ)) (row : List Value) (times : SmallVec ℕ) → AreLeast interval last es → Contains es (row, times) → IsLeast interval.high interval.low last times.items
-least_of interval last es row times least there = All-contains (λ e. IsLeast interval.high interval.low last e.1.items) es (row, times) least there
+pub least_of : (interval : Interval) (last : ℕ) (es : List (List Value × SmallVec ℕ)) (row : List Value) (times : SmallVec ℕ) → AreLeast interval last es
+    → Contains es (row, times) → AreLeastTimes interval.high interval.low last times.items
+least_of interval last es row times least there = All-contains (λ e. AreLeastTimes interval.high interval.low last e.1.items) es (row, times) least there
 
 pub set_keys : (es : List (List Value × SmallVec ℕ)) (place : ℕ) (new : SmallVec ℕ) → map (λ e. e.0) (set_value_at es place new) ≡ map (λ e. e.0) es
 set_keys [] place new = refl
 set_keys (e ∷ es) zero new = refl
 set_keys (e ∷ es) (suc place) new = ap (λ l. e.0 ∷ l) (set_keys es place new)
 
-pub kept_set : (long last : ℕ) (row : List Value) (es : List (List Value × SmallVec ℕ)) (place : ℕ) (old new : SmallVec ℕ) → AreKept long last es → SetsAt es (set_value_at es place new) row old new → RiseTo last new.items
-    → 0 < length new.items → AreKept long last (set_value_at es place new)
+pub kept_set : (long last : ℕ) (row : List Value) (es : List (List Value × SmallVec ℕ)) (place : ℕ) (old new : SmallVec ℕ) → AreWindowEntries long last es
+    → SetsAt es (set_value_at es place new) row old new → RiseTo last new.items
+    → 0 < length new.items → AreWindowEntries long last (set_value_at es place new)
 kept_set long last row es place old new kept sets rise some = record {
   fit = all_from (Fit long last) (set_value_at es place new) (λ e there. ⊎_elim (λ before. All-contains (Fit long last) es e kept.fit before)
       (λ same. subst (Fit long last) (sym same) ((All-contains (Fit long last) es (row, old) kept.fit sets.was).0, rise, some)) (sets.from e there));
@@ -113,33 +111,41 @@ kept_set long last row es place old new kept sets rise some = record {
 }
 
 pub least_set : (interval : Interval) (last : ℕ) (row : List Value) (es after : List (List Value × SmallVec ℕ)) (old new : SmallVec ℕ) → AreLeast interval last es → SetsAt es after row old new
-    → IsLeast interval.high interval.low last new.items → AreLeast interval last after
-least_set interval last row es after old new least sets is = all_from (λ e. IsLeast interval.high interval.low last e.1.items) after (λ e there.
-    ⊎_elim (λ before. All-contains (λ x. IsLeast interval.high interval.low last x.1.items) es e least before) (λ same. subst (λ x. IsLeast interval.high interval.low last x.1.items) (sym same) is) (sets.from e there))
+    → AreLeastTimes interval.high interval.low last new.items → AreLeast interval last after
+least_set interval last row es after old new least sets is = all_from (λ e. AreLeastTimes interval.high interval.low last e.1.items) after (λ e there.
+    ⊎_elim (λ before. All-contains (λ x. AreLeastTimes interval.high interval.low last x.1.items) es e least before)
+    (λ same. subst (λ x. AreLeastTimes interval.high interval.low last x.1.items) (sym same) is) (sets.from e there))
 
-pub kept_first : (long last : ℕ) (row : List Value) (es after : List (List Value × SmallVec ℕ)) (new : SmallVec ℕ) → AreKept long last es → length row ≡ long → after ≡ es ++ (row, new) ∷ [] → new.items ≡ last ∷ []
-    → HasNoRepeats (map (λ e. e.0) after) → AreKept long last after
+pub kept_first : (long last : ℕ) (row : List Value) (es after : List (List Value × SmallVec ℕ)) (new : SmallVec ℕ) → AreWindowEntries long last es → length row ≡ long → after
+    ≡ es ++ (row, new) ∷ [] → new.items ≡ last ∷ []
+    → HasNoRepeats (map (λ e. e.0) after) → AreWindowEntries long last after
 kept_first long last row es after new kept fits grown one unique = record {
-  fit = subst (All (Fit long last)) (sym grown) (All-push (Fit long last) es (row, new) kept.fit (fits, subst (RiseTo last) (sym one) (omega arith, All-nil _, tt), subst (λ l. 0 < length l) (sym one) (omega arith)));
+  fit = subst (All (Fit long last)) (sym grown) (All-push (Fit long last) es (row, new) kept.fit
+      (fits, subst (RiseTo last) (sym one) (omega arith, All-nil _, tt), subst (λ l. 0 < length l) (sym one) (omega arith)));
   unique = unique;
 }
 
-pub least_first : (interval : Interval) (last : ℕ) (row : List Value) (es after : List (List Value × SmallVec ℕ)) (new : SmallVec ℕ) → AreLeast interval last es → after ≡ es ++ (row, new) ∷ [] → new.items ≡ last ∷ [] → AreLeast interval last after
+pub least_first : (interval : Interval) (last : ℕ) (row : List Value) (es after : List (List Value × SmallVec ℕ)) (new : SmallVec ℕ) → AreLeast interval last es → after
+    ≡ es ++ (row, new) ∷ [] → new.items ≡ last ∷ [] → AreLeast interval last after
 least_first interval last row es after new least grown one =
-    subst (AreLeast interval last) (sym grown) (All-push (λ e. IsLeast interval.high interval.low last e.1.items) es (row, new) least (subst (IsLeast interval.high interval.low last) (sym one) (alone interval.high)))
+    subst (AreLeast interval last) (sym grown) (All-push (λ e. AreLeastTimes interval.high interval.low last e.1.items) es (row, new) least
+    (subst (AreLeastTimes interval.high interval.low last) (sym one) (alone interval.high)))
   where
-    alone : (high : Option ℕ) → IsLeast high interval.low last (last ∷ [])
+    alone : (high : Option ℕ) → AreLeastTimes high interval.low last (last ∷ [])
     alone None = refl
     alone (Some high) = (omega arith, All-nil _)
 
 -- rows that stay fit as before
-pub kept_fewer : (long last : ℕ) (es after : List (List Value × SmallVec ℕ)) → AreKept long last es → ((e : List Value × SmallVec ℕ) → Contains after e → Contains es e) → HasNoRepeats (map (λ e. e.0) after) → AreKept long last after
+pub kept_fewer : (long last : ℕ) (es after : List (List Value × SmallVec ℕ)) → AreWindowEntries long last es
+    → ((e : List Value × SmallVec ℕ) → Contains after e → Contains es e) → HasNoRepeats (map (λ e. e.0) after) → AreWindowEntries long last after
 kept_fewer long last es after kept among unique = record { fit = all_from (Fit long last) after (λ e there. All-contains (Fit long last) es e kept.fit (among e there)); unique = unique }
 
-pub least_fewer : (interval : Interval) (last : ℕ) (es after : List (List Value × SmallVec ℕ)) → AreLeast interval last es → ((e : List Value × SmallVec ℕ) → Contains after e → Contains es e) → AreLeast interval last after
-least_fewer interval last es after least among = all_from (λ e. IsLeast interval.high interval.low last e.1.items) after (λ e there. All-contains (λ x. IsLeast interval.high interval.low last x.1.items) es e least (among e there))
+pub least_fewer : (interval : Interval) (last : ℕ) (es after : List (List Value × SmallVec ℕ)) → AreLeast interval last es
+    → ((e : List Value × SmallVec ℕ) → Contains after e → Contains es e) → AreLeast interval last after
+least_fewer interval last es after least among = all_from (λ e. AreLeastTimes interval.high interval.low last e.1.items) after
+    (λ e there. All-contains (λ x. AreLeastTimes interval.high interval.low last x.1.items) es e least (among e there))
 
-pub kept_later : (long last now : ℕ) (es : List (List Value × SmallVec ℕ)) → last ≤ now → AreKept long last es → AreKept long now es
+pub kept_later : (long last now : ℕ) (es : List (List Value × SmallVec ℕ)) → last ≤ now → AreWindowEntries long last es → AreWindowEntries long now es
 kept_later long last now es below kept = record {
   fit = all_from (Fit long now) es (λ e there. let fit = All-contains (Fit long last) es e kept.fit there in (fit.0, rise_later last now e.1.items below fit.1, fit.2));
   unique = kept.unique;
@@ -153,20 +159,23 @@ unique_from es distinct = HasNoRepeats-from_distinct rows.eq-value.it derived_ro
 
 module _ (interval : Interval) (now : ℕ) (row : List Value) (es after : List (List Value × SmallVec ℕ)) (old new : SmallVec ℕ) (sets : SetsAt es after row old new) where
   -- what holds of the times of each entry after it, by what held before or holds of the new ones
-  from_set : (C : List ℕ → ℕ → Type 0) (D : Type 0) (other : List Value) (time : ℕ) → (times : SmallVec ℕ) × Contains after (other, times) × C times.items time → (C new.items time → C old.items time ⊎ D)
+  from_set : (C : List ℕ → ℕ → Type 0) (D : Type 0) (other : List Value) (time : ℕ) → (times : SmallVec ℕ) × Contains after (other, times) × C times.items time
+      → (C new.items time → C old.items time ⊎ D)
       → ((times : SmallVec ℕ) × Contains es (other, times) × C times.items time) ⊎ (D × (other ≡ row))
   from_set C D other time has adds = ⊎_elim (λ before. inl (has.0, before, has.2)) (λ same.
       let same_row : other ≡ row = ap (λ e. e.0) same in
-      ⊎_elim (λ b. inl (subst (λ r. (times : SmallVec ℕ) × Contains es (r, times) × C times.items time) (sym same_row) (old, sets.was, b))) (λ d. inr (d, same_row)) (adds (subst (λ t. C t.items time) (ap (λ e. e.1) same) has.2)))
+      ⊎_elim (λ b. inl (subst (λ r. (times : SmallVec ℕ) × Contains es (r, times) × C times.items time) (sym same_row) (old, sets.was, b))) (λ d. inr (d, same_row))
+      (adds (subst (λ t. C t.items time) (ap (λ e. e.1) same) has.2)))
       (sets.from (other, has.0) has.1)
 
   serves_set : (other : List Value) (time : ℕ) → HasTime es other time
-      → ((t : ℕ) → Contains old.items t → IsServed interval.high interval.low now (Contains new.items) t ⊎ IsEnded interval.high now t)
-      → IsServed interval.high interval.low now (HasTime after other) time ⊎ IsEnded interval.high now time
+      → ((t : ℕ) → Contains old.items t → IsServedTime interval.high interval.low now (Contains new.items) t ⊎ IsEndedTime interval.high now t)
+      → IsServedTime interval.high interval.low now (HasTime after other) time ⊎ IsEndedTime interval.high now time
   serves_set other time has serves = ⊎_elim (λ stays. inl (itself interval.high interval.low now (HasTime after other) time (has.0, stays, has.2))) (λ same.
       let same_row : other ≡ row = ap (λ e. e.0) same in
       ⊎_elim
-      (λ by. inl (served_by interval.high interval.low now (Contains new.items) (HasTime after other) time (λ t there. subst (λ r. HasTime after r t) (sym same_row) (new, sets.is, there)) by)) (λ ended. inr ended)
+      (λ by. inl (served_by interval.high interval.low now (Contains new.items) (HasTime after other) time
+      (λ t there. subst (λ r. HasTime after r t) (sym same_row) (new, sets.is, there)) by)) (λ ended. inr ended)
       (serves time (subst (λ t. Contains t.items time) (ap (λ e. e.1) same) has.2)))
       (sets.rest (other, has.0) has.1)
 
@@ -179,7 +188,8 @@ module _ (interval : Interval) (now : ℕ) (row : List Value) (es after : List (
   pub row_added : AddsTime interval now old.items new.items → AddsTimes interval now (λ other. other ≡ row) es after
   row_added adds = record {
     serves = λ other time has. serves_set other time has adds.serves;
-    added = λ other same. served_by interval.high interval.low now (Contains new.items) (HasTime after other) now (λ t there. subst (λ r. HasTime after r t) (sym same) (new, sets.is, there)) adds.added;
+    added = λ other same. served_by interval.high interval.low now (Contains new.items) (HasTime after other) now
+        (λ t there. subst (λ r. HasTime after r t) (sym same) (new, sets.is, there)) adds.added;
   }
 
   -- or some are left out
@@ -187,10 +197,10 @@ module _ (interval : Interval) (now : ℕ) (row : List Value) (es after : List (
   row_forgets high is forgets = record {
     from = λ other time has. ⊎_elim (λ before. before) (λ none. absurd none.0) (from_set Contains ⊥ other time has (λ there. inl (forgets.from time there)));
     behind = λ other time has. ⊎_elim (λ before. before) (λ none. absurd none.0) (from_set (λ l t. Contains (drop 1 l) t) ⊥ other time has (λ there. inl (forgets.behind time there)));
-    serves = λ other time has. serves_set other time has (λ t there. subst (λ h. IsServed h interval.low now (Contains new.items) t ⊎ IsEnded h now t) (sym is) (forgets.serves t there));
+    serves = λ other time has. serves_set other time has (λ t there. subst (λ h. IsServedTime h interval.low now (Contains new.items) t ⊎ IsEndedTime h now t) (sym is) (forgets.serves t there));
   }
 
-  pub row_settled : (high : ℕ) → HasNoRepeats (map (λ e. e.0) after) → RiseTo now new.items → IsLeast (Some high) interval.low now new.items → IsSettled high interval.low now after row
+  pub row_settled : (high : ℕ) → HasNoRepeats (map (λ e. e.0) after) → RiseTo now new.items → AreLeastTimes (Some high) interval.low now new.items → IsSettledRow high interval.low now after row
   row_settled high unique rise least = λ time. (
     λ has. least_live high interval.low now new.items rise least time (subst (λ t. Contains t.items time) (one_entry after unique row has.0 new has.1 sets.is) has.2),
     λ has. least_near high interval.low now new.items least time (subst (λ t. Contains (drop 1 t.items) time) (one_entry after unique row has.0 new has.1 sets.is) has.2),
@@ -224,31 +234,25 @@ missing None (Some y) not_some same = absurd (false≢true same)
 missing (Some x) o not_some same = absurd (not_some x refl)
 
 -- what a new key leaves
-pub grown_by : {S : Type 0} (m : HashMap (List Value) (SmallVec ℕ) S) (row key : List Value) (times : SmallVec ℕ) (after : List (List Value × SmallVec ℕ)) → get_by (rows.eq-value.it row) m ≡ None → key ≡ row
+pub grown_by : {S : Type 0} (m : HashMap (List Value) (SmallVec ℕ) S) (row key : List Value) (times : SmallVec ℕ) (after : List (List Value × SmallVec ℕ))
+    → get_by (rows.eq-value.it row) m ≡ None → key ≡ row
     → after ≡ insert_entry rows.eq-value.it m.entries key times → after ≡ m.entries ++ (row, times) ∷ []
 grown_by m row key times after none same is = is ∙ ap (λ k. insert_entry rows.eq-value.it m.entries k times) same ∙ insert_entry-new rows.eq-value.it m row times none
 
 -- ---- rows of a list, one after another
 
-pub at_most_none : (now : ℕ) (R : List Value → Type 0) (es : List (List Value × SmallVec ℕ)) → AddAtMost now R es es
-at_most_none now R es = record { from = λ row time has. inl has; behind = λ row time has. inl has }
-
-pub at_most_then : (now : ℕ) (R : List Value → Type 0) (row : List Value) (es middle after : List (List Value × SmallVec ℕ)) → R row → AddAtMost now R es middle → AddAtMost now (λ other. other ≡ row) middle after → AddAtMost now R es after
+pub at_most_then : (now : ℕ) (R : List Value → Type 0) (row : List Value) (es middle after : List (List Value × SmallVec ℕ)) → R row → AddAtMost now R es middle
+    → AddAtMost now (λ other. other ≡ row) middle after → AddAtMost now R es after
 at_most_then now R row es middle after holds first second = record {
   from = λ other time has. ⊎_elim (first.from other time) (λ added. inr (added.0, subst R (sym added.1) holds)) (second.from other time has);
   behind = λ other time has. ⊎_elim (first.behind other time) (λ added. inr (added.0, subst R (sym added.1) holds)) (second.behind other time has);
 }
 
-pub adds_nothing : (interval : Interval) (now : ℕ) (es : List (List Value × SmallVec ℕ)) → AddsTimes interval now (Contains []) es es
-adds_nothing interval now es = record {
-  serves = λ row time has. inl (itself interval.high interval.low now (HasTime es row) time has);
-  added = λ row there. absurd (none_in_nil row there);
-}
-
 pub adds_then : (interval : Interval) (now : ℕ) (done : List (List Value)) (row : List Value) (es middle after : List (List Value × SmallVec ℕ)) → AddsTimes interval now (Contains done) es middle
     → AddsTimes interval now (λ other. other ≡ row) middle after → AddsTimes interval now (Contains (done ++ row ∷ [])) es after
 adds_then interval now done row es middle after first second = record {
-  serves = λ other time has. ⊎_elim (served_on interval.high interval.low now (HasTime middle other) (HasTime after other) time (second.serves other)) (λ ended. inr ended) (first.serves other time has);
+  serves = λ other time has. ⊎_elim (served_on interval.high interval.low now (HasTime middle other) (HasTime after other) time (second.serves other)) (λ ended. inr ended)
+      (first.serves other time has);
   added = λ other there. ⊎_elim
       (λ before. ⊎_elim (λ by. by) (λ ended. absurd (not_ended_now interval.high now ended))
       (served_on interval.high interval.low now (HasTime middle other) (HasTime after other) now (second.serves other) (first.added other before)))
@@ -256,14 +260,8 @@ adds_then interval now done row es middle after first second = record {
       (Contains-append_cases done (row ∷ []) other there);
 }
 
-pub forgets_nothing : (interval : Interval) (now : ℕ) (es : List (List Value × SmallVec ℕ)) → Forgets interval now es es
-forgets_nothing interval now es = record {
-  from = λ row time has. has;
-  behind = λ row time has. has;
-  serves = λ row time has. inl (itself interval.high interval.low now (HasTime es row) time has);
-}
-
-pub forgets_then : (interval : Interval) (now : ℕ) (es middle after : List (List Value × SmallVec ℕ)) → Forgets interval now es middle → Forgets interval now middle after → Forgets interval now es after
+pub forgets_then : (interval : Interval) (now : ℕ) (es middle after : List (List Value × SmallVec ℕ)) → Forgets interval now es middle → Forgets interval now middle after
+    → Forgets interval now es after
 forgets_then interval now es middle after first second = record {
   from = λ row time has. first.from row time (second.from row time has);
   behind = λ row time has. first.behind row time (second.behind row time has);
@@ -271,7 +269,8 @@ forgets_then interval now es middle after first second = record {
 }
 
 -- a row that is settled stays so
-pub settled_then : (high : ℕ) (interval : Interval) (now : ℕ) (row : List Value) (middle after : List (List Value × SmallVec ℕ)) → Forgets interval now middle after → IsSettled high interval.low now middle row → IsSettled high interval.low now after row
+pub settled_then : (high : ℕ) (interval : Interval) (now : ℕ) (row : List Value) (middle after : List (List Value × SmallVec ℕ)) → Forgets interval now middle after
+    → IsSettledRow high interval.low now middle row → IsSettledRow high interval.low now after row
 settled_then high interval now row middle after second settled = λ time. (λ has. (settled time).0 (second.from row time has), λ has. (settled time).1 (second.behind row time has))
 
 pub keeps_all : (es : List (List Value × SmallVec ℕ)) → KeepsRows (λ row. Contains [] row → ⊥) es es
@@ -282,8 +281,11 @@ pub keeps_then : (done : List (List Value)) (row : List Value) (es middle after 
 keeps_then done row es middle after first second = record {
   among = λ e there. first.among e (second.among e there);
   exact = λ other time. (
-    λ has. let mid = (second.exact other time).0 has in let was = (first.exact other time).0 mid.0 in
-        (was.0, λ there. ⊎_elim was.1 (λ last. mid.1 (⊎_elim (λ same. sym same) (λ none. absurd (none_in_nil other none)) (first_or_later other row [] last))) (Contains-append_cases done (row ∷ []) other there)),
+    λ has. let mid = (second.exact other time).0 has in let was = (first.exact other time).0 mid.0 in (
+      was.0,
+      λ there. ⊎_elim was.1 (λ last. mid.1 (⊎_elim (λ same. sym same) (λ none. absurd (none_in_nil other none)) (first_or_later other row [] last)))
+          (Contains-append_cases done (row ∷ []) other there),
+    ),
     λ both. (second.exact other time).1 (
       (first.exact other time).1 (both.0, λ there. both.1 (Contains-append_left done (row ∷ []) other there)),
       λ same. both.1 (subst (Contains (done ++ row ∷ [])) (sym same) (Contains-push done row)),
@@ -348,7 +350,8 @@ module _ (row : List Value) (es after : List (List Value × SmallVec ℕ)) (plac
   gone : Some place ≡ position (rows.eq-value.it row) (keys_of es) → lookup (rows.eq-value.it t.taken.0) after ≡ None → (times : SmallVec ℕ) → Contains after (row, times) → ⊥
   gone found none times there = absent (rows.eq-value.it t.taken.0) after none (row, times) there ((derived_row_eq-Decides t.taken.0 row).1 (sym (is_taken found)))
 
-  pub forgets_at : Some place ≡ position (rows.eq-value.it row) (keys_of es) → lookup (rows.eq-value.it t.taken.0) after ≡ None → HasNoRepeats (map (λ e. e.0) after) → KeepsRows (λ other. other ≡ row → ⊥) es after
+  pub forgets_at : Some place ≡ position (rows.eq-value.it row) (keys_of es) → lookup (rows.eq-value.it t.taken.0) after ≡ None → HasNoRepeats (map (λ e. e.0) after)
+      → KeepsRows (λ other. other ≡ row → ⊥) es after
   forgets_at found none unique = record {
     among = among_taken;
     exact = λ other time. (
@@ -358,19 +361,20 @@ module _ (row : List Value) (es after : List (List Value × SmallVec ℕ)) (plac
     unique = λ before. unique;
   }
 
-  -- it goes out with times that are all past the end
-  pub ended_at : (interval : Interval) (now : ℕ) → ((time : ℕ) → Contains t.taken.1.items time → IsEnded interval.high now time) → Forgets interval now es after
+  -- it is emitted with times that are all past the end
+  pub ended_at : (interval : Interval) (now : ℕ) → ((time : ℕ) → Contains t.taken.1.items time → IsEndedTime interval.high now time) → Forgets interval now es after
   ended_at interval now ended = record {
     from = λ other time has. (has.0, among_taken (other, has.0) has.1, has.2);
     behind = λ other time has. (has.0, among_taken (other, has.0) has.1, has.2);
-    serves = λ other time has. ⊎_elim (λ same. inr (ended time (subst (λ x. Contains x.1.items time) (sym same) has.2))) (λ stays. inl (itself interval.high interval.low now (HasTime after other) time (has.0, stays, has.2)))
+    serves = λ other time has. ⊎_elim (λ same. inr (ended time (subst (λ x. Contains x.1.items time) (sym same) has.2)))
+        (λ stays. inl (itself interval.high interval.low now (HasTime after other) time (has.0, stays, has.2)))
         (taken_or_stays (other, has.0) has.1);
   }
 
-  pub settled_at : (high low now : ℕ) → Some place ≡ position (rows.eq-value.it row) (keys_of es) → lookup (rows.eq-value.it t.taken.0) after ≡ None → IsSettled high low now after row
+  pub settled_at : (high low now : ℕ) → Some place ≡ position (rows.eq-value.it row) (keys_of es) → lookup (rows.eq-value.it t.taken.0) after ≡ None → IsSettledRow high low now after row
   settled_at high low now found none = λ time. (λ has. absurd (gone found none has.0 has.1), λ has. absurd (gone found none has.0 has.1))
 
-  pub kept_at : (long last : ℕ) → HasNoRepeats (map (λ e. e.0) after) → AreKept long last es → AreKept long last after
+  pub kept_at : (long last : ℕ) → HasNoRepeats (map (λ e. e.0) after) → AreWindowEntries long last es → AreWindowEntries long last after
   kept_at long last unique kept = kept_fewer long last es after kept among_taken unique
 
 pub forgets_missing : (row : List Value) (es : List (List Value × SmallVec ℕ)) → lookup (rows.eq-value.it row) es ≡ None → KeepsRows (λ other. other ≡ row → ⊥) es es
@@ -380,7 +384,7 @@ forgets_missing row es none = record {
   unique = λ unique. unique;
 }
 
-pub settled_missing : (high low now : ℕ) (row : List Value) (es : List (List Value × SmallVec ℕ)) → lookup (rows.eq-value.it row) es ≡ None → IsSettled high low now es row
+pub settled_missing : (high low now : ℕ) (row : List Value) (es : List (List Value × SmallVec ℕ)) → lookup (rows.eq-value.it row) es ≡ None → IsSettledRow high low now es row
 settled_missing high low now row es none = λ time. (λ has. absurd (not_there has.0 has.1), λ has. absurd (not_there has.0 has.1))
   where
     not_there : (times : SmallVec ℕ) → Contains es (row, times) → ⊥
@@ -398,12 +402,14 @@ module _ {F : Type 0} (T : F → List Value → SmallVec ℕ → Bool → SmallV
     where
       by : (b : Bool) → h.0 ≡ b → IsTrue b ↔ S x.0 → kept ≡ cond b (x ∷ h.3) h.3 → Contains h.3 e ↔ (Contains es e × S e.0) → Contains kept e ↔ (Contains (x ∷ es) e × S e.0)
       by true is tells left rest = (
-        λ there. ⊎_elim (λ same. ((0, omega arith, same), subst (λ y. S y.0) same (tells.0 refl))) (λ behind. let both = rest.0 behind in (later e x es both.0, both.1)) (first_or_later e x h.3 (subst (λ l. Contains l e) left there)),
+        λ there. ⊎_elim (λ same. ((0, omega arith, same), subst (λ y. S y.0) same (tells.0 refl))) (λ behind. let both = rest.0 behind in (later e x es both.0, both.1))
+            (first_or_later e x h.3 (subst (λ l. Contains l e) left there)),
         λ both. subst (λ l. Contains l e) (sym left) (⊎_elim (λ same. (0, omega arith, same)) (λ behind. later e x h.3 (rest.1 (behind, both.1))) (first_or_later e x es both.0)),
       )
       by false is tells left rest = (
         λ there. let both = rest.0 (subst (λ l. Contains l e) left there) in (later e x es both.0, both.1),
-        λ both. subst (λ l. Contains l e) (sym left) (⊎_elim (λ same. absurd (false≢true (tells.1 (subst (λ y. S y.0) (sym same) both.1)))) (λ behind. rest.1 (behind, both.1)) (first_or_later e x es both.0)),
+        λ both. subst (λ l. Contains l e) (sym left) (⊎_elim (λ same. absurd (false≢true (tells.1 (subst (λ y. S y.0) (sym same) both.1)))) (λ behind. rest.1 (behind, both.1))
+            (first_or_later e x es both.0)),
       )
 
   -- and what is known once the first is asked for
@@ -428,44 +434,42 @@ some_at (Some y) x P is holds = subst P (same_Some y x is) holds
 pub item_there : (rows : List (List Value)) (i : ℕ) (row : List Value) → i < length rows → row ≡ get_or rows i row → Contains rows row
 item_there rows i row below is = subst (Contains rows) (sym is) (Contains-get_or rows i row below)
 
-pub survive_all : (es : List (List Value × SmallVec ℕ)) → KeepsRows (λ row. Unit {0}) es es
-survive_all es = record { among = λ e there. there; exact = λ row time. (λ has. (has, tt), λ both. both.0); unique = λ unique. unique }
-
--- ---- what is given at a time
-
 -- the rows that are out, and those that the rest of the entries give
-module _ (interval : Interval) (now : ℕ) (S : List Value → Type 0) (All : List Value → Type 0) (e : List Value × SmallVec ℕ) (left rest : List (List Value × SmallVec ℕ)) (is : left ≡ e ∷ rest) (out : List (List Value))
-    (so_far : (row : List Value) → (Contains out row ⊎ Gives interval now S left row) ↔ All row) where
-  given_later : (row : List Value) → Gives interval now S rest row → Gives interval now S left row
+module _ (interval : Interval) (now : ℕ) (S : List Value → Type 0) (All : List Value → Type 0) (e : List Value × SmallVec ℕ) (left rest : List (List Value × SmallVec ℕ))
+    (is : left ≡ e ∷ rest) (out : List (List Value))
+    (so_far : (row : List Value) → (Contains out row ⊎ GivesRow interval now S left row) ↔ All row) where
+  given_later : (row : List Value) → GivesRow interval now S rest row → GivesRow interval now S left row
   given_later row g = ((g.0.0, subst (λ l. Contains l (row, g.0.0)) (sym is) (later (row, g.0.0) e rest g.0.1), g.0.2), g.1)
 
   first_or_rest : (row : List Value) (times : SmallVec ℕ) → Contains left (row, times) → (e ≡ (row, times)) ⊎ Contains rest (row, times)
   first_or_rest row times there = first_or_later (row, times) e rest (subst (λ l. Contains l (row, times)) is there)
 
   pub gives_more : (after : List (List Value)) (key : List Value) → key ≡ e.0 → IsSomeIn interval now e.1.items → S e.0 → after ≡ out ++ key ∷ []
-      → (row : List Value) → (Contains after row ⊎ Gives interval now S rest row) ↔ All row
+      → (row : List Value) → (Contains after row ⊎ GivesRow interval now S rest row) ↔ All row
   gives_more after key same some survives grown row = (
     λ either. ⊎_elim
         (λ there. ⊎_elim (λ before. (so_far row).0 (inl before))
         (λ last. let is_row : key ≡ row = ⊎_elim (λ h. h) (λ none. absurd (none_in_nil row none)) (first_or_later row key [] last) in
-        (so_far row).0 (inr (subst (Gives interval now S left) (sym same ∙ is_row) ((e.1, subst (λ l. Contains l e) (sym is) (here e rest), some), survives))))
+        (so_far row).0 (inr (subst (GivesRow interval now S left) (sym same ∙ is_row) ((e.1, subst (λ l. Contains l e) (sym is) (here e rest), some), survives))))
         (Contains-append_cases out (key ∷ []) row (subst (λ l. Contains l row) grown there)))
         (λ g. (so_far row).0 (inr (given_later row g))) either,
     λ all. ⊎_elim (λ before. inl (subst (λ l. Contains l row) (sym grown) (Contains-append_left out (key ∷ []) row before)))
-        (λ g. ⊎_elim (λ first. inl (subst (λ l. Contains l row) (sym grown) (subst (Contains (out ++ key ∷ [])) (same ∙ ap (λ x. x.0) first) (Contains-push out key)))) (λ behind. inr ((g.0.0, behind, g.0.2), g.1)) (first_or_rest row g.0.0 g.0.1))
+        (λ g. ⊎_elim (λ first. inl (subst (λ l. Contains l row) (sym grown) (subst (Contains (out ++ key ∷ [])) (same ∙ ap (λ x. x.0) first) (Contains-push out key))))
+        (λ behind. inr ((g.0.0, behind, g.0.2), g.1)) (first_or_rest row g.0.0 g.0.1))
         ((so_far row).1 all),
   )
 
-  pub gives_no_more : (IsSomeIn interval now e.1.items × S e.0 → ⊥) → (row : List Value) → (Contains out row ⊎ Gives interval now S rest row) ↔ All row
+  pub gives_no_more : (IsSomeIn interval now e.1.items × S e.0 → ⊥) → (row : List Value) → (Contains out row ⊎ GivesRow interval now S rest row) ↔ All row
   gives_no_more not_it row = (
     λ either. (so_far row).0 (⊎_elim (λ before. inl before) (λ g. inr (given_later row g)) either),
     λ all. ⊎_elim (λ before. inl before)
-        (λ g. ⊎_elim (λ first. absurd (not_it (subst (λ x. IsSomeIn interval now x.1.items × S x.0) (sym first) (g.0.2, g.1)))) (λ behind. inr ((g.0.0, behind, g.0.2), g.1)) (first_or_rest row g.0.0 g.0.1))
+        (λ g. ⊎_elim (λ first. absurd (not_it (subst (λ x. IsSomeIn interval now x.1.items × S x.0) (sym first) (g.0.2, g.1)))) (λ behind. inr ((g.0.0, behind, g.0.2), g.1))
+        (first_or_rest row g.0.0 g.0.1))
         ((so_far row).1 all),
   )
 
 pub gives_all : (interval : Interval) (now : ℕ) (S : List Value → Type 0) (All : List Value → Type 0) (left : List (List Value × SmallVec ℕ)) (out : List (List Value)) → left ≡ []
-    → ((row : List Value) → (Contains out row ⊎ Gives interval now S left row) ↔ All row) → (row : List Value) → Contains out row ↔ All row
+    → ((row : List Value) → (Contains out row ⊎ GivesRow interval now S left row) ↔ All row) → (row : List Value) → Contains out row ↔ All row
 gives_all interval now S All left out is so_far row = (
   λ there. (so_far row).0 (inl there),
   λ all. ⊎_elim (λ there. there) (λ g. absurd (none_in_nil (row, g.0.0) (subst (λ l. Contains l (row, g.0.0)) is g.0.1))) ((so_far row).1 all),
@@ -473,7 +477,7 @@ gives_all interval now S All left out is so_far row = (
 
 -- what is known once some row is given
 pub given_more : (interval : Interval) (now : ℕ) (X Given : Type 0) (e : List Value × SmallVec ℕ) (left rest : List (List Value × SmallVec ℕ)) → left ≡ e ∷ rest → (IsSomeIn interval now e.1.items → X)
-    → (Given → X ⊎ HasGiven interval now left) → Given → X ⊎ HasGiven interval now rest
+    → (Given → X ⊎ GivesSomeRow interval now left) → Given → X ⊎ GivesSomeRow interval now rest
 given_more interval now X Given e left rest is first before given = ⊎_elim (λ known. inl known)
     (λ g. ⊎_elim (λ same. inl (first (subst (λ x. IsSomeIn interval now x.1.items) (sym same) g.1.0.2))) (λ behind. inr (g.0, ((g.1.0.0, behind, g.1.0.2), tt)))
     (first_or_later (g.0, g.1.0.0) e rest (subst (λ l. Contains l (g.0, g.1.0.0)) is g.1.0.1))) (before given)
@@ -483,7 +487,8 @@ pub moves_on : (All : List Value → Type 0) (x : List Value) (left rest out aft
     → ((row : List Value) → (Contains out row ⊎ Contains left row) ↔ All row) → (row : List Value) → (Contains after row ⊎ Contains rest row) ↔ All row
 moves_on All x left rest out after key is same grown so_far row = (
   λ either. (so_far row).0 (⊎_elim
-      (λ there. ⊎_elim (λ before. inl before) (λ last. inr (subst (λ l. Contains l row) (sym is) (⊎_elim (λ h. (0, omega arith, sym same ∙ h)) (λ none. absurd (none_in_nil row none)) (first_or_later row key [] last))))
+      (λ there. ⊎_elim (λ before. inl before) (λ last. inr (subst (λ l. Contains l row) (sym is)
+      (⊎_elim (λ h. (0, omega arith, sym same ∙ h)) (λ none. absurd (none_in_nil row none)) (first_or_later row key [] last))))
       (Contains-append_cases out (key ∷ []) row (subst (λ l. Contains l row) grown there)))
       (λ behind. inr (subst (λ l. Contains l row) (sym is) (later row x rest behind))) either),
   λ all. ⊎_elim (λ before. inl (subst (λ l. Contains l row) (sym grown) (Contains-append_left out (key ∷ []) row before)))
@@ -492,7 +497,8 @@ moves_on All x left rest out after key is same grown so_far row = (
 )
 
 -- rows that are put last
-pub grows : (old done : List (List Value)) (row : List Value) (out after : List (List Value)) (key : List Value) → ((r : List Value) → Contains out r ↔ (Contains old r ⊎ Contains done r)) → key ≡ row → after ≡ out ++ key ∷ []
+pub grows : (old done : List (List Value)) (row : List Value) (out after : List (List Value)) (key : List Value)
+    → ((r : List Value) → Contains out r ↔ (Contains old r ⊎ Contains done r)) → key ≡ row → after ≡ out ++ key ∷ []
     → (r : List Value) → Contains after r ↔ (Contains old r ⊎ Contains (done ++ row ∷ []) r)
 grows old done row out after key so_far is grown r = (
   λ there. ⊎_elim
@@ -507,7 +513,8 @@ grows old done row out after key so_far is grown r = (
 )
 
 -- the times at a place
-pub times_at : (es : List (List Value × SmallVec ℕ)) (place : ℕ) (d : List Value × SmallVec ℕ) (times : SmallVec ℕ) → place < length es → slice_get (values_of es) place ≡ Some times → (get_or es place d).1 ≡ times
+pub times_at : (es : List (List Value × SmallVec ℕ)) (place : ℕ) (d : List Value × SmallVec ℕ) (times : SmallVec ℕ) → place < length es → slice_get (values_of es) place
+    ≡ Some times → (get_or es place d).1 ≡ times
 times_at [] place d times below is = absurd (omega (arith, below))
 times_at (e ∷ es) zero d times below is = same_Some e.1 times is
 times_at (e ∷ es) (suc place) d times below is = times_at es place d times (omega (arith, below)) is

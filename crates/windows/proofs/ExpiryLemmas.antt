@@ -1,20 +1,11 @@
 -- What is left of rows and steps at a time, where each row of an ended step was settled, and then each of one that is far.
-use Rattle.std.proofs.Common.{◌≡◌, ◌⊎◌, inl, inr, ⊎_elim, ℕ, zero, suc, ◌-◌, ◌<◌, ◌≤◌, List, [], ◌∷◌, drop, All, Contains, Option, Some, sym, subst, arith}
-use Rattle.std.proofs.lemmas.List.Elements.{All-contains}
-use Rattle.smallvec.specs.SmallVec.{SmallVec}
-use Rattle.enf_value.specs.declared.intervals.Interval.{Interval}
-use Rattle.enf_value.specs.declared.values.Value.{Value}
-use Rattle.valuations.specs.Columns.{later}
-use Rattle.windows.specs.Pairs.{AreKept, AreLeast, Forgets, HasBehind, HasTime, IsSettled}
-use Rattle.windows.specs.Queues.{Queue, AreInReach, AreQueued, AreUpToTime, IsInStep, LetsGo, waiting_of}
-use Rattle.windows.specs.Times.{IsEnded, IsLeast}
+use Rattle.windows.proofs.Vocabulary.{◌≡◌, ⊎_elim, ℕ, ◌-◌, ◌<◌, ◌≤◌, List, [], ◌∷◌, drop}
+use Rattle.windows.proofs.Vocabulary.{All, Contains, Option, Some, sym, subst, arith, All-contains, SmallVec, Interval}
+use Rattle.windows.proofs.Vocabulary.{Value, cases_le, all_from, later, AreWindowEntries, AreLeast, Forgets, HasBehind}
+use Rattle.windows.proofs.Vocabulary.{HasTime, IsSettledRow, Queue, AreInReach, AreQueued, AreUpToTime, IsInStep}
+use Rattle.windows.proofs.Vocabulary.{LetsGo, waiting_of, IsEndedTime, AreLeastTimes}
 use Rattle.windows.proofs.EntryLemmas.{fit_of, least_of}
-use Rattle.windows.proofs.TimeLemmas.{all_from, least_from, least_near}
-
-up_to_or_past : (a b : ℕ) → (a ≤ b) ⊎ (b < a)
-up_to_or_past zero b = inl (omega arith)
-up_to_or_past (suc a) zero = inr (omega arith)
-up_to_or_past (suc a) (suc b) = ⊎_elim (λ below. inl (omega (arith, below))) (λ past. inr (omega (arith, past))) (up_to_or_past a b)
+use Rattle.windows.proofs.TimeLemmas.{least_from, least_near}
 
 behind_among : (times : List ℕ) (time : ℕ) → Contains (drop 1 times) time → Contains times time
 behind_among [] time there = there
@@ -33,16 +24,17 @@ still_in_reach high end now Gone Passed before after is goes live = subst (λ h.
 
 module _ (interval : Interval) (high last now : ℕ) (es e1 : List (List Value × SmallVec ℕ)) (q0 q1 : Queue) (is : interval.high ≡ Some high)
     (queued : AreQueued es q0) (f1 : Forgets interval now es e1)
-    (s1 : (row : List Value) (time : ℕ) → IsInStep q0.steps row time → IsEnded (Some high) now time → IsSettled high interval.low now e1 row)
-    (l1 : LetsGo (IsEnded (Some high) now) (IsEnded (Some high) now) q0 q1) where
+    (s1 : (row : List Value) (time : ℕ) → IsInStep q0.steps row time → IsEndedTime (Some high) now time → IsSettledRow high interval.low now e1 row)
+    (l1 : LetsGo (IsEndedTime (Some high) now) (IsEndedTime (Some high) now) q0 q1) where
   live : (row : List Value) (time : ℕ) → HasTime e1 row time → now - time ≤ high
-  live row time has = ⊎_elim (λ live. live) (λ ended. (s1 row time (queued.times row time (f1.from row time has)) ended time).0 has) (up_to_or_past (now - time) high)
+  live row time has = ⊎_elim (λ live. live) (λ ended. (s1 row time (queued.times row time (f1.from row time has)) ended time).0 has) (cases_le (now - time) high)
 
   times1 : (row : List Value) (time : ℕ) → HasTime e1 row time → IsInStep q1.steps row time
   times1 row time has = ⊎_elim (λ ended. absurd (let near = live row time has in omega (arith, ended, near))) (λ stays. stays) (l1.stays row time (queued.times row time (f1.from row time has)))
 
   waits1 : (row : List Value) (time : ℕ) → HasBehind e1 row time → IsInStep (waiting_of q1) row time
-  waits1 row time has = ⊎_elim (λ ended. absurd (let near = live row time (has_behind e1 row time has) in omega (arith, ended, near))) (λ waits. waits) (l1.waits row time (queued.waiting row time (f1.behind row time has)))
+  waits1 row time has = ⊎_elim (λ ended. absurd (let near = live row time (has_behind e1 row time has) in omega (arith, ended, near))) (λ waits. waits)
+      (l1.waits row time (queued.waiting row time (f1.behind row time has)))
 
   pub now_waits : (row : List Value) → IsInStep (waiting_of q0) row now → IsInStep (waiting_of q1) row now
   now_waits row at = ⊎_elim (λ ended. absurd (omega (arith, ended))) (λ waits. waits) (l1.waits row now at)
@@ -51,19 +43,20 @@ module _ (interval : Interval) (high last now : ℕ) (es e1 : List (List Value �
   queued1 = record { times = times1; waiting = waits1 }
 
   -- where 0 is far enough, no row has more than one time
-  pub least1 : (long : ℕ) → AreKept long now e1 → AreLeast interval last es → (0 < interval.low → ⊥) → AreLeast interval now e1
-  least1 long kept least near = all_from (λ e. IsLeast interval.high interval.low now e.1.items) e1 (λ e there.
-      subst (λ h. IsLeast h interval.low now e.1.items) (sym is)
+  pub least1 : (long : ℕ) → AreWindowEntries long now e1 → AreLeast interval last es → (0 < interval.low → ⊥) → AreLeast interval now e1
+  least1 long kept least near = all_from (λ e. AreLeastTimes interval.high interval.low now e.1.items) e1 (λ e there.
+      subst (λ h. AreLeastTimes h interval.low now e.1.items) (sym is)
       (least_from high interval.low now e.1.items (fit_of long now e1 e.0 e.1 kept there).2 (λ time has. live e.0 time (e.1, there, has))
       (λ time has. let was = f1.behind e.0 time (e.1, there, has) in
-      let left : last - time < interval.low = least_near high interval.low last was.0.items (subst (λ h. IsLeast h interval.low last was.0.items) is (least_of interval last es e.0 was.0 least was.1)) time was.2 in
+      let left : last - time < interval.low = least_near high interval.low last was.0.items
+      (subst (λ h. AreLeastTimes h interval.low last was.0.items) is (least_of interval last es e.0 was.0 least was.1)) time was.2 in
       absurd (near (omega (arith, left))))))
 
   module _ (e2 : List (List Value × SmallVec ℕ)) (q2 : Queue) (f2 : Forgets interval now e1 e2)
-      (s2 : (row : List Value) (time : ℕ) → IsInStep (waiting_of q1) row time → interval.low ≤ now - time → IsSettled high interval.low now e2 row)
+      (s2 : (row : List Value) (time : ℕ) → IsInStep (waiting_of q1) row time → interval.low ≤ now - time → IsSettledRow high interval.low now e2 row)
       (l2 : LetsGo (λ _. ⊥) (λ time. interval.low ≤ now - time) q1 q2) where
     near2 : (row : List Value) (time : ℕ) → HasBehind e2 row time → now - time < interval.low
-    near2 row time has = ⊎_elim (λ far. (s2 row time (waits1 row time (f2.behind row time has)) far time).1 has) (λ near. near) (up_to_or_past interval.low (now - time))
+    near2 row time has = ⊎_elim (λ far. (s2 row time (waits1 row time (f2.behind row time has)) far time).1 has) (λ near. near) (cases_le interval.low (now - time))
 
     pub now_waits2 : 0 < interval.low → (row : List Value) → IsInStep (waiting_of q0) row now → IsInStep (waiting_of q2) row now
     now_waits2 low row at = ⊎_elim (λ far. absurd (omega (arith, far, low))) (λ waits. waits) (l2.waits row now (now_waits row at))
@@ -74,7 +67,8 @@ module _ (interval : Interval) (high last now : ℕ) (es e1 : List (List Value �
       waiting = λ row time has. ⊎_elim (λ far. absurd (let near = near2 row time has in omega (arith, far, near))) (λ waits. waits) (l2.waits row time (waits1 row time (f2.behind row time has)));
     }
 
-    pub least2 : (long : ℕ) → AreKept long now e2 → AreLeast interval now e2
-    least2 long kept = all_from (λ e. IsLeast interval.high interval.low now e.1.items) e2 (λ e there.
-        subst (λ h. IsLeast h interval.low now e.1.items) (sym is)
-        (least_from high interval.low now e.1.items (fit_of long now e2 e.0 e.1 kept there).2 (λ time has. live e.0 time (f2.from e.0 time (e.1, there, has))) (λ time has. near2 e.0 time (e.1, there, has))))
+    pub least2 : (long : ℕ) → AreWindowEntries long now e2 → AreLeast interval now e2
+    least2 long kept = all_from (λ e. AreLeastTimes interval.high interval.low now e.1.items) e2 (λ e there.
+        subst (λ h. AreLeastTimes h interval.low now e.1.items) (sym is)
+        (least_from high interval.low now e.1.items (fit_of long now e2 e.0 e.1 kept there).2 (λ time has. live e.0 time (f2.from e.0 time (e.1, there, has)))
+        (λ time has. near2 e.0 time (e.1, there, has))))

@@ -1,14 +1,11 @@
 -- What a list of steps holds, step by step.
-use Rattle.std.proofs.Common.{◌≡◌, ◌↔◌, ◌⊎◌, inl, inr, ⊎_elim, ℕ, ◌-◌, List, [], ◌∷◌, ◌++◌, length, All, refl, sym, ap, subst, arith, length-append, append_assoc, get_or, ◌∙◌}
-use Rattle.std.proofs.lemmas.List.Elements.{All-push, All-nil, All-contains, Contains-get_or, Contains-append_left, Contains-append_right}
-use Rattle.enf_value.specs.Membership.{IsIn}
-use Rattle.enf_value.specs.Valuations.{Valuation}
-use Rattle.valuations.specs.Tables.{Has}
-use Rattle.windows.specs.CommittedSteps.{IsHeld}
-use Rattle.windows.specs.Laws.{NothingAtFirst, OneStepMore}
-use Rattle.windows.specs.declared.steps.CommittedStep.{CommittedStep}
+use Rattle.windows.proofs.Vocabulary.{◌≡◌, ◌↔◌, ◌⊎◌, inl, inr, ⊎_elim, ℕ, ◌-◌, List, []}
+use Rattle.windows.proofs.Vocabulary.{◌∷◌, ◌++◌, length, All, refl, sym, ap, subst, arith, length-append}
+use Rattle.windows.proofs.Vocabulary.{append_assoc, ◌∙◌, All-push, All-nil, All-contains, Contains-append_right}
+use Rattle.windows.proofs.Vocabulary.{IsIn, Valuation, all_front, HasValuation, IsHeld, CommittedStep, NothingAtFirst}
+use Rattle.windows.proofs.Vocabulary.{OneStepMore}
 
--- where two lists one behind the other are split at an item: in the first, or in the second
+-- where two lists one after the other are split at an item: in the first, or in the second
 split_joined : {X : Type 0} (xs ys before after : List X) (y : X) → xs ++ ys ≡ before ++ y ∷ after
     → ((middle : List X) × (xs ≡ before ++ y ∷ middle) × (after ≡ middle ++ ys)) ⊎ ((middle : List X) × (before ≡ xs ++ middle) × (ys ≡ middle ++ y ∷ after))
 split_joined [] ys before after y e = inr (before, refl, e)
@@ -22,28 +19,33 @@ single_split : {X : Type 0} (middle after : List X) (x y : X) → x ∷ [] ≡ m
 single_split [] after x y e = (cc, refl, cc)
 single_split (m ∷ middle) after x y e = absurd (omega (arith, ap length e, length-append middle (y ∷ after)))
 
--- what holds of each item holds of each at the front, and of each at the back
-front_all : {X : Type 0} (P : X → Type 0) (xs ys : List X) → All P (xs ++ ys) → All P xs
-front_all P xs ys all k d within = All-contains P (xs ++ ys) (get_or xs k d) all (Contains-append_left xs ys (get_or xs k d) (Contains-get_or xs k d within))
-
 pub none_held : (C : ℕ → Type 0) (v : Valuation) → IsHeld C [] v → ⊥
 none_held C v h = omega (arith, ap length h.split, length-append h.before (h.step ∷ h.after))
 
 held_from : (C : ℕ → Type 0) (steps : List CommittedStep) (step : CommittedStep) (v : Valuation)
-    → IsHeld C (steps ++ step ∷ []) v → (C step.time × Has step.right v) ⊎ (IsHeld C steps v × Has step.surviving v)
+    → IsHeld C (steps ++ step ∷ []) v → (C step.time × HasValuation step.right v) ⊎ (IsHeld C steps v × HasValuation step.surviving v)
 held_from C steps step v h =
     ⊎_elim
     (λ earlier.
-    let survives : All (λ later. Has later.surviving v) (earlier.0 ++ step ∷ []) = subst (All (λ later. Has later.surviving v)) earlier.2 h.survives in
+    let survives : All (λ later. HasValuation later.surviving v) (earlier.0 ++ step ∷ []) = subst (All (λ later. HasValuation later.surviving v)) earlier.2 h.survives in
     inr (
-      record { before = h.before; step = h.step; after = earlier.0; split = earlier.1; counts = h.counts; right = h.right; survives = front_all (λ later. Has later.surviving v) earlier.0 (step ∷ []) survives },
-      All-contains (λ later. Has later.surviving v) (earlier.0 ++ step ∷ []) step survives (Contains-append_right earlier.0 (step ∷ []) step (0, omega arith, refl)),
+      record {
+        before = h.before;
+        step = h.step;
+        after = earlier.0;
+        split = earlier.1;
+        counts = h.counts;
+        right = h.right;
+        survives = all_front (λ later. HasValuation later.surviving v)
+            earlier.0 (step ∷ []) survives;
+      },
+      All-contains (λ later. HasValuation later.surviving v) (earlier.0 ++ step ∷ []) step survives (Contains-append_right earlier.0 (step ∷ []) step (0, omega arith, refl)),
     ))
-    (λ last. inl (subst (λ s. C s.time × Has s.right v) (sym (single_split last.0 h.after step h.step last.2).0) (h.counts, h.right)))
+    (λ last. inl (subst (λ s. C s.time × HasValuation s.right v) (sym (single_split last.0 h.after step h.step last.2).0) (h.counts, h.right)))
     (split_joined steps (step ∷ []) h.before h.after h.step h.split)
 
 held_by : (C : ℕ → Type 0) (steps : List CommittedStep) (step : CommittedStep) (v : Valuation)
-    → (C step.time × Has step.right v) ⊎ (IsHeld C steps v × Has step.surviving v) → IsHeld C (steps ++ step ∷ []) v
+    → (C step.time × HasValuation step.right v) ⊎ (IsHeld C steps v × HasValuation step.surviving v) → IsHeld C (steps ++ step ∷ []) v
 held_by C steps step v either =
     ⊎_elim (λ now. record { before = steps; step = step; after = []; split = refl; counts = now.0; right = now.1; survives = All-nil _ })
     (λ earlier. let h = earlier.0 in record {
@@ -53,12 +55,12 @@ held_by C steps step v either =
       split = ap (λ l. l ++ step ∷ []) h.split ∙ append_assoc h.before (h.step ∷ h.after) (step ∷ []);
       counts = h.counts;
       right = h.right;
-      survives = All-push (λ later. Has later.surviving v) h.after step h.survives earlier.1;
+      survives = All-push (λ later. HasValuation later.surviving v) h.after step h.survives earlier.1;
     })
     either
 
 pub held_more : (C : ℕ → Type 0) (steps : List CommittedStep) (step : CommittedStep) (v : Valuation)
-    → IsHeld C (steps ++ step ∷ []) v ↔ ((C step.time × Has step.right v) ⊎ (IsHeld C steps v × Has step.surviving v))
+    → IsHeld C (steps ++ step ∷ []) v ↔ ((C step.time × HasValuation step.right v) ⊎ (IsHeld C steps v × HasValuation step.surviving v))
 held_more C steps step v = (held_from C steps step v, held_by C steps step v)
 
 pub nothing_at_first : NothingAtFirst

@@ -1,16 +1,11 @@
 -- The times of a row that are kept are chosen among those that are kept.
-use Rattle.std.proofs.Common.{◌≡◌, ◌∙◌, ⊎_elim, ℕ, ◌-◌, ◌<◌, ◌≤◌, List, [], ◌∷◌, map, Contains, Option, None, Some, sym, ap, subst, arith}
-use Rattle.std.proofs.lemmas.List.Elements.{All-contains}
-use Rattle.enf_value.specs.Membership.{HasNoRepeats}
-use Rattle.valuations.specs.Columns.{first_or_later, none_in_nil}
-use Rattle.valuations.specs.RowLaws.{agrees_once}
-use Rattle.valuations.specs.SearchLaws.{Contains-map}
-use Rattle.windows.specs.Kept.{ChosenBy}
-use Rattle.windows.specs.Laws.{LeastIsChosen}
-use Rattle.windows.specs.Times.{IsLeast, RiseTo}
-use Rattle.windows.specs.Windows.{HasLeast, HasRow}
+use Rattle.windows.proofs.Vocabulary.{◌≡◌, ◌∙◌, ⊎_elim, ℕ, ◌-◌, ◌<◌, ◌≤◌, List, []}
+use Rattle.windows.proofs.Vocabulary.{◌∷◌, map, Contains, Option, None, Some, sym, ap, subst, arith, All-contains}
+use Rattle.windows.proofs.Vocabulary.{HasNoRepeats, first_or_later, none_in_nil, Contains-map, agrees_once, ChosenBy}
+use Rattle.windows.proofs.Vocabulary.{LeastIsChosen, AreLeastTimes, RiseTo, HasLeast, HasRow}
 
-pub of_times : (high : Option ℕ) (low last : ℕ) (times : List ℕ) → RiseTo last times → IsLeast high low last times → (time : ℕ) → Contains times time → ChosenBy high low last (Contains times) time
+pub of_times : (high : Option ℕ) (low last : ℕ) (times : List ℕ) → RiseTo last times → AreLeastTimes high low last times → (time : ℕ) → Contains times time
+    → ChosenBy high low last (Contains times) time
 of_times high low last [] rise least time there = absurd (none_in_nil time there)
 of_times None low last (first ∷ times) rise least time there = λ other also. omega (arith, alone time there, alone other also)
   where

@@ -1,36 +1,27 @@
--- Lists that rise, and pairs of rows and times that are put one behind another.
-use Rattle.std.proofs.Common.{◌≡◌, ◌∙◌, ◌↔◌, inl, inr, ⊎_elim, ℕ, zero, suc, ◌+◌, ◌<◌, ◌≤◌, List, [], ◌∷◌, ◌++◌, map, length, take, get_or, All, Contains, None, refl, sym, ap, subst, arith, append_assoc, Some, Option}
-use Rattle.std.specs.List.{AllByRecursion}
+-- Lists that rise, and pairs of rows and times that are put one after another.
+use Rattle.windows.proofs.Vocabulary.{◌≡◌, ◌∙◌, ◌↔◌, inl, inr, ⊎_elim, ℕ, zero, suc, ◌+◌}
+use Rattle.windows.proofs.Vocabulary.{◌<◌, ◌≤◌, List, [], ◌∷◌, ◌++◌, map, length, take, get_or, All}
+use Rattle.windows.proofs.Vocabulary.{Contains, None, refl, sym, ap, subst, arith, append_assoc, Some, Option}
+use Rattle.windows.proofs.Vocabulary.{AllByRecursion, Less, All-contains, All-contains_itself, All-nil, All-cons}
+use Rattle.windows.proofs.Vocabulary.{All-weaker, Contains-append_cases, Contains-append_left, Contains-append_right}
+use Rattle.windows.proofs.Vocabulary.{map-append, take_all, take_more, lookup, SmallVec, row_cmp, Valuation}
+use Rattle.windows.proofs.Vocabulary.{valuation_of, Value, first_or_later, none_in_nil, Contains-map, Contains-from_map}
+use Rattle.windows.proofs.Vocabulary.{contains_from_valuation, Relation, HasValuation, IsTable, AreKeepable, AreOfLast}
+use Rattle.windows.proofs.Vocabulary.{AreRising, AreTimesOf, ArePairsOf, ArePairsKept, Stores, pairs_of_last}
+use Rattle.windows.proofs.Vocabulary.{last_step_time, IsPairBefore, IsRisingBy, pair, RiseTo, Window, HasLeast, HasRow}
+use Rattle.windows.proofs.Vocabulary.{KeepsLeast, kept_entries, KeptPair, LastStep, AreWindowEntries, HasTime}
 use Rattle.std.specs.List.Sorted.{IsStrictlySortedBy}
-use Rattle.std.specs.declared.cmp.Ordering.TheVariants.{Less}
-use Rattle.std.proofs.lemmas.List.Elements.{All-contains, All-contains_itself, All-nil, All-cons, All-weaker, Contains-append_cases, Contains-append_left, Contains-append_right}
-use Rattle.std.proofs.lemmas.List.{map-append, take_all, take_more}
-use Rattle.std.specs.Map.{lookup}
-use Rattle.smallvec.specs.SmallVec.{SmallVec}
-use Rattle.enf_value.specs.Order.{row_cmp}
-use Rattle.enf_value.specs.Valuations.{Valuation}
-use Rattle.enf_value.specs.contracts.rows.RowPartialEq.TheImpl as rows
-use Rattle.enf_value.specs.declared.values.Value.{Value}
-use Rattle.valuations.specs.Columns.{first_or_later, none_in_nil}
-use Rattle.valuations.specs.SearchLaws.{Contains-map, Contains-from_map}
-use Rattle.valuations.specs.RowLaws.{contains_from_valuation}
-use Rattle.valuations.specs.Tables.{Relation, Has, IsTable, valuation_of}
-use Rattle.windows.specs.KeptLaws.{rises_append, rises_map, stored_long, stored_row}
-use Rattle.windows.specs.KeptPairs.{AreKeepable, AreOfLast, AreRising, AreTimesOf, ArePairsOf, ArePairsKept, IsBefore, Rises, Stores, pair, pairs_of_last, time_of}
-use Rattle.windows.specs.Times.{RiseTo}
-use Rattle.windows.specs.Windows.{Window, HasLeast, HasRow, KeepsLeast, kept_of}
-use Rattle.windows.specs.declared.kept.KeptPair.{KeptPair}
-use Rattle.windows.specs.declared.steps.LastStep.{LastStep}
-use Rattle.windows.specs.Pairs.{AreKept, HasTime}
+use Rattle.windows.proofs.KeptLaws.{rises_append, rises_map, stored_long, stored_row}
 use Rattle.windows.proofs.EntryLemmas.{forgets_missing}
 use Rattle.windows.proofs.LeastLemmas.{chosen_of_fewer, of_times, one_entry}
 use Rattle.windows.proofs.TimeLemmas.{up_to}
+use Rattle.enf_data.specs.contracts.rows.RowPartialEq.TheImpl as rows
 
 -- ---- lists that rise
 
 module _ {X : Type 0} (Before : X → X → Type 0) where
   -- the items up to a place are before the one there
-  pub before_place : (xs : List X) (i : ℕ) (d x : X) → Rises Before xs → i < length xs → Contains (take i xs) x → Before x (get_or xs i d)
+  pub before_place : (xs : List X) (i : ℕ) (d x : X) → IsRisingBy Before xs → i < length xs → Contains (take i xs) x → Before x (get_or xs i d)
   before_place [] i d x rises below there = absurd (omega (arith, below))
   before_place (y ∷ xs) zero d x rises below there = absurd (none_in_nil x there)
   before_place (y ∷ xs) (suc i) d x rises below there =
@@ -47,23 +38,23 @@ all_by_recursion P [] each = All-nil P
 all_by_recursion P (x ∷ xs) each = All-cons P x xs each.0 (all_by_recursion P xs each.1)
 
 -- rows of a table
-pub rows_rise : (rows : List (List Value)) → IsStrictlySortedBy row_cmp rows → Rises (λ a b. row_cmp a b ≡ Less) rows
+pub rows_rise : (rows : List (List Value)) → IsStrictlySortedBy row_cmp rows → IsRisingBy (λ a b. row_cmp a b ≡ Less) rows
 unfolding IsStrictlySortedBy
 rows_rise [] sorted = tt
 rows_rise (row ∷ rows) sorted = (all_by_recursion (λ other. row_cmp row other ≡ Less) rows sorted.0, rows_rise rows sorted.1)
 
 -- times of a row
-pub times_rise : (last : ℕ) (times : List ℕ) → RiseTo last times → Rises ◌<◌ times
+pub times_rise : (last : ℕ) (times : List ℕ) → RiseTo last times → IsRisingBy ◌<◌ times
 times_rise last [] rise = tt
 times_rise last (time ∷ times) rise = (rise.1, times_rise last times rise.2)
 
 -- ---- pairs
 
-pub pairs_rise : (row : List Value) (times : List ℕ) → Rises ◌<◌ times → AreRising (map (pair row) times)
-pairs_rise row times rises = rises_map ◌<◌ IsBefore (pair row) (λ s t below. inr (refl, below)) times rises
+pub pairs_rise : (row : List Value) (times : List ℕ) → IsRisingBy ◌<◌ times → AreRising (map (pair row) times)
+pairs_rise row times rises = rises_map ◌<◌ IsPairBefore (pair row) (λ s t below. inr (refl, below)) times rises
 
 pub step_rises : (time : ℕ) (rows : List (List Value)) → IsStrictlySortedBy row_cmp rows → AreRising (map (λ row. pair row time) rows)
-step_rises time rows sorted = rises_map (λ a b. row_cmp a b ≡ Less) IsBefore (λ row. pair row time) (λ a b less. inl less) rows (rows_rise rows sorted)
+step_rises time rows sorted = rises_map (λ a b. row_cmp a b ≡ Less) IsPairBefore (λ row. pair row time) (λ a b less. inl less) rows (rows_rise rows sorted)
 
 pub step_fits : (time n : ℕ) (rows : List (List Value)) → All (λ row. length row ≡ n) rows → All (λ p. length p.row ≡ n) (map (λ row. pair row time) rows)
 step_fits time n rows fit = All-weaker (Contains (map (λ row. pair row time) rows)) (λ p. length p.row ≡ n) (λ p there.
@@ -81,14 +72,14 @@ no_rows_yet entries = record {
   exact = λ row time. (λ there. absurd (none_in_nil (pair row time) there), λ both. absurd (none_in_nil row both.0));
 }
 
--- with one more, that is behind them
+-- with one more, that is after them
 pub row_more : (entries : List (List Value × SmallVec ℕ)) (done : List (List Value)) (row : List Value) (times : List ℕ) (pairs after : List KeptPair)
     → ((other : List Value) → Contains done other → row_cmp other row ≡ Less) → AreTimesOf entries row times → after ≡ pairs ++ map (pair row) times
     → ArePairsOfRows entries done pairs → ArePairsOfRows entries (done ++ row ∷ []) after
 row_more entries done row times pairs after behind are grown so_far = record {
-  rising = subst AreRising (sym grown) (rises_append IsBefore pairs (map (pair row) times) so_far.rising (pairs_rise row times are.rise) (λ p q first second.
+  rising = subst AreRising (sym grown) (rises_append IsPairBefore pairs (map (pair row) times) so_far.rising (pairs_rise row times are.rise) (λ p q first second.
       let from = Contains-from_map (pair row) times q second in
-      subst (IsBefore p) from.2 (inl (behind p.row ((so_far.exact p.row p.time).0 first).0))));
+      subst (IsPairBefore p) from.2 (inl (behind p.row ((so_far.exact p.row p.time).0 first).0))));
   exact = λ other time. (
     λ there. ⊎_elim
         (λ first. let both = (so_far.exact other time).0 first in (Contains-append_left done (row ∷ []) other both.0, both.1))
@@ -120,7 +111,7 @@ put_all f old out xs i so_far over = so_far ∙ ap (λ l. old ++ map f l) (take_
 
 -- ---- the times of a row
 
-pub times_of_row : (long last : ℕ) (entries : List (List Value × SmallVec ℕ)) (row : List Value) (times : SmallVec ℕ) → AreKept long last entries → Contains entries (row, times)
+pub times_of_row : (long last : ℕ) (entries : List (List Value × SmallVec ℕ)) (row : List Value) (times : SmallVec ℕ) → AreWindowEntries long last entries → Contains entries (row, times)
     → AreTimesOf entries row times.items
 times_of_row long last entries row times kept there = record {
   rise = times_rise last times.items (All-contains (λ e. (length e.0 ≡ long) × RiseTo last e.1.items × (0 < length e.1.items)) entries (row, times) kept.fit there).1;
@@ -135,7 +126,7 @@ no_times entries row none = record {
 
 -- ---- the pairs of a window
 
-module _ (window : Window) (least : KeepsLeast window) (es : List (List Value × SmallVec ℕ)) (is : kept_of es ≡ window.kept) where
+module _ (window : Window) (least : KeepsLeast window) (es : List (List Value × SmallVec ℕ)) (is : kept_entries es ≡ window.kept) where
   to_stored : (row : List Value) (time : ℕ) → HasTime es row time → Stores window row time
   to_stored row time has =
       (has.0.items, subst (λ l. Contains l (row, has.0.items)) is (Contains-map (λ (e : List Value × SmallVec ℕ). (e.0, e.1.items)) es (row, has.0) has.1), has.2)
@@ -146,7 +137,8 @@ module _ (window : Window) (least : KeepsLeast window) (es : List (List Value ×
       let same : from.0.0 ≡ row = ap (λ e. e.0) from.2 in
       (from.0.1, subst (λ r. Contains es (r, from.0.1)) same from.1, subst (λ l. Contains l time) (sym (ap (λ e. e.1) from.2)) stored.2)
 
-  pub are_pairs : (t : Relation) (pairs : List KeptPair) → IsTable t → t.columns ≡ window.columns → ((v : Valuation) → Has t v ↔ ((time : ℕ) × HasRow window v time)) → ArePairsOfRows es t.rows pairs
+  pub are_pairs : (t : Relation) (pairs : List KeptPair) → IsTable t → t.columns ≡ window.columns → ((v : Valuation) → HasValuation t v ↔ ((time : ℕ) × HasRow window v time))
+      → ArePairsOfRows es t.rows pairs
       → ArePairsOf window pairs
   are_pairs t pairs table same kept are row time = (
     λ there. to_stored row time ((are.exact row time).0 there).1,
@@ -154,7 +146,7 @@ module _ (window : Window) (least : KeepsLeast window) (es : List (List Value ×
         let long = stored_long window row time least stored in
         (are.exact row time).1 (
           contains_from_valuation t row table (long ∙ ap length (sym same))
-              (subst (λ l. Has t (valuation_of l row)) (sym same) ((kept (valuation_of window.columns row)).1 (time, (stored_row window row time least long).0 stored))),
+              (subst (λ l. HasValuation t (valuation_of l row)) (sym same) ((kept (valuation_of window.columns row)).1 (time, (stored_row window row time least long).0 stored))),
           from_stored row time stored,
         ),
   )
@@ -181,7 +173,7 @@ are_keepable window pairs least exact rising = record {
       (of_times window.interval.high window.interval.low window.last stored.0 has.rise has.least time stored.2);
 }
 
-pub are_of_last : (last : Option LastStep) → AreOfLast (time_of last) (pairs_of_last last)
+pub are_of_last : (last : Option LastStep) → AreOfLast (last_step_time last) (pairs_of_last last)
 are_of_last None = refl
 are_of_last (Some last) = All-weaker (Contains (map (λ row. pair row last.time) last.rows.rows)) (λ p. p.time ≡ last.time) (λ p there.
     sym (ap (λ q. q.time) (Contains-from_map (λ row. pair row last.time) last.rows.rows p there).2)) (pairs_of_last (Some last)) (All-contains_itself (pairs_of_last (Some last)))

@@ -1,15 +1,11 @@
 -- Cells, one after another.
-use Rattle.std.proofs.Common.{◌≡◌, ◌∙◌, ℕ, suc, ◌+◌, ◌<◌, Bool, true, false, List, ◌∷◌, length, map, get_or, drop, refl, ap, sym, arith, drop-cons}
-use Rattle.std.proofs.lemmas.List.{get_or-map}
+use Rattle.windows.proofs.Vocabulary.{◌≡◌, ◌∙◌, ℕ, suc, ◌+◌, ◌<◌, Bool, true, false, List}
+use Rattle.windows.proofs.Vocabulary.{◌∷◌, length, map, get_or, drop, refl, ap, sym, arith, drop-cons, get_or-map}
+use Rattle.windows.proofs.Vocabulary.{flat_map, fold, fed_then, Valuation, value_at, VarId, Value, cell_eq, cell_fed}
+use Rattle.windows.proofs.Vocabulary.{cells, cells_eq}
 use Rattle.std.specs.Prelude.{Option, Some, ◌&&◌}
-use Rattle.std.specs.List.{flat_map, fold}
-use Rattle.std.specs.Hash.{fed_then}
-use Rattle.enf_value.specs.Valuations.{Valuation, value_at}
-use Rattle.enf_value.specs.declared.terms.VarId.{VarId}
-use Rattle.enf_value.specs.declared.values.Value.{Value}
-use Rattle.windows.specs.Queries.{cell_eq, cell_fed, cells, cells_eq}
 
--- the item at a place, and what is behind it
+-- the item at a place, and what is after it
 next_is : {X : Type 0} (xs : List X) (i : ℕ) (x : X) → i < length xs → get_or xs i x ≡ x → drop i xs ≡ x ∷ drop (i + 1) xs
 next_is xs i x below is = let more : suc i ≡ i + 1 = omega arith in drop-cons xs i x below ∙ (λ j. is j ∷ drop (more j) xs)
 

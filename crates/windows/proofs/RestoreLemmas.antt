@@ -1,31 +1,18 @@
 -- A window that is made of pairs.
-use Rattle.std.proofs.Common.{◌≡◌, ◌∙◌, ◌↔◌, ⊎_elim, ℕ, ◌-◌, ◌<◌, ◌≤◌, List, [], ◌∷◌, ◌++◌, map, drop, length, All, Contains, Option, None, Some, refl, sym, ap, subst, arith, length-append}
-use Rattle.std.specs.Cmp.{int_cmp_total, tied_itself}
-use Rattle.std.specs.Cmp.Lexicographic.{nat_list_cmp_total}
-use Rattle.std.specs.Ordering.{ordering_then}
-use Rattle.std.specs.declared.cmp.Ordering.TheVariants.{Less, Equal}
-use Rattle.std.proofs.lemmas.Bool.{cases_lt}
-use Rattle.std.proofs.lemmas.List.Elements.{All-contains, All-nil, All-push, Contains-append_cases, Contains-append_left, Contains-append_right}
-use Rattle.smallvec.specs.SmallVec.{SmallVec}
-use Rattle.enf_value.specs.Membership.{HasNoRepeats}
-use Rattle.enf_value.specs.Order.{row_cmp, value_cmp}
-use Rattle.enf_value.specs.declared.intervals.Interval.{Interval}
-use Rattle.enf_value.specs.declared.terms.VarId.{VarId}
-use Rattle.enf_value.specs.declared.values.Value.{Value}
-use Rattle.enf_value.specs.declared.values.Value.TheVariants.{Num, Text}
-use Rattle.valuations.specs.Columns.{here, later, first_or_later, none_in_nil}
-use Rattle.valuations.specs.SearchLaws.{Contains-from_map, Contains-map}
-use Rattle.windows.specs.Kept.{ChosenBy}
-use Rattle.windows.specs.KeptLaws.{rises_append}
-use Rattle.windows.specs.KeptPairs.{AreBefore, AreEntriesOf, AreKeepable, HaveStepsOf, HaveTimesOf, IsBefore, Rises, pair}
-use Rattle.windows.specs.Pairs.{AreKept, AreLeast, HasBehind, HasTime}
-use Rattle.windows.specs.Queues.{Queue, AreInReach, IsInStep}
-use Rattle.windows.specs.Times.{IsLeast, RiseTo}
-use Rattle.windows.specs.Windows.{IsWindow, kept_of}
-use Rattle.windows.specs.declared.kept.KeptPair.{KeptPair}
+use Rattle.windows.proofs.Vocabulary.{◌≡◌, ◌∙◌, ◌↔◌, ⊎_elim, ℕ, ◌-◌, ◌<◌, ◌≤◌, List}
+use Rattle.windows.proofs.Vocabulary.{[], ◌∷◌, ◌++◌, map, drop, length, All, Contains, Option, None, Some}
+use Rattle.windows.proofs.Vocabulary.{refl, sym, ap, subst, arith, length-append, int_cmp_total, tied_itself}
+use Rattle.windows.proofs.Vocabulary.{nat_list_cmp_total, ordering_then, Less, Equal, cases_lt, All-contains, All-nil}
+use Rattle.windows.proofs.Vocabulary.{All-push, Contains-append_cases, Contains-append_left, Contains-append_right}
+use Rattle.windows.proofs.Vocabulary.{SmallVec, HasNoRepeats, row_cmp, value_cmp, Interval, VarId, Value, Num, Text}
+use Rattle.windows.proofs.Vocabulary.{all_from, here, later, first_or_later, none_in_nil, Contains-from_map}
+use Rattle.windows.proofs.Vocabulary.{Contains-map, ChosenBy, IsPairBefore, IsRisingBy, pair, AreBefore, AreEntriesOf}
+use Rattle.windows.proofs.Vocabulary.{AreKeepable, HaveStepsOf, HaveTimesOf, AreWindowEntries, AreLeast, HasBehind}
+use Rattle.windows.proofs.Vocabulary.{HasTime, Queue, AreInReach, IsInStep, AreLeastTimes, RiseTo, IsWindow}
+use Rattle.windows.proofs.Vocabulary.{kept_entries, KeptPair}
+use Rattle.windows.proofs.KeptLaws.{rises_append}
 use Rattle.windows.proofs.EntryLemmas.{SetsAt}
 use Rattle.windows.proofs.LeastLemmas.{one_entry}
-use Rattle.windows.proofs.TimeLemmas.{all_from}
 
 -- ---- no row is before itself
 
@@ -37,7 +24,7 @@ row_itself : (row : List Value) → row_cmp row row ≡ Equal
 row_itself [] = refl
 row_itself (v ∷ row) = ap (λ o. ordering_then o (row_cmp row row)) (value_itself v) ∙ row_itself row
 
-same_row_later : (p q : KeptPair) → q.row ≡ p.row → IsBefore q p → q.time < p.time
+same_row_later : (p q : KeptPair) → q.row ≡ p.row → IsPairBefore q p → q.time < p.time
 same_row_later p q same before = ⊎_elim (λ less. absurd (not_less (subst (λ r. row_cmp r p.row ≡ Less) same less))) (λ h. h.1) before
   where
     not_less : row_cmp p.row p.row ≡ Less → ⊥
@@ -69,17 +56,22 @@ entry_set done p es after old new sets grown unique are before = record {
     λ there. ⊎_elim
         (λ earlier. let has = (are.exact q).1 earlier in ⊎_elim (λ stays. (has.0, stays, has.2)) (λ same.
         let row : q.row ≡ p.row = ap (λ e. e.0) same in
-        subst (λ r. HasTime after r q.time) (sym row) (new, sets.is, subst (λ l. Contains l q.time) (sym grown) (Contains-append_left old.items (p.time ∷ []) q.time (subst (λ l. Contains l q.time) (ap (λ e. e.1.items) same) has.2))))
+        subst (λ r. HasTime after r q.time) (sym row) (
+          new,
+          sets.is,
+          subst (λ l. Contains l q.time) (sym grown)
+              (Contains-append_left old.items (p.time ∷ []) q.time (subst (λ l. Contains l q.time) (ap (λ e. e.1.items) same) has.2)),
+        ))
         (sets.rest (q.row, has.0) has.1))
         (λ last. subst (λ r. HasTime after r.row r.time) (only_pair q last)
         (new, sets.is, subst (λ l. Contains l p.time) (sym grown) (Contains-append_right old.items (p.time ∷ []) p.time (here p.time []))))
         (Contains-append_cases done (p ∷ []) q there),
   );
-  fit = all_from (λ e. (0 < length e.1.items) × Rises ◌<◌ e.1.items) after (λ e there. ⊎_elim
-      (λ was. All-contains (λ f. (0 < length f.1.items) × Rises ◌<◌ f.1.items) es e are.fit was)
-      (λ same. subst (λ f. (0 < length f.1.items) × Rises ◌<◌ f.1.items) (sym same) (subst (λ l. (0 < length l) × Rises ◌<◌ l) (sym grown) (
+  fit = all_from (λ e. (0 < length e.1.items) × IsRisingBy ◌<◌ e.1.items) after (λ e there. ⊎_elim
+      (λ was. All-contains (λ f. (0 < length f.1.items) × IsRisingBy ◌<◌ f.1.items) es e are.fit was)
+      (λ same. subst (λ f. (0 < length f.1.items) × IsRisingBy ◌<◌ f.1.items) (sym same) (subst (λ l. (0 < length l) × IsRisingBy ◌<◌ l) (sym grown) (
         omega (arith, length-append old.items (p.time ∷ [])),
-        rises_append ◌<◌ old.items (p.time ∷ []) (All-contains (λ f. (0 < length f.1.items) × Rises ◌<◌ f.1.items) es (p.row, old) are.fit sets.was).1 (All-nil _, tt)
+        rises_append ◌<◌ old.items (p.time ∷ []) (All-contains (λ f. (0 < length f.1.items) × IsRisingBy ◌<◌ f.1.items) es (p.row, old) are.fit sets.was).1 (All-nil _, tt)
             (λ x y first second. subst (λ t. x < t) (sym (only y second)) (same_row_later p (pair p.row x) refl (before (pair p.row x) ((are.exact (pair p.row x)).0 (old, sets.was, first))))),
       )))
       (sets.from e there));
@@ -109,22 +101,27 @@ entry_first done p es after new absent grown one unique are = record {
         (λ earlier. let has = (are.exact q).1 earlier in (has.0, subst (λ l. Contains l (q.row, has.0)) (sym grown) (Contains-append_left es ((p.row, new) ∷ []) (q.row, has.0) has.1), has.2))
         (λ last.
         let same : p ≡ q = ⊎_elim (λ h. h) (λ none. absurd (none_in_nil q none)) (first_or_later q p [] last) in
-        subst (λ r. HasTime after r.row r.time) same
-        (new, subst (λ l. Contains l (p.row, new)) (sym grown) (Contains-append_right es ((p.row, new) ∷ []) (p.row, new) (here (p.row, new) [])), subst (λ l. Contains l p.time) (sym one) (here p.time [])))
+        subst (λ r. HasTime after r.row r.time) same (
+          new,
+          subst (λ l. Contains l (p.row, new)) (sym grown) (Contains-append_right es ((p.row, new) ∷ []) (p.row, new) (here (p.row, new) [])),
+          subst (λ l. Contains l p.time)
+              (sym one) (here p.time []),
+        ))
         (Contains-append_cases done (p ∷ []) q there),
   );
-  fit = subst (All (λ e. (0 < length e.1.items) × Rises ◌<◌ e.1.items)) (sym grown) (All-push (λ e. (0 < length e.1.items) × Rises ◌<◌ e.1.items) es (p.row, new) are.fit
-      (subst (λ l. (0 < length l) × Rises ◌<◌ l) (sym one) (omega arith, (All-nil _, tt))));
+  fit = subst (All (λ e. (0 < length e.1.items) × IsRisingBy ◌<◌ e.1.items)) (sym grown) (All-push (λ e. (0 < length e.1.items) × IsRisingBy ◌<◌ e.1.items) es (p.row, new) are.fit
+      (subst (λ l. (0 < length l) × IsRisingBy ◌<◌ l) (sym one) (omega arith, (All-nil _, tt))));
   unique = unique;
 }
 
 -- ---- the window
 
-rise_to : (last : ℕ) (times : List ℕ) → ((time : ℕ) → Contains times time → time ≤ last) → Rises ◌<◌ times → RiseTo last times
+rise_to : (last : ℕ) (times : List ℕ) → ((time : ℕ) → Contains times time → time ≤ last) → IsRisingBy ◌<◌ times → RiseTo last times
 rise_to last [] up_to rises = tt
 rise_to last (time ∷ times) up_to rises = (up_to time (here time times), rises.0, rise_to last times (λ t there. up_to t (later t time times there)) rises.1)
 
-least_of_chosen : (high : Option ℕ) (low last : ℕ) (times : List ℕ) → 0 < length times → Rises ◌<◌ times → ((time : ℕ) → Contains times time → ChosenBy high low last (Contains times) time) → IsLeast high low last times
+least_of_chosen : (high : Option ℕ) (low last : ℕ) (times : List ℕ) → 0 < length times → IsRisingBy ◌<◌ times
+    → ((time : ℕ) → Contains times time → ChosenBy high low last (Contains times) time) → AreLeastTimes high low last times
 least_of_chosen high low last [] some rises chosen = absurd (omega (arith, some))
 least_of_chosen None low last (first ∷ []) some rises chosen = refl
 least_of_chosen None low last (first ∷ second ∷ times) some rises chosen =
@@ -140,17 +137,18 @@ least_of_chosen (Some high) low last (first ∷ times) some rises chosen = (
         let below : first < t = All-contains (λ u. first < u) times t rises.0 there in
         absurd (omega (arith, below, (chosen first (here first times)).1 (omega (arith, below, far)) t (later t first times there) far))) (cases_lt (last - t) low)
 
-module _ (interval : Interval) (columns : List VarId) (last : ℕ) (pairs : List KeptPair) (es : List (List Value × SmallVec ℕ)) (keepable : AreKeepable interval columns last pairs) (are : AreEntriesOf pairs es) where
+module _ (interval : Interval) (columns : List VarId) (last : ℕ) (pairs : List KeptPair) (es : List (List Value × SmallVec ℕ)) (keepable : AreKeepable interval columns last pairs)
+    (are : AreEntriesOf pairs es) where
   times_of : (row : List Value) (times : SmallVec ℕ) → Contains es (row, times) → (time : ℕ) → Contains times.items time ↔ Contains pairs (pair row time)
   times_of row times there time = (
     λ has. (are.exact (pair row time)).0 (times, there, has),
     λ is. let has = (are.exact (pair row time)).1 is in subst (λ t. Contains t.items time) (one_entry es are.unique row has.0 times has.1 there) has.2,
   )
 
-  pub restored_kept : AreKept (length columns) last es
+  pub restored_kept : AreWindowEntries (length columns) last es
   restored_kept = record {
     fit = all_from (λ e. (length e.0 ≡ length columns) × RiseTo last e.1.items × (0 < length e.1.items)) es (λ e there.
-        let fit = All-contains (λ f. (0 < length f.1.items) × Rises ◌<◌ f.1.items) es e are.fit there in
+        let fit = All-contains (λ f. (0 < length f.1.items) × IsRisingBy ◌<◌ f.1.items) es e are.fit there in
         let first = some_time e.1.items fit.0 in (
           All-contains (λ p. length p.row ≡ length columns) pairs (pair e.0 first.0) keepable.fit ((times_of e.0 e.1 there first.0).0 first.1),
           rise_to last e.1.items (λ t has. All-contains (λ p. p.time ≤ last) pairs (pair e.0 t) keepable.up_to ((times_of e.0 e.1 there t).0 has)) fit.1,
@@ -164,16 +162,18 @@ module _ (interval : Interval) (columns : List VarId) (last : ℕ) (pairs : List
       some_time (t ∷ times) some = (t, here t times)
 
   pub restored_least : AreLeast interval last es
-  restored_least = all_from (λ e. IsLeast interval.high interval.low last e.1.items) es (λ e there.
-      let fit = All-contains (λ f. (0 < length f.1.items) × Rises ◌<◌ f.1.items) es e are.fit there in
+  restored_least = all_from (λ e. AreLeastTimes interval.high interval.low last e.1.items) es (λ e there.
+      let fit = All-contains (λ f. (0 < length f.1.items) × IsRisingBy ◌<◌ f.1.items) es e are.fit there in
       least_of_chosen interval.high interval.low last e.1.items fit.0 fit.1 (λ t has.
       among interval.high e.0 e.1 there t (keepable.chosen e.0 t ((times_of e.0 e.1 there t).0 has))))
     where
-      among : (high : Option ℕ) (row : List Value) (times : SmallVec ℕ) → Contains es (row, times) → (t : ℕ) → ChosenBy high interval.low last (λ other. Contains pairs (pair row other)) t → ChosenBy high interval.low last (Contains times.items) t
+      among : (high : Option ℕ) (row : List Value) (times : SmallVec ℕ) → Contains es (row, times) → (t : ℕ)
+          → ChosenBy high interval.low last (λ other. Contains pairs (pair row other)) t → ChosenBy high interval.low last (Contains times.items) t
       among None row times there t chosen = λ other has. chosen other ((times_of row times there other).0 has)
       among (Some high) row times there t chosen = (chosen.0, λ far other has. chosen.1 far other ((times_of row times there other).0 has))
 
-  module _ (queue : Queue) (distinct : HasNoRepeats columns) (far : queue.far ≡ 0) (within : HaveTimesOf pairs queue.steps) (none : interval.high ≡ None → queue.steps ≡ []) (steps : (high : ℕ) → interval.high ≡ Some high → HaveStepsOf pairs queue.steps) where
+  module _ (queue : Queue) (distinct : HasNoRepeats columns) (far : queue.far ≡ 0) (within : HaveTimesOf pairs queue.steps) (none : interval.high ≡ None → queue.steps ≡ [])
+      (steps : (high : ℕ) → interval.high ≡ Some high → HaveStepsOf pairs queue.steps) where
     pub restored : IsWindow interval columns last es queue
     restored = record {
       distinct = distinct;
@@ -192,7 +192,8 @@ module _ (interval : Interval) (columns : List VarId) (last : ℕ) (pairs : List
         in_reach None is = none (sym is)
         in_reach (Some high) is = all_from (λ s. last - s.time ≤ high) queue.steps (λ s there.
             let at = within s there in
-            let live : last - at.0.time ≤ high = (subst (λ h. ChosenBy h interval.low last (λ other. Contains pairs (pair at.0.row other)) at.0.time) (sym is) (keepable.chosen at.0.row at.0.time at.1)).0 in
+            let live : last - at.0.time ≤ high = (subst (λ h. ChosenBy h interval.low last (λ other. Contains pairs (pair at.0.row other)) at.0.time) (sym is)
+            (keepable.chosen at.0.row at.0.time at.1)).0 in
             subst (λ t. last - t ≤ high) (sym at.2) live)
 
         of_drop : (times : List ℕ) (t : ℕ) → Contains (drop 1 times) t → Contains times t
@@ -202,7 +203,8 @@ module _ (interval : Interval) (columns : List VarId) (last : ℕ) (pairs : List
         behind : (row : List Value) (time : ℕ) → HasBehind es row time → HasTime es row time
         behind row time has = (has.0, has.1, of_drop has.0.items time has.2)
 
-  pub restored_pairs : (kept : List (List Value × List ℕ)) → kept ≡ kept_of es → (row : List Value) (time : ℕ) → Contains pairs (pair row time) ↔ ((times : List ℕ) × Contains kept (row, times) × Contains times time)
+  pub restored_pairs : (kept : List (List Value × List ℕ)) → kept ≡ kept_entries es → (row : List Value) (time : ℕ)
+      → Contains pairs (pair row time) ↔ ((times : List ℕ) × Contains kept (row, times) × Contains times time)
   restored_pairs kept is row time = (
     λ there. let has = (are.exact (pair row time)).1 there in
         (has.0.items, subst (λ l. Contains l (row, has.0.items)) (sym is) (Contains-map (λ (e : List Value × SmallVec ℕ). (e.0, e.1.items)) es (row, has.0) has.1), has.2),

@@ -1,20 +1,13 @@
 -- The steps of pairs, a step for each time.
-use Rattle.std.proofs.Common.{◌≡◌, ◌∙◌, ◌⊎◌, inl, inr, ⊎_elim, ℕ, List, [], ◌∷◌, ◌++◌, length, filter, is_some, nat_eq, All, Contains, Option, None, Some, Vec, Global, refl, sym, ap, subst}
-use Rattle.std.specs.List.{IsDistinct, list_any}
-use Rattle.std.specs.Cmp.{nat_eq_equiv, unsigned_Decides}
-use Rattle.std.specs.Map.{keys_of, lookup}
-use Rattle.std.specs.Option.{option_map_or}
-use Rattle.std.proofs.lemmas.List.Elements.{All-contains, Contains-append_cases, Contains-append_left, Contains-append_right}
-use Rattle.std.proofs.lemmas.List.Folds.{Any-from_list_any}
-use Rattle.std.proofs.lemmas.Map.Views.{Contains-from_lookup, lookup-from_Contains}
-use Rattle.enf_value.specs.declared.values.Value.{Value}
-use Rattle.valuations.specs.Columns.{Contains-filter, Contains-from_filter, first_or_later, here, later, none_in_nil}
-use Rattle.valuations.specs.SearchLaws.{Contains-from_map, Contains-map}
-use Rattle.windows.specs.KeptPairs.{HaveStepsOf, HaveTimesOf, rows_at}
-use Rattle.windows.specs.Queues.{IsInStep}
-use Rattle.windows.specs.declared.kept.KeptPair.{KeptPair}
-use Rattle.windows.specs.declared.steps.LastStep.{LastStep}
-use Rattle.windows.proofs.TimeLemmas.{all_from}
+use Rattle.windows.proofs.Vocabulary.{◌≡◌, ◌∙◌, ◌⊎◌, inl, inr, ⊎_elim, ℕ, List, [], ◌∷◌}
+use Rattle.windows.proofs.Vocabulary.{◌++◌, length, filter, is_some, nat_eq, All, Contains, Option, None, Some, Vec}
+use Rattle.windows.proofs.Vocabulary.{Global, refl, sym, ap, subst, IsDistinct, list_any, nat_eq_equiv}
+use Rattle.windows.proofs.Vocabulary.{unsigned_Decides, keys_of, lookup, option_map_or, All-contains}
+use Rattle.windows.proofs.Vocabulary.{Contains-append_cases, Contains-append_left, Contains-append_right}
+use Rattle.windows.proofs.Vocabulary.{Any-from_list_any, Contains-from_lookup, lookup-from_Contains, Value, all_from}
+use Rattle.windows.proofs.Vocabulary.{Contains-filter, Contains-from_filter, first_or_later, here, later, none_in_nil}
+use Rattle.windows.proofs.Vocabulary.{Contains-from_map, Contains-map, HaveStepsOf, HaveTimesOf, rows_at, IsInStep}
+use Rattle.windows.proofs.Vocabulary.{KeptPair, LastStep}
 
 -- steps are there for the times of pairs, but for those that are left with their rows
 pub record HaveSteps (n : ℕ) (pairs : List KeptPair) (left : List (ℕ × Vec (List Value) Global)) (steps : List LastStep) : Type 0 where
@@ -26,7 +19,8 @@ pub record HaveSteps (n : ℕ) (pairs : List KeptPair) (left : List (ℕ × Vec 
 -- ---- the rows of a time
 
 row_at : (pairs : List KeptPair) (p : KeptPair) → Contains pairs p → Contains (rows_at p.time pairs) p.row
-row_at pairs p there = Contains-map (λ (q : KeptPair). q.row) (filter (λ q. nat_eq p.time q.time) pairs) p (Contains-filter (λ q. nat_eq p.time q.time) pairs p there ((unsigned_Decides p.time p.time).1 refl))
+row_at pairs p there = Contains-map (λ (q : KeptPair). q.row) (filter (λ q. nat_eq p.time q.time) pairs) p
+    (Contains-filter (λ q. nat_eq p.time q.time) pairs p there ((unsigned_Decides p.time p.time).1 refl))
 
 rows_at_fit : (n time : ℕ) (pairs : List KeptPair) → All (λ p. length p.row ≡ n) pairs → All (λ row. length row ≡ n) (rows_at time pairs)
 rows_at_fit n time pairs fit = all_from (λ row. length row ≡ n) (rows_at time pairs) (λ row there.
@@ -36,7 +30,8 @@ rows_at_fit n time pairs fit = all_from (λ row. length row ≡ n) (rows_at time
 -- ---- no step yet
 
 module _ (n : ℕ) (pairs : List KeptPair) (entries : List (ℕ × Vec (List Value) Global)) (fit : All (λ p. length p.row ≡ n) pairs) (unique : IsDistinct nat_eq (keys_of entries))
-    (times : (time : ℕ) → is_some (lookup (nat_eq time) entries) ≡ list_any (λ p. nat_eq time p.time) pairs) (rows : (time : ℕ) → option_map_or (λ (r : Vec (List Value) Global). r.items) (lookup (nat_eq time) entries) [] ≡ rows_at time pairs) where
+    (times : (time : ℕ) → is_some (lookup (nat_eq time) entries) ≡ list_any (λ p. nat_eq time p.time) pairs)
+    (rows : (time : ℕ) → option_map_or (λ (r : Vec (List Value) Global). r.items) (lookup (nat_eq time) entries) [] ≡ rows_at time pairs) where
   found : (e : ℕ × Vec (List Value) Global) → Contains entries e → lookup (nat_eq e.0) entries ≡ Some e.1
   found e there = lookup-from_Contains nat_eq_equiv e.0 e.1 entries unique there
 
@@ -70,7 +65,13 @@ step_more n pairs left rest e steps after step is time rows grown so_far = recor
   rows = λ p there. ⊎_elim
       (λ at. inl (at.0, earlier at.0 at.1, at.2, at.3))
       (λ waits. ⊎_elim
-      (λ same. inl (step, subst (λ l. Contains l step) (sym grown) (Contains-append_right steps (step ∷ []) step (here step [])), time ∙ ap (λ f. f.0) same, rows p.row (subst (λ r. Contains r.items p.row) (sym (ap (λ f. f.1) same)) waits.2)))
+      (λ same. inl (
+        step,
+        subst (λ l. Contains l step) (sym grown) (Contains-append_right steps (step ∷ []) step (here step [])),
+        time ∙ ap (λ f. f.0) same,
+        rows p.row
+            (subst (λ r. Contains r.items p.row) (sym (ap (λ f. f.1) same)) waits.2),
+      ))
       (λ still. inr (waits.0, still, waits.2))
       (first_or_later (p.time, waits.0) e rest (subst (λ l. Contains l (p.time, waits.0)) is waits.1)))
       (so_far.rows p there);

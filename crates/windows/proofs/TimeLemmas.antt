@@ -1,17 +1,12 @@
 -- The times of one row.
-use Rattle.std.proofs.Common.{◌≡◌, ◌∙◌, ◌⊎◌, inl, inr, ⊎_elim, ℕ, zero, suc, ◌+◌, ◌-◌, ◌<◌, ◌≤◌, List, [], ◌∷◌, ◌++◌, length, take, drop, get_or, All, Contains, Option, None, Some, refl, sym, ap, subst, arith}
-use Rattle.std.proofs.lemmas.List.Elements.{All-contains, All-nil, All-push, Contains-append_cases, Contains-append_left, Contains-get_or, Contains-push}
-use Rattle.std.specs.Prelude.{slice_get}
-use Rattle.std.proofs.lemmas.Option.{same_Some, none-some}
-use Rattle.enf_value.specs.declared.intervals.Interval.{Interval}
-use Rattle.valuations.specs.Columns.{here, later, first_or_later, none_in_nil, there_from_get}
-use Rattle.enf_value.specs.Membership.{IsIn}
-use Rattle.std.proofs.lemmas.List.{drop_all, drop_more, take_all, take_more}
-use Rattle.windows.specs.Pairs.{AddsAtMost, AddsTime, ForgetsTimes, IsSomeIn}
-use Rattle.windows.specs.Times.{IsEnded, IsLeast, IsServed, RiseTo}
-
-pub all_from : {X : Type 0} (P : X → Type 0) (xs : List X) → ((x : X) → Contains xs x → P x) → All P xs
-all_from P xs each k d below = each (get_or xs k d) (Contains-get_or xs k d below)
+use Rattle.windows.proofs.Vocabulary.{◌≡◌, ◌∙◌, ◌⊎◌, inl, inr, ⊎_elim, ℕ, zero, suc, ◌+◌}
+use Rattle.windows.proofs.Vocabulary.{◌-◌, ◌<◌, ◌≤◌, List, [], ◌∷◌, ◌++◌, length, take, drop}
+use Rattle.windows.proofs.Vocabulary.{get_or, Contains, Option, None, Some, refl, sym, ap, subst, arith, All-contains}
+use Rattle.windows.proofs.Vocabulary.{All-nil, All-push, Contains-append_cases, Contains-append_left, Contains-push}
+use Rattle.windows.proofs.Vocabulary.{slice_get, same_Some, none-some, Interval, here, later, first_or_later}
+use Rattle.windows.proofs.Vocabulary.{none_in_nil, there_from_get, IsIn, all_from, drop_more, take_all, take_more}
+use Rattle.windows.proofs.Vocabulary.{AddsAtMost, AddsTime, ForgetsTimes, IsSomeIn, IsEndedTime, AreLeastTimes}
+use Rattle.windows.proofs.Vocabulary.{IsServedTime, RiseTo}
 
 equal_or_below : (a b : ℕ) → a ≤ b → (a ≡ b) ⊎ (a < b)
 equal_or_below zero zero below = inl refl
@@ -42,22 +37,22 @@ rise_push now (t ∷ times) rise absent = (
 -- ---- the least times
 
 -- none of them is past the end, and none but the first is far enough
-pub least_live : (high low now : ℕ) (times : List ℕ) → RiseTo now times → IsLeast (Some high) low now times → (time : ℕ) → Contains times time → now - time ≤ high
+pub least_live : (high low now : ℕ) (times : List ℕ) → RiseTo now times → AreLeastTimes (Some high) low now times → (time : ℕ) → Contains times time → now - time ≤ high
 least_live high low now [] rise least time there = absurd least
 least_live high low now (t ∷ times) rise least time there = ⊎_elim (λ same. omega (arith, least.0, same)) (λ behind.
     let above : t < time = All-contains (λ l. t < l) times time rise.1 behind in omega (arith, least.0, above)) (first_or_later time t times there)
 
-pub least_near : (high low now : ℕ) (times : List ℕ) → IsLeast (Some high) low now times → (time : ℕ) → Contains (drop 1 times) time → now - time < low
+pub least_near : (high low now : ℕ) (times : List ℕ) → AreLeastTimes (Some high) low now times → (time : ℕ) → Contains (drop 1 times) time → now - time < low
 least_near high low now [] least time there = absurd least
 least_near high low now (t ∷ times) least time there = All-contains (λ l. now - l < low) times time least.1 there
 
 -- and so they are the least
 pub least_from : (high low now : ℕ) (times : List ℕ) → 0 < length times → ((time : ℕ) → Contains times time → now - time ≤ high) → ((time : ℕ) → Contains (drop 1 times) time → now - time < low)
-    → IsLeast (Some high) low now times
+    → AreLeastTimes (Some high) low now times
 least_from high low now [] some live near = omega (arith, some)
 least_from high low now (t ∷ times) some live near = (live t (here t times), all_from (λ l. now - l < low) times near)
 
-pub some_least : (high : Option ℕ) (low now : ℕ) (times : List ℕ) → IsLeast high low now times → 0 < length times
+pub some_least : (high : Option ℕ) (low now : ℕ) (times : List ℕ) → AreLeastTimes high low now times → 0 < length times
 some_least None low now [] least = absurd least
 some_least (Some high) low now [] least = absurd least
 some_least high low now (t ∷ times) least = omega arith
@@ -67,9 +62,6 @@ first_of [] some = absurd (omega (arith, some))
 first_of (t ∷ times) some = (t, here t times)
 
 -- ---- what is passed is forgotten
-
-forgets_none : (high low now : ℕ) (times : List ℕ) → ForgetsTimes high low now times times
-forgets_none high low now times = record { from = λ time there. there; behind = λ time there. there; serves = λ time there. inl (time, omega arith, inl refl, there) }
 
 forgets_first : (high low now : ℕ) (before : List ℕ) (a b : ℕ) (times : List ℕ) → a < b → (high < now - a) ⊎ (low ≤ now - b) → ForgetsTimes high low now before (a ∷ b ∷ times)
     → ForgetsTimes high low now before (b ∷ times)
@@ -88,9 +80,6 @@ pub record Passes (high low now : ℕ) (times left : List ℕ) : Type 0 where
   pub rise : RiseTo now left
   pub forgets : ForgetsTimes high low now times left
 
-pub passes_none : (high low now : ℕ) (times : List ℕ) → RiseTo now times → Passes high low now times times
-passes_none high low now times rise = record { rise = rise; forgets = forgets_none high low now times }
-
 two_at : (times : List ℕ) (i d e : ℕ) → i + 1 < length times → drop i times ≡ get_or times i d ∷ get_or times (i + 1) e ∷ drop (i + 1 + 1) times
 two_at times i d e below = drop_more times i d (omega (arith, below)) ∙ ap (λ l. get_or times i d ∷ l) (drop_more times (i + 1) e below)
 
@@ -107,27 +96,14 @@ passes_more high low now times i d e below passed passes =
           (subst (ForgetsTimes high low now times) two passes.forgets));
     }
 
--- one that is not past the end has one that is left
-live_left : (high low now : ℕ) (times left : List ℕ) → ForgetsTimes high low now times left → (time : ℕ) × Contains times time × (now - time ≤ high) → (time : ℕ) × Contains left time × (now - time ≤ high)
-live_left high low now times left forgets live =
-    ⊎_elim (λ by. (by.0, by.3, omega (arith, by.1, live.2))) (λ ended. absurd (omega (arith, ended, live.2))) (forgets.serves live.0 live.1)
-
--- the last alone
-pub passes_all : (high low now : ℕ) (times : List ℕ) (i : ℕ) → i < length times → length times ≤ i + 1 → Passes high low now times (drop i times) → (time : ℕ) × Contains times time × (now - time ≤ high)
-    → IsLeast (Some high) low now (drop i times)
-passes_all high low now times i within all passes live =
-    let one : drop i times ≡ get_or times i 0 ∷ [] = drop_more times i 0 within ∙ ap (λ l. get_or times i 0 ∷ l) (drop_all (i + 1) times all) in
-    let left = live_left high low now times (drop i times) passes.forgets live in
-    subst (IsLeast (Some high) low now) (sym one)
-    (⊎_elim (λ same. omega (arith, same, left.2)) (λ none. absurd (none_in_nil left.0 none)) (first_or_later left.0 (get_or times i 0) [] (subst (λ l. Contains l left.0) one left.1)), All-nil _)
-
 -- the first is not past the end, and the second not far enough
-pub passes_enough : (high low now : ℕ) (times : List ℕ) (i d e : ℕ) → i + 1 < length times → now - get_or times i d ≤ high → now - get_or times (i + 1) e < low → Passes high low now times (drop i times)
-    → IsLeast (Some high) low now (drop i times)
+pub passes_enough : (high low now : ℕ) (times : List ℕ) (i d e : ℕ) → i + 1 < length times → now - get_or times i d ≤ high → now - get_or times (i + 1) e < low
+    → Passes high low now times (drop i times)
+    → AreLeastTimes (Some high) low now (drop i times)
 passes_enough high low now times i d e below live near passes =
     let two = two_at times i d e below in
     let rise = subst (RiseTo now) two passes.rise in
-    subst (IsLeast (Some high) low now) (sym two) (
+    subst (AreLeastTimes (Some high) low now) (sym two) (
       live,
       all_from (λ l. now - l < low) (get_or times (i + 1) e ∷ drop (i + 1 + 1) times) (λ time there.
           ⊎_elim (λ same. omega (arith, same, near)) (λ behind.
@@ -137,11 +113,9 @@ passes_enough high low now times i d e below live near passes =
 
 -- ---- a time is added
 
-pub adds_at_most_none : (now : ℕ) (times after : List ℕ) → after ≡ times → AddsAtMost now times after
-adds_at_most_none now times after same = subst (AddsAtMost now times) (sym same) (record { from = λ time there. inl there; behind = λ time there. inl there })
-
 pushed : (now : ℕ) (times : List ℕ) (time : ℕ) → Contains (times ++ now ∷ []) time → Contains times time ⊎ (time ≡ now)
-pushed now times time there = ⊎_elim (λ before. inl before) (λ last. inr (⊎_elim (λ same. sym same) (λ none. absurd (none_in_nil time none)) (first_or_later time now [] last))) (Contains-append_cases times (now ∷ []) time there)
+pushed now times time there = ⊎_elim (λ before. inl before) (λ last. inr (⊎_elim (λ same. sym same) (λ none. absurd (none_in_nil time none)) (first_or_later time now [] last)))
+    (Contains-append_cases times (now ∷ []) time there)
 
 pushed_behind : (now : ℕ) (times : List ℕ) (time : ℕ) → Contains (drop 1 (times ++ now ∷ [])) time → Contains (drop 1 times) time ⊎ (time ≡ now)
 pushed_behind now [] time there = absurd (none_in_nil time there)
@@ -153,30 +127,25 @@ adds_at_most high low now before after forgets = record {
   behind = λ time there. pushed_behind now before time (forgets.behind time there);
 }
 
-pub adds_by : (interval : Interval) (now : ℕ) (before after : List ℕ) (high : ℕ) → interval.high ≡ Some high → ForgetsTimes high interval.low now (before ++ now ∷ []) after → AddsTime interval now before after
+pub adds_by : (interval : Interval) (now : ℕ) (before after : List ℕ) (high : ℕ) → interval.high ≡ Some high → ForgetsTimes high interval.low now (before ++ now ∷ []) after
+    → AddsTime interval now before after
 adds_by interval now before after high is forgets = record {
-  serves = λ time there. subst (λ h. IsServed h interval.low now (Contains after) time ⊎ IsEnded h now time) (sym is) (forgets.serves time (Contains-append_left before (now ∷ []) time there));
-  added = subst (λ h. IsServed h interval.low now (Contains after) now) (sym is) (⊎_elim (λ by. by) (λ ended. absurd (omega (arith, ended))) (forgets.serves now (Contains-push before now)));
+  serves = λ time there. subst (λ h. IsServedTime h interval.low now (Contains after) time ⊎ IsEndedTime h now time) (sym is) (forgets.serves time (Contains-append_left before (now ∷ []) time there));
+  added = subst (λ h. IsServedTime h interval.low now (Contains after) now) (sym is) (⊎_elim (λ by. by) (λ ended. absurd (omega (arith, ended))) (forgets.serves now (Contains-push before now)));
 }
 
-pub itself : (high : Option ℕ) (low now : ℕ) (P : ℕ → Type 0) (time : ℕ) → P time → IsServed high low now P time
+pub itself : (high : Option ℕ) (low now : ℕ) (P : ℕ → Type 0) (time : ℕ) → P time → IsServedTime high low now P time
 itself None low now P time there = (time, omega arith, there)
 itself (Some high) low now P time there = (time, omega arith, inl refl, there)
 
--- the time is there already
-pub adds_none : (interval : Interval) (now : ℕ) (before after : List ℕ) → Contains before now → after ≡ before → AddsTime interval now before after
-adds_none interval now before after there same = subst (AddsTime interval now before) (sym same) (record {
-  serves = λ time b. inl (itself interval.high interval.low now (Contains before) time b);
-  added = itself interval.high interval.low now (Contains before) now there;
-})
-
 -- an interval without end has an earlier one
-pub adds_no_later : (interval : Interval) (now : ℕ) (before after : List ℕ) → ((high : ℕ) → interval.high ≡ Some high → ⊥) → RiseTo now before → IsLeast interval.high interval.low now before → after ≡ before → AddsTime interval now before after
+pub adds_no_later : (interval : Interval) (now : ℕ) (before after : List ℕ) → ((high : ℕ) → interval.high ≡ Some high → ⊥) → RiseTo now before
+    → AreLeastTimes interval.high interval.low now before → after ≡ before → AddsTime interval now before after
 adds_no_later interval now before after endless rise least same =
     let first = first_of before (some_least interval.high interval.low now before least) in
     subst (AddsTime interval now before) (sym same) (record {
       serves = λ time b. inl (itself interval.high interval.low now (Contains before) time b);
-      added = subst (λ h. IsServed h interval.low now (Contains before) now) (sym (no_end interval.high endless)) (first.0, up_to now before first.0 rise first.1, first.1);
+      added = subst (λ h. IsServedTime h interval.low now (Contains before) now) (sym (no_end interval.high endless)) (first.0, up_to now before first.0 rise first.1, first.1);
     })
   where
     no_end : (high : Option ℕ) → ((x : ℕ) → high ≡ Some x → ⊥) → high ≡ None
@@ -185,9 +154,11 @@ adds_no_later interval now before after endless rise least same =
 
 -- ---- a time at a distance in the interval
 
-pub not_in : (interval : Interval) (now : ℕ) (times : List ℕ) (i : ℕ) (d : ℕ) → i < length times → (IsIn interval (now - get_or times i d) → ⊥) → (IsSomeIn interval now (take i times) → ⊥) → IsSomeIn interval now (take (i + 1) times) → ⊥
+pub not_in : (interval : Interval) (now : ℕ) (times : List ℕ) (i : ℕ) (d : ℕ) → i < length times → (IsIn interval (now - get_or times i d) → ⊥)
+    → (IsSomeIn interval now (take i times) → ⊥) → IsSomeIn interval now (take (i + 1) times) → ⊥
 not_in interval now times i d below outside none some =
-    ⊎_elim (λ before. none (some.0, before, some.2)) (λ last. outside (subst (λ t. IsIn interval (now - t)) (⊎_elim (λ same. sym same) (λ b. absurd (none_in_nil some.0 b)) (first_or_later some.0 (get_or times i d) [] last)) some.2))
+    ⊎_elim (λ before. none (some.0, before, some.2)) (λ last. outside (subst (λ t. IsIn interval (now - t))
+    (⊎_elim (λ same. sym same) (λ b. absurd (none_in_nil some.0 b)) (first_or_later some.0 (get_or times i d) [] last)) some.2))
     (Contains-append_cases (take i times) (get_or times i d ∷ []) some.0 (subst (λ l. Contains l some.0) (take_more times i d below) some.1))
 
 pub none_in : (interval : Interval) (now : ℕ) (times : List ℕ) (i : ℕ) → length times ≤ i → (IsSomeIn interval now (take i times) → ⊥) → IsSomeIn interval now times → ⊥
@@ -202,7 +173,8 @@ rise_latest last (u ∷ w ∷ times) d rise time there =
     let place : suc (length times) ≡ length (u ∷ w ∷ times) - 1 = omega arith in
     let inner : length (w ∷ times) - 1 ≡ length times = omega arith in
     let first : u < w = All-contains (λ l. u < l) (w ∷ times) w rise.1 (here w times) in
-    let later_ones : (t : ℕ) → Contains (w ∷ times) t → t ≤ get_or (w ∷ times) (length times) d = (λ t behind. subst (λ n. t ≤ get_or (w ∷ times) n d) inner (rise_latest last (w ∷ times) d rise.2 t behind)) in
+    let later_ones : (t : ℕ) → Contains (w ∷ times) t → t ≤ get_or (w ∷ times) (length times) d =
+    (λ t behind. subst (λ n. t ≤ get_or (w ∷ times) n d) inner (rise_latest last (w ∷ times) d rise.2 t behind)) in
     subst (λ n. time ≤ get_or (u ∷ w ∷ times) n d) place
     (⊎_elim (λ same. let far = later_ones w (here w times) in omega (arith, same, first, far)) (λ behind. later_ones time behind) (first_or_later time u (w ∷ times) there))
 

@@ -1,15 +1,2 @@
-pub mod CommittedSteps
-pub mod Cases
-pub mod Given
-pub mod GivenLaws
-pub mod Kept
-pub mod KeptLaws
-pub mod KeptPairs
-pub mod Laws
-pub mod Pairs
-pub mod Queues
-pub mod Slots
-pub mod Times
-pub mod Walks
-pub mod Windows
-pub mod Queries
+pub mod meaning
+pub mod machine

@@ -1,16 +1,16 @@
 //! Windows and slots copied into new memory.
 ghost use Rattle.std.specs.Prelude.{◌≡◌, [], ◌∷◌, ◌++◌, IfOk, OnOk, Contains, map};
-ghost use Rattle.enf_value.specs.Membership.{HasNoRepeats};
-ghost use Rattle.windows.specs.Windows.{kept_of};
+ghost use Rattle.enf_data.specs.meaning.Membership.{HasNoRepeats};
+ghost use Rattle.windows.specs.machine.Windows.{kept_entries};
 
 use crate::entries::Entries;
-use crate::prev::PrevSlot;
+use crate::prev_slot::PrevSlot;
 use crate::since::SinceWindow;
 use crate::steps::LastStep;
 use crate::times::Times;
-use enf_value::items::Duplicate;
-use enf_value::memory::NoMemory;
-use enf_value::rows::Row;
+use enf_data::items::Duplicate;
+use enf_data::memory::NoMemory;
+use enf_data::rows::Row;
 use indexmap::IndexMap;
 use smallvec::SmallVec;
 use std::alloc::Global;
@@ -50,10 +50,10 @@ impl Duplicate for LastStep {
     }
 }
 
-// The same rows with the same times, in the same order.
+// A copy of the entries: their rows with their times, in their order.
 fn copy_entries(alloc: Global, entries: &Entries) -> Result<Entries, NoMemory>
     requires { HasNoRepeats (map (λ e. e.0) entries.now.entries) }
-    ensures { IfOk result (λ copy. kept_of copy.entries ≡ kept_of entries.now.entries) }
+    ensures { IfOk result (λ copy. kept_entries copy.entries ≡ kept_entries entries.now.entries) }
 {
     let mut copy = IndexMap::with_capacity(alloc, entries.len())?;
     for (row, times) in entries.iter() {
@@ -65,7 +65,8 @@ fn copy_entries(alloc: Global, entries: &Entries) -> Result<Entries, NoMemory>
 // Puts the row last, with the same times. It is not there yet.
 fn copy_entry(alloc: Global, row: &Row, times: &Times, copy: &mut Entries) -> Result<(), NoMemory>
     requires { Contains (map (λ e. e.0) copy.old.entries) row.now → ⊥ }
-    ensures { OnOk result (kept_of copy.new.entries ≡ kept_of copy.old.entries ++ (row.now, times.now.items) ∷ []) }
+    ensures { OnOk result (kept_entries copy.new.entries
+        ≡ kept_entries copy.old.entries ++ (row.now, times.now.items) ∷ []) }
 {
     let times = SmallVec::from_slice(alloc, times.as_slice())?;
     copy.insert(row.duplicate(alloc)?, times)?;

@@ -1,19 +1,20 @@
 //! Rows with their times, as a window keeps them: each call is one look-up, or one for each row that it is given.
-ghost use Rattle.std.specs.Prelude.{◌≡◌, ◌↔◌, ◌⊎◌, ℕ, List, Some, IsTrue};
-ghost use Rattle.std.specs.Prelude.{OnOk, Contains, length, map};
-ghost use Rattle.enf_value.specs.Membership.{IsIn};
-ghost use Rattle.enf_value.specs.declared.values.Value.{Value as AnyValue};
-ghost use Rattle.valuations.specs.Tables.{IsTable};
-ghost use Rattle.windows.specs.Windows.{AreTables};
-ghost use Rattle.windows.specs.Pairs.{AddAtMost, AddsTimes, AreKept, AreLeast, Forgets, Gives, HasGiven, IsAnyRow};
-ghost use Rattle.windows.specs.Pairs.{IsSettled, IsSomeIn, KeepsRows, Survives};
+ghost use Rattle.std.specs.Prelude.{◌≡◌, ◌↔◌, ◌⊎◌, ℕ, List, Some, IsTrue, OnOk, Contains, length};
+ghost use Rattle.std.specs.Prelude.{map};
+ghost use Rattle.enf_data.specs.meaning.Membership.{IsIn};
+ghost use Rattle.enf_data.specs.declared.values.Value.{Value as AnyValue};
+ghost use Rattle.valuations.specs.machine.Tables.{IsTable};
+ghost use Rattle.windows.specs.machine.Windows.{AreTables};
+ghost use Rattle.windows.specs.machine.WindowEntries.{AddAtMost, AddsTimes, AreWindowEntries, AreLeast, Forgets};
+ghost use Rattle.windows.specs.machine.WindowEntries.{GivesRow, GivesSomeRow, IsAnyRow, IsSettledRow, IsSomeIn};
+ghost use Rattle.windows.specs.machine.WindowEntries.{KeepsRows, RowSurvives};
 
-use crate::surviving::Surviving;
+use crate::surviving_rows::Surviving;
 use crate::times::{Times, add_time, are_ended, has_in, settle};
-use enf_value::intervals::Interval;
-use enf_value::items::Duplicate;
-use enf_value::memory::NoMemory;
-use enf_value::rows::Row;
+use enf_data::intervals::Interval;
+use enf_data::items::Duplicate;
+use enf_data::memory::NoMemory;
+use enf_data::rows::Row;
 use indexmap::IndexMap;
 use smallvec::SmallVec;
 use std::alloc::Global;
@@ -22,8 +23,8 @@ use valuations::Table;
 /// Rows, each with its times.
 pub type Entries = IndexMap<Row, Times>;
 
-// Adds the time to those of the row. A row that is not there goes last, until one before it goes out: then the last one
-// takes that place. So the order of the rows means nothing.
+// Adds the time to those of the row. A row that is not there goes last, until one before it is taken out: then the
+// last one takes that place. So the order of the rows means nothing.
 pub fn add_row(
     alloc: Global,
     entries: &mut Entries,
@@ -31,12 +32,12 @@ pub fn add_row(
     interval: Interval,
     now: u64,
 ) -> Result<(), NoMemory>
-    requires kept { AreKept (length row.now) now entries.old.entries }
+    requires kept { AreWindowEntries (length row.now) now entries.old.entries }
     requires least { AreLeast interval now entries.old.entries }
     ensures among { AddAtMost now (λ other. other ≡ row.now) entries.old.entries entries.new.entries }
     ensures added { OnOk result (AddsTimes interval now (λ other. other ≡ row.now)
         entries.old.entries entries.new.entries) }
-    ensures kept { AreKept (length row.now) now entries.new.entries }
+    ensures kept { AreWindowEntries (length row.now) now entries.new.entries }
     ensures least { AreLeast interval now entries.new.entries }
 {
     if let Some(place) = entries.get_index_of(row) {
@@ -56,12 +57,12 @@ pub fn add_rows(
     interval: Interval,
     now: u64,
 ) -> Result<(), NoMemory>
-    requires kept { AreKept (length right.now.columns) now entries.old.entries }
+    requires kept { AreWindowEntries (length right.now.columns) now entries.old.entries }
     requires least { AreLeast interval now entries.old.entries }
     ensures among { AddAtMost now (Contains right.now.rows) entries.old.entries entries.new.entries }
     ensures added { OnOk result (AddsTimes interval now (Contains right.now.rows)
         entries.old.entries entries.new.entries) }
-    ensures kept { AreKept (length right.now.columns) now entries.new.entries }
+    ensures kept { AreWindowEntries (length right.now.columns) now entries.new.entries }
     ensures least { AreLeast interval now entries.new.entries }
 {
     for row in right.rows() {
@@ -105,7 +106,7 @@ pub fn keep_rows(entries: &mut Entries, surviving: &Table)
 
 // Takes out the rows that do not survive.
 pub fn keep_surviving(entries: &mut Entries, surviving: &Surviving<'_>)
-    ensures keeps { KeepsRows (Survives surviving.now) entries.old.entries entries.new.entries }
+    ensures keeps { KeepsRows (RowSurvives surviving.now) entries.old.entries entries.new.entries }
     ensures tables { IsAnyRow entries.old.entries → AreTables surviving.now }
 {
     match surviving {
@@ -123,7 +124,7 @@ pub fn is_given(
     interval: Interval,
     now: u64,
 ) -> bool
-    ensures given { IsTrue result ↔ (IsSomeIn interval now times.now.items × Survives surviving.now row.now) }
+    ensures given { IsTrue result ↔ (IsSomeIn interval now times.now.items × RowSurvives surviving.now row.now) }
     ensures tables { IsSomeIn interval now times.now.items → AreTables surviving.now }
 {
     has_in(times, interval, now) && surviving.has(row)
@@ -150,8 +151,8 @@ pub fn push_given(
     out: &mut Vec<Row>,
 ) -> Result<(), NoMemory>
     ensures rows { OnOk result ((row : List AnyValue) → Contains out.new.items row
-        ↔ (Contains out.old.items row ⊎ Gives interval now (Survives surviving.now) entries.now.entries row)) }
-    ensures tables { OnOk result (HasGiven interval now entries.now.entries → AreTables surviving.now) }
+        ↔ (Contains out.old.items row ⊎ GivesRow interval now (RowSurvives surviving.now) entries.now.entries row)) }
+    ensures tables { OnOk result (GivesSomeRow interval now entries.now.entries → AreTables surviving.now) }
 {
     for (row, times) in entries.iter() {
         if is_given(row, times, surviving, interval, now) {
@@ -191,13 +192,14 @@ pub fn push_now(
 }
 
 // Leaves the row just the times that are not past the end, and of those that are far enough the latest; where it has
-// none it goes out.
+// none, the row is taken out.
 fn settle_row(entries: &mut Entries, row: &Row, interval: Interval, high: u64, now: u64)
     requires high { interval.high ≡ Some high }
-    requires kept { (long : ℕ) × AreKept long now entries.old.entries }
-    ensures kept { (long : ℕ) → AreKept long now entries.old.entries → AreKept long now entries.new.entries }
+    requires kept { (long : ℕ) × AreWindowEntries long now entries.old.entries }
+    ensures kept { (long : ℕ) → AreWindowEntries long now entries.old.entries
+        → AreWindowEntries long now entries.new.entries }
     ensures forgets { Forgets interval now entries.old.entries entries.new.entries }
-    ensures settled { IsSettled high interval.low now entries.new.entries row.now }
+    ensures settled { IsSettledRow high interval.low now entries.new.entries row.now }
 {
     if let Some(place) = entries.get_index_of(row) {
         if are_ended(&entries[place], high, now) {
@@ -211,11 +213,12 @@ fn settle_row(entries: &mut Entries, row: &Row, interval: Interval, high: u64, n
 // So with each row of the table.
 pub fn settle_rows(entries: &mut Entries, rows: &Table, interval: Interval, high: u64, now: u64)
     requires high { interval.high ≡ Some high }
-    requires kept { (long : ℕ) × AreKept long now entries.old.entries }
-    ensures kept { (long : ℕ) → AreKept long now entries.old.entries → AreKept long now entries.new.entries }
+    requires kept { (long : ℕ) × AreWindowEntries long now entries.old.entries }
+    ensures kept { (long : ℕ) → AreWindowEntries long now entries.old.entries
+        → AreWindowEntries long now entries.new.entries }
     ensures forgets { Forgets interval now entries.old.entries entries.new.entries }
     ensures settled { (row : List AnyValue) → Contains rows.now.rows row
-        → IsSettled high interval.low now entries.new.entries row }
+        → IsSettledRow high interval.low now entries.new.entries row }
 {
     for row in rows.rows() {
         settle_row(entries, row, interval, high, now);

@@ -1,15 +1,16 @@
 //! What time takes out of a window: times past the end of the interval, and of those that are far enough all but the
 //! latest of each row. Each row of a step is looked up once where the step becomes far enough, and once where it ends.
 ghost use Rattle.std.specs.Prelude.{◌≡◌, ◌-◌, ◌≤◌, ℕ, List, Some, All, Contains, OnErr, OnOk};
-ghost use Rattle.enf_value.specs.declared.values.Value.{Value as AnyValue};
-ghost use Rattle.windows.specs.Pairs.{AreKept, AreLeast, Forgets, IsSettled};
-ghost use Rattle.windows.specs.Queues.{AreInReach, AreQueued, AreUpToTime, IsInStep, KeepsSteps, LetsGo, waiting_of};
-ghost use Rattle.windows.specs.Times.{IsEnded};
+ghost use Rattle.enf_data.specs.declared.values.Value.{Value as AnyValue};
+ghost use Rattle.windows.specs.machine.WindowEntries.{AreWindowEntries, AreLeast, Forgets, IsSettledRow};
+ghost use Rattle.windows.specs.machine.StepQueues.{AreInReach, AreQueued, AreUpToTime, IsInStep, KeepsSteps, LetsGo};
+ghost use Rattle.windows.specs.machine.StepQueues.{waiting_of};
+ghost use Rattle.windows.specs.machine.RowTimes.{IsEndedTime};
 
 use crate::entries::{Entries, settle_rows};
 use crate::queue::StepQueue;
-use enf_value::intervals::Interval;
-use enf_value::memory::NoMemory;
+use enf_data::intervals::Interval;
+use enf_data::memory::NoMemory;
 use std::alloc::Global;
 use valuations::Table;
 
@@ -38,10 +39,11 @@ pub fn push_step(
 
 // Forgets what the window need not keep at this time.
 pub fn forget_steps(entries: &mut Entries, queue: &mut StepQueue, interval: Interval, now: u64)
-    requires kept { (long : ℕ) × AreKept long now entries.old.entries }
+    requires kept { (long : ℕ) × AreWindowEntries long now entries.old.entries }
     requires least { (last : ℕ) × (last ≤ now) × AreLeast interval last entries.old.entries }
     requires queued { (high : ℕ) → interval.high ≡ Some high → AreQueued entries.old.entries queue.old }
-    ensures kept { (long : ℕ) → AreKept long now entries.old.entries → AreKept long now entries.new.entries }
+    ensures kept { (long : ℕ) → AreWindowEntries long now entries.old.entries
+        → AreWindowEntries long now entries.new.entries }
     ensures least { AreLeast interval now entries.new.entries }
     ensures queued { (high : ℕ) → interval.high ≡ Some high → AreQueued entries.new.entries queue.new }
     ensures forgets { Forgets interval now entries.old.entries entries.new.entries }
@@ -68,12 +70,13 @@ fn forget_ended(
     now: u64,
 )
     requires high { interval.high ≡ Some high }
-    requires kept { (long : ℕ) × AreKept long now entries.old.entries }
-    ensures kept { (long : ℕ) → AreKept long now entries.old.entries → AreKept long now entries.new.entries }
+    requires kept { (long : ℕ) × AreWindowEntries long now entries.old.entries }
+    ensures kept { (long : ℕ) → AreWindowEntries long now entries.old.entries
+        → AreWindowEntries long now entries.new.entries }
     ensures forgets { Forgets interval now entries.old.entries entries.new.entries }
     ensures settled { (row : List AnyValue) (time : ℕ) → IsInStep queue.old.steps row time
-        → IsEnded (Some high) now time → IsSettled high interval.low now entries.new.entries row }
-    ensures lets_go { LetsGo (IsEnded (Some high) now) (IsEnded (Some high) now) queue.old queue.new }
+        → IsEndedTime (Some high) now time → IsSettledRow high interval.low now entries.new.entries row }
+    ensures lets_go { LetsGo (IsEndedTime (Some high) now) (IsEndedTime (Some high) now) queue.old queue.new }
     ensures live { All (λ step. now - step.time ≤ high) queue.new.steps }
 {
     while let Some(step) = queue.take_ended(high, now) {
@@ -84,11 +87,12 @@ fn forget_ended(
 // Passes the steps that are far enough: of the times of a row up to such a step the latest is enough.
 fn forget_far(entries: &mut Entries, queue: &mut StepQueue, interval: Interval, high: u64, now: u64)
     requires high { interval.high ≡ Some high }
-    requires kept { (long : ℕ) × AreKept long now entries.old.entries }
-    ensures kept { (long : ℕ) → AreKept long now entries.old.entries → AreKept long now entries.new.entries }
+    requires kept { (long : ℕ) × AreWindowEntries long now entries.old.entries }
+    ensures kept { (long : ℕ) → AreWindowEntries long now entries.old.entries
+        → AreWindowEntries long now entries.new.entries }
     ensures forgets { Forgets interval now entries.old.entries entries.new.entries }
     ensures settled { (row : List AnyValue) (time : ℕ) → IsInStep (waiting_of queue.old) row time
-        → interval.low ≤ now - time → IsSettled high interval.low now entries.new.entries row }
+        → interval.low ≤ now - time → IsSettledRow high interval.low now entries.new.entries row }
     ensures lets_go { LetsGo (λ _. ⊥) (λ time. interval.low ≤ now - time) queue.old queue.new }
 {
     while let Some(step) = queue.first_far(interval.low, now) {

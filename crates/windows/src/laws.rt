@@ -1,8 +1,8 @@
 //! Laws of what windows answer, each the contract of a function with an empty body.
-ghost use Rattle.windows.specs.Given.{AllAreGiven, AmongAreGiven, OutsideAreGiven, LastIsGiven, GivenIsKept};
-ghost use Rattle.windows.specs.Given.{GivenLastIsKept};
-ghost use Rattle.windows.specs.Laws.{NothingAtFirst, OneStepMore, RememberedIsKept, CommittedStands, AnsweredIsWalked};
-ghost use Rattle.windows.specs.Laws.{LeastIsChosen};
+ghost use Rattle.windows.specs.machine.AnswerLaws.{AllAreGiven, AmongAreGiven, OutsideAreGiven, LastIsGiven};
+ghost use Rattle.windows.specs.machine.AnswerLaws.{GivenIsKept, GivenLastIsKept};
+ghost use Rattle.windows.specs.machine.Laws.{NothingAtFirst, OneStepMore, RememberedIsKept, CommittedStands};
+ghost use Rattle.windows.specs.machine.Laws.{AnsweredIsWalked, LeastIsChosen};
 
 /// What a list of steps answers, step by step.
 pub fn step_by_step()
@@ -10,7 +10,7 @@ pub fn step_by_step()
     ensures more { OneStepMore }
 {}
 
-/// What a window remembers it has kept, for which steps it stands behind a commit, and what it answers then.
+/// What a window remembers it has kept, for which steps it stands after a commit, and what it answers then.
 pub fn windows_stand()
     ensures kept { RememberedIsKept }
     ensures committed { CommittedStands }

@@ -2,27 +2,24 @@
 //! and `historically` need, a slot what `prev` needs. It stands on `valuations`.
 #![tactic(auto)]
 
-mod asking;
-mod carrying;
+mod bound_answers;
 mod copies;
 mod entries;
 mod expiry;
-pub mod kept;
+pub mod kept_pairs;
 pub mod laws;
-pub mod prev;
+pub mod prev_slot;
 mod queue;
+mod row_answers;
 mod row_query;
 pub mod since;
-pub mod since_walk;
 pub mod steps;
-pub mod surviving;
+pub mod surviving_rows;
 mod times;
-mod under;
 pub mod worked_cases;
 
-pub use kept::KeptPair;
-pub use prev::PrevSlot;
+pub use kept_pairs::KeptPair;
+pub use prev_slot::PrevSlot;
 pub use since::SinceWindow;
-pub use since_walk::SinceWalk;
-pub use steps::{CommittedStep, LastStep};
-pub use surviving::Surviving;
+pub use steps::LastStep;
+pub use surviving_rows::Surviving;

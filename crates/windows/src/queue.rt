@@ -1,14 +1,13 @@
 //! The steps whose rows a window of an interval with an end keeps, in the order of their times.
 ghost use Rattle.std.specs.Prelude.{◌≡◌, ◌↔◌, ◌+◌, ◌-◌, ◌<◌, ◌≤◌, [], ◌∷◌};
-ghost use Rattle.std.specs.Prelude.{◌++◌, All, Contains, List, IfNone, IfSome};
-ghost use Rattle.std.specs.Prelude.{OnErr, OnOk, length, drop};
-ghost use Rattle.windows.specs.Queues.{AreUpToTime, waiting_of};
-ghost use Rattle.windows.specs.Slots.{with_rows};
+ghost use Rattle.std.specs.Prelude.{◌++◌, All, Contains, List, IfNone, IfSome, OnErr, OnOk, length, drop};
+ghost use Rattle.windows.specs.machine.StepQueues.{AreUpToTime, waiting_of};
+ghost use Rattle.windows.specs.machine.Slots.{with_rows};
 ghost use Rattle.windows.specs.declared.steps.LastStep.{LastStep as Step};
 
 use crate::steps::LastStep;
-use enf_value::items::Duplicate;
-use enf_value::memory::NoMemory;
+use enf_data::items::Duplicate;
+use enf_data::memory::NoMemory;
 use std::alloc::Global;
 use std::collections::VecDeque;
 use std::marker::Model;
@@ -22,13 +21,13 @@ pub struct StepQueue {
 }
 
 impl Model for StepQueue {
-    ghost use Rattle.windows.specs.Queues.{Queue, IsQueue};
+    ghost use Rattle.windows.specs.machine.StepQueues.{Queue, IsStepQueue};
 
     ghost Value = { Queue };
 
     ghost view = { λ q. record { steps = q.steps.items; far = q.far } };
 
-    ghost invariant = { λ q. IsQueue (record { steps = q.steps.items; far = q.far }) };
+    ghost invariant = { λ q. IsStepQueue (record { steps = q.steps.items; far = q.far }) };
 }
 
 impl StepQueue {
@@ -88,7 +87,7 @@ impl StepQueue {
         self.steps.pop_front()
     }
 
-    // The first step behind those that were passed, where it is far enough.
+    // The first step after those that were passed, where it is far enough.
     pub fn first_far(&self, low: u64, now: u64) -> Option<&LastStep>
         ensures some { IfSome result (λ step. (low ≤ now - step.now.time)
             × (waiting_of self.now ≡ step.now ∷ drop (self.now.far + 1) self.now.steps)) }

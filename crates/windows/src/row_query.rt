@@ -2,11 +2,11 @@
 ghost use Rattle.std.specs.Prelude.{◌≡◌, Some, map, length};
 ghost use Rattle.std.specs.Option.{option_copied};
 ghost use Rattle.std.specs.List.{fold};
-ghost use Rattle.windows.specs.Queries.{cell_eq, cell_fed, cells, cells_eq};
+ghost use Rattle.windows.specs.machine.RowQueries.{cell_eq, cell_fed, cells, cells_eq};
 
-use enf_value::rows::Row;
-use enf_value::terms::VarId;
-use enf_value::values::Value;
+use enf_data::rows::Row;
+use enf_data::terms::VarId;
+use enf_data::values::Value;
 use indexmap::Equivalent;
 use std::alloc::AllocError;
 use std::hash::{Hash, Hasher};
@@ -27,7 +27,7 @@ impl<V> Clone for RowQuery<'_, V> {
 impl<V> Copy for RowQuery<'_, V> {}
 
 impl<V: Lookup> PartialEq for RowQuery<'_, V> {
-    ghost use Rattle.windows.specs.Queries.{cells, cells_eq, cells_eq_per};
+    ghost use Rattle.windows.specs.machine.RowQueries.{cells, cells_eq, cells_eq_per};
 
     ghost eq = { λ a b. cells_eq (cells a.columns.now (V.valuation a.values.now))
         (cells b.columns.now (V.valuation b.values.now)) };
@@ -40,13 +40,13 @@ impl<V: Lookup> PartialEq for RowQuery<'_, V> {
 }
 
 impl<V: Lookup> Eq for RowQuery<'_, V> {
-    ghost use Rattle.windows.specs.Queries.{cells, cells_eq_equiv};
+    ghost use Rattle.windows.specs.machine.RowQueries.{cells, cells_eq_equiv};
 
     ghost laws = { cells_eq_equiv (λ q. cells q.columns.now (V.valuation q.values.now)) };
 }
 
 impl<V: Lookup> Hash for RowQuery<'_, V> {
-    ghost use Rattle.windows.specs.Queries.{cells, cell_fed, same_fed};
+    ghost use Rattle.windows.specs.machine.RowQueries.{cells, cell_fed, same_fed};
     ghost use Rattle.std.specs.Hash as fed;
 
     ghost hash_input = { λ q. fed.slice cell_fed (cells q.columns.now (V.valuation q.values.now)) };
@@ -64,7 +64,7 @@ impl<V: Lookup> Hash for RowQuery<'_, V> {
 
 impl<V: Lookup> Equivalent<Row> for RowQuery<'_, V> {
     ghost use Rattle.std.specs.Prelude.{map, Some};
-    ghost use Rattle.windows.specs.Queries.{cells, cells_eq, fed_as_row, eq_as_row};
+    ghost use Rattle.windows.specs.machine.RowQueries.{cells, cells_eq, fed_as_row, eq_as_row};
 
     ghost equivalent = { λ q row. cells_eq (cells q.columns.now (V.valuation q.values.now)) (map Some row) };
 

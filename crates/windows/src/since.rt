@@ -1,24 +1,24 @@
 //! Windows of the operators `since`, `once` and `historically`.
 ghost use Rattle.std.specs.Prelude.{◌≡◌, ◌↔◌, ◌≤◌, ℕ, [], IfOk, OnOk, OnErr};
-ghost use Rattle.enf_value.specs.Membership.{HasNoRepeats};
-ghost use Rattle.enf_value.specs.Valuations.{Valuation as Bound};
-ghost use Rattle.valuations.specs.Tables.{IsTable, Has};
+ghost use Rattle.enf_data.specs.meaning.Membership.{HasNoRepeats};
+ghost use Rattle.enf_data.specs.meaning.Valuations.{Valuation as Bound};
+ghost use Rattle.valuations.specs.machine.Tables.{IsTable, HasValuation};
 
 use crate::entries::{Entries, add_rows, keep_surviving, push_all, push_given, push_now};
 use crate::expiry::{forget_steps, push_step};
 use crate::queue::StepQueue;
-use crate::surviving::Surviving;
-use enf_value::intervals::Interval;
-use enf_value::items::Duplicate;
-use enf_value::memory::NoMemory;
-use enf_value::rows::Row;
-use enf_value::terms::Vars;
+use crate::surviving_rows::Surviving;
+use enf_data::intervals::Interval;
+use enf_data::items::Duplicate;
+use enf_data::memory::NoMemory;
+use enf_data::rows::Row;
+use enf_data::terms::Vars;
 use indexmap::IndexMap;
 use std::alloc::Global;
 use std::marker::Model;
 use valuations::Table;
 
-/// The rows that were right at a committed step and survived each step behind it, with the times of those steps that a
+/// The rows that were right at a committed step and survived each step after it, with the times of those steps that a
 /// later step can ask for, and no other.
 #[derive(Debug, Drop)]
 pub struct SinceWindow {
@@ -31,7 +31,7 @@ pub struct SinceWindow {
 }
 
 impl Model for SinceWindow {
-    ghost use Rattle.windows.specs.Windows.{Window, IsWindow, kept_of};
+    ghost use Rattle.windows.specs.machine.Windows.{Window, IsWindow, kept_entries};
 
     ghost Value = { Window };
 
@@ -39,16 +39,16 @@ impl Model for SinceWindow {
       interval = w.interval;
       columns = w.columns;
       last = w.last;
-      kept = kept_of w.entries.entries;
+      kept = kept_entries w.entries.entries;
     } };
 
     ghost invariant = { λ w. IsWindow w.interval w.columns w.last w.entries.entries w.queue };
 }
 
 impl SinceWindow {
-    ghost use Rattle.windows.specs.Windows.{StandsFor, HasRow, Keeps, KeepsLeast, AnswersBy, AnswersNow, FitsColumns};
-    ghost use Rattle.windows.specs.Windows.{IsWalkedNow, IsWalkedLater, IsCommitted, IsCommittedBy, IsSameKind};
-    ghost use Rattle.windows.specs.Windows.{GoesOnStanding, SurvivesFor};
+    ghost use Rattle.windows.specs.machine.Windows.{StandsForSteps, HasRow, WindowKeeps, KeepsLeast, AnswersBy};
+    ghost use Rattle.windows.specs.machine.Windows.{AnswersNow, FitsColumns, IsWalkedNow, IsWalkedLater, IsCommitted};
+    ghost use Rattle.windows.specs.machine.Windows.{IsCommittedBy, IsSameKind, StandsWithStep, SurvivesFor};
 
     /// No step is committed. The columns are distinct.
     pub fn new(alloc: Global, interval: Interval, columns: Vars) -> SinceWindow
@@ -56,7 +56,7 @@ impl SinceWindow {
         ensures interval { result.interval ≡ interval }
         ensures columns { result.columns ≡ columns }
         ensures last { result.last ≡ 0 }
-        ensures stands { StandsFor result [] }
+        ensures stands { StandsForSteps result [] }
         ensures least { KeepsLeast result }
     {
         SinceWindow {
@@ -83,12 +83,13 @@ impl SinceWindow {
     }
 
     /// The rows that a step from the last time on can answer by a step committed so far: those that are right at such
-    /// a step, at a distance from the last time that is not past the interval, and survive each one behind it.
+    /// a step, at a distance from the last time that is not past the interval, and survive each one after it.
     pub fn rows(&self, alloc: Global) -> Result<Table, NoMemory>
         ensures table { IfOk result IsTable }
         ensures columns { IfOk result (λ t. t.columns ≡ self.now.columns) }
-        ensures rows { IfOk result (λ t. (v : Bound) → Has t v ↔ Keeps self.now self.now.last v) }
-        ensures kept { IfOk result (λ t. (v : Bound) → Has t v ↔ ((time : ℕ) × HasRow self.now v time)) }
+        ensures rows { IfOk result (λ t. (v : Bound) → HasValuation t v ↔ WindowKeeps self.now self.now.last v) }
+        ensures kept { IfOk result (λ t. (v : Bound) → HasValuation t v ↔
+            ((time : ℕ) × HasRow self.now v time)) }
         ensures walked { IfOk result (IsWalkedLater self.now) }
     {
         let mut rows = Vec::new(alloc);
@@ -111,14 +112,15 @@ impl SinceWindow {
         requires right_columns { right.now.columns ≡ self.now.columns }
         ensures table { IfOk result IsTable }
         ensures columns { IfOk result (λ t. t.columns ≡ self.now.columns) }
-        ensures rows { IfOk result (λ t. (v : Bound) → Has t v
+        ensures rows { IfOk result (λ t. (v : Bound) → HasValuation t v
             ↔ AnswersNow self.now time surviving.now right.now v) }
         ensures walked { IfOk result (IsWalkedNow self.now time surviving.now right.now) }
     {
         self.answer_by(alloc, time, &Surviving::Only(surviving), right)
     }
 
-    /// The same of the rows that survive by all, by a table, or by all but a table.
+    /// The rows that hold at a step at this time, where the rows that survive it are told by all, by a table, or by
+    /// all but a table.
     pub fn answer_by(
         &self,
         alloc: Global,
@@ -131,7 +133,7 @@ impl SinceWindow {
         requires right_columns { right.now.columns ≡ self.now.columns }
         ensures table { IfOk result IsTable }
         ensures columns { IfOk result (λ t. t.columns ≡ self.now.columns) }
-        ensures rows { IfOk result (λ t. (v : Bound) → Has t v
+        ensures rows { IfOk result (λ t. (v : Bound) → HasValuation t v
             ↔ AnswersBy self.now time (SurvivesFor surviving.now) right.now v) }
     {
         let mut rows = Vec::new(alloc);
@@ -147,20 +149,21 @@ impl SinceWindow {
         Table::from_rows(self.columns.duplicate(alloc)?, rows)
     }
 
-    /// Makes this step the last one. After want of memory the window answers no more calls but drop. No committed step
-    /// is later, and the tables have the window's columns.
+    /// Makes this step the last one. Once memory has run out, the window answers no more calls but drop. No committed
+    /// step is later, and the tables have the window's columns.
     pub fn commit(&mut self, time: u64, surviving: &Table, right: &Table) -> Result<(), NoMemory>
         requires later { self.old.last ≤ time }
         requires surviving_columns { surviving.now.columns ≡ self.old.columns }
         requires right_columns { right.now.columns ≡ self.old.columns }
         ensures ok { OnOk result (IsCommitted self.old time surviving.now right.now self.new) }
-        ensures stands { OnOk result (GoesOnStanding self.old time surviving.now right.now self.new) }
+        ensures stands { OnOk result (StandsWithStep self.old time surviving.now right.now self.new) }
         ensures kind { IsSameKind self.old self.new }
     {
         self.commit_by(time, &Surviving::Only(surviving), right)
     }
 
-    /// The same of the rows that survive by all, by a table, or by all but a table.
+    /// Makes this step the last one, where the rows that survive it are told by all, by a table, or by all but a
+    /// table.
     pub fn commit_by(
         &mut self,
         time: u64,

@@ -2,14 +2,6 @@
 
 use valuations::Table;
 
-/// A time, with the rows that survive the step at it and those that are right at it.
-#[derive(Debug, Drop)]
-pub struct CommittedStep {
-    pub time: u64,
-    pub surviving: Table,
-    pub right: Table,
-}
-
 /// A time, with the rows of the step at it.
 #[derive(Debug, Drop)]
 pub struct LastStep {

@@ -1,12 +1,11 @@
 //! The times at which one row was right, of which only those are kept that a later step can ask for.
 ghost use Rattle.std.specs.Prelude.{◌≡◌, ◌↔◌, ◌-◌, ◌<◌, ◌≤◌, ◌⊎◌, ℕ, OnOk, IsTrue};
-ghost use Rattle.std.specs.Prelude.{IsFalse, Some, Contains, drop};
-ghost use Rattle.std.specs.Prelude.{length};
-ghost use Rattle.windows.specs.Pairs.{AddsAtMost, AddsTime, ForgetsTimes, IsSomeIn};
-ghost use Rattle.windows.specs.Times.{IsEnded, IsLeast, RiseTo};
+ghost use Rattle.std.specs.Prelude.{IsFalse, Some, Contains, drop, length};
+ghost use Rattle.windows.specs.machine.WindowEntries.{AddsAtMost, AddsTime, ForgetsTimes, IsSomeIn};
+ghost use Rattle.windows.specs.machine.RowTimes.{IsEndedTime, AreLeastTimes, RiseTo};
 
-use enf_value::intervals::Interval;
-use enf_value::memory::NoMemory;
+use enf_data::intervals::Interval;
+use enf_data::memory::NoMemory;
 use smallvec::SmallVec;
 
 /// The times of a row; one or two where the interval begins at 0 or has no end.
@@ -15,11 +14,11 @@ pub type Times = SmallVec<u64, 2>;
 // Adds the time. Of an interval without end the earliest is kept alone.
 pub fn add_time(times: &mut Times, interval: Interval, now: u64) -> Result<(), NoMemory>
     requires rise { RiseTo now times.old.items }
-    requires least { IsLeast interval.high interval.low now times.old.items }
+    requires least { AreLeastTimes interval.high interval.low now times.old.items }
     ensures among { AddsAtMost now times.old.items times.new.items }
     ensures added { OnOk result (AddsTime interval now times.old.items times.new.items) }
     ensures rise { RiseTo now times.new.items }
-    ensures least { IsLeast interval.high interval.low now times.new.items }
+    ensures least { AreLeastTimes interval.high interval.low now times.new.items }
 {
     if let Some(high) = interval.high {
         if !ends_with(times, now) {
@@ -47,20 +46,20 @@ pub fn settle(times: &mut Times, low: u64, high: u64, now: u64)
     requires live { (time : ℕ) × Contains times.old.items time × (now - time ≤ high) }
     ensures forgets { ForgetsTimes high low now times.old.items times.new.items }
     ensures rise { RiseTo now times.new.items }
-    ensures least { IsLeast (Some high) low now times.new.items }
+    ensures least { AreLeastTimes (Some high) low now times.new.items }
 {
     let passed = count_passed(times.as_slice(), low, high, now);
     times.drain(..passed);
 }
 
-// How many times at the front are past the end, or have another behind them that is far enough.
+// How many times at the front are past the end, or have another after them that is far enough.
 fn count_passed(times: &[u64], low: u64, high: u64, now: u64) -> usize
     requires rise { RiseTo now times.now }
     requires live { (time : ℕ) × Contains times.now time × (now - time ≤ high) }
     ensures within { result ≤ length times.now }
     ensures rise { RiseTo now (drop result times.now) }
     ensures forgets { ForgetsTimes high low now times.now (drop result times.now) }
-    ensures least { IsLeast (Some high) low now (drop result times.now) }
+    ensures least { AreLeastTimes (Some high) low now (drop result times.now) }
 {
     let mut passed = 0;
     while passed + 1 < times.len() && is_passed(times[passed], times[passed + 1], low, high, now) {
@@ -93,7 +92,7 @@ pub fn has_in(times: &Times, interval: Interval, now: u64) -> bool
 pub fn are_ended(times: &Times, high: u64, now: u64) -> bool
     requires { RiseTo now times.now.items }
     ensures ended { IsTrue result
-        → ((time : ℕ) → Contains times.now.items time → IsEnded (Some high) now time) }
+        → ((time : ℕ) → Contains times.now.items time → IsEndedTime (Some high) now time) }
     ensures live { IsFalse result → (time : ℕ) × Contains times.now.items time × (now - time ≤ high) }
 {
     let Some(latest) = times.as_slice().last() else {

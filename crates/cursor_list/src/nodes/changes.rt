@@ -1,7 +1,7 @@
 //! Nodes that come and go between two others.
 ghost use Rattle.std.specs.Prelude.{◌≡◌, ◌+◌, ◌^◌, ◌<◌, ◌∷◌, ◌++◌, take, drop};
 ghost use Rattle.std_collections.specs.LinkedList.Links.{links_of, place_of};
-ghost use Rattle.cursor_list.specs.Places.{KeepsPlaces};
+ghost use Rattle.cursor_list.specs.machine.NodePlaces.{KeepsPlaces};
 
 use super::{Node, Nodes, Place};
 use std::alloc::Allocator;

@@ -1,7 +1,7 @@
 //! Nodes that come and go at the ends.
 ghost use Rattle.std.specs.Prelude.{◌≡◌, ◌+◌, ◌^◌, ◌<◌, ◌∷◌, ◌++◌, []};
 ghost use Rattle.std_collections.specs.LinkedList.Links.{links_of};
-ghost use Rattle.cursor_list.specs.Places.{KeepsPlaces};
+ghost use Rattle.cursor_list.specs.machine.NodePlaces.{KeepsPlaces};
 
 use super::{Node, Nodes};
 use std::alloc::Allocator;

@@ -1,15 +1,15 @@
-//! Nodes that come and go anywhere: behind the first `passed` nodes, of which the last lies at `last`.
-ghost use Rattle.std.specs.Prelude.{◌≡◌, ◌+◌, ◌^◌, ◌<◌, ◌≤◌, ◌∷◌};
-ghost use Rattle.std.specs.Prelude.{◌++◌, [], take, drop};
+//! Nodes that come and go anywhere: after the first `passed` nodes, of which the last lies at `last`.
+ghost use Rattle.std.specs.Prelude.{◌≡◌, ◌+◌, ◌^◌, ◌<◌, ◌≤◌, ◌∷◌, ◌++◌, [], take};
+ghost use Rattle.std.specs.Prelude.{drop};
 ghost use Rattle.std_collections.specs.LinkedList.Links.{links_of, place_of};
-ghost use Rattle.cursor_list.specs.Places.{IsLastOf, KeepsPlaces};
+ghost use Rattle.cursor_list.specs.machine.NodePlaces.{IsLastOf, KeepsPlaces};
 
 use super::{Node, Nodes, Place};
 use std::alloc::Allocator;
 use std_alloc::room::Vacant;
 
 impl<T, A: Allocator> Nodes<T, A> {
-    // Where the node behind them lies.
+    // Where the node after them lies.
     pub(crate) fn behind(&self, last: Place, passed: usize) -> Place
         requires { (passed < self.now.len) × IsLastOf passed (links_of self.now.blocks) last.ptr }
         ensures { result.ptr ≡ place_of (links_of self.now.blocks) passed }

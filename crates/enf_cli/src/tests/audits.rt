@@ -1,11 +1,11 @@
 //! Audits, with the bytes that they are to give.
 use super::calm::{CONSENT, ERASE, Outcome, SIGNATURE, audit_words, audited, files_of};
-use crate::refusals::Status;
-use crate::run::run;
 use enf_io::calm_sink::CalmSink;
 use enf_io::devices::NoMemory;
 use enf_io::mem_gate::MemGate;
 use enf_io::turns::Turn;
+use enf_run::refusals::Status;
+use enf_run::run::run;
 use std::alloc::Global;
 use std::test::Fail;
 

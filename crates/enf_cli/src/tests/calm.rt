@@ -1,24 +1,16 @@
 //! Runs over the devices that never fail.
 ghost use Rattle.std.specs.Prelude.{◌≡◌, ◌≢◌, ℕ, IfOk, List, None, codes};
-ghost use Rattle.enf_io.specs.Calm.{contents_under};
-ghost use Rattle.enf_io.specs.Contents.{Missing};
-ghost use Rattle.enf_cli.specs.Words.{
-  IsAudit,
-  IsCheck,
-  IsEnforce,
-  NamesFiles,
-  NamesFilesAlone,
-  Resumes,
-  states_of,
-  texts,
-};
+ghost use Rattle.enf_io.specs.machine.CalmDevices.{contents_under};
+ghost use Rattle.enf_io.specs.meaning.Files.{NoFile};
+ghost use Rattle.enf_run.specs.meaning.Calls.{IsAuditForm, IsCheckForm, IsEnforceForm, texts_of};
+ghost use Rattle.enf_run.specs.machine.CommandForms.{NamesFiles, NamesFilesAlone, NamesResumed, states_of};
 
-use crate::refusals::Status;
-use crate::run::run;
 use enf_io::calm_files::CalmFiles;
 use enf_io::calm_gate::CalmGate;
 use enf_io::calm_sink::CalmSink;
 use enf_io::devices::NoMemory;
+use enf_run::refusals::Status;
+use enf_run::run::run;
 use std::alloc::Global;
 use std::process::Abort;
 
@@ -68,7 +60,7 @@ impl Outcome {
 
 /// The words `enforce sig pol`.
 pub fn enforce_words(alloc: Global) -> Result<[String; 3], NoMemory>
-    ensures { IfOk result (λ words. IsEnforce (states_of None None) (texts words) (codes "sig") (codes "pol")) }
+    ensures { IfOk result (λ words. IsEnforceForm (states_of None None) (texts_of words) (codes "sig") (codes "pol")) }
 {
     Ok([
         String::from_str(alloc, "enforce")?,
@@ -79,7 +71,7 @@ pub fn enforce_words(alloc: Global) -> Result<[String; 3], NoMemory>
 
 /// The words `check sig pol`.
 pub fn check_words(alloc: Global) -> Result<[String; 3], NoMemory>
-    ensures { IfOk result (λ words. IsCheck (texts words) (codes "sig") (codes "pol")) }
+    ensures { IfOk result (λ words. IsCheckForm (texts_of words) (codes "sig") (codes "pol")) }
 {
     Ok([
         String::from_str(alloc, "check")?,
@@ -90,7 +82,7 @@ pub fn check_words(alloc: Global) -> Result<[String; 3], NoMemory>
 
 /// The words `audit sig pol`.
 pub fn audit_words(alloc: Global) -> Result<[String; 3], NoMemory>
-    ensures { IfOk result (λ words. IsAudit (texts words) (codes "sig") (codes "pol")) }
+    ensures { IfOk result (λ words. IsAuditForm (texts_of words) (codes "sig") (codes "pol")) }
 {
     Ok([
         String::from_str(alloc, "audit")?,
@@ -110,8 +102,8 @@ pub fn words_of(alloc: Global, line: &str) -> Result<Vec<String>, NoMemory> {
 
 /// The files that those words name.
 pub fn files_of(alloc: Global, signature: &[u8], policy: &[u8]) -> Result<CalmFiles, NoMemory>
-    ensures signature { IfOk result (λ files. contents_under files (codes "sig") ≢ Missing) }
-    ensures policy { IfOk result (λ files. contents_under files (codes "pol") ≢ Missing) }
+    ensures signature { IfOk result (λ files. contents_under files (codes "sig") ≢ NoFile) }
+    ensures policy { IfOk result (λ files. contents_under files (codes "pol") ≢ NoFile) }
 {
     let mut files = CalmFiles::new(alloc);
     files.put("sig", Vec::from_slice(alloc, signature)?)?;
@@ -127,11 +119,11 @@ pub fn run_calmly(
     files: &mut CalmFiles,
     report: &mut CalmSink,
 ) -> Status
-    requires words { NamesFiles (texts words.now) (codes "sig") (codes "pol") }
-    requires signature { contents_under files.old (codes "sig") ≢ Missing }
-    requires policy { contents_under files.old (codes "pol") ≢ Missing }
-    requires state { (file : List ℕ) → Resumes (texts words.now) file
-        → contents_under files.old file ≢ Missing }
+    requires words { NamesFiles (texts_of words.now) (codes "sig") (codes "pol") }
+    requires signature { contents_under files.old (codes "sig") ≢ NoFile }
+    requires policy { contents_under files.old (codes "pol") ≢ NoFile }
+    requires state { (file : List ℕ) → NamesResumed (texts_of words.now) file
+        → contents_under files.old file ≢ NoFile }
     ensures no_read_fault { result ≡ Status.ReadFault → ⊥ }
     ensures no_write_fault { result ≡ Status.WriteFault → ⊥ }
 {
@@ -178,7 +170,7 @@ fn ran(
     policy: &[u8],
     mut gate: CalmGate,
 ) -> Result<Outcome, NoMemory>
-    requires { NamesFilesAlone (texts words.now) (codes "sig") (codes "pol") }
+    requires { NamesFilesAlone (texts_of words.now) (codes "sig") (codes "pol") }
 {
     let mut files = files_of(alloc, signature, policy)?;
     let mut report = CalmSink::new(alloc);

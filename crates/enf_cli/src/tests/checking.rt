@@ -1,11 +1,11 @@
 //! What `check` writes, and what is refused of policies by both commands.
 use super::calm::{ERASE, Outcome, SIGNATURE, check_words, checked, enforced, files_of};
-use crate::refusals::Status;
-use crate::run::run;
 use enf_io::calm_sink::CalmSink;
 use enf_io::devices::NoMemory;
 use enf_io::mem_gate::MemGate;
 use enf_io::turns::Turn;
+use enf_run::refusals::Status;
+use enf_run::run::run;
 use std::alloc::Global;
 use std::test::Fail;
 

@@ -1,6 +1,6 @@
 //! The examples: these are the bytes of the files in examples/.
 use super::calm::{SIGNATURE, checked, enforced};
-use crate::refusals::Status;
+use enf_run::refusals::Status;
 use std::test::Fail;
 
 const DATA_SIGNATURE: &[u8] = b"consent(text);

@@ -1,14 +1,14 @@
 //! Runs over a gate or a report that takes only pieces, or fails.
 use super::calm::{DELETED_AT_35, ERASE, Outcome, SIGNATURE, enforce_words, files_of};
-use crate::endings::{Cut, Ending};
-use crate::refusals::Status;
-use crate::reporting::report_ending;
-use crate::run::run;
 use enf_io::calm_sink::CalmSink;
 use enf_io::devices::NoMemory;
 use enf_io::mem_gate::MemGate;
 use enf_io::mem_sink::MemSink;
 use enf_io::turns::Turn;
+use enf_run::endings::{Cut, Ending};
+use enf_run::refusals::Status;
+use enf_run::report_lines::report_ending;
+use enf_run::run::run;
 use std::alloc::Global;
 use std::test::Fail;
 

@@ -1,12 +1,12 @@
 //! Generated logs, and drills with them: the bytes come from scripts/generated.py and scripts/drilled.py.
 use super::calm::{Outcome, words_of};
-use crate::refusals::Status;
-use crate::run::run;
 use enf_io::calm_files::CalmFiles;
 use enf_io::calm_sink::CalmSink;
 use enf_io::devices::NoMemory;
 use enf_io::mem_gate::MemGate;
 use enf_io::turns::Turn;
+use enf_run::refusals::Status;
+use enf_run::run::run;
 use std::alloc::Global;
 use std::test::Fail;
 

@@ -1,7 +1,7 @@
 //! Texts of exactly the length or number that is allowed, and of one more.
 use super::calm::{RAISE, SIGNATURE, enforced};
-use crate::refusals::Status;
 use enf_io::devices::NoMemory;
+use enf_run::refusals::Status;
 use std::alloc::Global;
 use std::test::Fail;
 

@@ -1,7 +1,7 @@
 //! Worked runs, with the bytes that they are to give.
 use super::calm::{CONSENT, DELETED_AT_35, ERASE, RAISE, RAISED_AT_1, SIGNATURE, enforced};
 use super::checking::{DATA_POLICY, DATA_SIGNATURE};
-use crate::refusals::Status;
+use enf_run::refusals::Status;
 use std::test::Fail;
 
 #[test]

@@ -1,11 +1,11 @@
 //! States that are saved, and resumed.
 use super::calm::{DELETED_AT_35, ERASE, Outcome, files_of, words_of};
-use crate::refusals::Status;
-use crate::run::run;
 use enf_io::calm_gate::CalmGate;
 use enf_io::calm_sink::CalmSink;
 use enf_io::devices::{Files, NoMemory};
 use enf_io::mem_files::MemFiles;
+use enf_run::refusals::Status;
+use enf_run::run::run;
 use std::alloc::Global;
 use std::test::Fail;
 
@@ -28,7 +28,7 @@ const AT_ONCE: &[u8] = b"rule at_once: forall u. request(u) -> delete(u);";
 
 const DUE_AT_35: &[u8] = b"due 0 1 0 5 35 \"a\"\nend\n";
 
-// The state behind the log, with these lines from what is pending on.
+// The state after the log, with these lines from what is pending on.
 fn state_with(alloc: Global, lines: &[u8]) -> Result<Vec<u8>, NoMemory> {
     let mut state = Vec::from_slice(alloc, FRONT)?;
     state.extend_from_slice(lines)?;
@@ -93,7 +93,7 @@ fn behind_a_refused_record_nothing_is_saved(rt: HostRuntime) -> Result<(), Fail>
 #[test]
 fn a_write_of_the_state_that_fails_is_a_write_fault(rt: HostRuntime) -> Result<(), Fail> {
     let alloc = rt.alloc();
-    // Behind the two reads.
+    // After the two reads.
     let mut files = MemFiles::new(alloc, Vec::from_slice(alloc, &[2])?);
     files.put("sig", Vec::from_slice(alloc, SIGNATURE)?)?;
     files.put("pol", Vec::from_slice(alloc, ERASE)?)?;

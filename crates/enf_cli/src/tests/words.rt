@@ -1,9 +1,9 @@
 //! Words that match no form, and files that are not there.
 use super::calm::{RAISE, SIGNATURE, files_of, words_of};
-use crate::refusals::Status;
-use crate::run::run;
 use enf_io::calm_gate::CalmGate;
 use enf_io::calm_sink::CalmSink;
+use enf_run::refusals::Status;
+use enf_run::run::run;
 use std::test::Fail;
 
 const USAGE: &[u8] =

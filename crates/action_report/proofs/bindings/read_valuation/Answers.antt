@@ -1,8 +1,6 @@
 -- The variables in scope, and the values that they have.
-use Rattle.std.proofs.Common.{◌++◌, List, ℕ, Some, map, sym, ap, ◌∙◌}
-use Rattle.enf_value.specs.Valuations.{bindings}
-use Rattle.plan_terms.specs.Plans.{plan_of}
-use Rattle.action_report.specs.Lines.{bindings_text}
+use Rattle.action_report.proofs.Vocabulary.{◌++◌, List, ℕ, Some, map, sym, ap, ◌∙◌, bindings, plan_of}
+use Rattle.action_report.proofs.Vocabulary.{bindings_text}
 use Rattle.action_report.proofs.OneAction.{scope_same}
 use Rattle.action_report.proofs.ReadLemmas.{binds_start, rising_start, same_start, scope_rises, when_none}
 use Rattle.action_report.proofs.bindings.read_valuation.Goals as goal
@@ -22,7 +20,8 @@ returns-clause-told c =
     let stands = rw c.in-Some.is at c.in_ok-scope.ensures.found in (
       c.in-Some.scope.items,
       stands,
-      binds_start c.empty-valuation.result c.bindings.new.valuation c.as_slice.result.now c.in-Some.scope.items c.in_ok-bindings.field-0 c.empty-valuation.ensures c.as_slice.ensures.value c.if-not-branch.false c.in_ok-bindings.ensures.binds,
+      binds_start c.empty-valuation.result c.bindings.new.valuation c.as_slice.result.now c.in-Some.scope.items c.in_ok-bindings.field-0 c.empty-valuation.ensures c.as_slice.ensures.value
+          c.if-not-branch.false c.in_ok-bindings.ensures.binds,
     )
 
 pub returns-clause-again : goal.returns-clause-again

@@ -1,7 +1,6 @@
 -- What was printed before memory ran out.
-use Rattle.std.proofs.Common.{codes, ap, ◌∙◌, ◌++◌, List, ℕ}
-use Rattle.formula_reader.specs.Canonical.{variable_text}
-use Rattle.action_report.proofs.Parts.{on_err_from, part_behind, part_last, part_none}
+use Rattle.action_report.proofs.Vocabulary.{codes, ap, ◌∙◌, ◌++◌, List, ℕ, on_err_from, part_behind}
+use Rattle.action_report.proofs.Vocabulary.{part_last, part_none, variable_text}
 use Rattle.action_report.proofs.lines.print_binding.Goals as goal
 
 pub returns-in_err-print_bytes-clause-err : goal.returns-in_err-print_bytes-clause-err

@@ -1,6 +1,5 @@
 -- What was printed of the bindings before memory ran out.
-use Rattle.action_report.specs.Lines.{binding_text}
-use Rattle.action_report.proofs.Parts.{on_err_from, part_of_items}
+use Rattle.action_report.proofs.Vocabulary.{on_err_from, part_of_items, binding_text}
 use Rattle.action_report.proofs.lines.print_bindings.Goals as goal
 
 pub returns-in_err-print_binding-clause-err : goal.returns-in_err-print_binding-clause-err

@@ -1,5 +1,4 @@
-use Rattle.std.proofs.Common.{◌≡◌, ◌++◌, take}
-use Rattle.action_report.specs.Lines.{bindings_text}
+use Rattle.action_report.proofs.Vocabulary.{◌≡◌, ◌++◌, take, bindings_text}
 use Rattle.action_report.proofs.lines.print_bindings.Given as goal
 
 abbrev pub invariant-loop-binding : goal.invariant-loop-binding

@@ -1,7 +1,5 @@
 -- What was printed before memory ran out.
-use Rattle.std.proofs.Common.{codes}
-use Rattle.action_report.specs.Parts.{labelled}
-use Rattle.action_report.proofs.Parts.{on_err_from, part_first, part_last}
+use Rattle.action_report.proofs.Vocabulary.{codes, on_err_from, part_first, part_last, labelled}
 use Rattle.action_report.proofs.lines.print_when.Goals as goal
 
 pub returns-in_err-print_labelled-clause-err : goal.returns-in_err-print_labelled-clause-err

@@ -1,32 +1,27 @@
 -- What was printed of a line before memory ran out.
-use Rattle.std.proofs.Common.{◌≡◌, ◌++◌, ◌∷◌, List, ℕ, codes, slice_get, ap, subst, ◌∙◌}
-use Rattle.enf_value.specs.Spelling.{AppendsPart}
-use Rattle.enf_value.specs.Valuations.{bindings}
-use Rattle.enf_value.specs.declared.terms.VarId.{VarId}
-use Rattle.enf_value.specs.declared.values.Value.{Value}
-use Rattle.signature.specs.Grammar.{names as names_of}
-use Rattle.log_stream.specs.Lines.{spelled_event}
-use Rattle.formula_reader.specs.Resolution.{rules_of}
-use Rattle.action_report.specs.Lines.{bindings_text, cause_text, kind_text, rule_name, variables, when_text}
-use Rattle.action_report.proofs.Parts.{none_last, on_err_from, part_behind, part_first, part_last}
+use Rattle.action_report.proofs.Vocabulary.{◌++◌, ◌∷◌, List, ℕ, codes, slice_get, ap, subst, ◌∙◌}
+use Rattle.action_report.proofs.Vocabulary.{AppendsPart, bindings, VarId, Value, none_last, part_behind, part_first}
+use Rattle.action_report.proofs.Vocabulary.{part_last, on_err_from, entry_names as names_of, spelled_event}
+use Rattle.action_report.proofs.Vocabulary.{policy_rules_of, bindings_text, cause_text, kind_text, rule_name}
+use Rattle.action_report.proofs.Vocabulary.{rule_variable_names, when_text}
 use Rattle.action_report.proofs.lines.write_action.Goals as goal
 
 pub returns-in_err-print_event-clause-err : goal.returns-in_err-print_event-clause-err
 returns-in_err-print_event-clause-err c =
-    let rule = slice_get (rules_of c.args.policy.now) c.args.action.now.rule in
+    let rule = slice_get (policy_rules_of c.args.policy.now) c.args.action.now.rule in
     let event : List ℕ = 32 ∷ spelled_event (names_of c.args.signature.now) c.args.action.now.event in
     let cause = cause_text (rule_name rule) c.args.action.now in
-    let values = bindings_text (variables rule) (bindings c.args.action.now.valuation) in
+    let values = bindings_text (rule_variable_names rule) (bindings c.args.action.now.valuation) in
     let kind = c.in_ok-print_bytes.ensures.ok ∙ ap (λ (t : List ℕ). c.args.out.now.items ++ t) c.kind_word.ensures in
     on_err_from _ (part_behind (kind_text c.args.action.now.kind) (event ++ (when_text c.args.action.now ++ (cause ++ (values ++ codes "\n")))) _ _ _ kind
     (part_first event (when_text c.args.action.now ++ (cause ++ (values ++ codes "\n"))) _ _ c.in_err-print_event.ensures.err))
 
 pub returns-in_err-print_when-clause-err : goal.returns-in_err-print_when-clause-err
 returns-in_err-print_when-clause-err c =
-    let rule = slice_get (rules_of c.args.policy.now) c.args.action.now.rule in
+    let rule = slice_get (policy_rules_of c.args.policy.now) c.args.action.now.rule in
     let event : List ℕ = 32 ∷ spelled_event (names_of c.args.signature.now) c.args.action.now.event in
     let cause = cause_text (rule_name rule) c.args.action.now in
-    let values = bindings_text (variables rule) (bindings c.args.action.now.valuation) in
+    let values = bindings_text (rule_variable_names rule) (bindings c.args.action.now.valuation) in
     let kind = c.in_ok-print_bytes.ensures.ok ∙ ap (λ (t : List ℕ). c.args.out.now.items ++ t) c.kind_word.ensures in
     on_err_from _ (part_behind (kind_text c.args.action.now.kind) (event ++ (when_text c.args.action.now ++ (cause ++ (values ++ codes "\n")))) _ _ _ kind
     (part_behind event (when_text c.args.action.now ++ (cause ++ (values ++ codes "\n"))) _ _ _ c.in_ok-print_event.ensures.ok
@@ -34,10 +29,10 @@ returns-in_err-print_when-clause-err c =
 
 pub returns-in_err-print_cause-clause-err : goal.returns-in_err-print_cause-clause-err
 returns-in_err-print_cause-clause-err c =
-    let rule = slice_get (rules_of c.args.policy.now) c.args.action.now.rule in
+    let rule = slice_get (policy_rules_of c.args.policy.now) c.args.action.now.rule in
     let event : List ℕ = 32 ∷ spelled_event (names_of c.args.signature.now) c.args.action.now.event in
     let cause = cause_text (rule_name rule) c.args.action.now in
-    let values = bindings_text (variables rule) (bindings c.args.action.now.valuation) in
+    let values = bindings_text (rule_variable_names rule) (bindings c.args.action.now.valuation) in
     let kind = c.in_ok-print_bytes.ensures.ok ∙ ap (λ (t : List ℕ). c.args.out.now.items ++ t) c.kind_word.ensures in
     on_err_from _ (part_behind (kind_text c.args.action.now.kind) (event ++ (when_text c.args.action.now ++ (cause ++ (values ++ codes "\n")))) _ _ _ kind
     (part_behind event (when_text c.args.action.now ++ (cause ++ (values ++ codes "\n"))) _ _ _ c.in_ok-print_event.ensures.ok
@@ -47,10 +42,10 @@ returns-in_err-print_cause-clause-err c =
 
 pub returns-in_err-print_bindings-clause-err : goal.returns-in_err-print_bindings-clause-err
 returns-in_err-print_bindings-clause-err c =
-    let rule = slice_get (rules_of c.args.policy.now) c.args.action.now.rule in
+    let rule = slice_get (policy_rules_of c.args.policy.now) c.args.action.now.rule in
     let event : List ℕ = 32 ∷ spelled_event (names_of c.args.signature.now) c.args.action.now.event in
     let cause = cause_text (rule_name rule) c.args.action.now in
-    let values = bindings_text (variables rule) (bindings c.args.action.now.valuation) in
+    let values = bindings_text (rule_variable_names rule) (bindings c.args.action.now.valuation) in
     let kind = c.in_ok-print_bytes.ensures.ok ∙ ap (λ (t : List ℕ). c.args.out.now.items ++ t) c.kind_word.ensures in
     let named = c.in_ok-print_cause.ensures.ok ∙ ap (λ (n : List ℕ). c.print_when.new.out.items ++ cause_text n c.args.action.now) c.rule_name.ensures in
     on_err_from _ (part_behind (kind_text c.args.action.now.kind) (event ++ (when_text c.args.action.now ++ (cause ++ (values ++ codes "\n")))) _ _ _ kind
@@ -58,19 +53,20 @@ returns-in_err-print_bindings-clause-err c =
     (part_behind (when_text c.args.action.now) (cause ++ (values ++ codes "\n")) _ _ _ c.in_ok-print_when.ensures.ok
     (part_behind cause (values ++ codes "\n") _ _ _ named
     (part_first values (codes "\n") _ _
-    (subst (λ (l : List (VarId × Value)). AppendsPart (bindings_text (variables rule) l) c.print_cause.new.out.items c.print_bindings.new.out.items) c.bindings.ensures
-    (subst (λ (v : List (List ℕ)). AppendsPart (bindings_text v c.bindings.result.now) c.print_cause.new.out.items c.print_bindings.new.out.items) c.variables_of.ensures c.in_err-print_bindings.ensures.err)))))))
+    (subst (λ (l : List (VarId × Value)). AppendsPart (bindings_text (rule_variable_names rule) l) c.print_cause.new.out.items c.print_bindings.new.out.items) c.bindings.ensures
+    (subst (λ (v : List (List ℕ)). AppendsPart (bindings_text v c.bindings.result.now) c.print_cause.new.out.items c.print_bindings.new.out.items) c.variables_of.ensures
+    c.in_err-print_bindings.ensures.err)))))))
 
 pub returns-clause-err : goal.returns-clause-err
 returns-clause-err c =
-    let rule = slice_get (rules_of c.args.policy.now) c.args.action.now.rule in
+    let rule = slice_get (policy_rules_of c.args.policy.now) c.args.action.now.rule in
     let event : List ℕ = 32 ∷ spelled_event (names_of c.args.signature.now) c.args.action.now.event in
     let cause = cause_text (rule_name rule) c.args.action.now in
-    let values = bindings_text (variables rule) (bindings c.args.action.now.valuation) in
+    let values = bindings_text (rule_variable_names rule) (bindings c.args.action.now.valuation) in
     let kind = c.in_ok-print_bytes.ensures.ok ∙ ap (λ (t : List ℕ). c.args.out.now.items ++ t) c.kind_word.ensures in
     let named = c.in_ok-print_cause.ensures.ok ∙ ap (λ (n : List ℕ). c.print_when.new.out.items ++ cause_text n c.args.action.now) c.rule_name.ensures in
     let bound = c.in_ok-print_bindings.ensures.ok ∙ ap (λ (v : List (List ℕ)). c.print_cause.new.out.items ++ bindings_text v c.bindings.result.now) c.variables_of.ensures
-    ∙ ap (λ (l : List (VarId × Value)). c.print_cause.new.out.items ++ bindings_text (variables rule) l) c.bindings.ensures in
+    ∙ ap (λ (l : List (VarId × Value)). c.print_cause.new.out.items ++ bindings_text (rule_variable_names rule) l) c.bindings.ensures in
     part_last _ (kind_text c.args.action.now.kind) (event ++ (when_text c.args.action.now ++ (cause ++ (values ++ codes "\n")))) _ _ _ kind
     (part_last _ event (when_text c.args.action.now ++ (cause ++ (values ++ codes "\n"))) _ _ _ c.in_ok-print_event.ensures.ok
     (part_last _ (when_text c.args.action.now) (cause ++ (values ++ codes "\n")) _ _ _ c.in_ok-print_when.ensures.ok

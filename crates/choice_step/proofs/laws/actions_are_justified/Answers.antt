@@ -1,4 +1,4 @@
-use Rattle.choice_step.proofs.JustifyLemmas.{decided_are_justified, least_deadline_is_needed}
+use Rattle.choice_step.proofs.JustificationLemmas.{decided_are_justified, least_deadline_is_needed}
 use Rattle.choice_step.proofs.laws.actions_are_justified.Goals as goal
 
 pub returns-clause-actions : goal.returns-clause-actions

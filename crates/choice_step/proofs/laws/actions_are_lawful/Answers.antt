@@ -1,4 +1,4 @@
-use Rattle.choice_step.proofs.ActionLemmas.{actions_are_lawful, causes_are_alone, events_are_acted_on_once}
+use Rattle.choice_step.proofs.ActionChainLemmas.{actions_are_lawful, causes_are_alone, events_are_acted_on_once}
 use Rattle.choice_step.proofs.laws.actions_are_lawful.Goals as goal
 
 pub returns-clause-changes : goal.returns-clause-changes

@@ -1,4 +1,4 @@
-use Rattle.choice_step.proofs.ChoiceLemmas.{decided_misses_nothing}
+use Rattle.choice_step.proofs.UniquenessLemmas.{decided_misses_nothing}
 use Rattle.choice_step.proofs.laws.decided_misses_nothing.Goals as goal
 
 pub returns : goal.returns

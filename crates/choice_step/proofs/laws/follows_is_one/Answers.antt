@@ -1,4 +1,4 @@
-use Rattle.choice_step.proofs.ChoiceLemmas.{decides_is_one, drain_is_one, follows_is_one}
+use Rattle.choice_step.proofs.UniquenessLemmas.{decides_is_one, drain_is_one, follows_is_one}
 use Rattle.choice_step.proofs.laws.follows_is_one.Goals as goal
 
 pub returns-clause-step : goal.returns-clause-step

@@ -1,5 +1,5 @@
-use Rattle.choice_step.proofs.ChoiceLemmas.{decided_is_distinct}
-use Rattle.choice_step.proofs.SomeLemmas.{some_decision}
+use Rattle.choice_step.proofs.UniquenessLemmas.{decided_is_distinct}
+use Rattle.choice_step.proofs.ExistenceLemmas.{some_decision}
 use Rattle.choice_step.proofs.laws.some_decision.Goals as goal
 
 pub returns-clause-some : goal.returns-clause-some

@@ -1,4 +1,4 @@
-use Rattle.choice_step.proofs.GoingLemmas.{some_follows, some_inserts}
+use Rattle.choice_step.proofs.InsertionLemmas.{some_follows, some_inserts}
 use Rattle.choice_step.proofs.laws.something_goes_out.Goals as goal
 
 pub returns-clause-inserts : goal.returns-clause-inserts

@@ -1,4 +1,4 @@
-use Rattle.choice_step.proofs.FittingLemmas.{decided_fit, drain_fits, followed_fit}
+use Rattle.choice_step.proofs.FittingEventLemmas.{decided_fit, drain_fits, followed_fit}
 use Rattle.choice_step.proofs.laws.what_goes_out_fits.Goals as goal
 
 pub returns-clause-step : goal.returns-clause-step

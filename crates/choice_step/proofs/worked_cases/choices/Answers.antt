@@ -1,14 +1,11 @@
-use Rattle.std.proofs.Common.{rules, [], ◌∷◌, refl, inl, inr}
-use Rattle.enf_formula.specs.Cases.{event_p, event_q}
-use Rattle.obligations.specs.Missing.{cause, suppress}
-use Rattle.choice_step.specs.Cases.{p_is_there, q_is_not}
-use Rattle.choice_step.specs.Choice.{Root}
+use Rattle.choice_step.proofs.Vocabulary.{rules, [], ◌∷◌, refl, inl, inr, event_p, event_q, cause_literal}
+use Rattle.choice_step.proofs.Vocabulary.{suppress_literal, p_is_there, q_is_not, Root}
 use Rattle.choice_step.proofs.worked_cases.choices.Goals as goal
 
 pub returns-clause-caused_last : goal.returns-clause-caused_last
 returns-clause-caused_last c = (
   Root 0 p_is_there,
-  cause event_p 0,
+  cause_literal event_p 0,
   event_q ∷ event_p ∷ [],
   inl (refl, [], search rules),
   refl,
@@ -19,7 +16,7 @@ returns-clause-caused_last c = (
 pub returns-clause-suppressed : goal.returns-clause-suppressed
 returns-clause-suppressed c = (
   Root 0 q_is_not,
-  suppress event_q 0,
+  suppress_literal event_q 0,
   event_p ∷ [],
   inl (refl, [], search rules),
   refl,
@@ -30,14 +27,14 @@ returns-clause-suppressed c = (
 pub returns-clause-by_rules_in_order : goal.returns-clause-by_rules_in_order
 returns-clause-by_rules_in_order c = (
   Root 0 p_is_there,
-  cause event_p 0,
+  cause_literal event_p 0,
   event_q ∷ event_p ∷ [],
   inl (refl, [], search rules),
   refl,
   refl,
   (
     Root 1 q_is_not,
-    suppress event_q 0,
+    suppress_literal event_q 0,
     event_p ∷ [],
     inr (search rules, inl (refl, [], search rules)),
     refl,

@@ -1,17 +1,14 @@
-use Rattle.std.proofs.Common.{rules, ◌≡◌, [], ◌∷◌, false, length, refl, ap, inl, inr, lit<, arith}
-use Rattle.enf_value.specs.ListLaws.{none_in_nil}
-use Rattle.enf_formula.specs.Cases.{event_p, event_q}
-use Rattle.obligations.specs.Missing.{cause, suppress}
-use Rattle.obligations.specs.declared.literals.LiteralKind.TheVariants as kind
-use Rattle.choice_step.specs.Cases.{event_r, for_root, p_is_there, p_without_q, q_is_not}
-use Rattle.choice_step.specs.Choice.{Root}
+use Rattle.choice_step.proofs.Vocabulary.{rules, ◌≡◌, [], ◌∷◌, false, length, refl, ap, inl, inr, lit<}
+use Rattle.choice_step.proofs.Vocabulary.{arith, none_in_nil, event_p, event_q, cause_literal, suppress_literal}
+use Rattle.choice_step.proofs.Vocabulary.{event_r, for_root, p_is_there, p_where_no_q, q_is_not, Root}
 use Rattle.choice_step.proofs.CaseLemmas.{no_q, no_q_left, no_r}
+use Rattle.obligations.specs.declared.literals.LiteralKind.TheVariants as kind
 use Rattle.choice_step.proofs.worked_cases.choices_of_events.Goals as goal
 
 pub returns-clause-owed_twice : goal.returns-clause-owed_twice
 returns-clause-owed_twice c = (
   Root 0 p_is_there,
-  cause event_p 0,
+  cause_literal event_p 0,
   event_p ∷ [],
   inl (refl, [], search rules),
   refl,
@@ -22,7 +19,7 @@ returns-clause-owed_twice c = (
 pub returns-clause-order_is_kept : goal.returns-clause-order_is_kept
 returns-clause-order_is_kept c = (
   Root 0 q_is_not,
-  suppress event_q 0,
+  suppress_literal event_q 0,
   event_r ∷ event_p ∷ [],
   inl (refl, [], inr ((λ none. none (1, lit< tt, refl)), refl)),
   refl,
@@ -33,7 +30,9 @@ returns-clause-order_is_kept c = (
 pub returns-clause-no_neighbour_is_dropped : goal.returns-clause-no_neighbour_is_dropped
 returns-clause-no_neighbour_is_dropped c dropped =
     let one =
-    c.follows_is_one.ensures.step (q_is_not ∷ []) [] [] false 5 (event_r ∷ event_q ∷ event_p ∷ []) (for_root kind.Suppress event_q 0 ∷ []) (for_root kind.Suppress event_q 0 ∷ []) (event_r ∷ event_p ∷ []) (event_r ∷ [])
+    c.follows_is_one.ensures.step (q_is_not ∷ []) [] [] false 5 (event_r ∷ event_q ∷ event_p ∷ [])
+    (for_root kind.Suppress event_q 0 ∷ []) (for_root kind.Suppress event_q 0 ∷ [])
+    (event_r ∷ event_p ∷ []) (event_r ∷ [])
     (no_r, (no_q, (none_in_nil event_p, tt)))
     (returns-clause-order_is_kept c) dropped
     in
@@ -42,14 +41,14 @@ returns-clause-no_neighbour_is_dropped c dropped =
 pub returns-clause-test_falls : goal.returns-clause-test_falls
 returns-clause-test_falls c = (
   Root 0 q_is_not,
-  suppress event_q 0,
+  suppress_literal event_q 0,
   [],
   inl (refl, [], search rules),
   refl,
   record { front = []; back = []; was = refl; is = refl },
   (
-    Root 1 p_without_q,
-    cause event_p 1,
+    Root 1 p_where_no_q,
+    cause_literal event_p 1,
     event_p ∷ [],
     inr (search rules, inl (refl, [], inr (none_in_nil event_q, inr (none_in_nil event_p, refl)))),
     refl,

@@ -1,13 +1,8 @@
-use Rattle.std.proofs.Common.{◌≡◌, List, [], ◌∷◌, Contains, false, length, refl, ap, inl, inr, lit<, arith}
-use Rattle.enf_value.specs.ListLaws.{none_in_nil}
-use Rattle.enf_formula.specs.Cases.{event_p, event_q}
-use Rattle.plan_terms.specs.Plans.{Either}
-use Rattle.obligations.specs.Missing.{cause}
-use Rattle.obligations.specs.declared.actions.Action.{Action}
-use Rattle.obligations.specs.declared.literals.LiteralKind.TheVariants as kind
-use Rattle.choice_step.specs.Cases.{event_r, for_leaf, p_and_r, p_up_to_5}
-use Rattle.choice_step.specs.Choice.{Root}
+use Rattle.choice_step.proofs.Vocabulary.{◌≡◌, List, [], ◌∷◌, Contains, false, length, refl, ap, inl, inr}
+use Rattle.choice_step.proofs.Vocabulary.{lit<, arith, none_in_nil, event_p, event_q, Either, cause_literal, Action}
+use Rattle.choice_step.proofs.Vocabulary.{event_r, for_leaf, p_and_r, p_up_to_5, Root}
 use Rattle.choice_step.proofs.CaseLemmas.{absent, no_p, q_not_r}
+use Rattle.obligations.specs.declared.literals.LiteralKind.TheVariants as kind
 use Rattle.choice_step.proofs.worked_cases.choices_of_sides.Goals as goal
 
 no_r_yet : Contains (event_q ∷ []) event_r → ⊥
@@ -16,15 +11,15 @@ no_r_yet = absent event_q event_r [] q_not_r (none_in_nil event_r)
 pub returns-clause-met : goal.returns-clause-met
 returns-clause-met c = (
   Root 0 (Either 0 p_up_to_5 p_and_r),
-  cause event_p 5,
+  cause_literal event_p 5,
   event_q ∷ event_p ∷ [],
   inl (
     refl,
-    cause event_r 6 ∷ [],
+    cause_literal event_r 6 ∷ [],
     inr (inr (
-      (cause event_p 3, [], inr ((λ none. none (0, lit< tt, refl)), inr (no_p, refl))),
-      (cause event_p 5, cause event_r 6 ∷ [], (cause event_p 5 ∷ [], cause event_r 6 ∷ [], inr (no_p, refl), inr (no_r_yet, refl), refl)),
-      (cause event_p 5 ∷ [], cause event_r 6 ∷ [], inr (no_p, refl), inr (no_r_yet, refl), refl),
+      (cause_literal event_p 3, [], inr ((λ none. none (0, lit< tt, refl)), inr (no_p, refl))),
+      (cause_literal event_p 5, cause_literal event_r 6 ∷ [], (cause_literal event_p 5 ∷ [], cause_literal event_r 6 ∷ [], inr (no_p, refl), inr (no_r_yet, refl), refl)),
+      (cause_literal event_p 5 ∷ [], cause_literal event_r 6 ∷ [], inr (no_p, refl), inr (no_r_yet, refl), refl),
     )),
   ),
   refl,

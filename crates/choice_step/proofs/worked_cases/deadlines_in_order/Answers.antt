@@ -1,15 +1,10 @@
-use Rattle.std.proofs.Common.{rules, ◌≡◌, ◌≤◌, zero, suc, List, [], ◌∷◌, Some, refl, sym, subst, ap, length, slice_index_or, inl, inr, lit<, lit≤, arith, ⊎_elim}
-use Rattle.enf_value.specs.ListLaws.{first_or_later, none_in_nil}
-use Rattle.enf_value.specs.Valuations.{no_values}
-use Rattle.enf_formula.specs.Cases.{event_p, event_q}
-use Rattle.trace_meaning.specs.Records.{Record, StepRecord, Tick}
-use Rattle.trace_meaning.specs.declared.kinds.StepKind.TheVariants.{System, Inserted}
-use Rattle.obligations.specs.Missing.{cause}
-use Rattle.obligations.specs.Pending.{HasDeadline, NoneIsOver, Pend}
-use Rattle.obligations.specs.declared.instances.Instance.{Instance}
-use Rattle.choice_step.specs.Cases.{due_at_5, empty_at_0, p_and_q, p_at_5, q_at_3, second_due_at_3}
-use Rattle.choice_step.specs.Choice.{Waiting}
-use Rattle.choice_step.specs.Follows.{ActedStep, GoesOut, Inserts, IsLeastDeadline, NoneIsPassed}
+use Rattle.choice_step.proofs.Vocabulary.{rules, ◌≡◌, ◌≤◌, zero, suc, List, [], ◌∷◌, Some, refl, sym}
+use Rattle.choice_step.proofs.Vocabulary.{subst, ap, length, slice_index_or, inl, inr, lit<, lit≤, arith, ⊎_elim}
+use Rattle.choice_step.proofs.Vocabulary.{first_or_later, none_in_nil, no_values, event_p, event_q, Record, StepRecord}
+use Rattle.choice_step.proofs.Vocabulary.{Tick, System, Inserted, cause_literal, HasDeadline, NoneIsOver, Pend}
+use Rattle.choice_step.proofs.Vocabulary.{Instance, due_at_5, empty_at_0, p_by_5_and_q_by_3, p_at_5, q_at_3}
+use Rattle.choice_step.proofs.Vocabulary.{second_due_at_3, Waiting, ActedStep, GoesOut, InsertsSteps, IsLeastDeadline}
+use Rattle.choice_step.proofs.Vocabulary.{NoneIsPassed}
 use Rattle.choice_step.proofs.CaseLemmas.{no_p, no_q}
 use Rattle.choice_step.proofs.worked_cases.deadlines_in_order.Goals as goal
 
@@ -22,7 +17,7 @@ q_due_at_8 = record { rule = 1; node = 0; valuation = no_values; origin = 2; low
 
 -- ---- what is pending
 
-at_first : Pend p_and_q (empty_at_0.step ∷ []) (due_at_5 ∷ second_due_at_3 ∷ [])
+at_first : Pend p_by_5_and_q_by_3 (empty_at_0.step ∷ []) (due_at_5 ∷ second_due_at_3 ∷ [])
 at_first = (
   [],
   refl,
@@ -33,15 +28,15 @@ at_first = (
     (
       due_at_5 ∷ [],
       second_due_at_3 ∷ [],
-      inr ((cause event_p 1, [], search rules), refl),
-      (second_due_at_3 ∷ [], [], inr ((cause event_q 1, [], search rules), refl), refl, refl),
+      inr ((cause_literal event_p 1, [], search rules), refl),
+      (second_due_at_3 ∷ [], [], inr ((cause_literal event_q 1, [], search rules), refl), refl, refl),
       refl,
     ),
     refl,
   ),
 )
 
-behind_3 : Pend p_and_q (empty_at_0.step ∷ q_at_3.step ∷ []) (due_at_5 ∷ p_due_at_8 ∷ [])
+behind_3 : Pend p_by_5_and_q_by_3 (empty_at_0.step ∷ q_at_3.step ∷ []) (due_at_5 ∷ p_due_at_8 ∷ [])
 behind_3 = (
   due_at_5 ∷ second_due_at_3 ∷ [],
   at_first,
@@ -51,14 +46,14 @@ behind_3 = (
     (
       due_at_5 ∷ [],
       [],
-      inr ((λ inside. (cause event_p 1, [], inr (no_p, refl))), refl),
+      inr ((λ inside. (cause_literal event_p 1, [], inr (no_p, refl))), refl),
       ([], [], inl ((lit≤ tt, lit≤ tt), inl ((0, lit< tt, refl), refl), refl), refl, refl),
       refl,
     ),
     (
       p_due_at_8 ∷ [],
       [],
-      inr ((cause event_p 1, [], inr (no_p, refl)), refl),
+      inr ((cause_literal event_p 1, [], inr (no_p, refl)), refl),
       ([], [], inl (inl ((0, lit< tt, refl), refl), refl), refl, refl),
       refl,
     ),
@@ -66,7 +61,7 @@ behind_3 = (
   ),
 )
 
-behind_5 : Pend p_and_q (empty_at_0.step ∷ q_at_3.step ∷ p_at_5.step ∷ []) (q_due_at_8 ∷ [])
+behind_5 : Pend p_by_5_and_q_by_3 (empty_at_0.step ∷ q_at_3.step ∷ p_at_5.step ∷ []) (q_due_at_8 ∷ [])
 behind_5 = (
   due_at_5 ∷ p_due_at_8 ∷ [],
   behind_3,
@@ -84,7 +79,7 @@ behind_5 = (
       [],
       q_due_at_8 ∷ [],
       inl (inl ((0, lit< tt, refl), refl), refl),
-      (q_due_at_8 ∷ [], [], inr ((cause event_q 1, [], inr (no_q, refl)), refl), refl, refl),
+      (q_due_at_8 ∷ [], [], inr ((cause_literal event_q 1, [], inr (no_q, refl)), refl), refl, refl),
       refl,
     ),
     refl,
@@ -93,12 +88,12 @@ behind_5 = (
 
 -- ---- the least deadline
 
-none_before_3 : NoneIsOver p_and_q (due_at_5 ∷ second_due_at_3 ∷ []) 3
+none_before_3 : NoneIsOver p_by_5_and_q_by_3 (due_at_5 ∷ second_due_at_3 ∷ []) 3
 none_before_3 zero d below deadline is = let at = is.1 in omega (arith, at)
 none_before_3 (suc zero) d below deadline is = let at = is.1 in omega (arith, at)
 none_before_3 (suc (suc k)) d below deadline is = absurd (omega (arith, below))
 
-none_before_5 : NoneIsOver p_and_q (due_at_5 ∷ p_due_at_8 ∷ []) 5
+none_before_5 : NoneIsOver p_by_5_and_q_by_3 (due_at_5 ∷ p_due_at_8 ∷ []) 5
 none_before_5 zero d below deadline is = let at = is.1 in omega (arith, at)
 none_before_5 (suc zero) d below deadline is = let at = is.1 in omega (arith, at)
 none_before_5 (suc (suc k)) d below deadline is = absurd (omega (arith, below))
@@ -111,18 +106,18 @@ pub returns-clause-not_the_first_rules : goal.returns-clause-not_the_first_rules
 returns-clause-not_the_first_rules c late =
     let over : 5 ≤ 3 = late.least 1 second_due_at_3 (lit< tt) 3 (refl, refl) in omega (arith, over)
 
-least_5 : IsLeastDeadline p_and_q (due_at_5 ∷ p_due_at_8 ∷ []) 5
+least_5 : IsLeastDeadline p_by_5_and_q_by_3 (due_at_5 ∷ p_due_at_8 ∷ []) 5
 least_5 = record { instance = due_at_5; there = (0, lit< tt, refl); is = (refl, refl); least = none_before_5 }
 
--- ---- what goes out
+-- ---- what is emitted
 
-first : GoesOut p_and_q [] System 0 [] empty_at_0
+first : GoesOut p_by_5_and_q_by_3 [] System 0 [] empty_at_0
 first = record { pending = []; pend = refl; kind_is = refl; time_is = refl; decided = (refl, (refl, (refl, tt))) }
 
-nothing_passes : Inserts p_and_q [] (Some 0) []
+nothing_passes : InsertsSteps p_by_5_and_q_by_3 [] (Some 0) []
 nothing_passes = ([], refl, λ i deadline there is passed. none_in_nil i there)
 
-goes_at_3 : GoesOut p_and_q (empty_at_0.step ∷ []) Inserted 3 [] q_at_3
+goes_at_3 : GoesOut p_by_5_and_q_by_3 (empty_at_0.step ∷ []) Inserted 3 [] q_at_3
 goes_at_3 = record {
   pending = due_at_5 ∷ second_due_at_3 ∷ [];
   pend = at_first;
@@ -130,7 +125,7 @@ goes_at_3 = record {
   time_is = refl;
   decided = (
     Waiting second_due_at_3,
-    cause event_q 1,
+    cause_literal event_q 1,
     event_q ∷ [],
     inr (search rules, inl (refl, [], search rules)),
     refl,
@@ -139,7 +134,7 @@ goes_at_3 = record {
   );
 }
 
-goes_at_5 : GoesOut p_and_q (empty_at_0.step ∷ q_at_3.step ∷ []) Inserted 5 [] p_at_5
+goes_at_5 : GoesOut p_by_5_and_q_by_3 (empty_at_0.step ∷ q_at_3.step ∷ []) Inserted 5 [] p_at_5
 goes_at_5 = record {
   pending = due_at_5 ∷ p_due_at_8 ∷ [];
   pend = behind_3;
@@ -147,7 +142,7 @@ goes_at_5 = record {
   time_is = refl;
   decided = (
     Waiting due_at_5,
-    cause event_p 1,
+    cause_literal event_p 1,
     event_p ∷ [],
     inl (refl, [], search rules),
     refl,
@@ -156,14 +151,14 @@ goes_at_5 = record {
   );
 }
 
-not_yet : NoneIsPassed p_and_q (q_due_at_8 ∷ []) (Some 6)
+not_yet : NoneIsPassed p_by_5_and_q_by_3 (q_due_at_8 ∷ []) (Some 6)
 not_yet i deadline there is passed =
     ⊎_elim
-    (λ (same : q_due_at_8 ≡ i). let at : 8 ≡ deadline = (subst (λ j. HasDeadline p_and_q j deadline) (sym same) is).1 in omega (arith, at, passed))
+    (λ (same : q_due_at_8 ≡ i). let at : 8 ≡ deadline = (subst (λ j. HasDeadline p_by_5_and_q_by_3 j deadline) (sym same) is).1 in omega (arith, at, passed))
     (λ none. none_in_nil i none)
     (first_or_later i q_due_at_8 [] there)
 
-both_inserted : Inserts p_and_q (empty_at_0.step ∷ []) (Some 6) (q_at_3 ∷ p_at_5 ∷ [])
+both_inserted : InsertsSteps p_by_5_and_q_by_3 (empty_at_0.step ∷ []) (Some 6) (q_at_3 ∷ p_at_5 ∷ [])
 both_inserted = (
   3,
   (due_at_5 ∷ second_due_at_3 ∷ [], at_first, record { instance = second_due_at_3; there = (1, lit< tt, refl); is = (refl, refl); least = none_before_3 }),
@@ -182,14 +177,14 @@ records = StepRecord empty_at_0.step ∷ Tick 6 ∷ []
 pub returns-clause-not_one_alone : goal.returns-clause-not_one_alone
 returns-clause-not_one_alone c alone =
     let same =
-    c.follows_is_one.ensures.records p_and_q [] records (empty_at_0 ∷ q_at_3 ∷ p_at_5 ∷ []) (empty_at_0 ∷ q_at_3 ∷ []) (tt, tt) (returns-clause-both c) alone
+    c.follows_is_one.ensures.records p_by_5_and_q_by_3 [] records (empty_at_0 ∷ q_at_3 ∷ p_at_5 ∷ []) (empty_at_0 ∷ q_at_3 ∷ []) (tt, tt) (returns-clause-both c) alone
     in
     let lengths : 3 ≡ 2 = ap length same in omega (arith, lengths)
 
 pub returns-clause-not_turned : goal.returns-clause-not_turned
 returns-clause-not_turned c turned =
     let same =
-    c.follows_is_one.ensures.records p_and_q [] records (empty_at_0 ∷ q_at_3 ∷ p_at_5 ∷ []) (empty_at_0 ∷ p_at_5 ∷ q_at_3 ∷ []) (tt, tt) (returns-clause-both c) turned
+    c.follows_is_one.ensures.records p_by_5_and_q_by_3 [] records (empty_at_0 ∷ q_at_3 ∷ p_at_5 ∷ []) (empty_at_0 ∷ p_at_5 ∷ q_at_3 ∷ []) (tt, tt) (returns-clause-both c) turned
     in
     let times : 3 ≡ 5 = ap (λ (l : List ActedStep). (slice_index_or l 1 empty_at_0).step.time) same in
     omega (arith, times)

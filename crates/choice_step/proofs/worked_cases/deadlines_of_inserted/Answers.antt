@@ -1,15 +1,9 @@
-use Rattle.std.proofs.Common.{rules, ◌≡◌, ℕ, zero, suc, List, [], ◌∷◌, Some, refl, sym, subst, ap, length, inl, inr, lit<, lit≤, arith, ⊎_elim}
-use Rattle.enf_value.specs.ListLaws.{first_or_later, none_in_nil}
-use Rattle.enf_value.specs.Valuations.{no_values}
-use Rattle.enf_formula.specs.Cases.{event_p, event_q}
-use Rattle.trace_meaning.specs.Records.{Record, StepRecord, Tick}
-use Rattle.trace_meaning.specs.declared.kinds.StepKind.TheVariants.{System, Inserted}
-use Rattle.obligations.specs.Missing.{cause}
-use Rattle.obligations.specs.Pending.{HasDeadline, NoneIsOver, Pend}
-use Rattle.obligations.specs.declared.instances.Instance.{Instance}
-use Rattle.choice_step.specs.Cases.{due_at_5, empty_at_0, next_due_at_15, p_with_next, q_at_15, served_at_5}
-use Rattle.choice_step.specs.Choice.{Waiting}
-use Rattle.choice_step.specs.Follows.{GoesOut, Inserts, IsLeastDeadline, NoneIsPassed}
+use Rattle.choice_step.proofs.Vocabulary.{rules, ◌≡◌, ℕ, zero, suc, List, [], ◌∷◌, Some, refl, sym, subst}
+use Rattle.choice_step.proofs.Vocabulary.{ap, length, inl, inr, lit<, lit≤, arith, ⊎_elim, first_or_later}
+use Rattle.choice_step.proofs.Vocabulary.{none_in_nil, no_values, event_p, event_q, Record, StepRecord, Tick, System}
+use Rattle.choice_step.proofs.Vocabulary.{Inserted, cause_literal, HasDeadline, NoneIsOver, Pend, Instance, due_at_5}
+use Rattle.choice_step.proofs.Vocabulary.{empty_at_0, next_due_at_15, p_with_next, q_at_15, served_at_5, Waiting}
+use Rattle.choice_step.proofs.Vocabulary.{GoesOut, InsertsSteps, IsLeastDeadline, NoneIsPassed}
 use Rattle.choice_step.proofs.CaseLemmas.{no_p}
 use Rattle.choice_step.proofs.worked_cases.deadlines_of_inserted.Goals as goal
 
@@ -30,7 +24,7 @@ at_first = (
     (
       due_at_5 ∷ [],
       [],
-      inr ((cause event_p 1, [], search rules), refl),
+      inr ((cause_literal event_p 1, [], search rules), refl),
       ([], [], inl (none_in_nil event_p, refl), refl, refl),
       refl,
     ),
@@ -68,7 +62,7 @@ behind_15 = (
     (
       due_at_20 ∷ [],
       [],
-      inr ((cause event_p 1, [], inr (no_p, refl)), refl),
+      inr ((cause_literal event_p 1, [], inr (no_p, refl)), refl),
       ([], [], inl (no_p, refl), refl, refl),
       refl,
     ),
@@ -106,7 +100,7 @@ not_yet_15 i deadline there is passed =
     (λ none. none_in_nil i none)
     (first_or_later i next_due_at_15 [] there)
 
--- ---- what goes out
+-- ---- what is emitted
 
 first : GoesOut p_with_next [] System 0 [] empty_at_0
 first = record {
@@ -117,7 +111,7 @@ first = record {
   decided = (refl, (refl, (inl (none_in_nil event_p, refl), tt)));
 }
 
-nothing_passes : Inserts p_with_next [] (Some 0) []
+nothing_passes : InsertsSteps p_with_next [] (Some 0) []
 nothing_passes = ([], refl, λ i deadline there is passed. none_in_nil i there)
 
 goes_at_5 : GoesOut p_with_next (empty_at_0.step ∷ []) Inserted 5 [] served_at_5
@@ -128,7 +122,7 @@ goes_at_5 = record {
   time_is = refl;
   decided = (
     Waiting due_at_5,
-    cause event_p 1,
+    cause_literal event_p 1,
     event_p ∷ [],
     inl (refl, [], search rules),
     refl,
@@ -145,7 +139,7 @@ goes_at_15 = record {
   time_is = refl;
   decided = (
     Waiting next_due_at_15,
-    cause event_q 2,
+    cause_literal event_q 2,
     event_q ∷ [],
     inl (refl, [], inr (none_in_nil event_q, refl)),
     refl,
@@ -158,8 +152,35 @@ abbrev records : ℕ → List Record
 records time = StepRecord empty_at_0.step ∷ Tick time ∷ []
 
 pub returns-clause-served : goal.returns-clause-served
-returns-clause-served c =
-    ([], empty_at_0 ∷ [], served_at_5 ∷ q_at_15 ∷ [], nothing_passes, (empty_at_0, first, refl), (served_at_5 ∷ q_at_15 ∷ [], [], [], (5, (due_at_5 ∷ [], at_first, least_5), lit< tt, goes_at_5, (15, (next_due_at_15 ∷ [], behind_5, least_15), lit< tt, goes_at_15, (due_at_20 ∷ [], behind_15, not_yet_16))), refl, refl, refl), refl)
+returns-clause-served c = (
+  [],
+  empty_at_0 ∷ [],
+  served_at_5 ∷ q_at_15 ∷ [],
+  nothing_passes,
+  (empty_at_0, first, refl),
+  (
+    served_at_5 ∷ q_at_15 ∷ [],
+    [],
+    [],
+    (
+      5,
+      (due_at_5 ∷ [], at_first, least_5),
+      lit< tt,
+      goes_at_5,
+      (
+        15,
+        (next_due_at_15 ∷ [], behind_5, least_15),
+        lit< tt,
+        goes_at_15,
+        (due_at_20 ∷ [], behind_15, not_yet_16),
+      ),
+    ),
+    refl,
+    refl,
+    refl,
+  ),
+  refl,
+)
 
 pub returns-clause-not_left_open : goal.returns-clause-not_left_open
 returns-clause-not_left_open c left =
@@ -168,7 +189,7 @@ returns-clause-not_left_open c left =
     in
     let lengths : 3 ≡ 2 = ap length same in omega (arith, lengths)
 
-one_at_15 : Inserts p_with_next (empty_at_0.step ∷ []) (Some 15) (served_at_5 ∷ [])
+one_at_15 : InsertsSteps p_with_next (empty_at_0.step ∷ []) (Some 15) (served_at_5 ∷ [])
 one_at_15 = (5, (due_at_5 ∷ [], at_first, least_5), lit< tt, goes_at_5, (next_due_at_15 ∷ [], behind_5, not_yet_15))
 
 pub returns-clause-not_before : goal.returns-clause-not_before

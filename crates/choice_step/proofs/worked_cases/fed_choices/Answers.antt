@@ -1,23 +1,20 @@
-use Rattle.std.proofs.Common.{◌≡◌, [], ◌∷◌, false, length, refl, ap, inl, inr, lit<, arith}
-use Rattle.enf_value.specs.ListLaws.{none_in_nil}
-use Rattle.obligations.specs.Cases.{each_q, p_of_1, q_of_1}
-use Rattle.obligations.specs.Missing.{cause}
+use Rattle.choice_step.proofs.Vocabulary.{◌≡◌, [], ◌∷◌, false, length, refl, ap, inl, inr, lit<, arith}
+use Rattle.choice_step.proofs.Vocabulary.{none_in_nil, each_q, p_of_1, q_of_1, cause_literal, for_leaf, for_root}
+use Rattle.choice_step.proofs.Vocabulary.{p_of_1_is_there, Root}
 use Rattle.obligations.specs.declared.literals.LiteralKind.TheVariants as kind
-use Rattle.choice_step.specs.Cases.{for_leaf, for_root, p_of_1_is_there}
-use Rattle.choice_step.specs.Choice.{Root}
 use Rattle.choice_step.proofs.worked_cases.fed_choices.Goals as goal
 
 pub returns-clause-fed : goal.returns-clause-fed
 returns-clause-fed c = (
   Root 1 p_of_1_is_there,
-  cause p_of_1 0,
+  cause_literal p_of_1 0,
   p_of_1 ∷ [],
   inr (c.missing_of_rows.ensures.no_row, inl (refl, [], inr (none_in_nil p_of_1, refl))),
   refl,
   refl,
   (
     Root 0 (each_q 0),
-    cause q_of_1 1,
+    cause_literal q_of_1 1,
     p_of_1 ∷ q_of_1 ∷ [],
     inl (refl, [], c.missing_of_rows.ensures.one_row),
     refl,
@@ -29,7 +26,9 @@ returns-clause-fed c = (
 pub returns-clause-not_left_unfed : goal.returns-clause-not_left_unfed
 returns-clause-not_left_unfed c unfed =
     let one =
-    c.follows_is_one.ensures.step (each_q 0 ∷ p_of_1_is_there ∷ []) [] [] false 5 [] (for_root kind.Cause p_of_1 1 ∷ for_leaf kind.Cause q_of_1 0 1 ∷ []) (for_root kind.Cause p_of_1 1 ∷ []) (p_of_1 ∷ q_of_1 ∷ []) (p_of_1 ∷ [])
+    c.follows_is_one.ensures.step (each_q 0 ∷ p_of_1_is_there ∷ []) [] [] false 5 []
+    (for_root kind.Cause p_of_1 1 ∷ for_leaf kind.Cause q_of_1 0 1 ∷ [])
+    (for_root kind.Cause p_of_1 1 ∷ []) (p_of_1 ∷ q_of_1 ∷ []) (p_of_1 ∷ [])
     tt (returns-clause-fed c) unfed
     in
     let lengths : 2 ≡ 1 = ap length one.1 in omega (arith, lengths)

@@ -1,16 +1,13 @@
-use Rattle.std.proofs.Common.{rules, ◌≡◌, List, [], ◌∷◌, true, refl, ap, inl, inr, arith, slice_index_or}
-use Rattle.enf_formula.specs.Cases.{event_p, event_q, name_q}
-use Rattle.obligations.specs.Missing.{cause}
-use Rattle.obligations.specs.declared.actions.Action.{Action}
-use Rattle.choice_step.specs.Cases.{due_at_5, for_due, for_second_at, p_in_time, q_in_time, second_due_at_5}
-use Rattle.choice_step.specs.Choice.{Root, Waiting}
-use Rattle.plan_terms.specs.Plans.{Cause}
+use Rattle.choice_step.proofs.Vocabulary.{rules, ◌≡◌, List, [], ◌∷◌, true, refl, ap, inl, inr, arith}
+use Rattle.choice_step.proofs.Vocabulary.{slice_index_or, event_p, event_q, name_q, cause_literal, Action, due_at_5}
+use Rattle.choice_step.proofs.Vocabulary.{for_due, for_second_at, p_by_5, q_by_5, second_due_at_5, Root, Waiting}
+use Rattle.choice_step.proofs.Vocabulary.{CausePlan}
 use Rattle.choice_step.proofs.worked_cases.forced_choices.Goals as goal
 
 pub returns-clause-forced : goal.returns-clause-forced
 returns-clause-forced c = (
   Waiting due_at_5,
-  cause event_p 1,
+  cause_literal event_p 1,
   event_p ∷ [],
   inl (refl, [], search rules),
   refl,
@@ -21,14 +18,14 @@ returns-clause-forced c = (
 pub returns-clause-pending_before_roots : goal.returns-clause-pending_before_roots
 returns-clause-pending_before_roots c = (
   Waiting due_at_5,
-  cause event_p 1,
+  cause_literal event_p 1,
   event_p ∷ [],
   inl (refl, [], search rules),
   refl,
   refl,
   (
-    Root 1 (Cause 0 0 name_q []),
-    cause event_q 0,
+    Root 1 (CausePlan 0 0 name_q []),
+    cause_literal event_q 0,
     event_p ∷ event_q ∷ [],
     inr (search rules, inr (search rules, inl (refl, [], search rules))),
     refl,
@@ -40,14 +37,14 @@ returns-clause-pending_before_roots c = (
 pub returns-clause-as_they_were_begun : goal.returns-clause-as_they_were_begun
 returns-clause-as_they_were_begun c = (
   Waiting due_at_5,
-  cause event_p 1,
+  cause_literal event_p 1,
   event_p ∷ [],
   inl (refl, [], search rules),
   refl,
   refl,
   (
     Waiting second_due_at_5,
-    cause event_q 1,
+    cause_literal event_q 1,
     event_p ∷ event_q ∷ [],
     inr (search rules, inl (refl, [], search rules)),
     refl,
@@ -59,7 +56,9 @@ returns-clause-as_they_were_begun c = (
 pub returns-clause-not_the_later_first : goal.returns-clause-not_the_later_first
 returns-clause-not_the_later_first c turned =
     let one =
-    c.follows_is_one.ensures.step (p_in_time ∷ q_in_time ∷ []) (record { time = 0; events = [] } ∷ []) (due_at_5 ∷ second_due_at_5 ∷ []) true 5 [] (for_due ∷ for_second_at 5 1 ∷ []) (for_second_at 5 1 ∷ for_due ∷ []) (event_p ∷ event_q ∷ []) (event_q ∷ event_p ∷ [])
+    c.follows_is_one.ensures.step (p_by_5 ∷ q_by_5 ∷ []) (record { time = 0; events = [] } ∷ [])
+    (due_at_5 ∷ second_due_at_5 ∷ []) true 5 [] (for_due ∷ for_second_at 5 1 ∷ [])
+    (for_second_at 5 1 ∷ for_due ∷ []) (event_p ∷ event_q ∷ []) (event_q ∷ event_p ∷ [])
     tt (returns-clause-as_they_were_begun c) turned
     in
     let rules : 0 ≡ 1 = ap (λ (l : List Action). (slice_index_or l 0 for_due).rule) one.0 in

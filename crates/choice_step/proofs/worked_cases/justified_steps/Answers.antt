@@ -1,5 +1,4 @@
-use Rattle.std.proofs.Common.{[], ◌∷◌, refl}
-use Rattle.enf_formula.specs.Cases.{event_p}
+use Rattle.choice_step.proofs.Vocabulary.{[], ◌∷◌, refl, event_p}
 use Rattle.choice_step.proofs.worked_cases.justified_steps.Goals as goal
 
 pub returns-clause-for_its_rule : goal.returns-clause-for_its_rule

@@ -1,4 +1,4 @@
-use Rattle.deadline_queue.specs.QueueLaws.{count_entries, one_queue}
+use Rattle.deadline_queue.proofs.QueueLaws.{count_entries, one_queue}
 use Rattle.deadline_queue.proofs.laws.queues_are_counts.Goals as goal
 
 pub returns-clause-one : goal.returns-clause-one

@@ -1,6 +1,6 @@
 use Rattle.std.specs.Prelude.{[], ◌∷◌}
 use Rattle.std.proofs.Common.{arith}
-use Rattle.enf_value.specs.ListLaws.{here}
+use Rattle.enf_data.proofs.Lists.{here}
 use Rattle.deadline_queue.proofs.worked_cases.deadlines.Goals as goal
 
 pub returns-clause-not_the_same : goal.returns-clause-not_the_same

@@ -1,5 +1,5 @@
 use Rattle.std.proofs.Common.{◌≤◌, length}
-use Rattle.trace_meaning.specs.Continuation.{last_time}
+use Rattle.trace_meaning.specs.meaning.Traces.{last_time}
 use Rattle.enf_cases.proofs.audits.read_trace.Given as goal
 
 abbrev pub invariant-loop : goal.invariant-loop

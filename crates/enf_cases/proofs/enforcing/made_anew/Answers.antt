@@ -1,9 +1,9 @@
 use Rattle.std.proofs.Common.{◌∙◌, subst, sym, arith}
-use Rattle.obligations.specs.Pending.{IsReady}
-use Rattle.save_codec.specs.Saved.{IsSnapshotOf}
-use Rattle.enforce_types.specs.Typed.{StoredTyped}
-use Rattle.enforcer_core.specs.Enforcers.{plans_in}
-use Rattle.enforcer_core.specs.Snapshots.{CanBeTakenUp, StandsAgain, operators_in}
+use Rattle.obligations.specs.meaning.Pending.{IsReady}
+use Rattle.save_codec.specs.meaning.SavedTexts.{IsSnapshotOf}
+use Rattle.enforce_types.specs.machine.TypedPolicies.{StoredTyped}
+use Rattle.enforcer_core.specs.machine.Enforcers.{policy_plans}
+use Rattle.enforcer_core.specs.machine.Snapshots.{CanBeTakenUp, StandsAgain, policy_operators}
 use Rattle.enf_cases.proofs.enforcing.made_anew.Goals as goal
 
 pub from_snapshot-requires : goal.from_snapshot-requires
@@ -24,10 +24,10 @@ returns c =
     let snapshot = c.in_ok-snapshot.snapshot in
     let up = c.in_ok-from_snapshot.ensures.taken_up in
     let kept = c.in_ok-snapshot.ensures.kept in
-    let is : IsSnapshotOf (plans_in before.policy) (operators_in before.policy) s.trace snapshot.clock snapshot =
-    subst (λ clock. IsSnapshotOf (plans_in before.policy) (operators_in before.policy) s.trace clock snapshot) (sym kept.clock) (c.in_ok-snapshot.ensures.saves s.trace s.stands) in
-    let ready : IsReady (plans_in before.policy) s.trace snapshot.clock =
-    subst (λ clock. IsReady (plans_in before.policy) s.trace clock) (sym kept.clock) s.stands.ready in
+    let is : IsSnapshotOf (policy_plans before.policy) (policy_operators before.policy) s.trace snapshot.clock snapshot =
+    subst (λ clock. IsSnapshotOf (policy_plans before.policy) (policy_operators before.policy) s.trace clock snapshot) (sym kept.clock) (c.in_ok-snapshot.ensures.saves s.trace s.stands) in
+    let ready : IsReady (policy_plans before.policy) s.trace snapshot.clock =
+    subst (λ clock. IsReady (policy_plans before.policy) s.trace clock) (sym kept.clock) s.stands.ready in
     let again : StandsAgain before.policy snapshot after =
     subst (λ (policy : StoredTyped). StandsAgain policy snapshot after) c.into_policy-policy.ensures c.in_ok-from_snapshot.ensures.stands in
     record {

@@ -1,9 +1,19 @@
-use Rattle.std.proofs.Common.{length}
-use Rattle.enforcer_core.specs.Enforcers.{acted_steps}
+use Rattle.std.proofs.Common.{arith, length}
+use Rattle.trace_meaning.specs.meaning.Traces.{Tick}
+use Rattle.enforcer_core.specs.machine.MadeSteps.{acted_steps}
 use Rattle.enf_cases.proofs.EnforcingLemmas.{stays_standing}
 use Rattle.enf_cases.proofs.enforcing.take_tick.Goals as goal
+
+pub returns-in-Ok-clause-further : goal.returns-in-Ok-clause-further
+returns-in-Ok-clause-further c =
+    let t = c.in-Ok.ensures.takes in
+    let few = c.takes_are_few.ensures c.args.enforcer.now (Tick c.args.time) c.in-Ok.made c.tick.new.self t in
+    record {
+      steps = omega (arith, few, t.goes_on.position, t.goes_on.clock_is, t.in_time.not_over);
+      in_time = omega (arith, t.goes_on.clock_is, c.if-time-gt-MOST_TIME.false);
+    }
 
 pub returns-in-Ok-clause-stands : goal.returns-in-Ok-clause-stands
 returns-in-Ok-clause-stands c =
     stays_standing c.args.enforcer.now c.tick.new.self c.args.time (length c.in-Ok.made.steps) (acted_steps c.in-Ok.made.steps)
-    c.in-Ok.ensures.answered.1 c.in-Ok.ensures.stands
+    c.in-Ok.ensures.takes.goes_on c.in-Ok.ensures.takes.stands

@@ -1,6 +1,6 @@
 use Rattle.std.proofs.Common.{Contains, subst}
-use Rattle.enf_formula.specs.Formulas.{tree_of}
-use Rattle.monitorable_guard.specs.Safety.{FreeWithin}
+use Rattle.enf_formula.specs.machine.FormulaViews.{tree_of}
+use Rattle.monitorable_guard.specs.meaning.Safety.{FreeWithin}
 use Rattle.enf_cases.proofs.evaluations.ask.Goals as goal
 
 pub holds-requires-clause-test : goal.holds-requires-clause-test

@@ -1,7 +1,7 @@
 use Rattle.std.proofs.Common.{Contains, subst}
-use Rattle.enf_formula.specs.Formulas.{tree_of}
-use Rattle.monitorable_guard.specs.Safety.{FreeWithin}
-use Rattle.past_state.specs.Guarded.{tree_in}
+use Rattle.enf_formula.specs.machine.FormulaViews.{tree_of}
+use Rattle.monitorable_guard.specs.meaning.Safety.{FreeWithin}
+use Rattle.past_state.specs.machine.Guards.{tree_in}
 use Rattle.enf_cases.proofs.holds.check_test.Goals as goal
 
 pub returns-then-branch : goal.returns-then-branch

@@ -1,4 +1,4 @@
-use Rattle.enf_value.specs.Valuations.{no_values}
+use Rattle.enf_data.specs.meaning.Valuations.{no_values}
 use Rattle.enf_cases.proofs.RunningLemmas.{copy_binds, nothing_bound, one_copy}
 use Rattle.enf_cases.proofs.long_runs.answer.Goals as goal
 

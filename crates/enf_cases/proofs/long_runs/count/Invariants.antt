@@ -1,7 +1,7 @@
 use Rattle.std.proofs.Common.{ℕ, ◌≤◌, ◌<◌, length}
-use Rattle.enf_value.specs.Valuations.{no_values}
-use Rattle.past_state.specs.Past.{BindsBound}
-use Rattle.past_state.specs.Runs.{AreUpToTimeOf}
+use Rattle.enf_data.specs.meaning.Valuations.{no_values}
+use Rattle.past_state.specs.machine.Past.{BindsBound}
+use Rattle.past_state.specs.machine.OperatorRuns.{AreUpToTimeOf}
 use Rattle.enf_cases.proofs.long_runs.count.Given as goal
 
 abbrev pub invariant-loop-step : goal.invariant-loop-step

@@ -1,4 +1,4 @@
-use Rattle.enf_value.specs.Valuations.{no_values}
+use Rattle.enf_data.specs.meaning.Valuations.{no_values}
 use Rattle.enf_cases.proofs.RunningLemmas.{nothing_bound}
 use Rattle.enf_cases.proofs.past.answer.Goals as goal
 

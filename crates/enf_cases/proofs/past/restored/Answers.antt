@@ -1,8 +1,8 @@
 use Rattle.std.proofs.Common.{[], ◌∷◌, subst, sym, map}
-use Rattle.past_state.specs.Guarded.{tree_in}
-use Rattle.past_state.specs.Operators.{all_operators}
-use Rattle.past_state.specs.Bounds.{AreWithinBounds}
-use Rattle.past_state.specs.Restoring.{WillStandFor}
+use Rattle.past_state.specs.machine.Guards.{tree_in}
+use Rattle.past_state.specs.meaning.KeptRows.{all_operators}
+use Rattle.past_state.specs.meaning.RowBounds.{AreWithinBounds}
+use Rattle.past_state.specs.machine.RestoringLaws.{WillStandFor}
 use Rattle.enf_cases.proofs.RunningLemmas.{kept_of}
 use Rattle.enf_cases.proofs.past.restored.Goals as goal
 

@@ -1,4 +1,4 @@
-use Rattle.enf_value.specs.Valuations.{with_values}
+use Rattle.enf_formula.proofs.Vocabulary.{with_values}
 use Rattle.enf_formula.proofs.Stability.{Sat_stable}
 use Rattle.enf_formula.proofs.laws.connectives.Goals as goal
 

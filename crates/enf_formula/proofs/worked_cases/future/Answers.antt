@@ -1,25 +1,23 @@
-use Rattle.std.proofs.Common.{ℕ, suc, zero, ◌≤◌, ◌<◌, [], ◌∷◌, Contains, arith, refl, lit<, lit≤}
-use Rattle.enf_value.specs.Data.{step_at}
-use Rattle.enf_value.specs.Membership.{IsIn}
-use Rattle.enf_formula.specs.Cases.{within, two_steps, broken_before, event_p, event_q}
-use Rattle.enf_formula.specs.Satisfaction.{elapsed}
+use Rattle.enf_formula.proofs.Vocabulary.{ℕ, suc, zero, ◌≤◌, ◌<◌, [], ◌∷◌, Contains, arith, refl}
+use Rattle.enf_formula.proofs.Vocabulary.{lit<, lit≤, step_at, IsIn, interval_between, two_steps, broken_before}
+use Rattle.enf_formula.proofs.Vocabulary.{event_p, event_q, elapsed}
 use Rattle.enf_formula.proofs.Stability.{absent}
 use Rattle.enf_formula.proofs.worked_cases.future.Goals as goal
 
 -- no position is 4 or more after the first step
-none_from_4 : (j : ℕ) → j < 2 → IsIn (within 4 6) (elapsed two_steps 0 j) → ⊥
+none_from_4 : (j : ℕ) → j < 2 → IsIn (interval_between 4 6) (elapsed two_steps 0 j) → ⊥
 none_from_4 zero below far = omega arith
 none_from_4 (suc zero) below far = omega arith
 none_from_4 (suc (suc j)) below far = omega arith
 
 -- no position that is at most 2 after the first step has p
-no_p_within_2 : (j : ℕ) → j < 2 → IsIn (within 0 2) (elapsed two_steps 0 j) → Contains (step_at two_steps j).events event_p → ⊥
+no_p_within_2 : (j : ℕ) → j < 2 → IsIn (interval_between 0 2) (elapsed two_steps 0 j) → Contains (step_at two_steps j).events event_p → ⊥
 no_p_within_2 zero below near has = absent (event_q ∷ []) event_p refl has
 no_p_within_2 (suc zero) below near has = omega arith
 no_p_within_2 (suc (suc j)) below near has = omega arith
 
 -- q is at each position that is at most 2 after the first step
-q_within_2 : (j : ℕ) → j < 2 → IsIn (within 0 2) (elapsed two_steps 0 j) → (Contains (step_at two_steps j).events event_q → ⊥) → ⊥
+q_within_2 : (j : ℕ) → j < 2 → IsIn (interval_between 0 2) (elapsed two_steps 0 j) → (Contains (step_at two_steps j).events event_q → ⊥) → ⊥
 q_within_2 zero below near lacks = lacks (0, lit< tt, refl)
 q_within_2 (suc zero) below near lacks = omega arith
 q_within_2 (suc (suc j)) below near lacks = omega arith

@@ -1,19 +1,16 @@
-use Rattle.std.proofs.Common.{ℕ, suc, zero, ◌≤◌, [], ◌∷◌, Contains, arith, refl, lit<, lit≤}
-use Rattle.enf_value.specs.Data.{step_at}
-use Rattle.enf_value.specs.Membership.{IsIn}
-use Rattle.enf_formula.specs.Cases.{within, two_steps, event_p, event_q}
-use Rattle.enf_formula.specs.Satisfaction.{elapsed}
+use Rattle.enf_formula.proofs.Vocabulary.{ℕ, suc, zero, ◌≤◌, [], ◌∷◌, Contains, arith, refl, lit<, lit≤}
+use Rattle.enf_formula.proofs.Vocabulary.{step_at, IsIn, interval_between, two_steps, event_p, event_q, elapsed}
 use Rattle.enf_formula.proofs.Stability.{absent}
 use Rattle.enf_formula.proofs.worked_cases.past.Goals as goal
 
 -- no position up to 1 is at most 2 before the second step and has q
-no_q_within_2 : (j : ℕ) → j ≤ 1 → IsIn (within 0 2) (elapsed two_steps j 1) → Contains (step_at two_steps j).events event_q → ⊥
+no_q_within_2 : (j : ℕ) → j ≤ 1 → IsIn (interval_between 0 2) (elapsed two_steps j 1) → Contains (step_at two_steps j).events event_q → ⊥
 no_q_within_2 zero at_most near has = omega arith
 no_q_within_2 (suc zero) at_most near has = absent (event_p ∷ []) event_q refl has
 no_q_within_2 (suc (suc j)) at_most near has = omega arith
 
 -- p is at each position up to 1 that is at most 2 before the second step
-p_within_2 : (j : ℕ) → j ≤ 1 → IsIn (within 0 2) (elapsed two_steps j 1) → (Contains (step_at two_steps j).events event_p → ⊥) → ⊥
+p_within_2 : (j : ℕ) → j ≤ 1 → IsIn (interval_between 0 2) (elapsed two_steps j 1) → (Contains (step_at two_steps j).events event_p → ⊥) → ⊥
 p_within_2 zero at_most near lacks = omega arith
 p_within_2 (suc zero) at_most near lacks = lacks (0, lit< tt, refl)
 p_within_2 (suc (suc j)) at_most near lacks = omega arith

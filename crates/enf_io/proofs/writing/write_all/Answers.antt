@@ -1,4 +1,4 @@
--- The next turn's bytes follow those that went out before.
+-- The next turn's bytes follow those that were emitted before.
 use Rattle.std.proofs.Common.{arith, length-take, length-drop, ◌∙◌}
 use Rattle.enf_io.proofs.Exchanges.{Gave-more}
 use Rattle.enf_io.proofs.writing.write_all.Goals as goal

@@ -1,5 +1,5 @@
 use Rattle.std.proofs.Common.{length, ◌-◌, ◌≡◌, ◌≤◌, take}
-use Rattle.enf_io.specs.Exchange.{Gave}
+use Rattle.enf_io.specs.meaning.ExchangeGrowth.{Gave}
 use Rattle.enf_io.proofs.writing.write_all.Given as goal
 
 abbrev pub invariant-loop-written : goal.invariant-loop-written

@@ -1,5 +1,5 @@
 use Rattle.std.proofs.Common.{map}
-use Rattle.plan_terms.specs.Plans.{plan_of}
+use Rattle.plan_terms.specs.machine.StoredPlans.{plan_of}
 use Rattle.enf_tests.proofs.owed.find_pending.Goals as goal
 
 pub progress-requires-clause-keeps : goal.progress-requires-clause-keeps

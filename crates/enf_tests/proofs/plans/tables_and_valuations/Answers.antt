@@ -1,6 +1,6 @@
 use Rattle.std.proofs.Common.{◌∙◌, ap}
+use Rattle.enf_data.specs.meaning.Valuations.{value_at, variable_cmp}
 use Rattle.std.specs.FinMap as map
-use Rattle.enf_value.specs.Valuations.{value_at, variable_cmp}
 use Rattle.enf_tests.proofs.plans.tables_and_valuations.Goals as goal
 
 pub bind-requires : goal.bind-requires

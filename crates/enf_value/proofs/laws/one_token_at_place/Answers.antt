@@ -1,4 +1,4 @@
-use Rattle.enf_value.proofs.TokenLaws.{is_one}
+use Rattle.enf_value.proofs.ValueTokenLaws.{is_one}
 use Rattle.enf_value.proofs.laws.one_token_at_place.Goals as goal
 
 pub returns : goal.returns

@@ -1,4 +1,4 @@
-use Rattle.enf_value.proofs.TokenLaws.{is_longest}
+use Rattle.enf_value.proofs.ValueTokenLaws.{is_longest}
 use Rattle.enf_value.proofs.laws.token_is_longest.Goals as goal
 
 pub returns : goal.returns

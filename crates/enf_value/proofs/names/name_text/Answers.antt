@@ -1,4 +1,4 @@
-use Rattle.std.proofs.Common.{Err, ap}
+use Rattle.enf_value.proofs.Vocabulary.{Err, ap}
 use Rattle.enf_value.proofs.Words.{word_utf8}
 use Rattle.enf_value.proofs.names.name_text.Goals as goal
 

@@ -1,7 +1,6 @@
-use Rattle.std.proofs.Common.{ap, arith, subst, take, ◌∙◌, ◌++◌}
-use Rattle.std.specs.List.{flat_map}
-use Rattle.enf_value.specs.Spelling.{AppendsPart, escaped}
-use Rattle.enf_value.proofs.Parts.{front_appended, on_err_from, part_behind}
+use Rattle.enf_value.proofs.Vocabulary.{ap, arith, subst, take, ◌∙◌, ◌++◌, flat_map, AppendsPart, escaped}
+use Rattle.enf_value.proofs.Vocabulary.{on_err_from}
+use Rattle.enf_value.proofs.Parts.{front_appended, part_behind}
 use Rattle.enf_value.proofs.TextTokens.{slice_from}
 use Rattle.enf_value.proofs.printing.print_escaped.Goals as goal
 

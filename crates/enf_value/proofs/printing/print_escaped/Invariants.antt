@@ -1,6 +1,4 @@
-use Rattle.std.proofs.Common.{◌≡◌, ◌++◌, ◌-◌, length, take}
-use Rattle.std.specs.List.{flat_map}
-use Rattle.enf_value.specs.Spelling.{escaped}
+use Rattle.enf_value.proofs.Vocabulary.{◌≡◌, ◌++◌, ◌-◌, length, take, flat_map, escaped}
 use Rattle.enf_value.proofs.printing.print_escaped.Given as goal
 
 abbrev pub invariant-loop-at : goal.invariant-loop-at

@@ -1,6 +1,5 @@
-use Rattle.std.proofs.Common.{arith, length, ◌<◌, ◌∙◌}
-use Rattle.enf_value.specs.Spelling.{escaped}
-use Rattle.enf_value.proofs.Parts.{byte_appended, on_err_from, part_of_flat_map, plain_appended}
+use Rattle.enf_value.proofs.Vocabulary.{arith, length, ◌<◌, ◌∙◌, escaped, on_err_from}
+use Rattle.enf_value.proofs.Parts.{byte_appended, part_of_flat_map, plain_appended}
 use Rattle.enf_value.proofs.printing.print_front.Goals as goal
 
 pub returns-then-plain-bytes-clause-ok : goal.returns-then-plain-bytes-clause-ok

@@ -1,7 +1,5 @@
-use Rattle.std.proofs.Common.{[], ◌∷◌, ap, ◌∙◌, ◌++◌}
-use Rattle.std.specs.List.{flat_map}
-use Rattle.enf_value.specs.Spelling.{escaped}
-use Rattle.enf_value.proofs.Parts.{on_err_from, part_inside}
+use Rattle.enf_value.proofs.Vocabulary.{[], ◌∷◌, ap, ◌∙◌, ◌++◌, flat_map, escaped, on_err_from}
+use Rattle.enf_value.proofs.Parts.{part_inside}
 use Rattle.enf_value.proofs.printing.print_text.Goals as goal
 
 pub returns-in_err-print_escaped-clause-err : goal.returns-in_err-print_escaped-clause-err

@@ -1,5 +1,4 @@
-use Rattle.std.proofs.Common.{◌≢◌, ℕ, ◌<◌, IsTrue, slice_index, take}
-use Rattle.std.specs.Str.{IsAscii}
+use Rattle.enf_value.proofs.Vocabulary.{◌≢◌, ℕ, ◌<◌, IsTrue, slice_index, take, IsAscii}
 use Rattle.enf_value.proofs.reading.plain_end.Given as goal
 
 abbrev pub invariant-loop-place : goal.invariant-loop-place

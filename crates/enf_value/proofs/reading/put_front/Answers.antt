@@ -1,5 +1,4 @@
-use Rattle.std.proofs.Common.{sym, ◌∙◌}
-use Rattle.std.proofs.lemmas.Bool.{eqb-true, eqb-false}
+use Rattle.enf_value.proofs.Vocabulary.{sym, ◌∙◌, eqb-true, eqb-false}
 use Rattle.enf_value.proofs.TextTokens.{none_from_texts, none_from_numbers, none_onward}
 use Rattle.enf_value.proofs.reading.put_front.Goals as goal
 

@@ -1,6 +1,5 @@
-use Rattle.std.proofs.Common.{◌+◌, ◌-◌, drop, length, subst, sym, take}
-use Rattle.enf_value.specs.ValueTokens.{TokenAt, WrittenAt}
-use Rattle.enf_value.specs.declared.values.Value.TheVariants.{Text}
+use Rattle.enf_value.proofs.Vocabulary.{◌+◌, ◌-◌, drop, length, subst, sym, take, ValueTokenAt, WrittenTextAt}
+use Rattle.enf_value.proofs.Vocabulary.{Text}
 use Rattle.enf_value.proofs.TextTokens.{slice_from, text_from_ascii, token_from_written}
 use Rattle.enf_value.proofs.reading.put_text.Goals as goal
 
@@ -16,10 +15,10 @@ returns-then-quote-le-MOST_TEXT_BYTES-clause-some c =
     let found = c.in-Some-default-true in
     let behind = take (length bytes - 1) (drop 1 bytes) in
     let text = take found.quote behind in
-    let written = subst (λ l. WrittenAt l found.quote text) (slice_from bytes 1) found.ensures.written in
+    let written = subst (λ l. WrittenTextAt l found.quote text) (slice_from bytes 1) found.ensures.written in
     let fits = text_from_ascii behind found.quote c.if-quote-le-MOST_TEXT_BYTES.true (found.ensures.ascii found.field-0-1-test) in
     record {
       value = Text c.in_ok-text.text;
-      token = subst (λ t. TokenAt bytes 0 (found.quote + 2) (Text t)) (sym c.in_ok-text.ensures) (token_from_written bytes text found.quote c.requires written fits);
+      token = subst (λ t. ValueTokenAt bytes 0 (found.quote + 2) (Text t)) (sym c.in_ok-text.ensures) (token_from_written bytes text found.quote c.requires written fits);
       last = c.in_ok-put.ensures.ok;
     }

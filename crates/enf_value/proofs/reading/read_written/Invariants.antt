@@ -1,6 +1,5 @@
-use Rattle.std.proofs.Common.{◌≡◌, drop, false}
+use Rattle.enf_value.proofs.Vocabulary.{◌≡◌, drop, false, text_front}
 use Rattle.enf_value.proofs.Escapes.{behind}
-use Rattle.enf_value.specs.Tokens.{text_front}
 use Rattle.enf_value.proofs.reading.read_written.Given as goal
 
 abbrev pub invariant-loop-place : goal.invariant-loop-place

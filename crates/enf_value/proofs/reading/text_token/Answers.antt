@@ -1,12 +1,10 @@
-use Rattle.std.proofs.Common.{Err, ap, arith, subst, sym, ◌+◌}
-use Rattle.enf_value.specs.ValueTokens.{TokenAt}
-use Rattle.enf_value.specs.declared.values.Value.TheVariants.{Text}
+use Rattle.enf_value.proofs.Vocabulary.{Err, ap, arith, subst, sym, ◌+◌, ValueTokenAt, Text}
 use Rattle.enf_value.proofs.TextTokens.{none_from_refused, token_from_written}
 use Rattle.enf_value.proofs.reading.text_token.Goals as goal
 
 pub returns-in-Ok-clause-some : goal.returns-in-Ok-clause-some
 returns-in-Ok-clause-some c = λ bytes first w.
-    subst (λ t. TokenAt bytes 0 (c.args.quote + 2) (Text t)) (sym c.in-Ok.ensures.value) (token_from_written bytes c.args.text.now c.args.quote first w c.in-Ok.ensures.text)
+    subst (λ t. ValueTokenAt bytes 0 (c.args.quote + 2) (Text t)) (sym c.in-Ok.ensures.value) (token_from_written bytes c.args.text.now c.args.quote first w c.in-Ok.ensures.text)
 
 pub returns-in-Err-TooLong-clause-none : goal.returns-in-Err-TooLong-clause-none
 returns-in-Err-TooLong-clause-none c = λ bytes w.

@@ -1,5 +1,4 @@
-use Rattle.std.proofs.Common.{refl, sym, subst, ◌∙◌}
-use Rattle.enf_value.specs.TokenViews.{IsMarkAt}
+use Rattle.enf_value.proofs.Vocabulary.{refl, sym, subst, ◌∙◌, IsMarkAt}
 use Rattle.enf_value.proofs.TokenReads.{no_token}
 use Rattle.enf_value.proofs.tokens.token_at.Goals as goal
 

@@ -1,4 +1,4 @@
-use Rattle.std.proofs.Common.{length, ◌-◌}
+use Rattle.enf_value.proofs.Vocabulary.{length, ◌-◌}
 use Rattle.enf_value.proofs.Gaps.{IsPast}
 use Rattle.enf_value.proofs.tokens.token_place.Given as goal
 

@@ -1,200 +1,282 @@
-use Rattle.std.proofs.Common.{◌↔◌, ℕ, Ok, Err, IfOk, List, Contains, ap, sym, refl, subst, IsTrue, true, false, ◌∙◌, ◌++◌}
-use Rattle.enf_value.specs.declared.terms.VarId.{VarId}
-use Rattle.enf_formula.specs.Formulas.{Formula, tree_of}
-use Rattle.enf_formula.specs.declared.formulas.Formula.{Formula as Stored}
-use Rattle.plan_terms.specs.Plans as plan
-use Rattle.plan_terms.specs.Plans.{Plan, plan_of}
-use Rattle.monitorable_guard.specs.Safety.{IsTest}
-use Rattle.enforce_types.specs.Answers.{Exclusion, Implication, OneOfTwo, OverOne, OverTwo, answer_of, Is}
-use Rattle.enforce_types.specs.Elab.{Elab, Up, Down, UpForAll}
-use Rattle.enforce_types.specs.Joined.{side}
-use Rattle.enforce_types.specs.Marks.{is_causable, is_suppressible}
-use Rattle.enforce_types.proofs.JoinLemmas.{on_ok, one_from, two_from, of_two_from, end_from, from_now_from, found_false, tested_keeps}
+use Rattle.enforce_types.proofs.Vocabulary.{◌↔◌, ◌≡◌, Ok, Err, List, Contains, ap, refl, subst, IsTrue}
+use Rattle.enforce_types.proofs.Vocabulary.{◌∙◌, ◌++◌, VarId, Formula, tree_of, plan_of, IsTest, Answer}
+use Rattle.enforce_types.proofs.Vocabulary.{Exclusion, ImplicationAnswer, OneOfTwo, OverOne, OverTwo, Elab, Up, Down}
+use Rattle.enforce_types.proofs.Vocabulary.{is_causable, is_suppressible, GivesAnswer, GivesRefusal, aim_where}
+use Rattle.enforce_types.proofs.Vocabulary.{denied_where, positive_end, positive_end_from, test_answer}
+use Rattle.enforce_types.proofs.OperandLemmas.{answer_map, endless, endless_from, found_false, has_end, has_end_from}
+use Rattle.enforce_types.proofs.OperandLemmas.{no_end, passed_on, refusal_map, refused_by, side_test, test_of_side}
+use Rattle.enforce_types.proofs.OperandLemmas.{tested_keeps}
+use Rattle.plan_terms.specs.meaning.Plans as plan
 use Rattle.enforce_types.proofs.elaboration.+elaboration.Goals as goal
 
-pub up-returns-in_ok-right-in-And : goal.up-returns-in_ok-right-in-And
-up-returns-in_ok-right-in-And t c =
-    let K = is_causable c.args.signature.now in
-    let S = is_suppressible c.args.signature.now in
-    let scope = c.args.scope.now in
-    let g : Formula = tree_of c.in-And.g.value in
-    let h : Formula = tree_of c.in-And.h.value in
-    let left : Elab K S Up g scope (answer_of c.in_ok-left-in-And.left) = subst (λ (f : Stored). Elab K S Up (tree_of f) scope (answer_of c.in_ok-left-in-And.left)) c.deref-in-And.ensures c.in_ok-left-in-And.ensures in
-    let right : Elab K S Up h scope (answer_of c.in_ok-right-in-And.right) = subst (λ (f : Stored). Elab K S Up (tree_of f) scope (answer_of c.in_ok-right-in-And.right)) c.deref-in-And-2.ensures c.in_ok-right-in-And.ensures in
-    subst (λ (f : Stored). IfOk c.both.result (λ answer. Elab K S Up (tree_of f) scope (answer_of answer))) (sym c.in-And.is)
-    (on_ok c.both.result (λ answer made. two_from (Elab K S Up g scope) (Elab K S Up h scope) (plan.Both 0) _ _ (answer_of answer) left right made) c.both.ensures)
+pub up-returns-in_err-left-in-And : goal.up-returns-in_err-left-in-And
+up-returns-in_err-left-in-And t c =
+    passed_on (λ why. Elab (is_causable c.args.signature.now) (is_suppressible c.args.signature.now) Up (tree_of c.deref-in-And.result.now) c.args.scope.now (Err why))
+    (Elab (is_causable c.args.signature.now) (is_suppressible c.args.signature.now) Up (tree_of c.args.formula.now) c.args.scope.now) _ _ c.from_residual.ensures.1 c.in_err-left-in-And.ensures
+    (λ why no. rw (c.in-And.is, ← c.deref-in-And.ensures) (OverTwo.first_refused why no refl))
 
-pub up-returns-in_ok-right-in-Or : goal.up-returns-in_ok-right-in-Or
-up-returns-in_ok-right-in-Or t c =
-    let K = is_causable c.args.signature.now in
-    let S = is_suppressible c.args.signature.now in
-    let scope = c.args.scope.now in
-    let g : Formula = tree_of c.in-Or.g.value in
-    let h : Formula = tree_of c.in-Or.h.value in
-    let left : Elab K S Up g scope (answer_of c.in_ok-left-in-Or.left) = subst (λ (f : Stored). Elab K S Up (tree_of f) scope (answer_of c.in_ok-left-in-Or.left)) c.deref-in-Or.ensures c.in_ok-left-in-Or.ensures in
-    let right : Elab K S Up h scope (answer_of c.in_ok-right-in-Or.right) = subst (λ (f : Stored). Elab K S Up (tree_of f) scope (answer_of c.in_ok-right-in-Or.right)) c.deref-in-Or-2.ensures c.in_ok-right-in-Or.ensures in
-    subst (λ (f : Stored). IfOk c.one_of_two.result (λ answer. Elab K S Up (tree_of f) scope (answer_of answer))) (sym c.in-Or.is)
-    (on_ok c.one_of_two.result (λ answer made. of_two_from scope (side false g) (side false h) (Elab K S Up g scope) (Elab K S Up h scope) _ _ (answer_of answer) left right
-    (subst (λ (f : Stored). OneOfTwo scope (side false g) (side false (tree_of f)) (Is (answer_of c.in_ok-left-in-Or.left)) (Is (answer_of c.in_ok-right-in-Or.right)) (answer_of answer)) c.deref-in-Or-4.ensures
-    (subst (λ (f : Stored). OneOfTwo scope (side false (tree_of f)) (side false (tree_of c.deref-in-Or-4.result.now)) (Is (answer_of c.in_ok-left-in-Or.left)) (Is (answer_of c.in_ok-right-in-Or.right)) (answer_of answer)) c.deref-in-Or-3.ensures made))) c.one_of_two.ensures)
+pub up-returns-in_err-right-in-And : goal.up-returns-in_err-right-in-And
+up-returns-in_err-right-in-And t c =
+    passed_on (λ why. Elab (is_causable c.args.signature.now) (is_suppressible c.args.signature.now) Up (tree_of c.deref-in-And-2.result.now) c.args.scope.now (Err why))
+    (Elab (is_causable c.args.signature.now) (is_suppressible c.args.signature.now) Up (tree_of c.args.formula.now) c.args.scope.now) _ _ c.from_residual-in_err-right-in-And.ensures.1 c.in_err-right-in-And.ensures
+    (λ why no. rw (c.in-And.is, ← c.deref-in-And.ensures, ← c.deref-in-And-2.ensures) (OverTwo.second_refused (plan_of c.in_ok-left-in-And.left) why c.in_ok-left-in-And.ensures no refl))
 
-pub up-returns-in_ok-body-in-Eventually : goal.up-returns-in_ok-body-in-Eventually
-up-returns-in_ok-body-in-Eventually t c =
-    let K = is_causable c.args.signature.now in
-    let S = is_suppressible c.args.signature.now in
-    let scope = c.args.scope.now in
-    let g : Formula = tree_of c.in-Eventually.g.value in
-    let body : Elab K S Up g scope (answer_of c.in_ok-body-in-Eventually.body) = subst (λ (f : Stored). Elab K S Up (tree_of f) scope (answer_of c.in_ok-body-in-Eventually.body)) c.deref-in-Eventually.ensures c.in_ok-body-in-Eventually.ensures in
-    let node : ℕ → Plan → Plan = λ high. plan.Eventually 0 c.in-Eventually.place c.in-Eventually.interval.low high in
-    subst (λ (f : Stored). IfOk c.eventually.result (λ answer. Elab K S Up (tree_of f) scope (answer_of answer))) (sym c.in-Eventually.is)
-    (on_ok c.eventually.result (λ answer made. end_from c.in-Eventually.place c.in-Eventually.interval.high (λ high. OverOne (Is (answer_of c.in_ok-body-in-Eventually.body)) (node high)) (λ high. OverOne (Elab K S Up g scope) (node high)) (answer_of answer) (λ high over. one_from (Elab K S Up g scope) (node high) _ (answer_of answer) body over) made) c.eventually.ensures)
+pub up-returns-in_ok-both-in-And : goal.up-returns-in_ok-both-in-And
+up-returns-in_ok-both-in-And t c =
+    rw (c.in-And.is, ← c.deref-in-And.ensures, ← c.deref-in-And-2.ensures)
+    (OverTwo.two_made (plan_of c.in_ok-left-in-And.left) (plan_of c.in_ok-right-in-And.right) c.in_ok-left-in-And.ensures c.in_ok-right-in-And.ensures (ap Ok c.in_ok-both-in-And.ensures))
 
-pub up-returns-in_ok-body-in-Always : goal.up-returns-in_ok-body-in-Always
-up-returns-in_ok-body-in-Always t c =
-    let K = is_causable c.args.signature.now in
-    let S = is_suppressible c.args.signature.now in
-    let scope = c.args.scope.now in
-    let g : Formula = tree_of c.in-Always.g.value in
-    let body : Elab K S Up g scope (answer_of c.in_ok-body-in-Always.body) = subst (λ (f : Stored). Elab K S Up (tree_of f) scope (answer_of c.in_ok-body-in-Always.body)) c.deref-in-Always.ensures c.in_ok-body-in-Always.ensures in
-    let node : ℕ → Plan → Plan = λ high. plan.Always 0 c.in-Always.place c.in-Always.interval.low high in
-    subst (λ (f : Stored). IfOk c.always.result (λ answer. Elab K S Up (tree_of f) scope (answer_of answer))) (sym c.in-Always.is)
-    (on_ok c.always.result (λ answer made. end_from c.in-Always.place c.in-Always.interval.high (λ high. OverOne (Is (answer_of c.in_ok-body-in-Always.body)) (node high)) (λ high. OverOne (Elab K S Up g scope) (node high)) (answer_of answer) (λ high over. one_from (Elab K S Up g scope) (node high) _ (answer_of answer) body over) made) c.always.ensures)
-
-pub up-returns-in_ok-body-in-Next : goal.up-returns-in_ok-body-in-Next
-up-returns-in_ok-body-in-Next t c =
-    let K = is_causable c.args.signature.now in
-    let S = is_suppressible c.args.signature.now in
-    let scope = c.args.scope.now in
-    let g : Formula = tree_of c.in-Next.g.value in
-    let body : Elab K S Up g scope (answer_of c.in_ok-body-in-Next.body) = subst (λ (f : Stored). Elab K S Up (tree_of f) scope (answer_of c.in_ok-body-in-Next.body)) c.deref-in-Next.ensures c.in_ok-body-in-Next.ensures in
-    let node : ℕ → Plan → Plan = λ high. plan.Next 0 c.in-Next.place high in
-    subst (λ (f : Stored). IfOk c.next.result (λ answer. Elab K S Up (tree_of f) scope (answer_of answer))) (sym c.in-Next.is)
-    (on_ok c.next.result (λ answer made. from_now_from c.in-Next.place c.in-Next.interval.low c.in-Next.interval.high (λ high. OverOne (Is (answer_of c.in_ok-body-in-Next.body)) (node high)) (λ high. OverOne (Elab K S Up g scope) (node high)) (answer_of answer) (λ high over. one_from (Elab K S Up g scope) (node high) _ (answer_of answer) body over) made) c.next.ensures)
-
-pub up-returns-in_ok-right-in-Until : goal.up-returns-in_ok-right-in-Until
-up-returns-in_ok-right-in-Until t c =
-    let K = is_causable c.args.signature.now in
-    let S = is_suppressible c.args.signature.now in
-    let scope = c.args.scope.now in
-    let g : Formula = tree_of c.in-Until.g.value in
-    let h : Formula = tree_of c.in-Until.h.value in
-    let left : Elab K S Up g scope (answer_of c.in_ok-left-in-Until.left) = subst (λ (f : Stored). Elab K S Up (tree_of f) scope (answer_of c.in_ok-left-in-Until.left)) c.deref-in-Until.ensures c.in_ok-left-in-Until.ensures in
-    let right : Elab K S Up h scope (answer_of c.in_ok-right-in-Until.right) = subst (λ (f : Stored). Elab K S Up (tree_of f) scope (answer_of c.in_ok-right-in-Until.right)) c.deref-in-Until-2.ensures c.in_ok-right-in-Until.ensures in
-    subst (λ (f : Stored). IfOk c.until.result (λ answer. Elab K S Up (tree_of f) scope (answer_of answer))) (sym c.in-Until.is)
-    (on_ok c.until.result (λ answer made. end_from c.in-Until.place c.in-Until.interval.high _ (λ high. OverTwo (Elab K S Up g scope) (Elab K S Up h scope) (plan.Until 0 c.in-Until.place c.in-Until.interval.low high)) (answer_of answer) (λ high over. two_from (Elab K S Up g scope) (Elab K S Up h scope) (plan.Until 0 c.in-Until.place c.in-Until.interval.low high) _ _ (answer_of answer) left right over) made) c.until.ensures)
-
-pub down-returns-in_ok-right-in-And : goal.down-returns-in_ok-right-in-And
-down-returns-in_ok-right-in-And t c =
-    let K = is_causable c.args.signature.now in
-    let S = is_suppressible c.args.signature.now in
-    let scope = c.args.scope.now in
-    let g : Formula = tree_of c.in-And.g.value in
-    let h : Formula = tree_of c.in-And.h.value in
-    let left : Elab K S Down g scope (answer_of c.in_ok-left-in-And.left) = subst (λ (f : Stored). Elab K S Down (tree_of f) scope (answer_of c.in_ok-left-in-And.left)) c.deref-in-And.ensures c.in_ok-left-in-And.ensures in
-    let right : Elab K S Down h scope (answer_of c.in_ok-right-in-And.right) = subst (λ (f : Stored). Elab K S Down (tree_of f) scope (answer_of c.in_ok-right-in-And.right)) c.deref-in-And-2.ensures c.in_ok-right-in-And.ensures in
-    subst (λ (f : Stored). IfOk c.one_of_two.result (λ answer. Elab K S Down (tree_of f) scope (answer_of answer))) (sym c.in-And.is)
-    (on_ok c.one_of_two.result (λ answer made. of_two_from scope (side true g) (side true h) (Elab K S Down g scope) (Elab K S Down h scope) _ _ (answer_of answer) left right
-    (subst (λ (f : Stored). OneOfTwo scope (side true g) (side true (tree_of f)) (Is (answer_of c.in_ok-left-in-And.left)) (Is (answer_of c.in_ok-right-in-And.right)) (answer_of answer)) c.deref-in-And-4.ensures
-    (subst (λ (f : Stored). OneOfTwo scope (side true (tree_of f)) (side true (tree_of c.deref-in-And-4.result.now)) (Is (answer_of c.in_ok-left-in-And.left)) (Is (answer_of c.in_ok-right-in-And.right)) (answer_of answer)) c.deref-in-And-3.ensures made))) c.one_of_two.ensures)
-
-pub down-returns-in_ok-right-in-Or : goal.down-returns-in_ok-right-in-Or
-down-returns-in_ok-right-in-Or t c =
-    let K = is_causable c.args.signature.now in
-    let S = is_suppressible c.args.signature.now in
-    let scope = c.args.scope.now in
-    let g : Formula = tree_of c.in-Or.g.value in
-    let h : Formula = tree_of c.in-Or.h.value in
-    let left : Elab K S Down g scope (answer_of c.in_ok-left-in-Or.left) = subst (λ (f : Stored). Elab K S Down (tree_of f) scope (answer_of c.in_ok-left-in-Or.left)) c.deref-in-Or.ensures c.in_ok-left-in-Or.ensures in
-    let right : Elab K S Down h scope (answer_of c.in_ok-right-in-Or.right) = subst (λ (f : Stored). Elab K S Down (tree_of f) scope (answer_of c.in_ok-right-in-Or.right)) c.deref-in-Or-2.ensures c.in_ok-right-in-Or.ensures in
-    subst (λ (f : Stored). IfOk c.both.result (λ answer. Elab K S Down (tree_of f) scope (answer_of answer))) (sym c.in-Or.is)
-    (on_ok c.both.result (λ answer made. two_from (Elab K S Down g scope) (Elab K S Down h scope) (plan.Both 0) _ _ (answer_of answer) left right made) c.both.ensures)
-
-pub down-returns-in_ok-right-in-Implies : goal.down-returns-in_ok-right-in-Implies
-down-returns-in_ok-right-in-Implies t c =
-    let K = is_causable c.args.signature.now in
-    let S = is_suppressible c.args.signature.now in
-    let scope = c.args.scope.now in
-    let g : Formula = tree_of c.in-Implies.g.value in
-    let h : Formula = tree_of c.in-Implies.h.value in
-    let left : Elab K S Up g scope (answer_of c.in_ok-left-in-Implies.left) = subst (λ (f : Stored). Elab K S Up (tree_of f) scope (answer_of c.in_ok-left-in-Implies.left)) c.deref-in-Implies.ensures c.in_ok-left-in-Implies.ensures in
-    let right : Elab K S Down h scope (answer_of c.in_ok-right-in-Implies.right) = subst (λ (f : Stored). Elab K S Down (tree_of f) scope (answer_of c.in_ok-right-in-Implies.right)) c.deref-in-Implies-2.ensures c.in_ok-right-in-Implies.ensures in
-    subst (λ (f : Stored). IfOk c.both-in-Implies.result (λ answer. Elab K S Down (tree_of f) scope (answer_of answer))) (sym c.in-Implies.is)
-    (on_ok c.both-in-Implies.result (λ answer made. two_from (Elab K S Up g scope) (Elab K S Down h scope) (plan.Both 0) _ _ (answer_of answer) left right made) c.both-in-Implies.ensures)
-
-pub down-returns-in_ok-body-in-Eventually : goal.down-returns-in_ok-body-in-Eventually
-down-returns-in_ok-body-in-Eventually t c =
-    let K = is_causable c.args.signature.now in
-    let S = is_suppressible c.args.signature.now in
-    let scope = c.args.scope.now in
-    let g : Formula = tree_of c.in-Eventually.g.value in
-    let body : Elab K S Down g scope (answer_of c.in_ok-body-in-Eventually.body) = subst (λ (f : Stored). Elab K S Down (tree_of f) scope (answer_of c.in_ok-body-in-Eventually.body)) c.deref-in-Eventually.ensures c.in_ok-body-in-Eventually.ensures in
-    let node : ℕ → Plan → Plan = λ high. plan.Always 0 c.in-Eventually.place c.in-Eventually.interval.low high in
-    subst (λ (f : Stored). IfOk c.always.result (λ answer. Elab K S Down (tree_of f) scope (answer_of answer))) (sym c.in-Eventually.is)
-    (on_ok c.always.result (λ answer made. end_from c.in-Eventually.place c.in-Eventually.interval.high (λ high. OverOne (Is (answer_of c.in_ok-body-in-Eventually.body)) (node high)) (λ high. OverOne (Elab K S Down g scope) (node high)) (answer_of answer) (λ high over. one_from (Elab K S Down g scope) (node high) _ (answer_of answer) body over) made) c.always.ensures)
-
-pub down-returns-in_ok-body-in-Always : goal.down-returns-in_ok-body-in-Always
-down-returns-in_ok-body-in-Always t c =
-    let K = is_causable c.args.signature.now in
-    let S = is_suppressible c.args.signature.now in
-    let scope = c.args.scope.now in
-    let g : Formula = tree_of c.in-Always.g.value in
-    let body : Elab K S Down g scope (answer_of c.in_ok-body-in-Always.body) = subst (λ (f : Stored). Elab K S Down (tree_of f) scope (answer_of c.in_ok-body-in-Always.body)) c.deref-in-Always.ensures c.in_ok-body-in-Always.ensures in
-    let node : ℕ → Plan → Plan = λ high. plan.Eventually 0 c.in-Always.place c.in-Always.interval.low high in
-    subst (λ (f : Stored). IfOk c.eventually.result (λ answer. Elab K S Down (tree_of f) scope (answer_of answer))) (sym c.in-Always.is)
-    (on_ok c.eventually.result (λ answer made. end_from c.in-Always.place c.in-Always.interval.high (λ high. OverOne (Is (answer_of c.in_ok-body-in-Always.body)) (node high)) (λ high. OverOne (Elab K S Down g scope) (node high)) (answer_of answer) (λ high over. one_from (Elab K S Down g scope) (node high) _ (answer_of answer) body over) made) c.eventually.ensures)
-
-pub down-returns-in-Exists : goal.down-returns-in-Exists
-down-returns-in-Exists t c = rw (c.in-Exists.is, ← c.deref-in-Exists.ensures) c.exclude.ensures
-
-pub exclude-returns-then-branch : goal.exclude-returns-then-branch
-exclude-returns-then-branch t c =
-    let K = is_causable c.args.signature.now in
-    let S = is_suppressible c.args.signature.now in
-    let g : Formula = tree_of c.args.g.now in
-    let made : Elab K S Down g (c.args.scope.now ++ c.args.xs.now) (Ok (plan_of c.in-Ok.plan)) =
-    subst (λ (W : List VarId). Elab K S Down g W (Ok (plan_of c.in-Ok.plan))) c.in_ok-all.ensures (subst (λ a. Elab K S Down g c.in_ok-all.all (answer_of a)) c.in-Ok.is c.in_ok-plan.ensures) in
-    Exclusion.guarded (plan_of c.in-Ok.plan) made (c.in_ok-is_guard-in-Ok.ensures.0 c.if-branch.true) (ap Ok (c.in_ok-guarded-in-Ok.ensures ∙ ap (λ (f : Formula). plan.Guarded 0 c.args.xs.now 0 f (plan_of c.in-Ok.plan)) c.in_ok-test-in-Ok.ensures))
-
-pub exclude-returns-in-Ok : goal.exclude-returns-in-Ok
-exclude-returns-in-Ok t c =
-    let K = is_causable c.args.signature.now in
-    let S = is_suppressible c.args.signature.now in
-    let g : Formula = tree_of c.args.g.now in
-    let made : Elab K S Down g (c.args.scope.now ++ c.args.xs.now) (Ok (plan_of c.in-Ok.plan)) =
-    subst (λ (W : List VarId). Elab K S Down g W (Ok (plan_of c.in-Ok.plan))) c.in_ok-all.ensures (subst (λ a. Elab K S Down g c.in_ok-all.all (answer_of a)) c.in-Ok.is c.in_ok-plan.ensures) in
-    Exclusion.unguarded (plan_of c.in-Ok.plan) made (found_false _ _ c.in_ok-is_guard-in-Ok.ensures c.if-branch.false) refl
-
-pub exclude-returns : goal.exclude-returns
-exclude-returns t c =
-    let K = is_causable c.args.signature.now in
-    let S = is_suppressible c.args.signature.now in
-    let g : Formula = tree_of c.args.g.now in
-    let made : Elab K S Down g (c.args.scope.now ++ c.args.xs.now) (Err c.in-Err.refusal) =
-    subst (λ (W : List VarId). Elab K S Down g W (Err c.in-Err.refusal)) c.in_ok-all.ensures (subst (λ a. Elab K S Down g c.in_ok-all.all (answer_of a)) c.in-Err.is c.in_ok-plan.ensures) in
-    Exclusion.refused c.in-Err.refusal made refl
+pub up-returns-in-Or : goal.up-returns-in-Or
+up-returns-in-Or t c =
+    rw (c.in-Or.is, ← c.deref-in-Or.ensures, ← c.deref-in-Or-2.ensures) c.one_of_two.ensures
 
 pub up-returns-in-Implies : goal.up-returns-in-Implies
 up-returns-in-Implies t c =
-    let K = is_causable c.args.signature.now in
-    let S = is_suppressible c.args.signature.now in
-    let place = c.in-Implies.place in
-    let F : List VarId → Stored → Stored → Type 0 = λ xs g h. IfOk c.up_implies.result (λ answer. Implication place place c.args.scope.now xs (tree_of g) (tree_of h) (Elab K S Down (tree_of g)) (Elab K S Up (tree_of h)) (answer_of answer)) in
-    subst (λ (f : Stored). IfOk c.up_implies.result (λ answer. Elab K S Up (tree_of f) c.args.scope.now (answer_of answer))) (sym c.in-Implies.is)
-    (subst (λ (xs : List VarId). F xs c.in-Implies.g.value c.in-Implies.h.value) c.new-none.ensures
-    (subst (λ (g : Stored). F c.new-none.result g c.in-Implies.h.value) c.deref-in-Implies.ensures
-    (subst (λ (h : Stored). F c.new-none.result c.deref-in-Implies.result.now h) c.deref-in-Implies-2.ensures c.up_implies.ensures)))
+    let g : Formula = tree_of c.deref-in-Implies.result.now in
+    let h : Formula = tree_of c.deref-in-Implies-2.result.now in
+    let down_g = Elab (is_causable c.args.signature.now) (is_suppressible c.args.signature.now) Down g in
+    let up_h = Elab (is_causable c.args.signature.now) (is_suppressible c.args.signature.now) Up h in
+    rw (c.in-Implies.is, ← c.deref-in-Implies.ensures, ← c.deref-in-Implies-2.ensures)
+    (subst (λ (xs : List VarId). GivesAnswer (ImplicationAnswer c.in-Implies.place c.in-Implies.place c.args.scope.now xs g h down_g up_h) c.up_implies.result)
+    c.new-none.ensures c.up_implies.ensures)
+
+pub up-returns-in_err-high-in-Eventually : goal.up-returns-in_err-high-in-Eventually
+up-returns-in_err-high-in-Eventually t c =
+    no_end (Elab (is_causable c.args.signature.now) (is_suppressible c.args.signature.now) Up (tree_of c.args.formula.now) c.args.scope.now)
+    c.in-Eventually.place (positive_end c.in-Eventually.interval.high) _ _ c.in_err-high-in-Eventually.ensures c.from_residual-in_err-high-in-Eventually.ensures.1
+    (λ none. rw c.in-Eventually.is (endless c.in-Eventually.place c.in-Eventually.interval.high _ none))
+
+pub up-returns-in_err-body-in-Eventually : goal.up-returns-in_err-body-in-Eventually
+up-returns-in_err-body-in-Eventually t c =
+    passed_on (λ why. Elab (is_causable c.args.signature.now) (is_suppressible c.args.signature.now) Up (tree_of c.deref-in-Eventually.result.now) c.args.scope.now (Err why))
+    (Elab (is_causable c.args.signature.now) (is_suppressible c.args.signature.now) Up (tree_of c.args.formula.now) c.args.scope.now) _ _ c.from_residual-in_err-body-in-Eventually.ensures.1 c.in_err-body-in-Eventually.ensures
+    (λ why no. rw (c.in-Eventually.is, ← c.deref-in-Eventually.ensures) (has_end c.in-Eventually.place c.in-Eventually.interval.high c.in_ok-high-in-Eventually.high _ _ c.in_ok-high-in-Eventually.ensures (OverOne.operand_refused why no refl)))
+
+pub up-returns-in_ok-eventually-in-Eventually : goal.up-returns-in_ok-eventually-in-Eventually
+up-returns-in_ok-eventually-in-Eventually t c =
+    rw (c.in-Eventually.is, ← c.deref-in-Eventually.ensures)
+    (has_end c.in-Eventually.place c.in-Eventually.interval.high c.in_ok-high-in-Eventually.high _ _ c.in_ok-high-in-Eventually.ensures (OverOne.operand_made (plan_of c.in_ok-body-in-Eventually.body) c.in_ok-body-in-Eventually.ensures (ap Ok c.in_ok-eventually-in-Eventually.ensures)))
+
+pub up-returns-in_err-high-in-Always : goal.up-returns-in_err-high-in-Always
+up-returns-in_err-high-in-Always t c =
+    no_end (Elab (is_causable c.args.signature.now) (is_suppressible c.args.signature.now) Up (tree_of c.args.formula.now) c.args.scope.now)
+    c.in-Always.place (positive_end c.in-Always.interval.high) _ _ c.in_err-high-in-Always.ensures c.from_residual-in_err-high-in-Always.ensures.1
+    (λ none. rw c.in-Always.is (endless c.in-Always.place c.in-Always.interval.high _ none))
+
+pub up-returns-in_err-body-in-Always : goal.up-returns-in_err-body-in-Always
+up-returns-in_err-body-in-Always t c =
+    passed_on (λ why. Elab (is_causable c.args.signature.now) (is_suppressible c.args.signature.now) Up (tree_of c.deref-in-Always.result.now) c.args.scope.now (Err why))
+    (Elab (is_causable c.args.signature.now) (is_suppressible c.args.signature.now) Up (tree_of c.args.formula.now) c.args.scope.now) _ _ c.from_residual-in_err-body-in-Always.ensures.1 c.in_err-body-in-Always.ensures
+    (λ why no. rw (c.in-Always.is, ← c.deref-in-Always.ensures) (has_end c.in-Always.place c.in-Always.interval.high c.in_ok-high-in-Always.high _ _ c.in_ok-high-in-Always.ensures (OverOne.operand_refused why no refl)))
+
+pub up-returns-in_ok-always-in-Always : goal.up-returns-in_ok-always-in-Always
+up-returns-in_ok-always-in-Always t c =
+    rw (c.in-Always.is, ← c.deref-in-Always.ensures)
+    (has_end c.in-Always.place c.in-Always.interval.high c.in_ok-high-in-Always.high _ _ c.in_ok-high-in-Always.ensures (OverOne.operand_made (plan_of c.in_ok-body-in-Always.body) c.in_ok-body-in-Always.ensures (ap Ok c.in_ok-always-in-Always.ensures)))
+
+pub up-returns-in_err-high-in-Next : goal.up-returns-in_err-high-in-Next
+up-returns-in_err-high-in-Next t c =
+    no_end (Elab (is_causable c.args.signature.now) (is_suppressible c.args.signature.now) Up (tree_of c.args.formula.now) c.args.scope.now)
+    c.in-Next.place (positive_end_from c.in-Next.interval.low c.in-Next.interval.high) _ _ c.in_err-high-in-Next.ensures c.from_residual-in_err-high-in-Next.ensures.1
+    (λ none. rw c.in-Next.is (endless_from c.in-Next.place c.in-Next.interval.low c.in-Next.interval.high _ none))
+
+pub up-returns-in_err-body-in-Next : goal.up-returns-in_err-body-in-Next
+up-returns-in_err-body-in-Next t c =
+    passed_on (λ why. Elab (is_causable c.args.signature.now) (is_suppressible c.args.signature.now) Up (tree_of c.deref-in-Next.result.now) c.args.scope.now (Err why))
+    (Elab (is_causable c.args.signature.now) (is_suppressible c.args.signature.now) Up (tree_of c.args.formula.now) c.args.scope.now) _ _ c.from_residual-in_err-body-in-Next.ensures.1 c.in_err-body-in-Next.ensures
+    (λ why no. rw (c.in-Next.is, ← c.deref-in-Next.ensures) (has_end_from c.in-Next.place c.in-Next.interval.low c.in-Next.interval.high c.in_ok-high-in-Next.high _ _ c.in_ok-high-in-Next.ensures (OverOne.operand_refused why no refl)))
+
+pub up-returns-in_ok-next-in-Next : goal.up-returns-in_ok-next-in-Next
+up-returns-in_ok-next-in-Next t c =
+    rw (c.in-Next.is, ← c.deref-in-Next.ensures)
+    (has_end_from c.in-Next.place c.in-Next.interval.low c.in-Next.interval.high c.in_ok-high-in-Next.high _ _ c.in_ok-high-in-Next.ensures (OverOne.operand_made (plan_of c.in_ok-body-in-Next.body) c.in_ok-body-in-Next.ensures (ap Ok c.in_ok-next-in-Next.ensures)))
+
+pub up-returns-in_err-high-in-Until : goal.up-returns-in_err-high-in-Until
+up-returns-in_err-high-in-Until t c =
+    no_end (Elab (is_causable c.args.signature.now) (is_suppressible c.args.signature.now) Up (tree_of c.args.formula.now) c.args.scope.now)
+    c.in-Until.place (positive_end c.in-Until.interval.high) _ _ c.in_err-high-in-Until.ensures c.from_residual-in_err-high-in-Until.ensures.1
+    (λ none. rw c.in-Until.is (endless c.in-Until.place c.in-Until.interval.high _ none))
+
+pub up-returns-in_err-left-in-Until : goal.up-returns-in_err-left-in-Until
+up-returns-in_err-left-in-Until t c =
+    passed_on (λ why. Elab (is_causable c.args.signature.now) (is_suppressible c.args.signature.now) Up (tree_of c.deref-in-Until.result.now) c.args.scope.now (Err why))
+    (Elab (is_causable c.args.signature.now) (is_suppressible c.args.signature.now) Up (tree_of c.args.formula.now) c.args.scope.now) _ _ c.from_residual-in_err-left-in-Until.ensures.1 c.in_err-left-in-Until.ensures
+    (λ why no. rw (c.in-Until.is, ← c.deref-in-Until.ensures) (has_end c.in-Until.place c.in-Until.interval.high c.in_ok-high-in-Until.high _ _ c.in_ok-high-in-Until.ensures (OverTwo.first_refused why no refl)))
+
+pub up-returns-in_err-right-in-Until : goal.up-returns-in_err-right-in-Until
+up-returns-in_err-right-in-Until t c =
+    passed_on (λ why. Elab (is_causable c.args.signature.now) (is_suppressible c.args.signature.now) Up (tree_of c.deref-in-Until-2.result.now) c.args.scope.now (Err why))
+    (Elab (is_causable c.args.signature.now) (is_suppressible c.args.signature.now) Up (tree_of c.args.formula.now) c.args.scope.now) _ _ c.from_residual-in_err-right-in-Until.ensures.1 c.in_err-right-in-Until.ensures
+    (λ why no. rw (c.in-Until.is, ← c.deref-in-Until.ensures, ← c.deref-in-Until-2.ensures) (has_end c.in-Until.place c.in-Until.interval.high c.in_ok-high-in-Until.high _ _ c.in_ok-high-in-Until.ensures
+    (OverTwo.second_refused (plan_of c.in_ok-left-in-Until.left) why c.in_ok-left-in-Until.ensures no refl)))
+
+pub up-returns-in_ok-until-in-Until : goal.up-returns-in_ok-until-in-Until
+up-returns-in_ok-until-in-Until t c =
+    rw (c.in-Until.is, ← c.deref-in-Until.ensures, ← c.deref-in-Until-2.ensures)
+    (has_end c.in-Until.place c.in-Until.interval.high c.in_ok-high-in-Until.high _ _ c.in_ok-high-in-Until.ensures
+    (OverTwo.two_made (plan_of c.in_ok-left-in-Until.left) (plan_of c.in_ok-right-in-Until.right) c.in_ok-left-in-Until.ensures c.in_ok-right-in-Until.ensures (ap Ok c.in_ok-until-in-Until.ensures)))
+
+pub down-returns-in-And : goal.down-returns-in-And
+down-returns-in-And t c =
+    rw (c.in-And.is, ← c.deref-in-And.ensures, ← c.deref-in-And-2.ensures) c.one_of_two.ensures
+
+pub down-returns-in_err-left-in-Or : goal.down-returns-in_err-left-in-Or
+down-returns-in_err-left-in-Or t c =
+    passed_on (λ why. Elab (is_causable c.args.signature.now) (is_suppressible c.args.signature.now) Down (tree_of c.deref-in-Or.result.now) c.args.scope.now (Err why))
+    (Elab (is_causable c.args.signature.now) (is_suppressible c.args.signature.now) Down (tree_of c.args.formula.now) c.args.scope.now) _ _ c.from_residual.ensures.1 c.in_err-left-in-Or.ensures
+    (λ why no. rw (c.in-Or.is, ← c.deref-in-Or.ensures) (OverTwo.first_refused why no refl))
+
+pub down-returns-in_err-right-in-Or : goal.down-returns-in_err-right-in-Or
+down-returns-in_err-right-in-Or t c =
+    passed_on (λ why. Elab (is_causable c.args.signature.now) (is_suppressible c.args.signature.now) Down (tree_of c.deref-in-Or-2.result.now) c.args.scope.now (Err why))
+    (Elab (is_causable c.args.signature.now) (is_suppressible c.args.signature.now) Down (tree_of c.args.formula.now) c.args.scope.now) _ _ c.from_residual-in_err-right-in-Or.ensures.1 c.in_err-right-in-Or.ensures
+    (λ why no. rw (c.in-Or.is, ← c.deref-in-Or.ensures, ← c.deref-in-Or-2.ensures) (OverTwo.second_refused (plan_of c.in_ok-left-in-Or.left) why c.in_ok-left-in-Or.ensures no refl))
+
+pub down-returns-in_ok-both-in-Or : goal.down-returns-in_ok-both-in-Or
+down-returns-in_ok-both-in-Or t c =
+    rw (c.in-Or.is, ← c.deref-in-Or.ensures, ← c.deref-in-Or-2.ensures)
+    (OverTwo.two_made (plan_of c.in_ok-left-in-Or.left) (plan_of c.in_ok-right-in-Or.right) c.in_ok-left-in-Or.ensures c.in_ok-right-in-Or.ensures (ap Ok c.in_ok-both-in-Or.ensures))
+
+pub down-returns-in_err-left-in-Implies : goal.down-returns-in_err-left-in-Implies
+down-returns-in_err-left-in-Implies t c =
+    passed_on (λ why. Elab (is_causable c.args.signature.now) (is_suppressible c.args.signature.now) Up (tree_of c.deref-in-Implies.result.now) c.args.scope.now (Err why))
+    (Elab (is_causable c.args.signature.now) (is_suppressible c.args.signature.now) Down (tree_of c.args.formula.now) c.args.scope.now) _ _ c.from_residual-in_err-left-in-Implies.ensures.1 c.in_err-left-in-Implies.ensures
+    (λ why no. rw (c.in-Implies.is, ← c.deref-in-Implies.ensures) (OverTwo.first_refused why no refl))
+
+pub down-returns-in_err-right-in-Implies : goal.down-returns-in_err-right-in-Implies
+down-returns-in_err-right-in-Implies t c =
+    passed_on (λ why. Elab (is_causable c.args.signature.now) (is_suppressible c.args.signature.now) Down (tree_of c.deref-in-Implies-2.result.now) c.args.scope.now (Err why))
+    (Elab (is_causable c.args.signature.now) (is_suppressible c.args.signature.now) Down (tree_of c.args.formula.now) c.args.scope.now) _ _ c.from_residual-in_err-right-in-Implies.ensures.1 c.in_err-right-in-Implies.ensures
+    (λ why no. rw (c.in-Implies.is, ← c.deref-in-Implies.ensures, ← c.deref-in-Implies-2.ensures) (OverTwo.second_refused (plan_of c.in_ok-left-in-Implies.left) why c.in_ok-left-in-Implies.ensures no refl))
+
+pub down-returns-in_ok-both-in-Implies : goal.down-returns-in_ok-both-in-Implies
+down-returns-in_ok-both-in-Implies t c =
+    rw (c.in-Implies.is, ← c.deref-in-Implies.ensures, ← c.deref-in-Implies-2.ensures)
+    (OverTwo.two_made (plan_of c.in_ok-left-in-Implies.left) (plan_of c.in_ok-right-in-Implies.right) c.in_ok-left-in-Implies.ensures c.in_ok-right-in-Implies.ensures (ap Ok c.in_ok-both-in-Implies.ensures))
+
+pub down-returns-in-Exists : goal.down-returns-in-Exists
+down-returns-in-Exists t c =
+    rw (c.in-Exists.is, ← c.deref-in-Exists.ensures) c.exclude.ensures
+
+pub down-returns-in_err-high-in-Eventually : goal.down-returns-in_err-high-in-Eventually
+down-returns-in_err-high-in-Eventually t c =
+    no_end (Elab (is_causable c.args.signature.now) (is_suppressible c.args.signature.now) Down (tree_of c.args.formula.now) c.args.scope.now)
+    c.in-Eventually.place (positive_end c.in-Eventually.interval.high) _ _ c.in_err-high-in-Eventually.ensures c.from_residual-in_err-high-in-Eventually.ensures.1
+    (λ none. rw c.in-Eventually.is (endless c.in-Eventually.place c.in-Eventually.interval.high _ none))
+
+pub down-returns-in_err-body-in-Eventually : goal.down-returns-in_err-body-in-Eventually
+down-returns-in_err-body-in-Eventually t c =
+    passed_on (λ why. Elab (is_causable c.args.signature.now) (is_suppressible c.args.signature.now) Down (tree_of c.deref-in-Eventually.result.now) c.args.scope.now (Err why))
+    (Elab (is_causable c.args.signature.now) (is_suppressible c.args.signature.now) Down (tree_of c.args.formula.now) c.args.scope.now) _ _ c.from_residual-in_err-body-in-Eventually.ensures.1 c.in_err-body-in-Eventually.ensures
+    (λ why no. rw (c.in-Eventually.is, ← c.deref-in-Eventually.ensures) (has_end c.in-Eventually.place c.in-Eventually.interval.high c.in_ok-high-in-Eventually.high _ _ c.in_ok-high-in-Eventually.ensures (OverOne.operand_refused why no refl)))
+
+pub down-returns-in_ok-always-in-Eventually : goal.down-returns-in_ok-always-in-Eventually
+down-returns-in_ok-always-in-Eventually t c =
+    rw (c.in-Eventually.is, ← c.deref-in-Eventually.ensures)
+    (has_end c.in-Eventually.place c.in-Eventually.interval.high c.in_ok-high-in-Eventually.high _ _ c.in_ok-high-in-Eventually.ensures (OverOne.operand_made (plan_of c.in_ok-body-in-Eventually.body) c.in_ok-body-in-Eventually.ensures (ap Ok c.in_ok-always-in-Eventually.ensures)))
+
+pub down-returns-in_err-high-in-Always : goal.down-returns-in_err-high-in-Always
+down-returns-in_err-high-in-Always t c =
+    no_end (Elab (is_causable c.args.signature.now) (is_suppressible c.args.signature.now) Down (tree_of c.args.formula.now) c.args.scope.now)
+    c.in-Always.place (positive_end c.in-Always.interval.high) _ _ c.in_err-high-in-Always.ensures c.from_residual-in_err-high-in-Always.ensures.1
+    (λ none. rw c.in-Always.is (endless c.in-Always.place c.in-Always.interval.high _ none))
+
+pub down-returns-in_err-body-in-Always : goal.down-returns-in_err-body-in-Always
+down-returns-in_err-body-in-Always t c =
+    passed_on (λ why. Elab (is_causable c.args.signature.now) (is_suppressible c.args.signature.now) Down (tree_of c.deref-in-Always.result.now) c.args.scope.now (Err why))
+    (Elab (is_causable c.args.signature.now) (is_suppressible c.args.signature.now) Down (tree_of c.args.formula.now) c.args.scope.now) _ _ c.from_residual-in_err-body-in-Always.ensures.1 c.in_err-body-in-Always.ensures
+    (λ why no. rw (c.in-Always.is, ← c.deref-in-Always.ensures) (has_end c.in-Always.place c.in-Always.interval.high c.in_ok-high-in-Always.high _ _ c.in_ok-high-in-Always.ensures (OverOne.operand_refused why no refl)))
+
+pub down-returns-in_ok-eventually-in-Always : goal.down-returns-in_ok-eventually-in-Always
+down-returns-in_ok-eventually-in-Always t c =
+    rw (c.in-Always.is, ← c.deref-in-Always.ensures)
+    (has_end c.in-Always.place c.in-Always.interval.high c.in_ok-high-in-Always.high _ _ c.in_ok-high-in-Always.ensures (OverOne.operand_made (plan_of c.in_ok-body-in-Always.body) c.in_ok-body-in-Always.ensures (ap Ok c.in_ok-eventually-in-Always.ensures)))
 
 pub up_for_all-returns-in-Implies : goal.up_for_all-returns-in-Implies
 up_for_all-returns-in-Implies t c =
-    let K = is_causable c.args.signature.now in
-    let S = is_suppressible c.args.signature.now in
-    let F : Stored → Stored → Type 0 = λ g h. IfOk c.up_implies.result (λ answer. Implication c.args.first c.in-Implies.place c.args.scope.now c.args.xs.now (tree_of g) (tree_of h) (Elab K S Down (tree_of g)) (Elab K S Up (tree_of h)) (answer_of answer)) in
-    subst (λ (f : Stored). IfOk c.up_implies.result (λ answer. Elab K S (UpForAll c.args.first c.args.xs.now) (tree_of f) c.args.scope.now (answer_of answer))) (sym c.in-Implies.is)
-    (subst (λ (g : Stored). F g c.in-Implies.h.value) c.deref-in-Implies.ensures
-    (subst (λ (h : Stored). F c.deref-in-Implies.result.now h) c.deref-in-Implies-2.ensures c.up_implies.ensures))
+    rw (c.in-Implies.is, ← c.deref-in-Implies.ensures, ← c.deref-in-Implies-2.ensures) c.up_implies.ensures
 
 pub up_for_all-returns-in-Not : goal.up_for_all-returns-in-Not
-up_for_all-returns-in-Not t c = rw (c.in-Not.is, ← c.deref-in-Not.ensures) c.exclude.ensures
+up_for_all-returns-in-Not t c =
+    rw (c.in-Not.is, ← c.deref-in-Not.ensures) c.exclude.ensures
+
+pub one_side-returns-then-denied : goal.one_side-returns-then-denied
+one_side-returns-then-denied t c =
+    rw c.if-denied.true c.down.ensures
+
+pub one_side-returns-else-denied : goal.one_side-returns-else-denied
+one_side-returns-else-denied t c =
+    rw c.if-denied.false c.up.ensures
+
+pub one_of_two-returns-then-branch : goal.one_of_two-returns-then-branch
+one_of_two-returns-then-branch t c =
+    let scope = c.args.scope.now in
+    let l : Formula = tree_of c.args.l.now in
+    let r : Formula = tree_of c.args.r.now in
+    OneOfTwo.left_test (plan_of c.in-Ok.plan) c.in-Ok.ensures
+    (side_test c.args.denied l (Contains scope) (c.in_ok-is_test-in-Ok.ensures.0 c.if-branch.true)) (ap Ok c.in_ok-test_or-in-Ok.ensures)
+
+pub one_of_two-returns-in_err-other-in-Ok : goal.one_of_two-returns-in_err-other-in-Ok
+one_of_two-returns-in_err-other-in-Ok t c =
+    let scope = c.args.scope.now in
+    let l : Formula = tree_of c.args.l.now in
+    let r : Formula = tree_of c.args.r.now in
+    let K = is_causable c.args.signature.now in
+    let S = is_suppressible c.args.signature.now in
+    let aim = aim_where c.args.denied in
+    let Q : Answer → Type 0 = OneOfTwo scope (denied_where c.args.denied l) (denied_where c.args.denied r) (Elab K S aim l scope) (Elab K S aim r scope) in
+    passed_on (λ why. Elab K S aim l scope (Err why)) Q _ _ c.from_residual-in_err-other-in-Ok.ensures.1 c.in_err-other-in-Ok.ensures
+    (λ why no. OneOfTwo.left_refused (plan_of c.in-Ok.plan) why c.in-Ok.ensures
+    (λ test. found_false _ _ c.in_ok-is_test-in-Ok.ensures c.if-branch.false (test_of_side c.args.denied l (Contains scope) test)) no refl)
+
+pub one_of_two-returns-in_ok-either-in-Ok : goal.one_of_two-returns-in_ok-either-in-Ok
+one_of_two-returns-in_ok-either-in-Ok t c =
+    let scope = c.args.scope.now in
+    let l : Formula = tree_of c.args.l.now in
+    let r : Formula = tree_of c.args.r.now in
+    OneOfTwo.either_made (plan_of c.in-Ok.plan) (plan_of c.in_ok-other-in-Ok.other) c.in-Ok.ensures
+    (λ test. found_false _ _ c.in_ok-is_test-in-Ok.ensures c.if-branch.false (test_of_side c.args.denied l (Contains scope) test))
+    c.in_ok-other-in-Ok.ensures (ap Ok c.in_ok-either-in-Ok.ensures)
+
+pub one_of_two-returns-then-not-branch : goal.one_of_two-returns-then-not-branch
+one_of_two-returns-then-not-branch t c =
+    let scope = c.args.scope.now in
+    let l : Formula = tree_of c.args.l.now in
+    let r : Formula = tree_of c.args.r.now in
+    let K = is_causable c.args.signature.now in
+    let S = is_suppressible c.args.signature.now in
+    let aim = aim_where c.args.denied in
+    let Q : Answer → Type 0 = OneOfTwo scope (denied_where c.args.denied l) (denied_where c.args.denied r) (Elab K S aim l scope) (Elab K S aim r scope) in
+    refusal_map (λ why. Elab K S aim r scope (Err why)) (λ why. Q (Err why)) c.in-Err.refusal (λ why no. OneOfTwo.right_refused why no
+    (λ test. found_false _ _ c.in_ok-is_test-in_default.ensures c.if-not-branch.true (test_of_side c.args.denied r (Contains scope) test)) refl) c.in-Err.ensures
+
+pub one_of_two-returns-in_err-plan-in_default : goal.one_of_two-returns-in_err-plan-in_default
+one_of_two-returns-in_err-plan-in_default t c =
+    let scope = c.args.scope.now in
+    let l : Formula = tree_of c.args.l.now in
+    let r : Formula = tree_of c.args.r.now in
+    let K = is_causable c.args.signature.now in
+    let S = is_suppressible c.args.signature.now in
+    let aim = aim_where c.args.denied in
+    let Q : Answer → Type 0 = OneOfTwo scope (denied_where c.args.denied l) (denied_where c.args.denied r) (Elab K S aim l scope) (Elab K S aim r scope) in
+    let by = refused_by (λ why. Elab K S aim r scope (Err why)) c.in-Err.refusal c.in_default.not-NoMemory c.in-Err.ensures in
+    passed_on (λ why. Elab K S aim l scope (Err why)) Q _ _ c.from_residual-in_err-plan-in_default.ensures.1 c.in_err-plan-in_default.ensures
+    (λ why no. OneOfTwo.both_refused by.0 why by.1
+    (side_test c.args.denied r (Contains scope) (c.in_ok-is_test-in_default.ensures.0 c.if-not-branch.false)) no refl)
+
+pub one_of_two-returns-in_ok-test_or-in_default : goal.one_of_two-returns-in_ok-test_or-in_default
+one_of_two-returns-in_ok-test_or-in_default t c =
+    let scope = c.args.scope.now in
+    let l : Formula = tree_of c.args.l.now in
+    let r : Formula = tree_of c.args.r.now in
+    let K = is_causable c.args.signature.now in
+    let S = is_suppressible c.args.signature.now in
+    let aim = aim_where c.args.denied in
+    let Q : Answer → Type 0 = OneOfTwo scope (denied_where c.args.denied l) (denied_where c.args.denied r) (Elab K S aim l scope) (Elab K S aim r scope) in
+    let by = refused_by (λ why. Elab K S aim r scope (Err why)) c.in-Err.refusal c.in_default.not-NoMemory c.in-Err.ensures in
+    OneOfTwo.right_test by.0 (plan_of c.in_ok-plan-in_default.plan) by.1
+    (side_test c.args.denied r (Contains scope) (c.in_ok-is_test-in_default.ensures.0 c.if-not-branch.false))
+    c.in_ok-plan-in_default.ensures (ap Ok c.in_ok-test_or-in_default.ensures)
 
 pub up_implies-returns-then-guards : goal.up_implies-returns-then-guards
 up_implies-returns-then-guards t c =
@@ -203,9 +285,11 @@ up_implies-returns-then-guards t c =
     let g : Formula = tree_of c.args.g.now in
     let h : Formula = tree_of c.args.h.now in
     let all : List VarId = c.args.scope.now ++ c.args.xs.now in
+    let Q : Answer → Type 0 = ImplicationAnswer c.args.place c.args.arrow c.args.scope.now c.args.xs.now g h (Elab K S Down g) (Elab K S Up h) in
     let made : Elab K S Up h all (Ok (plan_of c.in-Ok.plan)) =
-    subst (λ (W : List VarId). Elab K S Up h W (Ok (plan_of c.in-Ok.plan))) c.in_ok-all.ensures (subst (λ a. Elab K S Up h c.in_ok-all.all (answer_of a)) c.in-Ok.is c.in_ok-plan.ensures) in
-    Implication.guarded (plan_of c.in-Ok.plan) made (c.in_ok-guards.ensures.0 c.if-guards.true) (ap Ok (c.in_ok-guarded-in-Ok.ensures ∙ ap (λ (f : Formula). plan.Guarded 0 c.args.xs.now 0 f (plan_of c.in-Ok.plan)) c.in_ok-test-in-Ok.ensures))
+    subst (λ (W : List VarId). Elab K S Up h W (Ok (plan_of c.in-Ok.plan))) c.in_ok-all.ensures c.in-Ok.ensures in
+    ImplicationAnswer.implication_guarded (plan_of c.in-Ok.plan) made (c.in_ok-guards.ensures.0 c.if-guards.true)
+    (ap Ok (c.in_ok-guarded-in-Ok.ensures ∙ ap (λ (f : Formula). plan.Guarded 0 c.args.xs.now 0 f (plan_of c.in-Ok.plan)) c.in_ok-test-in-Ok.ensures))
 
 pub up_implies-returns-then-not-is_empty : goal.up_implies-returns-then-not-is_empty
 up_implies-returns-then-not-is_empty t c =
@@ -214,22 +298,23 @@ up_implies-returns-then-not-is_empty t c =
     let g : Formula = tree_of c.args.g.now in
     let h : Formula = tree_of c.args.h.now in
     let all : List VarId = c.args.scope.now ++ c.args.xs.now in
+    let Q : Answer → Type 0 = ImplicationAnswer c.args.place c.args.arrow c.args.scope.now c.args.xs.now g h (Elab K S Down g) (Elab K S Up h) in
     let made : Elab K S Up h all (Ok (plan_of c.in-Ok.plan)) =
-    subst (λ (W : List VarId). Elab K S Up h W (Ok (plan_of c.in-Ok.plan))) c.in_ok-all.ensures (subst (λ a. Elab K S Up h c.in_ok-all.all (answer_of a)) c.in-Ok.is c.in_ok-plan.ensures) in
-    Implication.unguarded (plan_of c.in-Ok.plan) made (found_false _ _ c.in_ok-guards.ensures c.if-guards.false) (found_false _ _ c.is_empty.ensures c.if-not-is_empty.true) refl
+    subst (λ (W : List VarId). Elab K S Up h W (Ok (plan_of c.in-Ok.plan))) c.in_ok-all.ensures c.in-Ok.ensures in
+    ImplicationAnswer.implication_unguarded (plan_of c.in-Ok.plan) made (found_false _ _ c.in_ok-guards.ensures c.if-guards.false) (found_false _ _ c.is_empty.ensures c.if-not-is_empty.true) refl
 
-pub up_implies-returns-in-Ok-2 : goal.up_implies-returns-in-Ok-2
-up_implies-returns-in-Ok-2 t c =
+pub up_implies-returns-in_err-other-in-Ok : goal.up_implies-returns-in_err-other-in-Ok
+up_implies-returns-in_err-other-in-Ok t c =
     let K = is_causable c.args.signature.now in
     let S = is_suppressible c.args.signature.now in
     let g : Formula = tree_of c.args.g.now in
     let h : Formula = tree_of c.args.h.now in
     let all : List VarId = c.args.scope.now ++ c.args.xs.now in
+    let Q : Answer → Type 0 = ImplicationAnswer c.args.place c.args.arrow c.args.scope.now c.args.xs.now g h (Elab K S Down g) (Elab K S Up h) in
     let made : Elab K S Up h all (Ok (plan_of c.in-Ok.plan)) =
-    subst (λ (W : List VarId). Elab K S Up h W (Ok (plan_of c.in-Ok.plan))) c.in_ok-all.ensures (subst (λ a. Elab K S Up h c.in_ok-all.all (answer_of a)) c.in-Ok.is c.in_ok-plan.ensures) in
-    let none = c.is_empty.ensures.0 c.if-not-is_empty.false in
-    let other : Elab K S Down g c.args.scope.now (Ok (plan_of c.in-Ok-2.other)) = subst (λ a. Elab K S Down g c.args.scope.now (answer_of a)) c.in-Ok-2.is c.in_ok-other-in-Ok.ensures in
-    Implication.either (plan_of c.in-Ok.plan) (plan_of c.in-Ok-2.other) made (found_false _ _ c.in_ok-guards.ensures c.if-guards.false) none other (ap Ok c.in_ok-either-in-Ok-2.ensures)
+    subst (λ (W : List VarId). Elab K S Up h W (Ok (plan_of c.in-Ok.plan))) c.in_ok-all.ensures c.in-Ok.ensures in
+    passed_on (λ why. Elab K S Down g c.args.scope.now (Err why)) Q _ _ c.from_residual-in_err-other-in-Ok.ensures.1 c.in_err-other-in-Ok.ensures
+    (λ why not. ImplicationAnswer.premise_refused (plan_of c.in-Ok.plan) why made (found_false _ _ c.in_ok-guards.ensures c.if-guards.false) (c.is_empty.ensures.0 c.if-not-is_empty.false) not refl)
 
 pub up_implies-returns-in-Ok : goal.up_implies-returns-in-Ok
 up_implies-returns-in-Ok t c =
@@ -238,11 +323,11 @@ up_implies-returns-in-Ok t c =
     let g : Formula = tree_of c.args.g.now in
     let h : Formula = tree_of c.args.h.now in
     let all : List VarId = c.args.scope.now ++ c.args.xs.now in
+    let Q : Answer → Type 0 = ImplicationAnswer c.args.place c.args.arrow c.args.scope.now c.args.xs.now g h (Elab K S Down g) (Elab K S Up h) in
     let made : Elab K S Up h all (Ok (plan_of c.in-Ok.plan)) =
-    subst (λ (W : List VarId). Elab K S Up h W (Ok (plan_of c.in-Ok.plan))) c.in_ok-all.ensures (subst (λ a. Elab K S Up h c.in_ok-all.all (answer_of a)) c.in-Ok.is c.in_ok-plan.ensures) in
-    let none = c.is_empty.ensures.0 c.if-not-is_empty.false in
-    let other : Elab K S Down g c.args.scope.now (Err c.in-Err-2.refusal) = subst (λ a. Elab K S Down g c.args.scope.now (answer_of a)) c.in-Err-2.is c.in_ok-other-in-Ok.ensures in
-    Implication.left_refused (plan_of c.in-Ok.plan) c.in-Err-2.refusal made (found_false _ _ c.in_ok-guards.ensures c.if-guards.false) none other refl
+    subst (λ (W : List VarId). Elab K S Up h W (Ok (plan_of c.in-Ok.plan))) c.in_ok-all.ensures c.in-Ok.ensures in
+    ImplicationAnswer.implication_either (plan_of c.in-Ok.plan) (plan_of c.in_ok-other-in-Ok.other) made (found_false _ _ c.in_ok-guards.ensures c.if-guards.false)
+    (c.is_empty.ensures.0 c.if-not-is_empty.false) c.in_ok-other-in-Ok.ensures (ap Ok c.in_ok-either-in-Ok.ensures)
 
 pub up_implies-returns-then-not-branch : goal.up_implies-returns-then-not-branch
 up_implies-returns-then-not-branch t c =
@@ -251,24 +336,31 @@ up_implies-returns-then-not-branch t c =
     let g : Formula = tree_of c.args.g.now in
     let h : Formula = tree_of c.args.h.now in
     let all : List VarId = c.args.scope.now ++ c.args.xs.now in
-    let made : Elab K S Up h all (Err c.in-Err.refusal) =
-    subst (λ (W : List VarId). Elab K S Up h W (Err c.in-Err.refusal)) c.in_ok-all.ensures (subst (λ a. Elab K S Up h c.in_ok-all.all (answer_of a)) c.in-Err.is c.in_ok-plan.ensures) in
-    let told : IsTrue c.in_ok-is_test-in-Err.field-0 ↔ IsTest h (Contains all) = subst (λ (W : List VarId). IsTrue c.in_ok-is_test-in-Err.field-0 ↔ IsTest h (Contains W)) c.in_ok-all.ensures c.in_ok-is_test-in-Err.ensures in
-    Implication.right_refused c.in-Err.refusal made (found_false _ _ told c.if-not-branch.true) refl
+    let Q : Answer → Type 0 = ImplicationAnswer c.args.place c.args.arrow c.args.scope.now c.args.xs.now g h (Elab K S Down g) (Elab K S Up h) in
+    let no : GivesRefusal (λ why. Elab K S Up h all (Err why)) c.in-Err.refusal =
+    subst (λ (W : List VarId). GivesRefusal (λ why. Elab K S Up h W (Err why)) c.in-Err.refusal) c.in_ok-all.ensures c.in-Err.ensures in
+    let told : IsTrue c.in_ok-is_test-in_default.field-0 ↔ IsTest h (Contains all) =
+    subst (λ (W : List VarId). IsTrue c.in_ok-is_test-in_default.field-0 ↔ IsTest h (Contains W)) c.in_ok-all.ensures c.in_ok-is_test-in_default.ensures in
+    refusal_map (λ why. Elab K S Up h all (Err why)) (λ why. Q (Err why)) c.in-Err.refusal
+    (λ why not. ImplicationAnswer.conclusion_refused why not (found_false _ _ told c.if-not-branch.true) refl) no
 
-pub up_implies-returns-in-Ok-3 : goal.up_implies-returns-in-Ok-3
-up_implies-returns-in-Ok-3 t c =
+pub up_implies-returns-in_err-plan-in_default : goal.up_implies-returns-in_err-plan-in_default
+up_implies-returns-in_err-plan-in_default t c =
     let K = is_causable c.args.signature.now in
     let S = is_suppressible c.args.signature.now in
     let g : Formula = tree_of c.args.g.now in
     let h : Formula = tree_of c.args.h.now in
     let all : List VarId = c.args.scope.now ++ c.args.xs.now in
-    let made : Elab K S Up h all (Err c.in-Err.refusal) =
-    subst (λ (W : List VarId). Elab K S Up h W (Err c.in-Err.refusal)) c.in_ok-all.ensures (subst (λ a. Elab K S Up h c.in_ok-all.all (answer_of a)) c.in-Err.is c.in_ok-plan.ensures) in
-    let told : IsTrue c.in_ok-is_test-in-Err.field-0 ↔ IsTest h (Contains all) = subst (λ (W : List VarId). IsTrue c.in_ok-is_test-in-Err.field-0 ↔ IsTest h (Contains W)) c.in_ok-all.ensures c.in_ok-is_test-in-Err.ensures in
-    let false_by : Elab K S Down g all (Ok (plan_of c.in-Ok-3.plan)) =
-    subst (λ (W : List VarId). Elab K S Down g W (Ok (plan_of c.in-Ok-3.plan))) c.in_ok-all.ensures (subst (λ a. Elab K S Down g c.in_ok-all.all (answer_of a)) c.in-Ok-3.is c.in_ok-plan-in-Err.ensures) in
-    on_ok c.test_implies.result (λ answer is. tested_keeps c.args.place c.args.arrow c.args.scope.now c.args.xs.now g h (Elab K S Down g) (Elab K S Up h) c.in-Err.refusal (plan_of c.in-Ok-3.plan) c.in_ok-guards.guards (answer_of answer) c.in_ok-guards.ensures made (told.0 c.if-not-branch.false) false_by is) c.test_implies.ensures
+    let Q : Answer → Type 0 = ImplicationAnswer c.args.place c.args.arrow c.args.scope.now c.args.xs.now g h (Elab K S Down g) (Elab K S Up h) in
+    let no : GivesRefusal (λ why. Elab K S Up h all (Err why)) c.in-Err.refusal =
+    subst (λ (W : List VarId). GivesRefusal (λ why. Elab K S Up h W (Err why)) c.in-Err.refusal) c.in_ok-all.ensures c.in-Err.ensures in
+    let told : IsTrue c.in_ok-is_test-in_default.field-0 ↔ IsTest h (Contains all) =
+    subst (λ (W : List VarId). IsTrue c.in_ok-is_test-in_default.field-0 ↔ IsTest h (Contains W)) c.in_ok-all.ensures c.in_ok-is_test-in_default.ensures in
+    let by = refused_by (λ why. Elab K S Up h all (Err why)) c.in-Err.refusal c.in_default.not-NoMemory no in
+    let other : GivesRefusal (λ why. Elab K S Down g all (Err why)) c.in_err-plan-in_default.field-0.0 =
+    subst (λ (W : List VarId). GivesRefusal (λ why. Elab K S Down g W (Err why)) c.in_err-plan-in_default.field-0.0) c.in_ok-all.ensures c.in_err-plan-in_default.ensures in
+    passed_on (λ why. Elab K S Down g all (Err why)) Q _ _ c.from_residual-in_err-plan-in_default.ensures.1 other
+    (λ why not. ImplicationAnswer.implication_refused by.0 why by.1 (told.0 c.if-not-branch.false) not refl)
 
 pub up_implies-returns : goal.up_implies-returns
 up_implies-returns t c =
@@ -277,9 +369,48 @@ up_implies-returns t c =
     let g : Formula = tree_of c.args.g.now in
     let h : Formula = tree_of c.args.h.now in
     let all : List VarId = c.args.scope.now ++ c.args.xs.now in
-    let made : Elab K S Up h all (Err c.in-Err.refusal) =
-    subst (λ (W : List VarId). Elab K S Up h W (Err c.in-Err.refusal)) c.in_ok-all.ensures (subst (λ a. Elab K S Up h c.in_ok-all.all (answer_of a)) c.in-Err.is c.in_ok-plan.ensures) in
-    let told : IsTrue c.in_ok-is_test-in-Err.field-0 ↔ IsTest h (Contains all) = subst (λ (W : List VarId). IsTrue c.in_ok-is_test-in-Err.field-0 ↔ IsTest h (Contains W)) c.in_ok-all.ensures c.in_ok-is_test-in-Err.ensures in
-    let other : Elab K S Down g all (Err c.in-Err-3.other) =
-    subst (λ (W : List VarId). Elab K S Down g W (Err c.in-Err-3.other)) c.in_ok-all.ensures (subst (λ a. Elab K S Down g c.in_ok-all.all (answer_of a)) c.in-Err-3.is c.in_ok-plan-in-Err.ensures) in
-    Implication.both_refused c.in-Err.refusal c.in-Err-3.other made (told.0 c.if-not-branch.false) other refl
+    let Q : Answer → Type 0 = ImplicationAnswer c.args.place c.args.arrow c.args.scope.now c.args.xs.now g h (Elab K S Down g) (Elab K S Up h) in
+    let no : GivesRefusal (λ why. Elab K S Up h all (Err why)) c.in-Err.refusal =
+    subst (λ (W : List VarId). GivesRefusal (λ why. Elab K S Up h W (Err why)) c.in-Err.refusal) c.in_ok-all.ensures c.in-Err.ensures in
+    let told : IsTrue c.in_ok-is_test-in_default.field-0 ↔ IsTest h (Contains all) =
+    subst (λ (W : List VarId). IsTrue c.in_ok-is_test-in_default.field-0 ↔ IsTest h (Contains W)) c.in_ok-all.ensures c.in_ok-is_test-in_default.ensures in
+    let by = refused_by (λ why. Elab K S Up h all (Err why)) c.in-Err.refusal c.in_default.not-NoMemory no in
+    let false_by : Elab K S Down g all (Ok (plan_of c.in_ok-plan-in_default.plan)) =
+    subst (λ (W : List VarId). Elab K S Down g W (Ok (plan_of c.in_ok-plan-in_default.plan))) c.in_ok-all.ensures c.in_ok-plan-in_default.ensures in
+    answer_map (λ answer. answer ≡ test_answer c.args.place c.args.arrow c.args.xs.now c.in_ok-guards.guards g h (plan_of c.in_ok-plan-in_default.plan)) Q
+    c.test_implies.result (λ answer is. tested_keeps c.args.place c.args.arrow c.args.scope.now
+    c.args.xs.now g h (Elab K S Down g) (Elab K S Up h) by.0 (plan_of c.in_ok-plan-in_default.plan)
+    c.in_ok-guards.guards answer c.in_ok-guards.ensures by.1 (told.0 c.if-not-branch.false)
+    false_by is) c.test_implies.ensures
+
+pub exclude-returns-in_err-plan : goal.exclude-returns-in_err-plan
+exclude-returns-in_err-plan t c =
+    let K = is_causable c.args.signature.now in
+    let S = is_suppressible c.args.signature.now in
+    let g : Formula = tree_of c.args.g.now in
+    let all : List VarId = c.args.scope.now ++ c.args.xs.now in
+    let no : GivesRefusal (λ why. Elab K S Down g all (Err why)) c.in_err-plan.field-0.0 =
+    subst (λ (W : List VarId). GivesRefusal (λ why. Elab K S Down g W (Err why)) c.in_err-plan.field-0.0) c.in_ok-all.ensures c.in_err-plan.ensures in
+    passed_on (λ why. Elab K S Down g all (Err why)) (Exclusion c.args.place c.args.scope.now c.args.xs.now g (Elab K S Down g))
+    _ _ c.from_residual-in_err-plan.ensures.1 no (λ why not. Exclusion.exclusion_refused why not refl)
+
+pub exclude-returns-then-not-branch : goal.exclude-returns-then-not-branch
+exclude-returns-then-not-branch t c =
+    let K = is_causable c.args.signature.now in
+    let S = is_suppressible c.args.signature.now in
+    let g : Formula = tree_of c.args.g.now in
+    let all : List VarId = c.args.scope.now ++ c.args.xs.now in
+    let made : Elab K S Down g all (Ok (plan_of c.in_ok-plan.plan)) =
+    subst (λ (W : List VarId). Elab K S Down g W (Ok (plan_of c.in_ok-plan.plan))) c.in_ok-all.ensures c.in_ok-plan.ensures in
+    Exclusion.exclusion_unguarded (plan_of c.in_ok-plan.plan) made (found_false _ _ c.in_ok-is_guard.ensures c.if-not-branch.true) refl
+
+pub exclude-returns : goal.exclude-returns
+exclude-returns t c =
+    let K = is_causable c.args.signature.now in
+    let S = is_suppressible c.args.signature.now in
+    let g : Formula = tree_of c.args.g.now in
+    let all : List VarId = c.args.scope.now ++ c.args.xs.now in
+    let made : Elab K S Down g all (Ok (plan_of c.in_ok-plan.plan)) =
+    subst (λ (W : List VarId). Elab K S Down g W (Ok (plan_of c.in_ok-plan.plan))) c.in_ok-all.ensures c.in_ok-plan.ensures in
+    Exclusion.exclusion_guarded (plan_of c.in_ok-plan.plan) made (c.in_ok-is_guard.ensures.0 c.if-not-branch.false)
+    (ap Ok (c.in_ok-guarded.ensures ∙ ap (λ (f : Formula). plan.Guarded 0 c.args.xs.now 0 f (plan_of c.in_ok-plan.plan)) c.in_ok-test.ensures))

@@ -1,4 +1,4 @@
-use Rattle.enforce_types.specs.Elab.{Up}
+use Rattle.enforce_types.proofs.Vocabulary.{Up}
 use Rattle.enforce_types.proofs.PlanSizes.{plan_fits, guards_are_nodes}
 use Rattle.enforce_types.proofs.laws.plans_are_small.Goals as goal
 

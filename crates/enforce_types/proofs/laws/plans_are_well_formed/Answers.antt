@@ -1,4 +1,4 @@
-use Rattle.enforce_types.proofs.FormedPlans.{plans_end_later, plans_formed, plans_kept}
+use Rattle.enforce_types.proofs.WellFormedPlans.{plans_end_later, plans_formed, plans_kept}
 use Rattle.enforce_types.proofs.laws.plans_are_well_formed.Goals as goal
 
 pub returns : goal.returns

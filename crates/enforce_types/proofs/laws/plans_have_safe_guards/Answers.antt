@@ -1,5 +1,4 @@
-use Rattle.std.proofs.Common.{None, Contains}
-use Rattle.monitorable_guard.specs.SafetyLaws.{safe_past}
+use Rattle.enforce_types.proofs.Vocabulary.{None, Contains, safe_past}
 use Rattle.enforce_types.proofs.SafeGuards.{safe_guards}
 use Rattle.enforce_types.proofs.laws.plans_have_safe_guards.Goals as goal
 

@@ -1,5 +1,5 @@
-use Rattle.enforce_types.specs.Elab.{Up, Down}
-use Rattle.enforce_types.proofs.KeptMeaning.{kept}
+use Rattle.enforce_types.proofs.Vocabulary.{Up, Down}
+use Rattle.enforce_types.proofs.PlanMeaning.{kept}
 use Rattle.enforce_types.proofs.laws.plans_keep_meaning.Goals as goal
 
 pub returns-clause-up : goal.returns-clause-up

@@ -1,4 +1,4 @@
-use Rattle.enforce_types.proofs.ReadSorts.{text_sorted}
+use Rattle.enforce_types.proofs.ReadRuleSorts.{text_sorted}
 use Rattle.enforce_types.proofs.laws.read_is_sorted.Goals as goal
 
 pub returns : goal.returns

@@ -1,4 +1,4 @@
-use Rattle.std.proofs.Common.{Contains}
+use Rattle.enforce_types.proofs.Vocabulary.{Contains}
 use Rattle.enforce_types.proofs.SortLemmas.{finds, values_fit}
 use Rattle.enforce_types.proofs.laws.safe_values_fit.Goals as goal
 

@@ -1,16 +1,12 @@
-use Rattle.std.proofs.Common.{◌≡◌, ℕ, IsTrue, [], Some, ap, arith, refl, subst, ⊎_elim, true≢false, sym, ◌∙◌}
-use Rattle.std.proofs.lemmas.Option.{same_Some}
-use Rattle.enf_value.specs.ListLaws.{first_or_later, here, none_in_nil}
-use Rattle.enf_value.specs.declared.events.NameId.{NameId}
-use Rattle.enf_formula.specs.Cases.{name_p, name_q}
-use Rattle.enforce_types.specs.Cases.{p_and_q}
-use Rattle.enforce_types.specs.Marks.{is_causable}
+use Rattle.enforce_types.proofs.Vocabulary.{◌≡◌, ℕ, IsTrue, [], arith, refl, subst, ⊎_elim, true≢false, sym}
+use Rattle.enforce_types.proofs.Vocabulary.{same_Some, first_or_later, here, none_in_nil, NameId, name_p, name_q}
+use Rattle.enforce_types.proofs.Vocabulary.{text_entries, is_causable}
 use Rattle.enforce_types.proofs.worked_cases.keeping_to_signature.Goals as goal
 
 pub returns-clause-kept : goal.returns-clause-kept
 returns-clause-kept c = record {
   caused = λ name there.
-      ⊎_elim (λ (same : name_q ≡ name). subst (λ (n : NameId). IsTrue (is_causable p_and_q n)) same refl) (λ none. absurd (none_in_nil name none)) (first_or_later name name_q [] there);
+      ⊎_elim (λ (same : name_q ≡ name). subst (λ (n : NameId). IsTrue (is_causable text_entries n)) same refl) (λ none. absurd (none_in_nil name none)) (first_or_later name name_q [] there);
   suppressed = λ name there. absurd (none_in_nil name there);
   filled = (tt, (tt, (refl, tt)));
   looked_for = (omega arith, tt);

@@ -1,4 +1,4 @@
-use Rattle.std.proofs.Common.{refl}
+use Rattle.enforce_types.proofs.Vocabulary.{refl}
 use Rattle.enforce_types.proofs.worked_cases.numbers.Goals as goal
 
 pub returns-clause-listed : goal.returns-clause-listed

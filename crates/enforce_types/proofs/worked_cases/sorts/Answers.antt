@@ -1,16 +1,9 @@
-use Rattle.std.proofs.Common.{◌≡◌, ℕ, zero, suc, pos, [], ◌∷◌, Option, codes, nat_eq, cond, false, inr, ⊎_elim, Contains, refl, sym, subst, ◌∙◌}
+use Rattle.enforce_types.proofs.Vocabulary.{◌≡◌, ℕ, zero, suc, pos, [], ◌∷◌, Option, codes, nat_eq, cond}
+use Rattle.enforce_types.proofs.Vocabulary.{false, inr, ⊎_elim, Contains, refl, sym, subst, ◌∙◌, none-some}
+use Rattle.enforce_types.proofs.Vocabulary.{step_at, first_or_later, here, none_in_nil, VarId, Num, name_p, FillColumns}
+use Rattle.enforce_types.proofs.Vocabulary.{FitsSignature, entry_columns, NameEntry, Sort, Int, Text, text_a}
+use Rattle.enforce_types.proofs.Vocabulary.{int_and_text_entries, one_p}
 use Rattle.std.specs.Prelude.{slice_get}
-use Rattle.std.proofs.lemmas.Option.{none-some}
-use Rattle.enf_value.specs.Data.{step_at}
-use Rattle.enf_value.specs.ListLaws.{first_or_later, here, none_in_nil}
-use Rattle.enf_value.specs.declared.terms.VarId.{VarId}
-use Rattle.enf_value.specs.declared.values.Value.TheVariants.{Num}
-use Rattle.enf_formula.specs.Cases.{name_p}
-use Rattle.signature.specs.Columns.{FillColumns, FitsSignature, columns}
-use Rattle.signature.specs.declared.entries.NameEntry.{NameEntry}
-use Rattle.signature.specs.declared.entries.Sort.{Sort}
-use Rattle.signature.specs.declared.entries.Sort.TheVariants.{Int, Text}
-use Rattle.enforce_types.specs.Cases.{a, int_and_text, one_p}
 use Rattle.enforce_types.proofs.worked_cases.sorts.Goals as goal
 
 int_is_no_text : Int ≡ Text → ⊥
@@ -35,18 +28,21 @@ returns-clause-no_name c = λ sorted. sorted.1
 pub returns-clause-trace : goal.returns-clause-trace
 returns-clause-trace c i event there = by i there
   where
-    by : (i : ℕ) → Contains (step_at (one_p (Num (pos 7))) i).events event → FitsSignature int_and_text event
-    by zero there = ⊎_elim (λ same. subst (FitsSignature int_and_text) same (record { text = codes "p"; sorts = Int ∷ []; causable = false; suppressible = false }, refl, (refl, tt))) (λ never. absurd (none_in_nil event never))
+    by : (i : ℕ) → Contains (step_at (one_p (Num (pos 7))) i).events event → FitsSignature int_and_text_entries event
+    by zero there = ⊎_elim (λ same. subst (FitsSignature int_and_text_entries) same
+        (record { text = codes "p"; sorts = Int ∷ []; causable = false; suppressible = false }, refl, (refl, tt)))
+        (λ never. absurd (none_in_nil event never))
         (first_or_later event (record { name = name_p; args = Num (pos 7) ∷ [] }) [] there)
     by (suc i) there = absurd (none_in_nil event there)
 
 pub returns-clause-no_number : goal.returns-clause-no_number
 returns-clause-no_number c = λ fits.
-    let one = fits 0 (record { name = name_p; args = a ∷ [] }) (here (record { name = name_p; args = a ∷ [] }) []) in
-    let column : FillColumns (a ∷ []) (columns (slice_get int_and_text 0)) = subst (λ (found : Option NameEntry). FillColumns (a ∷ []) (columns found)) (sym one.1) one.2 in
+    let one = fits 0 (record { name = name_p; args = text_a ∷ [] }) (here (record { name = name_p; args = text_a ∷ [] }) []) in
+    let column : FillColumns (text_a ∷ []) (entry_columns (slice_get int_and_text_entries 0)) = subst
+    (λ (found : Option NameEntry). FillColumns (text_a ∷ []) (entry_columns found)) (sym one.1) one.2 in
     int_is_no_text (sym column.0)
 
 pub returns-clause-no_entry : goal.returns-clause-no_entry
 returns-clause-no_entry c = λ fits.
-    let one = fits 0 (record { name = name_p; args = a ∷ [] }) (here (record { name = name_p; args = a ∷ [] }) []) in
+    let one = fits 0 (record { name = name_p; args = text_a ∷ [] }) (here (record { name = name_p; args = text_a ∷ [] }) []) in
     none-some one.0 one.1

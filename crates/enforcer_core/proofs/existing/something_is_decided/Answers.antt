@@ -1,4 +1,4 @@
-use Rattle.enforcer_core.proofs.ExistingLemmas.{something_drains, something_follows}
+use Rattle.enforcer_core.proofs.ExistenceLemmas.{something_drains, something_follows}
 use Rattle.enforcer_core.proofs.existing.something_is_decided.Goals as goal
 
 pub returns-clause-records : goal.returns-clause-records

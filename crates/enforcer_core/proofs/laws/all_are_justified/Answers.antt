@@ -1,4 +1,4 @@
-use Rattle.enforcer_core.proofs.JustifyingLemmas.{drain_is_justified, follows_is_justified}
+use Rattle.enforcer_core.proofs.JustificationLemmas.{drain_is_justified, follows_is_justified}
 use Rattle.enforcer_core.proofs.laws.all_are_justified.Goals as goal
 
 pub returns-clause-records : goal.returns-clause-records

@@ -1,4 +1,4 @@
-use Rattle.enforcer_core.proofs.TransparentLemmas.{follows_alone, nothing_drains}
+use Rattle.enforcer_core.proofs.TransparencyLemmas.{follows_alone, nothing_drains}
 use Rattle.enforcer_core.proofs.laws.lawful_are_left_alone.Goals as goal
 
 pub returns-clause-records : goal.returns-clause-records

@@ -1,4 +1,4 @@
-use Rattle.enforcer_core.proofs.Courses.{planned_satisfied}
+use Rattle.enforcer_core.proofs.CourseLemmas.{planned_satisfied}
 use Rattle.enforcer_core.proofs.laws.planned.Goals as goal
 
 pub returns : goal.returns

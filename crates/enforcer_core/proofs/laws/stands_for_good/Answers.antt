@@ -1,4 +1,4 @@
-use Rattle.enforcer_core.proofs.Courses.{stands_good}
+use Rattle.enforcer_core.proofs.CourseLemmas.{stands_good}
 use Rattle.enforcer_core.proofs.laws.stands_for_good.Goals as goal
 
 pub returns : goal.returns

@@ -1,4 +1,4 @@
-use Rattle.enforcer_core.proofs.FittingLemmas.{follows_fits}
+use Rattle.enforcer_core.proofs.SignatureLemmas.{follows_fits}
 use Rattle.enforcer_core.proofs.laws.what_goes_out_fits.Goals as goal
 
 pub returns : goal.returns

@@ -1,5 +1,5 @@
-use Rattle.std.proofs.Common.{[]}
-use Rattle.formula_reader.proofs.Least.{first_stands, first_least, least_first, none_stands}
+use Rattle.formula_reader.proofs.Vocabulary.{[]}
+use Rattle.formula_reader.proofs.LeastRefusal.{first_stands, first_least, least_first, none_stands}
 use Rattle.formula_reader.proofs.laws.first_by_place.Goals as goal
 
 pub returns-clause-least : goal.returns-clause-least

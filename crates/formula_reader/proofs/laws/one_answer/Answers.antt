@@ -1,4 +1,4 @@
-use Rattle.formula_reader.proofs.Existence.{one_answer_of}
+use Rattle.formula_reader.proofs.RulesExist.{one_answer_of}
 use Rattle.formula_reader.proofs.laws.one_answer.Goals as goal
 
 pub returns : goal.returns

@@ -1,4 +1,4 @@
-use Rattle.formula_reader.proofs.Blind.{rule-blind, rule_refusal-blind}
+use Rattle.formula_reader.proofs.PlaceBlindness.{rule-blind, rule_refusal-blind}
 use Rattle.formula_reader.proofs.laws.places_stand_in_the_answer_alone.Goals as goal
 
 pub returns-clause-refused : goal.returns-clause-refused

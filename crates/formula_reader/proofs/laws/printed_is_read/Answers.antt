@@ -1,4 +1,4 @@
-use Rattle.formula_reader.specs.RoundTrip.{text_levels}
+use Rattle.formula_reader.proofs.Vocabulary.{text_levels}
 use Rattle.formula_reader.proofs.RoundTrip.{read_back, source_of, text_has_levels}
 use Rattle.formula_reader.proofs.laws.printed_is_read.Goals as goal
 

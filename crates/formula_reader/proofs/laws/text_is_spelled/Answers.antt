@@ -1,4 +1,4 @@
-use Rattle.formula_reader.proofs.Printed.{printed-rule}
+use Rattle.formula_reader.proofs.PrintedPieces.{printed-rule}
 use Rattle.formula_reader.proofs.laws.text_is_spelled.Goals as goal
 
 pub returns : goal.returns

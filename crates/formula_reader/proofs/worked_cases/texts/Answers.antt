@@ -1,4 +1,4 @@
-use Rattle.std.proofs.Common.{refl}
+use Rattle.formula_reader.proofs.Vocabulary.{refl}
 use Rattle.std.specs.Fmt.{digits}
 use Rattle.formula_reader.proofs.worked_cases.texts.Goals as goal
 

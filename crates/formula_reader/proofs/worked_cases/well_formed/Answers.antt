@@ -1,8 +1,5 @@
-use Rattle.std.proofs.Common.{◌≡◌, ℕ, ◌<◌, ◌≤◌, zero, suc, List, [], ◌∷◌, Contains, refl, arith, lit≤}
-use Rattle.std.proofs.lemmas.List.Elements.{Contains-append_right}
+use Rattle.formula_reader.proofs.Vocabulary.{◌<◌, [], ◌∷◌, refl, arith, lit≤, new_apart, variable_id}
 use Rattle.std.specs.List.Sorted.{IsStrictlySortedBy}
-use Rattle.enf_formula.specs.ScopeLaws.{new_apart}
-use Rattle.formula_reader.specs.Cases.{var}
 use Rattle.formula_reader.proofs.worked_cases.well_formed.Goals as goal
 
 pub returns-clause-scoped : goal.returns-clause-scoped
@@ -13,7 +10,7 @@ pub returns-clause-free : goal.returns-clause-free
 returns-clause-free c = λ scoped. let below : scoped.0.0 < 0 = scoped.0.1 in absurd (omega arith)
 
 pub returns-clause-bound_again : goal.returns-clause-bound_again
-returns-clause-bound_again c = λ scoped. new_apart (var 0 ∷ []) (var 0 ∷ []) scoped.1.0 (var 0) (0, lit≤ tt, refl) (0, lit≤ tt, refl)
+returns-clause-bound_again c = λ scoped. new_apart (variable_id 0 ∷ []) (variable_id 0 ∷ []) scoped.1.0 (variable_id 0) (0, lit≤ tt, refl) (0, lit≤ tt, refl)
 
 pub returns-clause-bound_twice : goal.returns-clause-bound_twice
 unfolding IsStrictlySortedBy

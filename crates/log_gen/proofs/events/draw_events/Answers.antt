@@ -1,6 +1,6 @@
 -- The events of one pair of draws more.
 use Rattle.std.proofs.Common.{ap, ◌∙◌, arith}
-use Rattle.log_gen.proofs.Puts.{put_drawn}
+use Rattle.log_gen.proofs.PutEvents.{put_drawn}
 use Rattle.log_gen.proofs.events.draw_events.Goals as goal
 
 pub loop-preserved : goal.loop-preserved

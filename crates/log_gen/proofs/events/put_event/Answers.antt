@@ -1,4 +1,4 @@
-use Rattle.log_gen.proofs.Puts.{Inserts-put}
+use Rattle.log_gen.proofs.PutEvents.{Inserts-put}
 use Rattle.log_gen.proofs.events.put_event.Goals as goal
 
 pub returns-in-Ok : goal.returns-in-Ok

@@ -1,14 +1,15 @@
 -- One line more, and what was appended of it before memory ran out.
 use Rattle.std.proofs.Common.{ap, ◌∙◌, arith}
 use Rattle.std.specs.Prelude.{Ok}
-use Rattle.log_gen.proofs.Texts.{append_more, on_err, part_of_text}
+use Rattle.enf_data.proofs.ListFacts.{on_err_from}
+use Rattle.log_gen.proofs.GeneratedTexts.{append_more, part_of_text}
 use Rattle.log_gen.proofs.generator.generate.Goals as goal
 
 pub returns-in_err-append_line-clause-err : goal.returns-in_err-append_line-clause-err
 returns-in_err-append_line-clause-err c =
     let before = c.loop-log.invariant in
     let left = c.in_err-append_line.ensures.left in
-    on_err _ (part_of_text c.args.start c.loop-log.log.start c.loop-log.log.made c.args.steps c.args.out.now.items c.loop-log.out.items c.append_line.new.out.items
+    on_err_from _ (part_of_text c.args.start c.loop-log.log.start c.loop-log.log.made c.args.steps c.args.out.now.items c.loop-log.out.items c.append_line.new.out.items
     before.start (omega (arith, left, before.steps)) before.appended c.in_err-append_line.ensures.part)
 
 pub loop-log-preserved : goal.loop-log-preserved

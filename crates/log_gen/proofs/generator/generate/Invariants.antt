@@ -1,5 +1,5 @@
 use Rattle.std.proofs.Common.{◌≡◌, ◌++◌, ◌-◌, ◌≤◌}
-use Rattle.log_gen.specs.Generated.{generated_text}
+use Rattle.log_gen.specs.meaning.GeneratedLogs.{generated_text}
 use Rattle.log_gen.proofs.generator.generate.Given as goal
 
 abbrev pub invariant-loop-log : goal.invariant-loop-log

@@ -1,8 +1,8 @@
-use Rattle.log_gen.specs.Samples.{sample_entries}
-use Rattle.log_gen.specs.Generated.{generated}
-use Rattle.log_gen.proofs.Limits.{steps_within}
-use Rattle.log_gen.proofs.Lines.{IsLog-lines}
-use Rattle.log_gen.proofs.Sample.{IsSignature-sample}
+use Rattle.log_gen.specs.meaning.Samples.{sample_entries}
+use Rattle.log_gen.specs.meaning.GeneratedLogs.{generated}
+use Rattle.log_gen.proofs.StepLimits.{steps_within}
+use Rattle.log_gen.proofs.StepLines.{IsLog-lines}
+use Rattle.log_gen.proofs.SampleSignature.{IsSignature-sample}
 use Rattle.log_gen.proofs.laws.text_is_read.Goals as goal
 
 pub returns : goal.returns

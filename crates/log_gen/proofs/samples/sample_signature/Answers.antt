@@ -1,5 +1,5 @@
 use Rattle.std.proofs.Common.{refl}
-use Rattle.log_gen.proofs.Sample.{IsSignature-sample}
+use Rattle.log_gen.proofs.SampleSignature.{IsSignature-sample}
 use Rattle.log_gen.proofs.samples.sample_signature.Goals as goal
 
 pub returns-clause-read : goal.returns-clause-read

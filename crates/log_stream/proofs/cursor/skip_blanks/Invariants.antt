@@ -1,5 +1,4 @@
-use Rattle.std.proofs.Common.{ℕ, ◌-◌, ◌<◌, ◌≤◌, IsTrue, length, slice_index}
-use Rattle.enf_value.specs.Tokens.{is_blank}
+use Rattle.log_stream.proofs.Vocabulary.{ℕ, ◌-◌, ◌<◌, ◌≤◌, IsTrue, length, slice_index, is_blank}
 use Rattle.log_stream.proofs.cursor.skip_blanks.Given as goal
 
 abbrev pub invariant-loop-at : goal.invariant-loop-at

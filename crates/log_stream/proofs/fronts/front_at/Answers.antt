@@ -1,7 +1,7 @@
-use Rattle.std.proofs.Common.{List, ℕ, ◌+◌, subst, ap, refl, drop, length, arith, length-drop}
-use Rattle.log_stream.specs.Scanning.{Scans}
-use Rattle.log_stream.specs.declared.scanning.Scanned.TheVariants.{Ends, Open}
-use Rattle.log_stream.proofs.Windows.{begins_at, endless_at, open_scan, whole_at, window_is}
+use Rattle.log_stream.proofs.Vocabulary.{List, ℕ, ◌+◌, subst, ap, refl, drop, length, arith, length-drop, Scans}
+use Rattle.log_stream.proofs.Vocabulary.{Open}
+use Rattle.log_stream.specs.declared.scanning.Scanned.TheVariants.{Ends}
+use Rattle.log_stream.proofs.RestFronts.{begins_at, endless_at, open_scan, whole_at, window_is}
 use Rattle.log_stream.proofs.fronts.front_at.Goals as goal
 
 pub overflow_add-result : goal.overflow_add-result

@@ -1,7 +1,5 @@
-use Rattle.std.proofs.Common.{◌≡◌, ◌++◌, ◌∷◌, take}
-use Rattle.std.specs.List.{flat_map}
-use Rattle.log_stream.specs.Lines.{spelled_event}
-use Rattle.signature.specs.Grammar.{names as names_of}
+use Rattle.log_stream.proofs.Vocabulary.{◌≡◌, ◌++◌, ◌∷◌, take, flat_map, spelled_event}
+use Rattle.log_stream.proofs.Vocabulary.{entry_names as names_of}
 use Rattle.log_stream.proofs.lines.print_events.Given as goal
 
 abbrev pub invariant-loop-event : goal.invariant-loop-event

@@ -1,6 +1,5 @@
-use Rattle.std.proofs.Common.{sym}
-use Rattle.std.proofs.lemmas.List.{append-nil}
-use Rattle.log_stream.proofs.Printing.{name_past}
+use Rattle.log_stream.proofs.Vocabulary.{sym, append-nil}
+use Rattle.log_stream.proofs.TextFronts.{name_past}
 use Rattle.log_stream.proofs.lines.print_name.Goals as goal
 
 pub returns-in-None-clause-ok : goal.returns-in-None-clause-ok

@@ -1,6 +1,4 @@
-use Rattle.std.proofs.Common.{◌≡◌, ◌++◌, ◌∷◌, take}
-use Rattle.std.specs.List.{flat_map}
-use Rattle.enf_value.specs.Spelling.{spelled}
+use Rattle.log_stream.proofs.Vocabulary.{◌≡◌, ◌++◌, ◌∷◌, take, flat_map, spelled}
 use Rattle.log_stream.proofs.lines.print_row.Given as goal
 
 abbrev pub invariant-loop-value : goal.invariant-loop-value

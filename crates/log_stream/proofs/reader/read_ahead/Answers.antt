@@ -1,6 +1,6 @@
-use Rattle.std.proofs.Common.{arith}
-use Rattle.log_stream.proofs.Readers.{stands_ahead}
-use Rattle.log_stream.proofs.Windows.{begins_at, window_is}
+use Rattle.log_stream.proofs.Vocabulary.{arith}
+use Rattle.log_stream.proofs.ReaderCalls.{stands_ahead}
+use Rattle.log_stream.proofs.RestFronts.{begins_at, window_is}
 use Rattle.log_stream.proofs.reader.read_ahead.Goals as goal
 
 pub overflow_add-result : goal.overflow_add-result

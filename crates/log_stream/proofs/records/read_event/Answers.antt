@@ -1,14 +1,9 @@
-use Rattle.std.proofs.Common.{ap, refl, sym, subst, ◌∙◌, ◌++◌, ◌∷◌, [], IsOk, List}
-use Rattle.std.specs.Borrow.{Bor}
-use Rattle.std.specs.Option.{option_or}
-use Rattle.enf_value.specs.declared.events.Event.{Event}
-use Rattle.enf_value.specs.declared.events.NameId.{NameId}
-use Rattle.signature.specs.declared.entries.Sort.{Sort}
-use Rattle.std.proofs.lemmas.Result.{err_from_is_err_and}
-use Rattle.log_stream.specs.States.{Events}
-use Rattle.log_stream.proofs.Parts.{event_placed, event_with_bad_row, event_without_name, event_without_open, fails_bad, still_refused, unknown_placed}
-use Rattle.log_stream.proofs.records.read_event.Goals as goal
+use Rattle.log_stream.proofs.Vocabulary.{ap, refl, sym, subst, ◌∙◌, ◌++◌, ◌∷◌, [], IsOk, List, Bor}
+use Rattle.log_stream.proofs.Vocabulary.{option_or, Event, NameId, Sort, err_from_is_err_and, Events}
+use Rattle.log_stream.proofs.RecordParts.{event_placed, event_with_bad_row, event_without_name, event_without_open}
+use Rattle.log_stream.proofs.RecordParts.{fails_bad, still_refused, unknown_placed}
 use Rattle.log_stream.proofs.records.read_event.Goals.{in-Some-declared, in-None}
+use Rattle.log_stream.proofs.records.read_event.Goals as goal
 
 pub returns-in_default-clause-err : goal.returns-in_default-clause-err
 returns-in_default-clause-err c = λ mode kind time events few none.
@@ -25,7 +20,8 @@ returns-in_err-next-clause-err c =
     let p = err_from_is_err_and c.from_residual.result c.from_residual.ensures.1 in
     rw (p.1, p.2)
     (λ mode kind time events few none.
-    event_with_bad_row mode c.args.bytes.now c.args.from c.in-Some.next c.in-Some-behind_mark.inside c.in-Some.name.now kind time events c.in_err-next.field-0.0 few c.in-Some.ensures.some c.in-Some-behind_mark.ensures.some
+    event_with_bad_row mode c.args.bytes.now c.args.from c.in-Some.next c.in-Some-behind_mark.inside c.in-Some.name.now kind time events c.in_err-next.field-0.0 few c.in-Some.ensures.some
+    c.in-Some-behind_mark.ensures.some
     (c.in_err-next.ensures.err mode kind time events c.args.from c.in-Some.name.now))
 
 pub returns-in-Some-refusal_of-clause-ok : goal.returns-in-Some-refusal_of-clause-ok

@@ -1,5 +1,5 @@
-use Rattle.log_stream.specs.States.{so_far}
-use Rattle.log_stream.proofs.Parts.{AreEventsSoFar}
+use Rattle.log_stream.proofs.Vocabulary.{so_far}
+use Rattle.log_stream.proofs.RecordParts.{AreEventsSoFar}
 use Rattle.log_stream.proofs.records.read_events.Given as goal
 
 abbrev pub invariant-loop-count : goal.invariant-loop-count

@@ -1,7 +1,7 @@
-use Rattle.std.proofs.Common.{sym, true≢false}
-use Rattle.log_stream.proofs.Steps.{none_marked}
-use Rattle.log_stream.proofs.records.read_record.Goals as goal
+use Rattle.log_stream.proofs.Vocabulary.{sym, true≢false}
+use Rattle.log_stream.proofs.WholeItems.{none_marked}
 use Rattle.log_stream.proofs.records.read_record.Goals.{then-eq+in_default-behind_mark-2, else-eq}
+use Rattle.log_stream.proofs.records.read_record.Goals as goal
 
 pub returns-in-Some-behind_mark : goal.returns-in-Some-behind_mark
 returns-in-Some-behind_mark c = c.read_tick.ensures c.args.signature.now c.args.mode c.in-Some-behind_mark.ensures.some

@@ -1,5 +1,5 @@
-use Rattle.std.proofs.Common.{◌-◌, length}
-use Rattle.log_stream.proofs.Parts.{IsRowSoFar}
+use Rattle.log_stream.proofs.Vocabulary.{◌-◌, length}
+use Rattle.log_stream.proofs.RecordParts.{IsRowSoFar}
 use Rattle.log_stream.proofs.records.read_row.Given as goal
 
 abbrev pub invariant-loop-next : goal.invariant-loop-next

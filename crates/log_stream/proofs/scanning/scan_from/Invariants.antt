@@ -1,4 +1,4 @@
-use Rattle.std.proofs.Common.{◌-◌, length}
+use Rattle.log_stream.proofs.Vocabulary.{◌-◌, length}
 use Rattle.log_stream.proofs.Scans.{IsScanning}
 use Rattle.log_stream.proofs.scanning.scan_from.Given as goal
 

@@ -1,5 +1,4 @@
-use Rattle.std.proofs.Common.{arith, refl}
-use Rattle.std.proofs.lemmas.Fmt.{decimal_digit}
+use Rattle.log_stream.proofs.Vocabulary.{arith, refl, decimal_digit}
 use Rattle.log_stream.proofs.worked_cases.line.Goals as goal
 
 pub returns : goal.returns

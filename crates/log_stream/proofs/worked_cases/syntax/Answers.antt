@@ -1,16 +1,11 @@
-use Rattle.std.proofs.Common.{◌≡◌, pos, [], ◌∷◌, inl, inr, refl, arith, codes}
-use Rattle.enf_value.specs.ValueTokens.{TokenAt}
-use Rattle.enf_value.specs.declared.values.Value.TheVariants.{Num}
-use Rattle.trace_meaning.specs.declared.kinds.StepKind.TheVariants.{System}
-use Rattle.log_stream.specs.States.{Start, Marked}
-use Rattle.log_stream.specs.Tokens.{Mark}
-use Rattle.log_stream.specs.declared.items.LogMode.TheVariants.{Input, TraceLog}
-use Rattle.log_stream.proofs.Names.{BeginsValue, value_first}
+use Rattle.log_stream.proofs.Vocabulary.{◌≡◌, pos, [], ◌∷◌, inl, inr, refl, arith, codes, ValueTokenAt, Num}
+use Rattle.log_stream.proofs.Vocabulary.{System, RecordStart, RecordMarked, LogMark, Input, TraceLog}
+use Rattle.log_stream.proofs.TokensByFirstByte.{BeginsValue, value_first}
 use Rattle.log_stream.proofs.PrintedTokens.{gap_none, gap_space}
-use Rattle.log_stream.proofs.Reading.{bad_behind, bad_here, is_bad, stuck_marked, stuck_start}
+use Rattle.log_stream.proofs.ReadParts.{bad_behind, bad_here, is_bad, stuck_marked, stuck_start}
 use Rattle.log_stream.proofs.worked_cases.syntax.Goals as goal
 
-one : TokenAt (codes "@1 ;") 1 2 (Num (pos 1))
+one : ValueTokenAt (codes "@1 ;") 1 2 (Num (pos 1))
 one = record {
   token = 49 ∷ [];
   rest = 32 ∷ 59 ∷ [];
@@ -43,7 +38,7 @@ returns-clause-spelled c =
 pub returns-clause-inserted : goal.returns-clause-inserted
 returns-clause-inserted c =
     is_bad Input (codes "+1;") 0
-    (bad_here Input (codes "+1;") 0 Start
+    (bad_here Input (codes "+1;") 0 RecordStart
     (stuck_start Input (codes "+1;") 0 (λ end s. absurd (omega (arith, s.1))) (λ end s. absurd (omega (arith, s.1))) (λ end is s. other is)))
   where
     other : Input ≡ TraceLog → ⊥
@@ -53,8 +48,8 @@ pub returns-clause-no_time : goal.returns-clause-no_time
 returns-clause-no_time c =
     let text = codes "@;" in
     is_bad Input text 1
-    (bad_behind Input text 0 1 Start (Marked System) (Mark 64 ∷ []) 1 (1, 1, (omega arith, refl, refl), gap_none text 1 refl, refl) refl
-    (bad_here Input text 1 (Marked System) (stuck_marked Input text 1 System (λ time end s. no_digit (value_first text 1 end (Num (pos time)) s.0)))))
+    (bad_behind Input text 0 1 RecordStart (RecordMarked System) (LogMark 64 ∷ []) 1 (1, 1, (omega arith, refl, refl), gap_none text 1 refl, refl) refl
+    (bad_here Input text 1 (RecordMarked System) (stuck_marked Input text 1 System (λ time end s. no_digit (value_first text 1 end (Num (pos time)) s.0)))))
   where
     no_digit : BeginsValue 59 (Num (pos 0)) → ⊥
     no_digit (inl h) = omega (arith, h.1)

@@ -1,6 +1,4 @@
-use Rattle.std.proofs.Common.{take}
-use Rattle.monitorable_guard.specs.Answers.{AddsRows, IsMatchOf}
-use Rattle.valuations.specs.Scopes.{bound_in}
+use Rattle.monitorable_guard.proofs.Vocabulary.{take, AddsRows, IsMatchOf, bound_in}
 use Rattle.monitorable_guard.proofs.RowsLemmas.{SomeOf}
 use Rattle.monitorable_guard.proofs.atoms.gather_events.Given as goal
 

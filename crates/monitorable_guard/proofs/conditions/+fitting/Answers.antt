@@ -1,7 +1,5 @@
-use Rattle.std.proofs.Common.{◌≡◌, [], ◌∷◌, refl, sym, subst, ⊎_elim, IfOk, IsTrue, ◌↔◌}
-use Rattle.enf_formula.specs.Formulas.{tree_of}
-use Rattle.monitorable_guard.specs.Evaluation.{FitOperators}
-use Rattle.monitorable_guard.specs.Present.{outermost}
+use Rattle.monitorable_guard.proofs.Vocabulary.{◌≡◌, [], ◌∷◌, refl, sym, subst, ⊎_elim, IfOk, IsTrue}
+use Rattle.monitorable_guard.proofs.Vocabulary.{◌↔◌, tree_of, FitOperators, outermost}
 use Rattle.monitorable_guard.proofs.ConditionLemmas.{fit_alike}
 use Rattle.monitorable_guard.proofs.CycleLemmas.{fit_short}
 use Rattle.monitorable_guard.proofs.DecisionLemmas.{decides_alike}

@@ -1,6 +1,5 @@
-use Rattle.std.proofs.Common.{All, Contains, ◌↔◌, IsTrue, sym, subst, ◌∙◌}
-use Rattle.enf_formula.specs.Formulas.{tree_of}
-use Rattle.enf_formula.specs.FreeVariables.{AreFreeVariables}
+use Rattle.monitorable_guard.proofs.Vocabulary.{All, Contains, ◌↔◌, IsTrue, sym, subst, ◌∙◌, tree_of}
+use Rattle.monitorable_guard.proofs.Vocabulary.{AreFreeVariables}
 use Rattle.monitorable_guard.proofs.ConditionLemmas.{first_decided}
 use Rattle.monitorable_guard.proofs.conditions.first_fits.Goals as goal
 

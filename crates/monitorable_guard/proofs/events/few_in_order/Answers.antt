@@ -1,10 +1,7 @@
-use Rattle.std.proofs.Common.{rules, ◌≡◌, ◌≤◌, ◌++◌, arith, drop, length, take, sym, subst, ◌∙◌}
-use Rattle.std.specs.Ordering.{is_lt}
-use Rattle.std.proofs.lemmas.Fn.{always_returns_same}
-use Rattle.std.proofs.Math.Seq.{take-append_seam, take-length}
-use Rattle.std.proofs.lemmas.List.{length-take-le}
-use Rattle.std.proofs.lemmas.List.Sorted.{ranks_by}
-use Rattle.monitorable_guard.specs.Events.{key_of, event_cmp, shown, IsByName}
+use Rattle.monitorable_guard.proofs.Vocabulary.{rules, ◌≡◌, ◌≤◌, ◌++◌, arith, drop, length, take, sym}
+use Rattle.monitorable_guard.proofs.Vocabulary.{subst, ◌∙◌, is_lt, always_returns_same, take-append_seam}
+use Rattle.monitorable_guard.proofs.Vocabulary.{take-length, length-take-le, ranks_by, key_of, event_cmp, shown_events}
+use Rattle.monitorable_guard.proofs.Vocabulary.{IsByName}
 use Rattle.monitorable_guard.proofs.EventLemmas.{event_cmp_total, sorted_by_name}
 use Rattle.monitorable_guard.proofs.events.few_in_order.Goals as goal
 
@@ -14,8 +11,8 @@ returns-clause-order c =
     let places = c.loop-place.places in
     let sorted = c.sort_unstable_by.new.self in
     let filled : c.loop-place.place ≡ length events = omega arith in
-    let all : shown (take (length events) places) ≡ events =
-    subst (λ n. shown (take n places) ≡ take n events) filled c.loop-place.invariant.1 ∙ take-length events in
+    let all : shown_events (take (length events) places) ≡ events =
+    subst (λ n. shown_events (take n places) ≡ take n events) filled c.loop-place.invariant.1 ∙ take-length events in
     let room : length events ≤ length places = omega arith in
     let long : length sorted ≡ length events = c.sort_unstable_by.ensures.len ∙ length-take-le (length events) places room in
     let front : take (length events) (sorted ++ drop (length events) places) ≡ sorted =

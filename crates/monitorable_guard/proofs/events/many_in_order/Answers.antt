@@ -1,9 +1,5 @@
-use Rattle.std.proofs.Common.{rules, ◌∙◌}
-use Rattle.std.specs.Ordering.{is_lt}
-use Rattle.std.proofs.lemmas.Fn.{always_returns_same}
-use Rattle.std.proofs.lemmas.List.{take_all}
-use Rattle.std.proofs.lemmas.List.Sorted.{ranks_by}
-use Rattle.monitorable_guard.specs.Events.{key_of, event_cmp}
+use Rattle.monitorable_guard.proofs.Vocabulary.{rules, ◌∙◌, is_lt, always_returns_same, take_all, ranks_by}
+use Rattle.monitorable_guard.proofs.Vocabulary.{key_of, event_cmp}
 use Rattle.monitorable_guard.proofs.EventLemmas.{event_cmp_total, sorted_by_name}
 use Rattle.monitorable_guard.proofs.events.many_in_order.Goals as goal
 

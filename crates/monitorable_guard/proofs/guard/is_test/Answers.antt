@@ -1,6 +1,4 @@
-use Rattle.std.proofs.Common.{◌↔◌, subst, Contains, IsTrue, IfOk}
-use Rattle.enf_formula.specs.Formulas.{tree_of}
-use Rattle.monitorable_guard.specs.Safety.{Safe, FreeWithin}
+use Rattle.monitorable_guard.proofs.Vocabulary.{◌↔◌, subst, Contains, IsTrue, IfOk, tree_of, Safe, FreeWithin}
 use Rattle.monitorable_guard.proofs.DecisionLemmas.{decides_second}
 use Rattle.monitorable_guard.proofs.guard.is_test.Goals as goal
 

@@ -1,7 +1,6 @@
-use Rattle.std.proofs.Common.{sym, subst, Contains, IsSome, refl, ◌∙◌}
-use Rattle.enf_value.specs.Valuations.{Valuation, with_values}
-use Rattle.valuations.specs.RowLaws.{agrees_once, cell_some, fits, value_at-with_inside, value_at-with_outside}
-use Rattle.valuations.specs.Tables.{Agrees}
+use Rattle.monitorable_guard.proofs.Vocabulary.{sym, subst, Contains, IsSome, refl, ◌∙◌, Valuation, with_values}
+use Rattle.monitorable_guard.proofs.Vocabulary.{agrees_once, cell_some, table_row-length, value_at-with_inside}
+use Rattle.monitorable_guard.proofs.Vocabulary.{value_at-with_outside, AgreesWithRow}
 use Rattle.monitorable_guard.proofs.laws.evaluated_are_rows.Goals as goal
 
 pub returns : goal.returns
@@ -11,12 +10,12 @@ returns c = λ trace i tables f bound v t safe binds stand table opens holds.
       rise = table.rising;
       are = λ row long.
           let w : Valuation = with_values t.columns row v in
-          let here : Agrees w t.columns row = λ x there. value_at-with_inside t.columns row v x table.distinct long there in
+          let here : AgreesWithRow w t.columns row = λ x there. value_at-with_inside t.columns row v x table.distinct long there in
           let told = c.evaluated_is_satisfied.ensures trace i tables f bound v t safe binds stand opens holds w
           (λ x b. sym (value_at-with_outside t.columns row v x (λ there. ((opens.exact x).0 there).1 b)))
           (λ x there. let some = cell_some t.columns row x long there in subst IsSome (sym (here x there ∙ some.1)) refl) in (
             λ there. told.0 (row, there, here),
             λ sat. let has = told.1 sat in
-                subst (Contains t.rows) (agrees_once w t.columns has.0 row table.distinct (fits t has.0 table has.1) long has.2 here) has.1,
+                subst (Contains t.rows) (agrees_once w t.columns has.0 row table.distinct (table_row-length t has.0 table has.1) long has.2 here) has.1,
           );
     }

@@ -1,7 +1,6 @@
-use Rattle.std.proofs.Common.{None, Contains, ⊎_elim}
-use Rattle.valuations.specs.Columns.{among_or_not}
+use Rattle.monitorable_guard.proofs.Vocabulary.{None, Contains, ⊎_elim, among_or_not}
 use Rattle.monitorable_guard.proofs.EvaluationLemmas.{bound_as}
-use Rattle.monitorable_guard.specs.SafetyLaws.{safe_past}
+use Rattle.monitorable_guard.proofs.SafetyLaws.{safe_past}
 use Rattle.monitorable_guard.proofs.laws.evaluated_is_satisfied.Goals as goal
 
 pub returns : goal.returns

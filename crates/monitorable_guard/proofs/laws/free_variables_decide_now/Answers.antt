@@ -1,4 +1,4 @@
-use Rattle.std.proofs.Common.{sym}
+use Rattle.monitorable_guard.proofs.Vocabulary.{sym}
 use Rattle.monitorable_guard.proofs.AgreementLemmas.{now_agrees}
 use Rattle.monitorable_guard.proofs.laws.free_variables_decide_now.Goals as goal
 

@@ -1,4 +1,4 @@
-use Rattle.std.proofs.Common.{Contains}
+use Rattle.monitorable_guard.proofs.Vocabulary.{Contains}
 use Rattle.monitorable_guard.proofs.SafetyLemmas.{historically_denial}
 use Rattle.monitorable_guard.proofs.laws.historically_asks_denial.Goals as goal
 

@@ -1,5 +1,4 @@
-use Rattle.std.proofs.Common.{refl}
-use Rattle.enf_value.specs.Data.{step_at}
+use Rattle.monitorable_guard.proofs.Vocabulary.{refl, step_at}
 use Rattle.monitorable_guard.proofs.PresentLemmas.{now_is_sat}
 use Rattle.monitorable_guard.proofs.laws.present_is_satisfied.Goals as goal
 

@@ -1,4 +1,4 @@
-use Rattle.std.proofs.Common.{[]}
+use Rattle.monitorable_guard.proofs.Vocabulary.{[]}
 use Rattle.monitorable_guard.proofs.RowLists.{decided_at, rows_at}
 use Rattle.monitorable_guard.proofs.laws.safe_has_rows.Goals as goal
 

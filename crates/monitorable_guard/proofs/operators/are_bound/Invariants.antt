@@ -1,5 +1,4 @@
-use Rattle.std.proofs.Common.{take, All}
-use Rattle.monitorable_guard.specs.Answers.{IsBoundBy}
+use Rattle.monitorable_guard.proofs.Vocabulary.{take, All, IsBoundBy}
 use Rattle.monitorable_guard.proofs.operators.are_bound.Given as goal
 
 abbrev pub invariant-loop-variable : goal.invariant-loop-variable

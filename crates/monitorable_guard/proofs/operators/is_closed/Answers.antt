@@ -1,4 +1,4 @@
-use Rattle.std.proofs.Common.{sym, subst, Contains}
+use Rattle.monitorable_guard.proofs.Vocabulary.{sym, subst, Contains}
 use Rattle.monitorable_guard.proofs.operators.is_closed.Goals as goal
 
 pub returns : goal.returns

@@ -1,15 +1,8 @@
-use Rattle.std.proofs.Common.{◌≡◌, List, Option, None, Some, is_none, IsSome, true, refl, sym, ap, subst, ◌∙◌}
-use Rattle.std.proofs.lemmas.Bool.{false≢true}
-use Rattle.std.proofs.lemmas.List.Kept.{IsStrictlySortedBy-filter}
-use Rattle.std.specs.List.{filter}
-use Rattle.enf_formula.specs.Formulas.{Formula, tree_of}
-use Rattle.enf_formula.specs.FreeVariables.{AreFreeVariables}
-use Rattle.enf_value.specs.Valuations.{Valuation, value_at, variable_cmp}
-use Rattle.enf_value.specs.declared.terms.VarId.{VarId}
-use Rattle.enf_value.specs.declared.values.Value.{Value}
-use Rattle.valuations.specs.Columns.{Contains-filter, Contains-from_filter}
-use Rattle.monitorable_guard.specs.Answers.{AreOpenUnder}
-use Rattle.valuations.specs.Scopes.{bound_in}
+use Rattle.monitorable_guard.proofs.Vocabulary.{◌≡◌, List, Option, None, Some, is_none, IsSome, true, refl, sym}
+use Rattle.monitorable_guard.proofs.Vocabulary.{ap, subst, ◌∙◌, false≢true, IsStrictlySortedBy-filter, filter}
+use Rattle.monitorable_guard.proofs.Vocabulary.{Formula, AreFreeVariables, tree_of, Valuation, value_at, variable_cmp}
+use Rattle.monitorable_guard.proofs.Vocabulary.{VarId, Value, Contains-filter, Contains-from_filter, AreOpenUnder}
+use Rattle.monitorable_guard.proofs.Vocabulary.{bound_in}
 use Rattle.monitorable_guard.proofs.operators.open_variables.Goals as goal
 
 apart : (o : Option Value) → IsSome o → is_none o ≡ true → ⊥
@@ -30,4 +23,6 @@ open_from v f free are = record {
 }
 
 pub returns : goal.returns
-returns c = subst (AreOpenUnder (bound_in c.args.scope.now) (tree_of c.args.formula.now)) (sym (c.from_vec.ensures ∙ c.in_ok-found.ensures ∙ ap (filter (λ x. is_none (value_at (bound_in c.args.scope.now) x))) c.as_slice.ensures)) (open_from (bound_in c.args.scope.now) (tree_of c.args.formula.now) _ c.in_ok-free.ensures)
+returns c = subst (AreOpenUnder (bound_in c.args.scope.now) (tree_of c.args.formula.now))
+    (sym (c.from_vec.ensures ∙ c.in_ok-found.ensures ∙ ap (filter (λ x. is_none (value_at (bound_in c.args.scope.now) x))) c.as_slice.ensures))
+    (open_from (bound_in c.args.scope.now) (tree_of c.args.formula.now) _ c.in_ok-free.ensures)

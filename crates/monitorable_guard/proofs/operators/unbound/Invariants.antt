@@ -1,7 +1,4 @@
-use Rattle.std.proofs.Common.{◌≡◌, take, is_none}
-use Rattle.std.specs.List.{filter}
-use Rattle.enf_value.specs.Valuations.{value_at}
-use Rattle.valuations.specs.Scopes.{bound_in}
+use Rattle.monitorable_guard.proofs.Vocabulary.{◌≡◌, take, is_none, filter, value_at, bound_in}
 use Rattle.monitorable_guard.proofs.operators.unbound.Given as goal
 
 abbrev pub invariant-loop-variable : goal.invariant-loop-variable

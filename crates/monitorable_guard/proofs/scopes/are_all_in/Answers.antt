@@ -1,6 +1,4 @@
-use Rattle.std.proofs.Common.{refl, subst, All, Contains}
-use Rattle.std.proofs.lemmas.List.{take_all}
-use Rattle.std.proofs.lemmas.List.Elements.{All-more}
+use Rattle.monitorable_guard.proofs.Vocabulary.{refl, subst, All, Contains, take_all, All-more}
 use Rattle.monitorable_guard.proofs.scopes.are_all_in.Goals as goal
 
 pub loop-x-preserved : goal.loop-x-preserved

@@ -1,4 +1,4 @@
-use Rattle.std.proofs.Common.{take, All, Contains}
+use Rattle.monitorable_guard.proofs.Vocabulary.{take, All, Contains}
 use Rattle.monitorable_guard.proofs.scopes.are_all_in.Given as goal
 
 abbrev pub invariant-loop-x : goal.invariant-loop-x

@@ -1,4 +1,4 @@
-use Rattle.enf_formula.specs.Formulas.{tree_of}
+use Rattle.monitorable_guard.proofs.Vocabulary.{tree_of}
 use Rattle.monitorable_guard.proofs.ScopeLemmas.{under_decided}
 use Rattle.monitorable_guard.proofs.scopes.is_free_under.Goals as goal
 

@@ -1,5 +1,4 @@
-use Rattle.std.proofs.Common.{sym, ◌∙◌}
-use Rattle.valuations.specs.Columns.{is_among-Decides}
+use Rattle.monitorable_guard.proofs.Vocabulary.{sym, ◌∙◌, is_among-Decides}
 use Rattle.monitorable_guard.proofs.scopes.is_in.Goals as goal
 
 pub returns : goal.returns

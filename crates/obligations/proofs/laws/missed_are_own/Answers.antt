@@ -1,4 +1,4 @@
-use Rattle.obligations.proofs.SourceLemmas.{instance_misses_its_own, plan_misses_its_own}
+use Rattle.obligations.proofs.ValueSourceLemmas.{instance_misses_its_own, plan_misses_its_own}
 use Rattle.obligations.proofs.laws.missed_are_own.Goals as goal
 
 pub returns-clause-plans : goal.returns-clause-plans

@@ -1,9 +1,7 @@
-use Rattle.std.proofs.Common.{arith}
-use Rattle.plan_terms.specs.Owed.{obligation}
-use Rattle.obligations.specs.Rows.{last_position}
+use Rattle.obligations.proofs.Vocabulary.{arith, obligation, last_position}
 use Rattle.obligations.proofs.LawLemmas.{something_missed_is_lost}
-use Rattle.obligations.proofs.ServedLemmas.{pending_is_served}
-use Rattle.obligations.proofs.ServingLemmas.{missed_is_served, served_at}
+use Rattle.obligations.proofs.PendingLeadLemmas.{pending_is_served}
+use Rattle.obligations.proofs.LiteralLeadLemmas.{missed_is_served, served_at}
 use Rattle.obligations.proofs.laws.missed_is_served.Goals as goal
 
 pub returns-clause-begun : goal.returns-clause-begun

@@ -1,4 +1,4 @@
-use Rattle.obligations.proofs.ExistLemmas.{plan_begins, plan_misses}
+use Rattle.obligations.proofs.ExistenceLemmas.{plan_begins, plan_misses}
 use Rattle.obligations.proofs.laws.missing_exists.Goals as goal
 
 pub returns-clause-missing : goal.returns-clause-missing

@@ -1,4 +1,4 @@
-use Rattle.obligations.proofs.OneLemmas.{missing_is_one}
+use Rattle.obligations.proofs.UniquenessLemmas.{missing_is_one}
 use Rattle.obligations.proofs.RowsLemmas.{rows_are_one}
 use Rattle.obligations.proofs.laws.missing_is_one.Goals as goal
 

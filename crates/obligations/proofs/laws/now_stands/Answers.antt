@@ -1,4 +1,4 @@
-use Rattle.obligations.proofs.FoundingLemmas.{now_stands}
+use Rattle.obligations.proofs.WellFormedLemmas.{now_stands}
 use Rattle.obligations.proofs.laws.now_stands.Goals as goal
 
 pub returns : goal.returns

@@ -1,4 +1,4 @@
-use Rattle.obligations.proofs.BoundLemmas.{pend_can_be_pending}
+use Rattle.obligations.proofs.PendingBoundLemmas.{pend_can_be_pending}
 use Rattle.obligations.proofs.laws.pending_can_be.Goals as goal
 
 pub returns : goal.returns

@@ -1,4 +1,4 @@
-use Rattle.obligations.proofs.GoingLemmas.{begun_can_be_asked, goes_can_be_asked, pend_can_be_asked}
+use Rattle.obligations.proofs.PendingListLemmas.{begun_can_be_asked, goes_can_be_asked, pend_can_be_asked}
 use Rattle.obligations.proofs.laws.pending_can_be_asked.Goals as goal
 
 pub returns-clause-begun : goal.returns-clause-begun

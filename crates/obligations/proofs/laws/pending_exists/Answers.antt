@@ -1,4 +1,4 @@
-use Rattle.obligations.proofs.GoingLemmas.{after_exists, goes_exists, missing_of_exists, pend_exists}
+use Rattle.obligations.proofs.PendingListLemmas.{after_exists, goes_exists, missing_of_exists, pend_exists}
 use Rattle.obligations.proofs.laws.pending_exists.Goals as goal
 
 pub returns-clause-missing : goal.returns-clause-missing

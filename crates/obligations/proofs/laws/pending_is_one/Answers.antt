@@ -1,4 +1,4 @@
-use Rattle.obligations.proofs.OneLemmas.{after_is_one, begun_is_one, missing_of_is_one, pend_is_one}
+use Rattle.obligations.proofs.UniquenessLemmas.{after_is_one, begun_is_one, missing_of_is_one, pend_is_one}
 use Rattle.obligations.proofs.RowsLemmas.{rows_are_one}
 use Rattle.obligations.proofs.laws.pending_is_one.Goals as goal
 

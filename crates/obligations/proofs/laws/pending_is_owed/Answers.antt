@@ -1,5 +1,5 @@
 use Rattle.obligations.proofs.LawLemmas.{something_missed_is_lost}
-use Rattle.obligations.proofs.LosingLemmas.{deadline_is_needed, missed_is_lost, pending_is_earlier, pending_is_owed}
+use Rattle.obligations.proofs.LossLemmas.{deadline_is_needed, missed_is_lost, pending_is_earlier, pending_is_owed}
 use Rattle.obligations.proofs.laws.pending_is_owed.Goals as goal
 
 pub returns-clause-owed : goal.returns-clause-owed

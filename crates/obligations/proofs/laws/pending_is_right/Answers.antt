@@ -1,5 +1,5 @@
-use Rattle.obligations.proofs.MissedRight.{missed_of_right, missed_right}
-use Rattle.obligations.proofs.RightLemmas.{pending_right}
+use Rattle.obligations.proofs.RightLiteralLemmas.{missed_of_right, missed_right}
+use Rattle.obligations.proofs.RightValueLemmas.{pending_right}
 use Rattle.obligations.proofs.laws.pending_is_right.Goals as goal
 
 pub returns-clause-pending : goal.returns-clause-pending

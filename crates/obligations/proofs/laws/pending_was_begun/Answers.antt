@@ -1,4 +1,4 @@
-use Rattle.obligations.proofs.ReachedLemmas.{pend_came, pending_was_begun}
+use Rattle.obligations.proofs.TriggeredNodeLemmas.{pend_came, pending_was_begun}
 use Rattle.obligations.proofs.laws.pending_was_begun.Goals as goal
 
 pub returns-clause-came : goal.returns-clause-came

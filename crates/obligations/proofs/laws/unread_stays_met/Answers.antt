@@ -1,5 +1,5 @@
-use Rattle.obligations.proofs.UnreadLemmas.{unread_leaves_rest, unread_stays_met}
-use Rattle.obligations.proofs.UnreadOfLemmas.{unread_instance_stays_met}
+use Rattle.obligations.proofs.UnreadNameLemmas.{unread_leaves_rest, unread_stays_met}
+use Rattle.obligations.proofs.UnreadInstanceLemmas.{unread_instance_stays_met}
 use Rattle.obligations.proofs.laws.unread_stays_met.Goals as goal
 
 pub returns-clause-plans : goal.returns-clause-plans

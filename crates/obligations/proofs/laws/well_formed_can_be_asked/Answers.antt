@@ -1,4 +1,4 @@
-use Rattle.obligations.proofs.FoundingLemmas.{can_be_asked, well_formed_can_be_asked, well_formed_stand}
+use Rattle.obligations.proofs.WellFormedLemmas.{can_be_asked, well_formed_can_be_asked, well_formed_stand}
 use Rattle.obligations.proofs.laws.well_formed_can_be_asked.Goals as goal
 
 pub returns-clause-founded : goal.returns-clause-founded

@@ -1,5 +1,4 @@
-use Rattle.std.proofs.Common.{◌≡◌, sym, ap}
-use Rattle.std.proofs.lemmas.Bool.{eqb-true}
+use Rattle.obligations.proofs.Vocabulary.{◌≡◌, sym, ap, eqb-true}
 use Rattle.obligations.proofs.leaves.is_event.Goals as goal
 
 pub returns-then-eq : goal.returns-then-eq

@@ -1,10 +1,5 @@
-use Rattle.std.proofs.Common.{true≢false, None, Contains, sym, subst, ◌∙◌}
-use Rattle.std.proofs.lemmas.List.{append-nil}
-use Rattle.std.proofs.lemmas.Result.{on_ok_weaker}
-use Rattle.enf_formula.specs.Satisfaction.{IsAmong}
-use Rattle.enf_value.specs.Valuations.{values_of}
-use Rattle.valuations.specs.Scopes.{bound_in}
-use Rattle.obligations.specs.Missing.{suppress}
+use Rattle.obligations.proofs.Vocabulary.{true≢false, None, Contains, sym, subst, ◌∙◌, append-nil, on_ok_weaker}
+use Rattle.obligations.proofs.Vocabulary.{IsEventAmong, values_of_terms, bound_in, suppress_literal}
 use Rattle.obligations.proofs.LeafLemmas.{nothing_suppressed, one_pushed}
 use Rattle.obligations.proofs.leaves.push_suppress.Goals as goal
 
@@ -18,6 +13,7 @@ returns-then-not-branch c = (
 
 pub returns : goal.returns
 returns c = on_ok_weaker c.push_literal.result (λ grown.
-    one_pushed (λ e. Contains c.args.events.now e → ⊥) (λ e. suppress e c.args.node) c.args.name c.args.out.now.items c.push_literal.new.out.items (values_of (bound_in c.args.v.now) c.args.terms.now)
-    (λ args at none. none (subst (IsAmong c.args.events.now c.args.name) at (c.in_ok-is_there.ensures.0 c.if-not-branch.false))) grown)
+    one_pushed (λ e. Contains c.args.events.now e → ⊥) (λ e. suppress_literal e c.args.node) c.args.name c.args.out.now.items c.push_literal.new.out.items
+    (values_of_terms (bound_in c.args.v.now) c.args.terms.now)
+    (λ args at none. none (subst (IsEventAmong c.args.events.now c.args.name) at (c.in_ok-is_there.ensures.0 c.if-not-branch.false))) grown)
     c.push_literal.ensures

@@ -1,5 +1,4 @@
-use Rattle.std.proofs.Common.{true≢false, sym, ◌∙◌}
-use Rattle.valuations.specs.Scopes.{bound_in}
+use Rattle.obligations.proofs.Vocabulary.{true≢false, sym, ◌∙◌, bound_in}
 use Rattle.obligations.proofs.LeafLemmas.{nothing_suppressed}
 use Rattle.obligations.proofs.leaves.suppress_missing.Goals as goal
 

@@ -1,12 +1,8 @@
-use Rattle.std.proofs.Common.{rules, ◌≡◌, [], ◌∷◌, List, refl, ap, arith, inr, slice_index_or}
-use Rattle.enf_formula.specs.Cases.{event_p}
-use Rattle.enf_value.specs.Valuations.{no_values}
-use Rattle.obligations.specs.Cases.{at_5, begun_at_5, next_p}
-use Rattle.obligations.specs.Missing.{cause}
-use Rattle.obligations.specs.declared.instances.Instance.{Instance}
-use Rattle.obligations.proofs.OneLemmas.{begun_is_one}
+use Rattle.obligations.proofs.Vocabulary.{rules, ◌≡◌, [], ◌∷◌, List, refl, ap, arith, inr, slice_index_or}
+use Rattle.obligations.proofs.Vocabulary.{event_p, no_values, at_5, begun_at_5, next_p, cause_literal, Instance, Both}
+use Rattle.obligations.proofs.Vocabulary.{AlwaysPlan}
+use Rattle.obligations.proofs.UniquenessLemmas.{begun_is_one}
 use Rattle.obligations.proofs.RowsLemmas.{rows_are_one}
-use Rattle.plan_terms.specs.Plans.{Both, Always}
 use Rattle.obligations.proofs.worked_cases.begun_in_order.Goals as goal
 
 -- lists whose first instances are of other nodes are not the same
@@ -25,7 +21,8 @@ returns-clause-always_before_its_body c = (begun_at_5 1 5 15 ∷ [], refl, refl)
 
 pub returns-clause-always_not_behind_it : goal.returns-clause-always_not_behind_it
 returns-clause-always_not_behind_it c turned =
-    apart (begun_at_5 1 5 15) (begun_at_5 0 5 15) _ _ (λ is. omega (arith, is)) (begun_is_one rows_are_one (at_5 []) 0 (Always 0 0 0 10 (next_p 1)) no_values _ _ turned (returns-clause-always_before_its_body c))
+    apart (begun_at_5 1 5 15) (begun_at_5 0 5 15) _ _ (λ is. omega (arith, is)) (begun_is_one rows_are_one (at_5 []) 0 (AlwaysPlan 0 0 0 10 (next_p 1)) no_values _ _ turned
+    (returns-clause-always_before_its_body c))
 
 pub returns-clause-until_before_its_left_side : goal.returns-clause-until_before_its_left_side
-returns-clause-until_before_its_left_side c = inr ((cause event_p 3, [], search rules), (begun_at_5 1 5 15 ∷ [], refl, refl))
+returns-clause-until_before_its_left_side c = inr ((cause_literal event_p 3, [], search rules), (begun_at_5 1 5 15 ∷ [], refl, refl))

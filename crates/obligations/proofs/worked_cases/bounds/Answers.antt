@@ -1,4 +1,4 @@
-use Rattle.std.proofs.Common.{arith, refl}
+use Rattle.obligations.proofs.Vocabulary.{arith, refl}
 use Rattle.obligations.proofs.worked_cases.bounds.Goals as goal
 
 pub returns : goal.returns

@@ -1,10 +1,6 @@
-use Rattle.std.proofs.Common.{ℕ, zero, suc, ◌≤◌, false, [], ◌∷◌, refl, arith, inl}
-use Rattle.std.proofs.lemmas.List.Elements.{All-cons, All-nil}
-use Rattle.enf_formula.specs.Cases.{event_p}
-use Rattle.enf_value.specs.Valuations.{no_values}
-use Rattle.obligations.specs.Begun.{LacksNothing}
-use Rattle.obligations.specs.Cases.{at_5, begun_at_5, cause_p}
-use Rattle.obligations.specs.Pending.{HasDeadline, IsClean, MissingOf}
+use Rattle.obligations.proofs.Vocabulary.{ℕ, zero, suc, ◌≤◌, false, [], ◌∷◌, refl, arith, inl, All-cons}
+use Rattle.obligations.proofs.Vocabulary.{All-nil, event_p, no_values, LacksNothing, at_5, begun_at_5, cause_p}
+use Rattle.obligations.proofs.Vocabulary.{HasDeadline, IsClean, MissingOf}
 use Rattle.obligations.proofs.worked_cases.clean.Goals as goal
 
 one_step : IsClean (cause_p 0 ∷ []) (at_5 (event_p ∷ []))
@@ -12,7 +8,8 @@ one_step zero within = (
   [],
   refl,
   record {
-    roots = All-cons (λ plan. LacksNothing (at_5 (event_p ∷ [])) plan no_values) (cause_p 0) [] (inl ((0, omega arith, refl), refl)) (All-nil (λ plan. LacksNothing (at_5 (event_p ∷ [])) plan no_values));
+    roots = All-cons (λ plan. LacksNothing (at_5 (event_p ∷ [])) plan no_values) (cause_p 0) [] (inl ((0, omega arith, refl), refl))
+        (All-nil (λ plan. LacksNothing (at_5 (event_p ∷ [])) plan no_values));
     instances = All-nil (λ i. MissingOf (cause_p 0 ∷ []) (at_5 (event_p ∷ [])) i false []);
     in_time = All-nil (λ i. (deadline : ℕ) → HasDeadline (cause_p 0 ∷ []) i deadline → 5 ≤ deadline);
   },

@@ -1,20 +1,10 @@
-use Rattle.std.proofs.Common.{◌≡◌, ℕ, List, [], ◌∷◌, Contains, inl, refl, sym, ap, subst, ◌∙◌, arith, lit<}
-use Rattle.std.proofs.lemmas.Option.{none-some, same_Some}
-use Rattle.enf_value.specs.Data.{step_at}
-use Rattle.enf_value.specs.ListLaws.{none_in_nil}
-use Rattle.enf_value.specs.Valuations.{no_values}
-use Rattle.enf_value.specs.declared.events.Event.{Event}
-use Rattle.enf_value.specs.declared.steps.Step.{Step}
-use Rattle.enf_formula.specs.Cases.{event_p, event_q}
-use Rattle.plan_terms.specs.Lost.{IsLost}
-use Rattle.plan_terms.specs.Owed.{LeadsTo, Obligation, obligation}
-use Rattle.plan_terms.specs.Plans.{Plan}
-use Rattle.obligations.specs.Cases.{at_5, at_once_for, bar_q, cause_p}
-use Rattle.obligations.specs.Justified.{IsWantedBy, Serves, literal_of}
-use Rattle.obligations.specs.Rows.{last_position}
-use Rattle.obligations.specs.declared.literals.Literal.{Literal}
+use Rattle.obligations.proofs.Vocabulary.{◌≡◌, ℕ, List, [], ◌∷◌, Contains, inl, refl, sym, ap, subst}
+use Rattle.obligations.proofs.Vocabulary.{◌∙◌, arith, lit<, none-some, same_Some, step_at, none_in_nil, no_values}
+use Rattle.obligations.proofs.Vocabulary.{Event, Step, one_event, event_p, event_q, IsLost, LeadsTo, Obligation}
+use Rattle.obligations.proofs.Vocabulary.{obligation, Plan, at_5, at_once_for, bar_q, cause_p, IsWantedBy}
+use Rattle.obligations.proofs.Vocabulary.{ServesLiteral, literal_of, last_position, Literal}
+use Rattle.obligations.proofs.OwedCases.{as_it_is, nowhere, one_step}
 use Rattle.obligations.specs.declared.literals.LiteralKind.TheVariants as kind
-use Rattle.obligations.proofs.OwedCases.{as_it_is, nowhere, one_event, one_step}
 use Rattle.obligations.proofs.worked_cases.justified_at_once.Goals as goal
 
 pub returns-clause-absent : goal.returns-clause-absent
@@ -58,7 +48,7 @@ returns-clause-not_there c right =
 -- a leaf that is a root serves itself alone
 wanted_by : (trace : List Step) (leaf node : Plan) (literal : Literal) → leaf ≡ node
     → ((next : Obligation) → LeadsTo trace 5 leaf no_values 0 next → ⊥)
-    → (s : Serves trace 5 (obligation node no_values 0) literal) → IsWantedBy leaf s.valuation literal
+    → (s : ServesLiteral trace 5 (obligation node no_values 0) literal) → IsWantedBy leaf s.valuation literal
 wanted_by trace leaf node literal is none s =
     let same : obligation node no_values 0 ≡ obligation s.leaf s.valuation (last_position trace) =
     nowhere trace 5 (obligation node no_values 0) s.moves (obligation s.leaf s.valuation (last_position trace))

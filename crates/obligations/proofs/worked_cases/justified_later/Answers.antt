@@ -1,20 +1,10 @@
-use Rattle.std.proofs.Common.{◌≡◌, ℕ, zero, suc, ◌<◌, List, [], ◌∷◌, ◌++◌, Contains, IsTrue, inr, ⊎_elim, refl, sym, ap, subst, arith, lit<, lit≤}
-use Rattle.std.proofs.lemmas.Bool.{false≢true}
-use Rattle.std.proofs.lemmas.Option.{same_Some}
-use Rattle.enf_value.specs.Data.{step_at, no_step}
-use Rattle.enf_value.specs.ListLaws.{none_in_nil}
-use Rattle.enf_value.specs.Valuations.{no_values}
-use Rattle.enf_value.specs.declared.steps.Step.{Step}
-use Rattle.enf_formula.specs.Cases.{at_time, event_p}
-use Rattle.enf_formula.specs.Satisfaction.{Sat}
-use Rattle.plan_terms.specs.Lost.{IsLost}
-use Rattle.plan_terms.specs.Nodes.{is_future}
-use Rattle.plan_terms.specs.Owed.{IsAhead, LeadsThrough, Obligation, obligation}
-use Rattle.plan_terms.specs.PlanFormula.{formula_for}
-use Rattle.plan_terms.specs.Plans.{Plan}
-use Rattle.obligations.specs.Cases.{at_5, cause_p, soon_p, then_for}
-use Rattle.obligations.specs.Justified.{IsWantedBy, literal_of}
-use Rattle.obligations.proofs.OwedCases.{also_too_late, as_it_is, one_event, soon_leads, then_p, two_steps}
+use Rattle.obligations.proofs.Vocabulary.{◌≡◌, ℕ, zero, suc, ◌<◌, List, [], ◌∷◌, ◌++◌, Contains}
+use Rattle.obligations.proofs.Vocabulary.{IsTrue, inr, ⊎_elim, refl, sym, ap, subst, arith, lit<, lit≤}
+use Rattle.obligations.proofs.Vocabulary.{false≢true, same_Some, step_at, no_step, none_in_nil, no_values, Step}
+use Rattle.obligations.proofs.Vocabulary.{one_event, at_time, event_p, Sat, IsLost, IsAhead, LeadsThrough, Obligation}
+use Rattle.obligations.proofs.Vocabulary.{obligation, is_future, formula_for, Plan, at_5, soon_p, then_for, cause_p}
+use Rattle.obligations.proofs.Vocabulary.{IsWantedBy, literal_of}
+use Rattle.obligations.proofs.OwedCases.{also_too_late, as_it_is, soon_leads, then_p, two_steps}
 use Rattle.obligations.proofs.worked_cases.justified_later.Goals as goal
 
 -- at the deadline, before the action
@@ -50,7 +40,7 @@ returns-clause-at_the_deadline c = record {
   };
 }
 
--- p() comes in time behind a step
+-- p() comes in time after a step
 in_time : (time clock : ℕ) → clock ≡ 15 → Sat (at_time 5 [] ∷ at_time time [] ∷ at_time clock (event_p ∷ []) ∷ []) 0 no_values (formula_for (soon_p 0 0))
 in_time time clock is none = none (2, lit≤ tt, lit< tt, (omega arith, omega (arith, is)), (0, lit< tt, refl), λ k from before. tt)
 

@@ -1,20 +1,9 @@
-use Rattle.std.proofs.Common.{◌≡◌, ℕ, List, [], ◌∷◌, ◌++◌, IsTrue, inl, ⊎_elim, refl, sym, ap, subst, arith, lit<, lit≤}
-use Rattle.std.proofs.lemmas.Bool.{false≢true}
-use Rattle.enf_value.specs.Data.{step_at, no_step}
-use Rattle.enf_value.specs.ListLaws.{none_in_nil, there_from_get}
-use Rattle.enf_value.specs.Valuations.{Valuation, no_values}
-use Rattle.enf_value.specs.declared.events.Event.{Event}
-use Rattle.enf_value.specs.declared.steps.Step.{Step}
-use Rattle.enf_formula.specs.Cases.{event_p}
-use Rattle.enf_formula.specs.Satisfaction.{Sat}
-use Rattle.plan_terms.specs.Limits.{window_end}
-use Rattle.plan_terms.specs.Lost.{IsLost}
-use Rattle.plan_terms.specs.Nodes.{has_deadline}
-use Rattle.plan_terms.specs.Owed.{IsOwed, LeadsThrough, Obligation, obligation}
-use Rattle.plan_terms.specs.PlanFormula.{formula_for}
-use Rattle.plan_terms.specs.Plans.{Plan}
-use Rattle.obligations.specs.Cases.{always_p, at_5, cause_p, soon_p}
-use Rattle.obligations.proofs.OwedCases.{as_it_is, behind_body, one_event, one_step, only_root, soon_leads, too_late, IsSoon}
+use Rattle.obligations.proofs.Vocabulary.{◌≡◌, ℕ, List, [], ◌∷◌, ◌++◌, IsTrue, inl, ⊎_elim, refl}
+use Rattle.obligations.proofs.Vocabulary.{sym, ap, subst, arith, lit<, lit≤, false≢true, step_at, no_step}
+use Rattle.obligations.proofs.Vocabulary.{none_in_nil, there_from_get, Valuation, no_values, Event, Step, one_event}
+use Rattle.obligations.proofs.Vocabulary.{event_p, Sat, window_end, has_deadline, formula_for, Plan, IsLost, IsOwed}
+use Rattle.obligations.proofs.Vocabulary.{LeadsThrough, Obligation, obligation, always_p, at_5, soon_p, cause_p}
+use Rattle.obligations.proofs.OwedCases.{as_it_is, behind_body, one_step, only_root, soon_leads, too_late, IsSoon}
 use Rattle.obligations.proofs.worked_cases.needed.Goals as goal
 
 pub returns-clause-at_the_deadline : goal.returns-clause-at_the_deadline

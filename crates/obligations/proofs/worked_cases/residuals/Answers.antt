@@ -1,19 +1,15 @@
-use Rattle.std.proofs.Common.{ℕ, zero, suc, ◌<◌, ◌≤◌, List, [], ◌∷◌, Contains, refl, arith, lit<, lit≤}
-use Rattle.enf_value.specs.Data.{step_at}
-use Rattle.enf_value.specs.declared.events.Event.{Event}
-use Rattle.enf_formula.specs.Cases.{event_p, event_q}
-use Rattle.enf_value.specs.ListLaws.{none_in_nil}
-use Rattle.obligations.specs.Cases.{then_at, waiting}
-use Rattle.obligations.specs.Residuals.{IsLeft}
+use Rattle.obligations.proofs.Vocabulary.{ℕ, zero, suc, ◌<◌, ◌≤◌, List, [], ◌∷◌, Contains, refl}
+use Rattle.obligations.proofs.Vocabulary.{arith, lit<, lit≤, step_at, Event, event_p, event_q, none_in_nil, then_at}
+use Rattle.obligations.proofs.Vocabulary.{waiting, IsPositionLeft}
 use Rattle.obligations.proofs.worked_cases.residuals.Goals as goal
 
 -- the second position is left where its time is in the window
-left : (time : ℕ) → 3 ≤ time → time ≤ 6 → (events : List Event) → IsLeft (then_at time events) (waiting 0 3 6) 1 1
+left : (time : ℕ) → 3 ≤ time → time ≤ 6 → (events : List Event) → IsPositionLeft (then_at time events) (waiting 0 3 6) 1 1
 left time low high events = record { from_there = lit≤ tt; is_there = lit< tt; in_window = (low, high) }
 
--- and no position is left behind a second one that is not in the window
+-- and no position is left after a second one that is not in the window
 none_left : (time : ℕ) → 6 < time → (events : List Event) → (j : ℕ)
-    → IsLeft (then_at time events) (waiting 0 3 6) 1 j → ⊥
+    → IsPositionLeft (then_at time events) (waiting 0 3 6) 1 j → ⊥
 none_left time late events zero is = omega (arith, is.from_there)
 none_left time late events (suc zero) is = omega (arith, late, is.in_window.1)
 none_left time late events (suc (suc j)) is = omega (arith, is.is_there)
@@ -48,7 +44,7 @@ pub returns-clause-until_at_once : goal.returns-clause-until_at_once
 returns-clause-until_at_once c never =
     never (1, left 3 (lit≤ tt) (lit≤ tt) (event_p ∷ event_q ∷ []), (0, lit< tt, refl), λ k from before. absurd (omega (arith, from, before)))
 
-never : (j : ℕ) → IsLeft (then_at 4 []) (waiting 0 3 6) 1 j → Contains (step_at (then_at 4 []) j).events event_p → ⊥
+never : (j : ℕ) → IsPositionLeft (then_at 4 []) (waiting 0 3 6) 1 j → Contains (step_at (then_at 4 []) j).events event_p → ⊥
 never zero is there = omega (arith, is.from_there)
 never (suc zero) is there = no_p there
 never (suc (suc j)) is there = omega (arith, is.is_there)

@@ -1,4 +1,4 @@
-use Rattle.std.proofs.Common.{◌≡◌, take}
+use Rattle.past_state.proofs.Vocabulary.{◌≡◌, take}
 use Rattle.past_state.proofs.copies.copy_of.Given as goal
 
 abbrev pub invariant-loop-operator : goal.invariant-loop-operator

@@ -1,7 +1,5 @@
-use Rattle.std.proofs.Common.{◌≡◌, ◌-◌, length, drop, map, reverse}
-use Rattle.past_state.specs.Guarded.{tree_in, count_in}
-use Rattle.past_state.specs.Keeping.{PushesFor}
-use Rattle.past_state.specs.Operators.{all_operators}
+use Rattle.past_state.proofs.Vocabulary.{◌≡◌, ◌-◌, length, drop, map, reverse, tree_in, count_in, PushesFor}
+use Rattle.past_state.proofs.Vocabulary.{all_operators}
 use Rattle.past_state.proofs.guards.push_all.Given as goal
 
 abbrev pub invariant-loop-place : goal.invariant-loop-place

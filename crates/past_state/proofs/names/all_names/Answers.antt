@@ -1,8 +1,6 @@
-use Rattle.std.proofs.Common.{◌≡◌, ◌∙◌, ◌++◌, ◌+◌, drop, get_or, sym, subst, ap, append-nil, append_assoc}
-use Rattle.std.proofs.lemmas.List.{at_drop_all, at_drop_more}
-use Rattle.enf_formula.specs.Formulas.{tree_of}
-use Rattle.enf_formula.specs.Names.{names_in}
-use Rattle.past_state.specs.Past.{formula_of, guard_names}
+use Rattle.past_state.proofs.Vocabulary.{◌≡◌, ◌∙◌, ◌++◌, ◌+◌, drop, get_or, sym, subst, ap}
+use Rattle.past_state.proofs.Vocabulary.{append-nil, append_assoc, at_drop_all, at_drop_more, tree_of, names_in_formula}
+use Rattle.past_state.proofs.Vocabulary.{guard_formula, guard_names}
 use Rattle.past_state.proofs.names.all_names.Goals as goal
 
 pub loop-placed-init : goal.loop-placed-init
@@ -14,12 +12,12 @@ loop-placed-preserved c =
     let g = c.placed-item.result in
     let names = c.loop-placed.names.items in
     let rest = guard_names (drop (c.loop-placed.placed-index + 1) guards) in
-    let step : guard_names (drop c.loop-placed.placed-index guards) ≡ names_in (formula_of (get_or guards c.loop-placed.placed-index g)) ++ rest =
+    let step : guard_names (drop c.loop-placed.placed-index guards) ≡ names_in_formula (guard_formula (get_or guards c.loop-placed.placed-index g)) ++ rest =
     at_drop_more guard_names guards c.loop-placed.placed-index g c.loop-placed-test.true in
-    let pushed : c.push_names.new.out.items ≡ names ++ names_in (formula_of g) =
-    subst (λ f. c.push_names.new.out.items ≡ names ++ names_in (tree_of f)) c.formula.ensures.formula c.in_ok-push_names.ensures in
-    c.loop-placed.invariant ∙ ap (λ l. names ++ l) step ∙ ap (λ k. names ++ (names_in (formula_of k) ++ rest)) (sym c.placed-item.is)
-    ∙ sym (append_assoc names (names_in (formula_of g)) rest) ∙ ap (λ l. l ++ rest) (sym pushed)
+    let pushed : c.push_names.new.out.items ≡ names ++ names_in_formula (guard_formula g) =
+    subst (λ f. c.push_names.new.out.items ≡ names ++ names_in_formula (tree_of f)) c.formula.ensures.formula c.in_ok-push_names.ensures in
+    c.loop-placed.invariant ∙ ap (λ l. names ++ l) step ∙ ap (λ k. names ++ (names_in_formula (guard_formula k) ++ rest)) (sym c.placed-item.is)
+    ∙ sym (append_assoc names (names_in_formula (guard_formula g)) rest) ∙ ap (λ l. l ++ rest) (sym pushed)
 
 pub returns : goal.returns
 returns c =

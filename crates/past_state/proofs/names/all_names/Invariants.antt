@@ -1,5 +1,4 @@
-use Rattle.std.proofs.Common.{◌≡◌, ◌++◌, drop}
-use Rattle.past_state.specs.Past.{guard_names}
+use Rattle.past_state.proofs.Vocabulary.{◌≡◌, ◌++◌, drop, guard_names}
 use Rattle.past_state.proofs.names.all_names.Given as goal
 
 abbrev pub invariant-loop-placed : goal.invariant-loop-placed

@@ -1,5 +1,4 @@
-use Rattle.std.proofs.Common.{◌≡◌, ◌++◌, length}
-use Rattle.past_state.specs.Runs.{AllCommitted, AreSameKinds}
+use Rattle.past_state.proofs.Vocabulary.{◌≡◌, ◌++◌, length, AllCommitted, AreSameKinds}
 use Rattle.past_state.proofs.operators.commit_each.Given as goal
 
 abbrev pub invariant-loop-step : goal.invariant-loop-step

@@ -1,6 +1,4 @@
-use Rattle.std.proofs.Common.{◌≡◌, ◌⊎◌, ⊎_elim, sym, subst}
-use Rattle.std.specs.Prelude.{OnErr}
-use Rattle.past_state.specs.Runs.{AreSameKinds}
+use Rattle.past_state.proofs.Vocabulary.{◌≡◌, ◌⊎◌, ⊎_elim, sym, subst, OnErr, AreSameKinds}
 use Rattle.past_state.proofs.CommitLemmas.{same_all}
 use Rattle.past_state.proofs.operators.commit_shared.Goals as goal
 

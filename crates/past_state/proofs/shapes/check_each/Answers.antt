@@ -1,9 +1,6 @@
-use Rattle.std.proofs.Common.{◌≡◌, ◌∙◌, ◌++◌, ◌∷◌, ◌+◌, [], map, take, Some, sym, ap, subst}
-use Rattle.std.specs.Option.{option_copied}
-use Rattle.std.proofs.lemmas.Bool.{false≢true}
-use Rattle.std.proofs.lemmas.List.{take_more}
-use Rattle.past_state.specs.Bounds.{AreWithinBounds}
-use Rattle.past_state.specs.Shapes.{operator_of}
+use Rattle.past_state.proofs.Vocabulary.{◌≡◌, ◌∙◌, ◌++◌, ◌∷◌, ◌+◌, [], map, take, Some, sym}
+use Rattle.past_state.proofs.Vocabulary.{ap, subst, option_copied, false≢true, take_more, AreWithinBounds}
+use Rattle.past_state.proofs.Vocabulary.{operator_of}
 use Rattle.past_state.proofs.ShapeLemmas.{IsLastOf, can_follow_from, last_with, within_with}
 use Rattle.past_state.proofs.shapes.check_each.Goals as goal
 

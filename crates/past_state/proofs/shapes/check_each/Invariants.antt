@@ -1,7 +1,4 @@
-use Rattle.std.proofs.Common.{map, take, Some}
-use Rattle.std.specs.Option.{option_copied}
-use Rattle.past_state.specs.Bounds.{AreWithinBounds}
-use Rattle.past_state.specs.Shapes.{operator_of}
+use Rattle.past_state.proofs.Vocabulary.{map, take, Some, option_copied, AreWithinBounds, operator_of}
 use Rattle.past_state.proofs.ShapeLemmas.{IsLastOf}
 use Rattle.past_state.proofs.shapes.check_each.Given as goal
 

@@ -1,5 +1,4 @@
-use Rattle.std.proofs.Common.{◌≡◌, ◌∙◌, IsTrue, sym, refl, ne_eqb}
-use Rattle.std.proofs.lemmas.Bool.{false≢true}
+use Rattle.past_state.proofs.Vocabulary.{◌∙◌, IsTrue, sym, ne_eqb, false≢true}
 use Rattle.past_state.proofs.ShapeLemmas.{fits_none, fits_with}
 use Rattle.past_state.proofs.shapes.fits_in.Goals as goal
 

@@ -1,6 +1,4 @@
-use Rattle.std.proofs.Common.{◌≡◌, ◌∙◌, inr, arith, sym, refl}
-use Rattle.std.proofs.lemmas.Bool.{false≢true}
-use Rattle.valuations.specs.KeyLaws.{row_cmp_exact}
+use Rattle.past_state.proofs.Vocabulary.{◌≡◌, ◌∙◌, inr, arith, sym, refl, false≢true, row_cmp_exact}
 use Rattle.past_state.proofs.ShapeLemmas.{not_before, not_less}
 use Rattle.past_state.proofs.shapes.is_other_behind.Goals as goal
 

@@ -1,6 +1,4 @@
-use Rattle.std.proofs.Common.{All, sym, subst}
-use Rattle.std.proofs.lemmas.List.Elements.{All-push}
-use Rattle.past_state.specs.Shapes.{HasItsColumns}
+use Rattle.past_state.proofs.Vocabulary.{All, sym, subst, All-push, HasItsColumns}
 use Rattle.past_state.proofs.shapes.push_shape.Goals as goal
 
 pub returns-clause-columns : goal.returns-clause-columns

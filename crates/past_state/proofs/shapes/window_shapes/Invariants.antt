@@ -1,10 +1,9 @@
-use Rattle.std.proofs.Common.{◌≡◌, ◌++◌, All, drop, map}
-use Rattle.past_state.specs.Guarded.{tree_in}
-use Rattle.past_state.specs.Shapes.{HasItsColumns, numbered, numbered_operators}
+use Rattle.past_state.proofs.Vocabulary.{◌≡◌, ◌++◌, All, drop, map, tree_in, HasItsColumns, numbered_operator}
+use Rattle.past_state.proofs.Vocabulary.{numbered_operators}
 use Rattle.past_state.proofs.shapes.window_shapes.Given as goal
 
 abbrev pub invariant-loop-number : goal.invariant-loop-number
 invariant-loop-number l = record {
-  operators : numbered_operators 0 (map tree_in l.guards) ≡ map numbered l.shapes.items ++ numbered_operators l.number (map tree_in (drop l.number l.guards));
+  operators : numbered_operators 0 (map tree_in l.guards) ≡ map numbered_operator l.shapes.items ++ numbered_operators l.number (map tree_in (drop l.number l.guards));
   columns : All HasItsColumns l.shapes.items;
 }

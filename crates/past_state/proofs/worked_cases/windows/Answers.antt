@@ -1,15 +1,13 @@
-use Rattle.std.proofs.Common.{◌≡◌, ◌∷◌, [], Some, refl, arith}
-use Rattle.valuations.specs.Columns.{here, later}
-use Rattle.windows.specs.Cases.{within}
-use Rattle.past_state.specs.RestoringCases.{Fit, at, once_in}
+use Rattle.past_state.proofs.Vocabulary.{◌∷◌, [], refl, arith, here, later, case_within, CaseRowsFit}
+use Rattle.past_state.proofs.Vocabulary.{first_window_row, once_in}
 use Rattle.past_state.proofs.RowCaseLemmas.{first_of_rows, fit_one, one_of_one, p_free, timely_of}
 use Rattle.past_state.proofs.worked_cases.windows.Goals as goal
 
-two_far : Fit (once_in (within 3 8)) (at 1 2 ∷ at 1 5 ∷ []) → ⊥
+two_far : CaseRowsFit (once_in (case_within 3 8)) (first_window_row 1 2 ∷ first_window_row 1 5 ∷ []) → ⊥
 two_far fit = omega (
   arith,
-  (timely_of (once_in (within 3 8)) (at 1 2 ∷ at 1 5 ∷ []) 1 2 (first_of_rows (once_in (within 3 8)) (at 1 2) (at 1 5 ∷ []) fit)).1.1
-      (omega arith) 5 (later (at 1 5) (at 1 2) (at 1 5 ∷ []) (here (at 1 5) [])) (omega arith),
+  (timely_of (once_in (case_within 3 8)) (first_window_row 1 2 ∷ first_window_row 1 5 ∷ []) 1 2 (first_of_rows (once_in (case_within 3 8)) (first_window_row 1 2) (first_window_row 1 5 ∷ []) fit)).1.1
+      (omega arith) 5 (later (first_window_row 1 5) (first_window_row 1 2) (first_window_row 1 5 ∷ []) (here (first_window_row 1 5) [])) (omega arith),
 )
 
 pub returns : goal.returns
@@ -17,7 +15,7 @@ returns c = record {
   by_number = refl;
   second_far = record {
     there = omega arith;
-    before = fit_one (once_in (within 3 8)) 1 2 p_free (omega arith, (omega arith, λ far other there far_too. omega (arith, one_of_one 1 1 2 other there)));
+    before = fit_one (once_in (case_within 3 8)) 1 2 p_free (omega arith, (omega arith, λ far other there far_too. omega (arith, one_of_one 1 1 2 other there)));
     broken = two_far;
   };
   not_the_third = λ f. two_far f.before;

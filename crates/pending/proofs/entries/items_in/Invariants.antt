@@ -1,6 +1,4 @@
-use Rattle.std.proofs.Common.{◌≡◌, take}
-use Rattle.sleepers.specs.Entries.{shown}
-use Rattle.pending.specs.Entries.{items_of}
+use Rattle.pending.proofs.Vocabulary.{◌≡◌, take, shown, items_of}
 use Rattle.pending.proofs.entries.items_in.Given as goal
 
 abbrev pub invariant-loop-entry : goal.invariant-loop-entry

@@ -1,4 +1,4 @@
-use Rattle.std.proofs.Common.{◌≡◌, take}
+use Rattle.pending.proofs.Vocabulary.{◌≡◌, take}
 use Rattle.pending.proofs.entries.place_behind.Given as goal
 
 abbrev pub invariant-loop-made : goal.invariant-loop-made

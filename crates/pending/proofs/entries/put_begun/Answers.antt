@@ -1,7 +1,6 @@
-use Rattle.std.proofs.Common.{◌≡◌, ◌++◌, ◌∷◌, [], ap, sym, ◌∙◌, arith, append_assoc, length, length-append, append-nil, map}
-use Rattle.plan_terms.specs.Plans.{plan_of}
-use Rattle.pending.specs.Entries.{entries_from}
-use Rattle.std.proofs.lemmas.Bool.{eqb-true}
+use Rattle.pending.proofs.Vocabulary.{◌≡◌, ◌++◌, ◌∷◌, [], ap, sym, ◌∙◌, arith, append_assoc}
+use Rattle.pending.proofs.Vocabulary.{length, length-append, map, plan_of, entries_from, eqb-true}
+use Rattle.std.proofs.Common.{append-nil}
 use Rattle.pending.proofs.EntryLemmas.{entries_more, none_from}
 use Rattle.pending.proofs.entries.put_begun.Goals as goal
 

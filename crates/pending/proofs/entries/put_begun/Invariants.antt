@@ -1,6 +1,4 @@
-use Rattle.std.proofs.Common.{◌≡◌, ◌++◌, length, map}
-use Rattle.plan_terms.specs.Plans.{plan_of}
-use Rattle.pending.specs.Entries.{entries_from}
+use Rattle.pending.proofs.Vocabulary.{◌≡◌, ◌++◌, length, map, plan_of, entries_from}
 use Rattle.pending.proofs.entries.put_begun.Given as goal
 
 abbrev pub invariant-loop-instance : goal.invariant-loop-instance

@@ -1,4 +1,4 @@
-use Rattle.pending.proofs.WakingLemmas.{miss_nothing, stay}
+use Rattle.pending.proofs.WakePatternLemmas.{miss_nothing, stay}
 use Rattle.pending.proofs.laws.sleepers_stay.Goals as goal
 
 pub returns-clause-misses_nothing : goal.returns-clause-misses_nothing

@@ -1,5 +1,4 @@
-use Rattle.std.proofs.Common.{◌≡◌, take}
-use Rattle.sleepers.specs.Entries.{shown}
+use Rattle.pending.proofs.Vocabulary.{◌≡◌, take, shown}
 use Rattle.pending.proofs.pending.duplicates.Given as goal
 
 abbrev pub invariant-loop-instance : goal.invariant-loop-instance

@@ -1,6 +1,4 @@
-use Rattle.std.proofs.Common.{[], refl}
-use Rattle.enf_value.specs.ListLaws.{here}
-use Rattle.obligations.specs.Cases.{q_of_1}
+use Rattle.pending.proofs.Vocabulary.{[], refl, here, q_of_1}
 use Rattle.pending.proofs.worked_cases.patterns.Goals as goal
 
 pub returns-clause-one_there : goal.returns-clause-one_there

@@ -1,7 +1,5 @@
-use Rattle.plan_terms.specs.Guards.{IsListedNode, IsSafeNode}
-use Rattle.plan_terms.specs.ScopeLaws.{AtEach-found, AtEach-from_nodes, AtEach-nodes}
-use Rattle.plan_terms.specs.Scopes.{IsScopedNode}
-use Rattle.plan_terms.specs.Limits.{EndsInTime}
+use Rattle.plan_terms.proofs.Vocabulary.{IsListedNode, IsSafeNode, EndsInTime, IsScopedNode}
+use Rattle.plan_terms.proofs.ScopeLaws.{AtEach-found, AtEach-from_nodes, AtEach-nodes}
 use Rattle.plan_terms.proofs.laws.found_node_inherits.Goals as goal
 
 pub returns : goal.returns

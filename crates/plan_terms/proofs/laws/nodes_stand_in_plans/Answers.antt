@@ -1,4 +1,5 @@
-use Rattle.plan_terms.proofs.StandingLemmas.{found_stands, itself, node_stands}
+use Rattle.plan_terms.proofs.NamedNodeLemmas.{found_stands, node_stands}
+use Rattle.plan_terms.proofs.NodeLemmas.{itself}
 use Rattle.plan_terms.proofs.laws.nodes_stand_in_plans.Goals as goal
 
 pub returns : goal.returns

@@ -1,6 +1,5 @@
-use Rattle.std.proofs.Common.{arith}
-use Rattle.plan_terms.specs.Nodes.{nodes}
-use Rattle.plan_terms.proofs.Finding.{placed}
+use Rattle.plan_terms.proofs.Vocabulary.{arith, nodes}
+use Rattle.plan_terms.proofs.NodeSearch.{placed}
 use Rattle.plan_terms.proofs.laws.number_is_place.Goals as goal
 
 pub returns : goal.returns

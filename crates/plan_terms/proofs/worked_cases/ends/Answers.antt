@@ -1,4 +1,4 @@
-use Rattle.std.proofs.Common.{arith}
+use Rattle.plan_terms.proofs.Vocabulary.{arith}
 use Rattle.plan_terms.proofs.worked_cases.ends.Goals as goal
 
 pub returns-clause-last : goal.returns-clause-last

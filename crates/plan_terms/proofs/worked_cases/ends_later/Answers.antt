@@ -1,4 +1,4 @@
-use Rattle.std.proofs.Common.{arith}
+use Rattle.plan_terms.proofs.Vocabulary.{arith}
 use Rattle.plan_terms.proofs.worked_cases.ends_later.Goals as goal
 
 pub returns-clause-at_1 : goal.returns-clause-at_1

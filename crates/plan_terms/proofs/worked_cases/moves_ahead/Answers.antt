@@ -1,7 +1,5 @@
-use Rattle.std.proofs.Common.{◌≡◌, ℕ, ap, arith, refl, lit<, lit≤, ⊎_elim}
-use Rattle.enf_formula.specs.Cases.{two_steps}
-use Rattle.plan_terms.specs.Nodes.{number_of}
-use Rattle.plan_terms.specs.Owed.{IsAhead, Obligation}
+use Rattle.plan_terms.proofs.Vocabulary.{◌≡◌, ℕ, ap, arith, refl, lit<, lit≤, ⊎_elim, two_steps}
+use Rattle.plan_terms.proofs.Vocabulary.{node_number, IsAhead, Obligation}
 use Rattle.plan_terms.proofs.OwedCases.{as_it_is}
 use Rattle.plan_terms.proofs.worked_cases.moves_ahead.Goals as goal
 
@@ -22,13 +20,13 @@ returns-clause-until_was_met c moves =
     ⊎_elim
     (λ to_right. let then : to_right.0 ≡ 1 = ap (λ (o : Obligation). o.position) to_right.3 in
     to_right.2 0 first (omega (arith, then)) two_steps (as_it_is 3) (0, lit< tt, refl))
-    (λ to_left. let other : ◌≡◌ {A = ℕ} 1 2 = ap (λ (o : Obligation). number_of o.node) to_left.3 in omega (arith, other))
+    (λ to_left. let other : ◌≡◌ {A = ℕ} 1 2 = ap (λ (o : Obligation). node_number o.node) to_left.3 in omega (arith, other))
     moves
 
 pub returns-clause-left_side_no_longer : goal.returns-clause-left_side_no_longer
 returns-clause-left_side_no_longer c moves =
     ⊎_elim
-    (λ to_right. let other : ◌≡◌ {A = ℕ} 2 1 = ap (λ (o : Obligation). number_of o.node) to_right.3 in omega (arith, other))
+    (λ to_right. let other : ◌≡◌ {A = ℕ} 2 1 = ap (λ (o : Obligation). node_number o.node) to_right.3 in omega (arith, other))
     (λ to_left. let then : to_left.0 ≡ 1 = ap (λ (o : Obligation). o.position) to_left.3 in
     to_left.2 1 second (omega (arith, then)) two_steps (as_it_is 3) (0, lit< tt, refl))
     moves

@@ -1,4 +1,4 @@
-use Rattle.std.proofs.Common.{arith}
+use Rattle.plan_terms.proofs.Vocabulary.{arith}
 use Rattle.plan_terms.proofs.worked_cases.names_of_guards.Goals as goal
 
 pub returns-clause-below : goal.returns-clause-below

@@ -1,39 +1,30 @@
-use Rattle.std.proofs.Common.{◌≡◌, ℕ, zero, suc, ◌<◌, pos, List, [], ◌∷◌, Option, None, Some, slice_index_or, arith, refl, sym, ap, subst, ◌∙◌, lit<, lit≤}
-use Rattle.std.proofs.lemmas.Option.{same_Some}
-use Rattle.enf_value.specs.ListLaws.{none_in_nil}
-use Rattle.enf_value.specs.Valuations.{no_values, values_of, with_values}
-use Rattle.enf_value.specs.declared.events.NameId.{NameId}
-use Rattle.enf_value.specs.declared.terms.Term.TheVariants.{Var}
-use Rattle.enf_value.specs.declared.values.Value.{Value}
-use Rattle.enf_value.specs.declared.values.Value.TheVariants.{Num}
-use Rattle.enf_formula.specs.Cases.{empty_step, name_p, name_q, two_steps, x}
-use Rattle.enf_formula.specs.Satisfaction.{IsAmong}
-use Rattle.plan_terms.specs.Cases.{cause_p, cause_q, cause_q_x, each_soon, soon_q_x, x_is}
-use Rattle.plan_terms.specs.Changes.{cause_of}
-use Rattle.plan_terms.specs.Nodes.{number_of}
-use Rattle.plan_terms.specs.Owed.{LeadsThrough, Obligation, obligation}
-use Rattle.plan_terms.specs.Plans.{Plan}
+use Rattle.plan_terms.proofs.Vocabulary.{◌≡◌, ℕ, zero, suc, ◌<◌, pos, List, [], ◌∷◌, Option, None}
+use Rattle.plan_terms.proofs.Vocabulary.{Some, slice_index_or, arith, refl, sym, ap, subst, ◌∙◌, lit<, lit≤}
+use Rattle.plan_terms.proofs.Vocabulary.{same_Some, none_in_nil, no_values, values_of_terms, with_values, NameId, Var}
+use Rattle.plan_terms.proofs.Vocabulary.{Value, Num, empty_step, name_p, name_q, two_steps, variable_x, IsEventAmong}
+use Rattle.plan_terms.proofs.Vocabulary.{cause_p, plan_cause_q, plan_cause_q_x, each_soon, soon_q_x, x_is, caused_at}
+use Rattle.plan_terms.proofs.Vocabulary.{node_number, Plan, LeadsThrough, Obligation, obligation}
 use Rattle.plan_terms.proofs.OwedCases.{for_1, from_leaf}
 use Rattle.plan_terms.proofs.worked_cases.owed.Goals as goal
 
 pub returns-clause-root : goal.returns-clause-root
 returns-clause-root c =
-    record { root = cause_q 0; of_rule = refl; begun = 1; there = lit< tt; moves = []; leads = refl }
+    record { root = plan_cause_q 0; of_rule = refl; begun = 1; there = lit< tt; moves = []; leads = refl }
 
 pub returns-clause-another_rule : goal.returns-clause-another_rule
 returns-clause-another_rule c owed =
     let is : owed.root ≡ cause_p 0 = sym (same_Some (cause_p 0) owed.root owed.of_rule) in
-    let same : obligation owed.root no_values owed.begun ≡ obligation (cause_q 0) no_values 1 =
-    from_leaf two_steps 3 0 0 (obligation owed.root no_values owed.begun) owed.moves (obligation (cause_q 0) no_values 1) name_p is owed.leads in
-    let node : cause_p 0 ≡ cause_q 0 = sym is ∙ ap (λ (o : Obligation). o.node) same in
-    let names : ◌≡◌ {A = ℕ} 0 1 = ap (λ (plan : Plan). (slice_index_or (cause_of plan) 0 name_p).0) node in
+    let same : obligation owed.root no_values owed.begun ≡ obligation (plan_cause_q 0) no_values 1 =
+    from_leaf two_steps 3 0 0 (obligation owed.root no_values owed.begun) owed.moves (obligation (plan_cause_q 0) no_values 1) name_p is owed.leads in
+    let node : cause_p 0 ≡ plan_cause_q 0 = sym is ∙ ap (λ (o : Obligation). o.node) same in
+    let names : ◌≡◌ {A = ℕ} 0 1 = ap (λ (plan : Plan). (slice_index_or (caused_at plan) 0 name_p).0) node in
     omega (arith, names)
 
 pub returns-clause-behind_the_trace : goal.returns-clause-behind_the_trace
 returns-clause-behind_the_trace c owed =
-    let is : owed.root ≡ cause_q 0 = sym (same_Some (cause_q 0) owed.root owed.of_rule) in
-    let same : obligation owed.root no_values owed.begun ≡ obligation (cause_q 0) no_values 2 =
-    from_leaf two_steps 3 0 0 (obligation owed.root no_values owed.begun) owed.moves (obligation (cause_q 0) no_values 2) name_q is owed.leads in
+    let is : owed.root ≡ plan_cause_q 0 = sym (same_Some (plan_cause_q 0) owed.root owed.of_rule) in
+    let same : obligation owed.root no_values owed.begun ≡ obligation (plan_cause_q 0) no_values 2 =
+    from_leaf two_steps 3 0 0 (obligation owed.root no_values owed.begun) owed.moves (obligation (plan_cause_q 0) no_values 2) name_q is owed.leads in
     let then : owed.begun ≡ 2 = ap (λ (o : Obligation). o.position) same in
     let there = owed.there in
     omega (arith, then, there)
@@ -54,7 +45,7 @@ returns-clause-two_moves c = record {
   of_rule = refl;
   begun = 0;
   there = lit< tt;
-  moves = obligation soon_q_x (x_is (Num (pos 1))) 0 ∷ obligation cause_q_x (x_is (Num (pos 1))) 0 ∷ [];
+  moves = obligation soon_q_x (x_is (Num (pos 1))) 0 ∷ obligation plan_cause_q_x (x_is (Num (pos 1))) 0 ∷ [];
   leads = (
     for_1,
     (
@@ -69,16 +60,16 @@ returns-clause-two_moves c = record {
   );
 }
 
-none_among : (name : NameId) (args : Option (List Value)) → IsAmong [] name args → ⊥
+none_among : (name : NameId) (args : Option (List Value)) → IsEventAmong [] name args → ⊥
 none_among name None among = among
 none_among name (Some args) among = none_in_nil (record { name = name; args = args }) among
 
 from_guard : (begun : ℕ) → begun < 1 → (moves : List Obligation)
     → LeadsThrough empty_step 0 (obligation each_soon no_values begun) moves (obligation soon_q_x (x_is (Num (pos 1))) 0) → ⊥
 from_guard begun below [] same =
-    let numbers : ◌≡◌ {A = ℕ} 0 1 = ap (λ (o : Obligation). number_of o.node) same in omega (arith, numbers)
+    let numbers : ◌≡◌ {A = ℕ} 0 1 = ap (λ (o : Obligation). node_number o.node) same in omega (arith, numbers)
 from_guard zero below (next ∷ moves) leads =
-    none_among name_p (values_of (with_values (x ∷ []) leads.0.0 no_values) (Var x ∷ [])) leads.0.2
+    none_among name_p (values_of_terms (with_values (variable_x ∷ []) leads.0.0 no_values) (Var variable_x ∷ [])) leads.0.2
 from_guard (suc begun) below (next ∷ moves) leads = omega (arith, below)
 
 pub returns-clause-not_a_root : goal.returns-clause-not_a_root

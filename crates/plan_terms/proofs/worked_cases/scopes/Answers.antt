@@ -1,22 +1,24 @@
-use Rattle.std.proofs.Common.{[], ◌∷◌, refl}
+use Rattle.plan_terms.proofs.Vocabulary.{[], ◌∷◌, refl, variable_x, here, later, none_in_nil, Var, plan_terms_y}
 use Rattle.std.specs.List.Sorted.{IsStrictlySortedBy}
-use Rattle.enf_formula.specs.Cases.{x}
-use Rattle.enf_value.specs.ListLaws.{here, later, none_in_nil}
-use Rattle.enf_value.specs.declared.terms.Term.TheVariants.{Var}
-use Rattle.plan_terms.specs.Cases.{y}
 use Rattle.plan_terms.proofs.CaseLemmas.{apart, known, known_second, only}
 use Rattle.plan_terms.proofs.worked_cases.scopes.Goals as goal
 
 pub returns-clause-scoped : goal.returns-clause-scoped
 unfolding IsStrictlySortedBy
-returns-clause-scoped c = (((tt, tt), known), (tt, (here x [], tt)))
+returns-clause-scoped c = (((tt, tt), known), (tt, (here variable_x [], tt)))
 
 pub returns-clause-scoped_twice : goal.returns-clause-scoped_twice
 unfolding IsStrictlySortedBy
-returns-clause-scoped_twice c = (((tt, tt), known), ((((refl, tt), (tt, tt)), known_second), (here x (y ∷ []), (later y x (y ∷ []) (here y []), tt))))
+returns-clause-scoped_twice c = (
+  ((tt, tt), known),
+  (
+    (((refl, tt), (tt, tt)), known_second),
+    (here variable_x (plan_terms_y ∷ []), (later plan_terms_y variable_x (plan_terms_y ∷ []) (here plan_terms_y []), tt)),
+  ),
+)
 
 pub returns-clause-not_in_scope : goal.returns-clause-not_in_scope
-returns-clause-not_in_scope c = λ scoped. none_in_nil x scoped.1.0
+returns-clause-not_in_scope c = λ scoped. none_in_nil variable_x scoped.1.0
 
 pub returns-clause-bound_again : goal.returns-clause-bound_again
 unfolding IsStrictlySortedBy
@@ -31,7 +33,7 @@ unfolding IsStrictlySortedBy
 returns-clause-falling c = λ scoped. let less = scoped.0.0.0.0 in cc
 
 pub returns-clause-guard_not_in_scope : goal.returns-clause-guard_not_in_scope
-returns-clause-guard_not_in_scope c = λ scoped. apart (only x y (scoped.0.1 y (here (Var y) [])))
+returns-clause-guard_not_in_scope c = λ scoped. apart (only variable_x plan_terms_y (scoped.0.1 plan_terms_y (here (Var plan_terms_y) [])))
 
 pub returns-clause-test_not_in_scope : goal.returns-clause-test_not_in_scope
-returns-clause-test_not_in_scope c = λ scoped. none_in_nil x (scoped.0 x (here (Var x) []))
+returns-clause-test_not_in_scope c = λ scoped. none_in_nil variable_x (scoped.0 variable_x (here (Var variable_x) []))

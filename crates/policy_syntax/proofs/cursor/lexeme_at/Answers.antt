@@ -1,9 +1,6 @@
-use Rattle.std.proofs.Common.{◌≡◌, ◌∷◌, Option, IfSome, true≢false, sym, subst, ◌∙◌, arith}
-use Rattle.std.proofs.lemmas.Grind.{common_steps}
-use Rattle.enf_value.specs.declared.tokens.PlacedToken.{PlacedToken}
-use Rattle.enf_value.specs.Tokens.{IsProper, tokens_at}
-use Rattle.enf_value.specs.TokenViews.{placed_of, token_of}
-use Rattle.policy_syntax.specs.Lexemes.{lexeme_of}
+use Rattle.policy_syntax.proofs.Vocabulary.{◌≡◌, ◌∷◌, Option, IfSome, true≢false, sym, subst, ◌∙◌}
+use Rattle.policy_syntax.proofs.Vocabulary.{arith, common_steps, PlacedToken, IsProper, placed_of, token_of, tokens_at}
+use Rattle.policy_syntax.proofs.Vocabulary.{lexeme_of}
 use Rattle.policy_syntax.proofs.Ranges.{IsSound, sound, token_ahead}
 use Rattle.policy_syntax.proofs.cursor.lexeme_at.Goals as goal
 

@@ -1,5 +1,4 @@
-use Rattle.std.proofs.Common.{sym, ap, ◌∙◌}
-use Rattle.policy_syntax.specs.Grammar.{policy_tree}
+use Rattle.policy_syntax.proofs.Vocabulary.{sym, ap, ◌∙◌, policy_tree}
 use Rattle.policy_syntax.proofs.OneTree.{policy_one}
 use Rattle.policy_syntax.proofs.laws.one_tree.Goals as goal
 

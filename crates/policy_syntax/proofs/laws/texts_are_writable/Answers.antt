@@ -1,7 +1,4 @@
-use Rattle.std.proofs.Common.{subst, sym}
-use Rattle.std.specs.List.{AllByRecursion}
-use Rattle.enf_value.specs.Tokens.{tokens}
-use Rattle.policy_syntax.specs.Writing.{IsWritableRule}
+use Rattle.policy_syntax.proofs.Vocabulary.{subst, sym, AllByRecursion, tokens, IsWritableRule}
 use Rattle.policy_syntax.proofs.Writable.{AreProper, cut_proper, policy_found}
 use Rattle.policy_syntax.proofs.laws.texts_are_writable.Goals as goal
 

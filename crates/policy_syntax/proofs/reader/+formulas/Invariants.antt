@@ -1,4 +1,4 @@
-use Rattle.std.proofs.Common.{◌+◌, ◌-◌, ◌*◌}
+use Rattle.policy_syntax.proofs.Vocabulary.{◌+◌, ◌-◌, ◌*◌}
 use Rattle.policy_syntax.proofs.reader.+formulas.Given as goal
 
 -- a call goes to a deeper level, or on the same level to a nonterminal below

@@ -1,15 +1,13 @@
-use Rattle.std.proofs.Common.{sym, subst}
-use Rattle.policy_syntax.specs.Reading.{PrimaryRead}
-use Rattle.policy_syntax.specs.Trees.{Formula}
+use Rattle.policy_syntax.proofs.Vocabulary.{sym, subst, PrimaryRead, SyntaxTree}
 use Rattle.policy_syntax.proofs.FormulaPhrases.{truth_read, taken_is}
 use Rattle.policy_syntax.proofs.FormulaMoves.{truth_is}
-use Rattle.policy_syntax.proofs.Moves.{operator_barred, operator_taken}
-use Rattle.policy_syntax.proofs.Continuing.{follows_err}
+use Rattle.policy_syntax.proofs.PartMoves.{operator_barred, operator_taken}
+use Rattle.policy_syntax.proofs.AutomatonSteps.{follows_err}
 use Rattle.policy_syntax.proofs.reader.truth.Goals as goal
 
 pub returns-clause-read : goal.returns-clause-read
 returns-clause-read c =
-    let P : Formula → Type 0 = λ f. PrimaryRead c.args.depth.level c.args.depth.scope c.args.parts.now.cursor.rest c.take_node.new.self.cursor.rest f in
+    let P : SyntaxTree → Type 0 = λ f. PrimaryRead c.args.depth.level c.args.depth.scope c.args.parts.now.cursor.rest c.take_node.new.self.cursor.rest f in
     subst P (sym c.constant.ensures) (truth_read _ _ _ _ _ _ c.requires.scope (taken_is _ _ _ _ _ c.requires.at c.in_ok-place.ensures.taken))
 
 pub returns-in_err-place-clause-follows : goal.returns-in_err-place-clause-follows

@@ -1,8 +1,6 @@
 -- Each is what the automaton says.
-use Rattle.std.proofs.Common.{codes, refl}
-use Rattle.policy_syntax.specs.Automaton.{judge}
-use Rattle.policy_syntax.specs.Cases.{with_name, with_nots}
-use Rattle.policy_syntax.specs.declared.refusals.SyntaxRefusal.TheVariants.{Syntax, Limit}
+use Rattle.policy_syntax.proofs.Vocabulary.{codes, refl, with_name, with_nots, Syntax, Limit}
+use Rattle.policy_syntax.specs.machine.Automaton.{judge}
 use Rattle.policy_syntax.proofs.Policies.{refusal_answer}
 use Rattle.policy_syntax.proofs.worked_cases.refusals.Goals as goal
 

@@ -1,9 +1,9 @@
-use Rattle.std.proofs.Common.{ℕ, List, [], ◌∷◌, codes, Option, Some, None, true, false, refl}
-use Rattle.policy_syntax.specs.Cases.{variable}
-use Rattle.policy_syntax.specs.Grammar.{ArgumentsPhrase, IntervalPhrase, RulePhrase, FormulaPhrase, TermsPhrase}
-use Rattle.policy_syntax.specs.Grammar.{OneSide, Implication, OneCase, Disjunction, OnePart, Conjunction, OneOperand, Between}
-use Rattle.policy_syntax.specs.Grammar.{Negation, Before, Quantified, Primary, Parenthesis, Constant, Event, Comparison}
-use Rattle.policy_syntax.specs.Grammar.{Variable, Plain, LastTerm, LastVariable, NextVariable}
+use Rattle.policy_syntax.proofs.Vocabulary.{ℕ, List, [], ◌∷◌, codes, Option, Some, None, true, false, refl}
+use Rattle.policy_syntax.proofs.Vocabulary.{case_binding, ArgumentsPhrase, IntervalPhrase, RulePhrase, FormulaPhrase}
+use Rattle.policy_syntax.proofs.Vocabulary.{TermsPhrase, OneSide, Implication, OneCase, Disjunction, OnePart}
+use Rattle.policy_syntax.proofs.Vocabulary.{Conjunction, OneOperand, Between, Negation, Before, Quantified, Primary}
+use Rattle.policy_syntax.proofs.Vocabulary.{Parenthesis, Constant, Event, Comparison, Variable, Plain, LastTerm}
+use Rattle.policy_syntax.proofs.Vocabulary.{LastVariable, NextVariable}
 use Rattle.policy_syntax.specs.declared.lexemes.Infix.TheVariants as infix_words
 use Rattle.policy_syntax.specs.declared.lexemes.Prefix.TheVariants as prefix_words
 use Rattle.policy_syntax.specs.declared.lexemes.Quantifier.TheVariants as quantifier_words
@@ -95,7 +95,7 @@ pub returns-clause-quantifier_reaches : goal.returns-clause-quantifier_reaches
 returns-clause-quantifier_reaches c = record {
   phrase =
       rule 0 5 (codes "r") 6 (OneSide (OneCase (OnePart (OneOperand (Quantified quantifier_words.Forall 8
-      (LastVariable (variable 15 (codes "x"))) 16 (OneSide (OneCase (Conjunction (OneOperand (Primary (Event 18
+      (LastVariable (case_binding 15 (codes "x"))) 16 (OneSide (OneCase (Conjunction (OneOperand (Primary (Event 18
       (codes "a") (arguments 19 (Some (LastTerm (Variable 20 (codes "x")))) 21)))) 23 (OnePart (OneOperand
       (Primary (Event 27 (codes "b") (arguments 28 None 29))))))))))))) 30 ∷ [];
   tree_is = refl;
@@ -120,7 +120,7 @@ pub returns-clause-quantifier_in_parentheses : goal.returns-clause-quantifier_in
 returns-clause-quantifier_in_parentheses c = record {
   phrase =
       rule 0 5 (codes "r") 6 (OneSide (OneCase (Conjunction (OneOperand (Primary (Parenthesis 8 (OneSide (OneCase
-      (OnePart (OneOperand (Quantified quantifier_words.Forall 9 (LastVariable (variable 16 (codes "x"))) 17
+      (OnePart (OneOperand (Quantified quantifier_words.Forall 9 (LastVariable (case_binding 16 (codes "x"))) 17
       (OneSide (OneCase (OnePart (OneOperand (Primary (Event 19 (codes "a") (arguments 20 (Some (LastTerm
       (Variable 21 (codes "x")))) 22)))))))))))) 23))) 25 (OnePart (OneOperand (Primary (Event 29 (codes "b")
       (arguments 30 None 31)))))))) 32 ∷ [];
@@ -153,7 +153,7 @@ pub returns-clause-since_behind_a_quantifier : goal.returns-clause-since_behind_
 returns-clause-since_behind_a_quantifier c = record {
   phrase =
       rule 0 5 (codes "r") 6 (OneSide (OneCase (OnePart (Between (Quantified quantifier_words.Forall 8
-      (LastVariable (variable 15 (codes "x"))) 16 (OneSide (OneCase (OnePart (Between (Primary (Event 18 (codes
+      (LastVariable (case_binding 15 (codes "x"))) 16 (OneSide (OneCase (OnePart (Between (Primary (Event 18 (codes
       "a") (arguments 19 None 20))) infix_words.Since 22 (interval 27 28 0 29 30 (Some 1) 31) (Primary (Event 33
       (codes "b") (arguments 34 None 35)))))))) infix_words.Since 37 (interval 42 43 0 44 45 None 46) (Primary
       (Event 48 (codes "c") (arguments 49 None 50))))))) 51 ∷ [];
@@ -182,7 +182,7 @@ pub returns-clause-comparison : goal.returns-clause-comparison
 returns-clause-comparison c = record {
   phrase =
       rule 0 5 (codes "r") 6 (OneSide (OneCase (OnePart (OneOperand (Quantified quantifier_words.Exists 8
-      (NextVariable (variable 15 (codes "x")) 16 (LastVariable (variable 18 (codes "y")))) 19 (OneSide (OneCase
+      (NextVariable (case_binding 15 (codes "x")) 16 (LastVariable (case_binding 18 (codes "y")))) 19 (OneSide (OneCase
       (Conjunction (OneOperand (Primary (Comparison (Variable 21 (codes "x")) sign_marks.AtMost 23 (Variable 26
       (codes "y"))))) 28 (OnePart (OneOperand (Primary (Comparison (Variable 32 (codes "y")) sign_marks.Equal 34
       (Plain 36 7))))))))))))) 37 ∷ [];

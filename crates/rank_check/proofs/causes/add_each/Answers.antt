@@ -1,8 +1,4 @@
-use Rattle.std.proofs.Common.{[], subst, List}
-use Rattle.std.proofs.lemmas.List.{take_all}
-use Rattle.enf_value.specs.declared.events.NameId.{NameId}
-use Rattle.rank_check.specs.Matrix.{Adds}
-use Rattle.enf_value.specs.ListLaws.{none_in_nil}
+use Rattle.rank_check.proofs.Vocabulary.{[], subst, List, take_all, NameId, AddsEdges, none_in_nil}
 use Rattle.rank_check.proofs.MatrixLemmas.{nothing, one_more, Each}
 use Rattle.rank_check.proofs.causes.add_each.Goals as goal
 
@@ -14,4 +10,4 @@ loop-from-preserved c = one_more c.args.met.now c.loop-from.from-index _ c.args.
 
 pub returns : goal.returns
 returns c =
-    subst (λ (l : List NameId). Adds (Each l c.args.to) c.args.edges.now c.loop-from.edges) (take_all c.loop-from.from-index c.args.met.now c.loop-from-test.false) c.loop-from.invariant
+    subst (λ (l : List NameId). AddsEdges (Each l c.args.to) c.args.edges.now c.loop-from.edges) (take_all c.loop-from.from-index c.args.met.now c.loop-from-test.false) c.loop-from.invariant

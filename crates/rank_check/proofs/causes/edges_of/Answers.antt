@@ -1,14 +1,8 @@
-use Rattle.std.proofs.Common.{◌≡◌, ◌∙◌, ◌<◌, [], List, ℕ, length, get_or, map, true, sym, subst, arith}
-use Rattle.std.proofs.lemmas.List.{length-map, take_all}
-use Rattle.std.proofs.lemmas.Option.{get_or_from_slice_get}
-use Rattle.enf_value.specs.declared.events.NameId.{NameId}
-use Rattle.plan_terms.specs.Plans.{Plan, plan_of}
-use Rattle.rank_check.specs.Matrix.{Adds}
-use Rattle.rank_check.specs.Walks.{Causes}
-use Rattle.enf_value.specs.ListLaws.{none_in_nil}
+use Rattle.rank_check.proofs.Vocabulary.{◌≡◌, ◌∙◌, ◌<◌, [], List, ℕ, length, get_or, map, true, sym}
+use Rattle.rank_check.proofs.Vocabulary.{subst, arith, length-map, take_all, get_or_from_slice_get, NameId, Plan}
+use Rattle.rank_check.proofs.Vocabulary.{plan_of, plan_at, AddsEdges, Causes, none_in_nil}
 use Rattle.rank_check.proofs.CauseLemmas.{CausedIn, one_more_plan, just_edges}
 use Rattle.rank_check.proofs.MatrixLemmas.{nothing}
-use Rattle.rank_check.proofs.PlanLemmas.{tree_at}
 use Rattle.rank_check.proofs.causes.edges_of.Goals as goal
 
 pub loop-plan-init : goal.loop-plan-init
@@ -23,13 +17,13 @@ loop-plan-preserved c =
     let at : ℕ = c.loop-plan.plan-index in
     let item : Plan = plan_of c.plan-item.result in
     let inside : at < length trees = omega (arith, length-map c.args.plans.now plan_of, c.loop-plan-test.true) in
-    let is : get_or trees at item ≡ item = get_or_from_slice_get trees at item item (tree_at c.args.plans.now at c.plan-item.result c.loop-plan-test.true c.plan-item.is) in
-    let bare : Adds (Causes true [] item) c.loop-plan.edges c.add_causes.new.edges =
-    subst (λ (met : List NameId). Adds (Causes true met item) c.loop-plan.edges c.add_causes.new.edges) c.loop-plan.invariant.nothing_met c.in_ok-add_causes.ensures.edges in
+    let is : get_or trees at item ≡ item = get_or_from_slice_get trees at item item (plan_at c.args.plans.now at c.plan-item.result c.loop-plan-test.true c.plan-item.is) in
+    let bare : AddsEdges (Causes true [] item) c.loop-plan.edges c.add_causes.new.edges =
+    subst (λ (met : List NameId). AddsEdges (Causes true met item) c.loop-plan.edges c.add_causes.new.edges) c.loop-plan.invariant.nothing_met c.in_ok-add_causes.ensures.edges in
     record {
       nothing_met = c.in_ok-add_causes.ensures.met ∙ c.loop-plan.invariant.nothing_met;
       caused = one_more_plan trees at item c.in_ok-edges.edges c.loop-plan.edges c.add_causes.new.edges inside c.loop-plan.invariant.caused
-          (subst (λ (p : Plan). Adds (Causes true [] p) c.loop-plan.edges c.add_causes.new.edges) (sym is) bare);
+          (subst (λ (p : Plan). AddsEdges (Causes true [] p) c.loop-plan.edges c.add_causes.new.edges) (sym is) bare);
     }
 
 pub returns-clause-width : goal.returns-clause-width
@@ -39,4 +33,5 @@ pub returns-clause-edges : goal.returns-clause-edges
 returns-clause-edges c =
     let trees : List Plan = map plan_of c.args.plans.now in
     just_edges c.args.names trees c.in_ok-edges.edges c.loop-plan.edges c.requires c.in_ok-edges.ensures.width c.in_ok-edges.ensures.none
-    (subst (λ (plans : List Plan). Adds (CausedIn plans) c.in_ok-edges.edges c.loop-plan.edges) (take_all c.loop-plan.plan-index trees (omega (arith, length-map c.args.plans.now plan_of, c.loop-plan-test.false))) c.loop-plan.invariant.caused)
+    (subst (λ (plans : List Plan). AddsEdges (CausedIn plans) c.in_ok-edges.edges c.loop-plan.edges)
+    (take_all c.loop-plan.plan-index trees (omega (arith, length-map c.args.plans.now plan_of, c.loop-plan-test.false))) c.loop-plan.invariant.caused)

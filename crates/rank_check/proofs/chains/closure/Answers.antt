@@ -1,4 +1,4 @@
-use Rattle.std.proofs.Common.{arith}
+use Rattle.rank_check.proofs.Vocabulary.{arith}
 use Rattle.rank_check.proofs.ClosureLemmas.{closing_all, closing_more}
 use Rattle.rank_check.proofs.chains.closure.Goals as goal
 

@@ -1,6 +1,4 @@
-use Rattle.std.proofs.Common.{◌≤◌, arith, refl}
-use Rattle.enf_value.specs.declared.events.NameId.{NameId}
-use Rattle.rank_check.specs.Horizon.{rank_in}
+use Rattle.rank_check.proofs.Vocabulary.{◌≤◌, arith, refl, NameId, rank_in}
 use Rattle.rank_check.proofs.chains.is_reached.Goals as goal
 
 pub returns-then-has : goal.returns-then-has

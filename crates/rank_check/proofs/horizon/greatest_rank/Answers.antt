@@ -1,5 +1,4 @@
-use Rattle.std.proofs.Common.{arith}
-use Rattle.std.proofs.lemmas.Grind.{common_steps}
+use Rattle.rank_check.proofs.Vocabulary.{arith, common_steps}
 use Rattle.rank_check.proofs.SurveyLemmas.{greatest-append}
 use Rattle.rank_check.proofs.horizon.greatest_rank.Goals as goal
 

@@ -1,5 +1,4 @@
-use Rattle.std.proofs.Common.{◌≡◌, take}
-use Rattle.rank_check.specs.Horizon.{greatest}
+use Rattle.rank_check.proofs.Vocabulary.{◌≡◌, take, greatest}
 use Rattle.rank_check.proofs.horizon.greatest_rank.Given as goal
 
 abbrev pub invariant-loop-rank : goal.invariant-loop-rank

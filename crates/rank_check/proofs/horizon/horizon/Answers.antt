@@ -1,23 +1,19 @@
-use Rattle.std.proofs.Common.{rules, ◌≡◌, ℕ, ◌+◌, ◌*◌, ◌≤◌, max, List, [], ◌∷◌, ◌++◌, arith, map, take, ap, subst, sym, ◌∙◌}
-use Rattle.std.specs.List.{AllByRecursion, flat_map}
-use Rattle.std.proofs.lemmas.Grind.{common_steps}
-use Rattle.std.proofs.lemmas.List.{take_all}
-use Rattle.std.proofs.lemmas.Nat.{mul-le}
-use Rattle.enf_value.specs.ListLaws.{AllByRecursion-weaker}
-use Rattle.plan_terms.specs.Limits.{EndsInTime, IsSmall}
-use Rattle.plan_terms.specs.Nodes.{nodes}
-use Rattle.plan_terms.specs.Plans.{Plan, Cause, Suppress, Both, Either, TestOr, Guarded, Eventually, Always, Until, Next, plan_of}
+use Rattle.rank_check.proofs.Vocabulary.{rules, ◌≡◌, ℕ, ◌+◌, ◌*◌, ◌≤◌, max, List, [], ◌∷◌}
+use Rattle.rank_check.proofs.Vocabulary.{◌++◌, arith, map, take, ap, subst, sym, ◌∙◌, AllByRecursion}
+use Rattle.rank_check.proofs.Vocabulary.{flat_map, common_steps, take_all, mul-le, AllByRecursion-weaker, EndsInTime}
+use Rattle.rank_check.proofs.Vocabulary.{IsSmallPlan, nodes, window_end, Plan, CausePlan, SuppressPlan, Both, Either}
+use Rattle.rank_check.proofs.Vocabulary.{TestOr, Guarded, EventuallyPlan, AlwaysPlan, UntilPlan, NextPlan, plan_of}
+use Rattle.rank_check.proofs.Vocabulary.{class_in, greatest, plan_size}
 use Rattle.plan_terms.specs.declared.plans.Plan.{Plan as Stored}
-use Rattle.rank_check.specs.Horizon.{class_in, greatest, size, window_end}
 use Rattle.rank_check.proofs.SurveyLemmas.{item_push, measure-le, of_item, over, over-le, over_push}
 use Rattle.rank_check.proofs.horizon.horizon.Goals as goal
 
 pub survey_of-found-requires-clause-size : goal.survey_of-found-requires-clause-size
-survey_of-found-requires-clause-size c = of_item IsSmall c.args.plans.now c.loop-plan.plan-index c.plan-item.result c.requires.small (omega arith) c.plan-item.is
+survey_of-found-requires-clause-size c = of_item IsSmallPlan c.args.plans.now c.loop-plan.plan-index c.plan-item.result c.requires.small (omega arith) c.plan-item.is
 
 pub survey_of-found-requires-clause-step : goal.survey_of-found-requires-clause-step
 survey_of-found-requires-clause-step c =
-    let low : greatest (map size (map plan_of c.args.plans.now)) ≤ 400 = measure-le size 400 (map plan_of c.args.plans.now) c.requires.small in
+    let low : greatest (map plan_size (map plan_of c.args.plans.now)) ≤ 400 = measure-le plan_size 400 (map plan_of c.args.plans.now) c.requires.small in
     omega (arith, low, c.from-2.ensures, c.greatest_size.ensures)
 
 more_over : (f : Plan → ℕ) (xs ys : List Plan) (p : Plan) → ys ≡ xs ++ p ∷ [] → over f (flat_map nodes ys) ≡ max (over f (flat_map nodes xs)) (over f (nodes p))
@@ -34,7 +30,7 @@ loop-plan-preserved c =
     let found = c.survey_of-found.ensures in
     let class = more_over (class_in (c.from.result + 1) (c.from-2.result + 1) c.args.ranks.now) before after item one in
     let end = more_over window_end before after item one in
-    let small : size item ≤ 400 = of_item IsSmall plans i c.plan-item.result c.requires.small (omega arith) c.plan-item.is in
+    let small : plan_size item ≤ 400 = of_item IsSmallPlan plans i c.plan-item.result c.requires.small (omega arith) c.plan-item.is in
     let larger : c.max-class.result ≡ max c.loop-plan.class c.survey_of-found.result.class = first_of (search rules, grind (arith, common_steps)) in
     let later : c.max-end.result ≡ max c.loop-plan.end c.survey_of-found.result.end = first_of (search rules, grind (arith, common_steps)) in
     record {
@@ -44,45 +40,48 @@ loop-plan-preserved c =
     }
 
 ends_in_time : (p : Plan) → EndsInTime p → window_end p ≤ 1000000000
-ends_in_time (Cause node place name terms) ends = omega arith
-ends_in_time (Suppress node place name terms) ends = omega arith
+ends_in_time (CausePlan node place name terms) ends = omega arith
+ends_in_time (SuppressPlan node place name terms) ends = omega arith
 ends_in_time (Both node left right) ends = omega arith
 ends_in_time (Either node left right) ends = omega arith
 ends_in_time (TestOr node guard test body) ends = omega arith
 ends_in_time (Guarded node xs guard test body) ends = omega arith
-ends_in_time (Eventually node place low high body) ends = ends.1
-ends_in_time (Always node place low high body) ends = omega arith
-ends_in_time (Until node place low high left right) ends = ends.1
-ends_in_time (Next node place high body) ends = ends
+ends_in_time (EventuallyPlan node place low high body) ends = ends.1
+ends_in_time (AlwaysPlan node place low high body) ends = omega arith
+ends_in_time (UntilPlan node place low high left right) ends = ends.1
+ends_in_time (NextPlan node place high body) ends = ends
 
 -- the greatest end of all plans
-greatest_end : (plans : List Stored) (k end : ℕ) → take k plans ≡ plans → AllByRecursion EndsInTime (flat_map nodes (map plan_of plans)) → end ≡ over window_end (flat_map nodes (map plan_of (take k plans))) → end ≤ 1000000000
+greatest_end : (plans : List Stored) (k end : ℕ) → take k plans ≡ plans → AllByRecursion EndsInTime (flat_map nodes (map plan_of plans)) → end
+    ≡ over window_end (flat_map nodes (map plan_of (take k plans))) → end ≤ 1000000000
 greatest_end plans k end all in_time is =
     let ends : over window_end (flat_map nodes (map plan_of plans)) ≤ 1000000000 =
     over-le window_end 1000000000 (flat_map nodes (map plan_of plans)) (AllByRecursion-weaker EndsInTime (λ p. window_end p ≤ 1000000000) (flat_map nodes (map plan_of plans)) ends_in_time in_time) in
     subst (λ (n : ℕ). n ≤ 1000000000) (sym (is ∙ ap (λ (ps : List Stored). over window_end (flat_map nodes (map plan_of ps))) all)) ends
 
-product : (rank size class end : ℕ) → rank ≤ 256 → size ≤ 400 → class ≤ (rank + 1) * (size + 1) + 400 → end ≤ 1000000000 → (class + 1) * end ≤ 103458 * 1000000000
-product rank size class end few small low ends =
-    let scale : (rank + 1) * (size + 1) ≤ 257 * 401 = mul-le (rank + 1) (size + 1) 257 401 (omega arith) (omega arith) in
+product : (rank plan_size class end : ℕ) → rank ≤ 256 → plan_size ≤ 400 → class ≤ (rank + 1) * (plan_size + 1) + 400 → end ≤ 1000000000 → (class + 1) * end ≤ 103458 * 1000000000
+product rank plan_size class end few small low ends =
+    let scale : (rank + 1) * (plan_size + 1) ≤ 257 * 401 = mul-le (rank + 1) (plan_size + 1) 257 401 (omega arith) (omega arith) in
     mul-le (class + 1) end 103458 1000000000 (omega (arith, low, scale)) ends
 
 pub overflow_mul-result : goal.overflow_mul-result
 overflow_mul-result c =
     let plans = c.args.plans.now in
     let all : take c.loop-plan.plan-index plans ≡ plans = take_all c.loop-plan.plan-index plans (omega arith) in
-    let sizes : greatest (map size (map plan_of plans)) ≤ 400 = measure-le size 400 (map plan_of plans) c.requires.small in
+    let sizes : greatest (map plan_size (map plan_of plans)) ≤ 400 = measure-le plan_size 400 (map plan_of plans) c.requires.small in
     let end : c.loop-plan.end ≤ 1000000000 = greatest_end plans c.loop-plan.plan-index c.loop-plan.end all c.requires.ends c.loop-plan.invariant.end in
     let whole : (c.loop-plan.class + 1) * c.loop-plan.end ≤ 103458 * 1000000000 =
-    product c.from.result c.from-2.result c.loop-plan.class c.loop-plan.end (omega (arith, c.from.ensures, c.greatest_rank.ensures, c.requires.ranks)) (omega (arith, c.from-2.ensures, c.greatest_size.ensures, sizes)) c.loop-plan.invariant.low end in
+    product c.from.result c.from-2.result c.loop-plan.class c.loop-plan.end (omega (arith, c.from.ensures, c.greatest_rank.ensures, c.requires.ranks))
+    (omega (arith, c.from-2.ensures, c.greatest_size.ensures, sizes)) c.loop-plan.invariant.low end in
     omega (arith, whole)
 
 pub returns-clause-bounded : goal.returns-clause-bounded
 returns-clause-bounded c =
     let plans = c.args.plans.now in
     let all : take c.loop-plan.plan-index plans ≡ plans = take_all c.loop-plan.plan-index plans (omega arith) in
-    let sizes : greatest (map size (map plan_of plans)) ≤ 400 = measure-le size 400 (map plan_of plans) c.requires.small in
+    let sizes : greatest (map plan_size (map plan_of plans)) ≤ 400 = measure-le plan_size 400 (map plan_of plans) c.requires.small in
     let end : c.loop-plan.end ≤ 1000000000 = greatest_end plans c.loop-plan.plan-index c.loop-plan.end all c.requires.ends c.loop-plan.invariant.end in
     let whole : (c.loop-plan.class + 1) * c.loop-plan.end ≤ 103458 * 1000000000 =
-    product c.from.result c.from-2.result c.loop-plan.class c.loop-plan.end (omega (arith, c.from.ensures, c.greatest_rank.ensures, c.requires.ranks)) (omega (arith, c.from-2.ensures, c.greatest_size.ensures, sizes)) c.loop-plan.invariant.low end in
+    product c.from.result c.from-2.result c.loop-plan.class c.loop-plan.end (omega (arith, c.from.ensures, c.greatest_rank.ensures, c.requires.ranks))
+    (omega (arith, c.from-2.ensures, c.greatest_size.ensures, sizes)) c.loop-plan.invariant.low end in
     omega (arith, whole)

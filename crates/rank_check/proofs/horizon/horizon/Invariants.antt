@@ -1,6 +1,5 @@
-use Rattle.std.proofs.Common.{◌≡◌, ◌+◌, ◌*◌, ◌≤◌, map, take}
-use Rattle.plan_terms.specs.Plans.{plan_of}
-use Rattle.rank_check.specs.Horizon.{class_in, greatest, window_end, with_deadlines}
+use Rattle.rank_check.proofs.Vocabulary.{◌≡◌, ◌+◌, ◌*◌, ◌≤◌, map, take, plan_of, class_in, greatest}
+use Rattle.rank_check.proofs.Vocabulary.{with_deadlines, window_end}
 use Rattle.rank_check.proofs.horizon.horizon.Given as goal
 
 abbrev pub invariant-loop-plan : goal.invariant-loop-plan

@@ -1,4 +1,4 @@
-use Rattle.rank_check.specs.Paths.{Edge}
+use Rattle.rank_check.proofs.Vocabulary.{Edge}
 use Rattle.rank_check.proofs.ChainLemmas.{no_rank, one_rank, one_edge, one_more, rises}
 use Rattle.rank_check.proofs.laws.ranks_by_recursion.Goals as goal
 

@@ -1,7 +1,5 @@
-use Rattle.std.proofs.Common.{List, subst, arith, ◌∙◌, Contains}
-use Rattle.std.proofs.lemmas.List.{length-set, take_all}
-use Rattle.std.proofs.lemmas.List.Elements.{Contains-get_or}
-use Rattle.enf_value.specs.declared.events.NameId.{NameId}
+use Rattle.rank_check.proofs.Vocabulary.{List, subst, arith, ◌∙◌, Contains, length-set, take_all, Contains-get_or}
+use Rattle.rank_check.proofs.Vocabulary.{NameId}
 use Rattle.rank_check.proofs.RoleLemmas.{one_more, Tells}
 use Rattle.rank_check.proofs.roles.marks_of.Goals as goal
 

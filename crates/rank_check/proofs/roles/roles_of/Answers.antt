@@ -1,9 +1,8 @@
-use Rattle.std.proofs.Common.{◌≡◌, ◌∷◌, [], ◌↔◌, List, IsTrue, map, subst, arith, ◌∙◌, Contains, inl, inr, length-append}
-use Rattle.std.specs.List.{flat_map}
-use Rattle.enf_value.specs.declared.events.NameId.{NameId}
-use Rattle.plan_terms.specs.Plans.{Plan, plan_of}
-use Rattle.plan_terms.specs.Changes.{caused_below, suppressed_below, IsCaused, IsSuppressed}
-use Rattle.rank_check.proofs.RoleLemmas.{read, has_role, first_clash, clear_more, roles_more, roles_of_all, nothing_clashes, Tells}
+use Rattle.rank_check.proofs.Vocabulary.{◌≡◌, ◌∷◌, [], ◌↔◌, List, IsTrue, map, subst, arith}
+use Rattle.rank_check.proofs.Vocabulary.{◌∙◌, Contains, inl, inr, length-append, flat_map, NameId, Plan}
+use Rattle.rank_check.proofs.Vocabulary.{caused_below, suppressed_below, IsCaused, IsSuppressed, plan_of}
+use Rattle.rank_check.proofs.RoleLemmas.{read, has_role, first_clash, clear_more, roles_more, roles_of_all}
+use Rattle.rank_check.proofs.RoleLemmas.{nothing_clashes, Tells}
 use Rattle.rank_check.proofs.roles.roles_of.Goals as goal
 
 pub marks_of-requires : goal.marks_of-requires
@@ -25,7 +24,8 @@ returns-in_default-clause-clash c =
     read c.in_ok-causes-2.causes.items c.loop-number.number c.index.result.now (IsCaused plans) (omega (arith, c.loop-number-test.true, c.in_ok-causes-2.ensures.count)) c.index.ensures
     (subst (λ (l : List NameId). Tells c.in_ok-causes-2.causes.items (Contains l)) causes c.in_ok-causes-2.ensures.marks) in
     let b : IsTrue c.index-in-loop-number.result.now ↔ IsSuppressed plans (record { 0 = c.loop-number.number }) =
-    read c.in_ok-suppresses-2.suppresses.items c.loop-number.number c.index-in-loop-number.result.now (IsSuppressed plans) (omega (arith, c.loop-number-test.true, c.in_ok-suppresses-2.ensures.count)) c.index-in-loop-number.ensures
+    read c.in_ok-suppresses-2.suppresses.items c.loop-number.number c.index-in-loop-number.result.now (IsSuppressed plans)
+    (omega (arith, c.loop-number-test.true, c.in_ok-suppresses-2.ensures.count)) c.index-in-loop-number.ensures
     (subst (λ (l : List NameId). Tells c.in_ok-suppresses-2.suppresses.items (Contains l)) suppresses c.in_ok-suppresses-2.ensures.marks) in
     first_clash plans c.loop-number.number c.index.result.now c.index-in-loop-number.result.now c.loop-number.invariant.clear a b c.in_default.ensures
 
@@ -38,7 +38,8 @@ loop-number-preserved c =
     read c.in_ok-causes-2.causes.items c.loop-number.number c.index.result.now (IsCaused plans) (omega (arith, c.loop-number-test.true, c.in_ok-causes-2.ensures.count)) c.index.ensures
     (subst (λ (l : List NameId). Tells c.in_ok-causes-2.causes.items (Contains l)) causes c.in_ok-causes-2.ensures.marks) in
     let b : IsTrue c.index-in-loop-number.result.now ↔ IsSuppressed plans (record { 0 = c.loop-number.number }) =
-    read c.in_ok-suppresses-2.suppresses.items c.loop-number.number c.index-in-loop-number.result.now (IsSuppressed plans) (omega (arith, c.loop-number-test.true, c.in_ok-suppresses-2.ensures.count)) c.index-in-loop-number.ensures
+    read c.in_ok-suppresses-2.suppresses.items c.loop-number.number c.index-in-loop-number.result.now (IsSuppressed plans)
+    (omega (arith, c.loop-number-test.true, c.in_ok-suppresses-2.ensures.count)) c.index-in-loop-number.ensures
     (subst (λ (l : List NameId). Tells c.in_ok-suppresses-2.suppresses.items (Contains l)) suppresses c.in_ok-suppresses-2.ensures.marks) in
     let own = has_role plans (record { 0 = c.loop-number.number }) c.index.result.now c.index-in-loop-number.result.now c.in-Some.role a b c.in-Some.ensures in
     record {
@@ -54,4 +55,5 @@ returns-clause-clear c =
 pub returns-clause-roles : goal.returns-clause-roles
 returns-clause-roles c =
     let all : c.loop-number.number ≡ c.args.names = omega (arith, c.loop-number.auto.number-end, c.loop-number-test.false) in
-    roles_of_all (map plan_of c.args.plans.now) c.loop-number.roles.items c.args.names (c.loop-number.invariant.count ∙ all) c.requires (λ name below. c.loop-number.invariant.roles name (omega (arith, below, c.loop-number-test.false)))
+    roles_of_all (map plan_of c.args.plans.now) c.loop-number.roles.items c.args.names (c.loop-number.invariant.count ∙ all) c.requires
+    (λ name below. c.loop-number.invariant.roles name (omega (arith, below, c.loop-number-test.false)))

@@ -1,11 +1,7 @@
-use Rattle.std.proofs.Common.{rules, ◌≡◌, Bool, List, [], ◌∷◌, ◌&&◌, map, refl, ap, ◌∙◌}
-use Rattle.std.specs.List.{list_all}
-use Rattle.std.proofs.lemmas.Iterator.{YieldsList-from_slice}
-use Rattle.std.proofs.lemmas.Iterator.Search.{all_from_yields_List}
-use Rattle.plan_terms.specs.Nodes.{nodes}
-use Rattle.plan_terms.specs.Plans.{Plan, plan_of}
+use Rattle.rank_check.proofs.Vocabulary.{rules, ◌≡◌, Bool, List, [], ◌∷◌, ◌&&◌, map, refl, ap}
+use Rattle.rank_check.proofs.Vocabulary.{◌∙◌, list_all, YieldsList-from_slice, all_from_yields_List, nodes, Plan}
+use Rattle.rank_check.proofs.Vocabulary.{plan_of, is_transparent_at}
 use Rattle.plan_terms.specs.declared.plans.Plan.{Plan as Stored}
-use Rattle.rank_check.specs.Transparent.{is_transparent_at}
 use Rattle.rank_check.proofs.transparent.is_transparent.Goals as goal
 
 of_trees : (test : Plan → Bool) (plans : List Stored) → list_all (λ p. test (plan_of p)) plans ≡ list_all test (map plan_of plans)

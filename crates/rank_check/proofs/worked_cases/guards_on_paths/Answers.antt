@@ -1,14 +1,8 @@
-use Rattle.std.proofs.Common.{◌≡◌, ℕ, zero, suc, ◌+◌, true, List, [], ◌∷◌, Contains, None, Some, refl, ap, subst, sym, arith, ⊎_elim}
-use Rattle.std.specs.List.{slice_get}
-use Rattle.enf_formula.specs.Cases.{name_p, name_q}
-use Rattle.enf_value.specs.declared.events.NameId.{NameId}
-use Rattle.plan_terms.specs.Cases.{each_soon, soon_q_x}
-use Rattle.plan_terms.specs.Nodes.{nodes, number_of, IsNumbered}
-use Rattle.plan_terms.specs.Plans.{Plan}
-use Rattle.enf_value.specs.ListLaws.{here, later, first_or_later, none_in_nil}
-use Rattle.rank_check.specs.Cases.{name_r, guarded_twice, then_always_guarded, then_always_q}
-use Rattle.rank_check.specs.Paths.{Edge}
-use Rattle.rank_check.specs.Walks.{Causes, first_place, visits}
+use Rattle.rank_check.proofs.Vocabulary.{◌≡◌, ℕ, zero, suc, ◌+◌, true, List, [], ◌∷◌, Contains, None}
+use Rattle.rank_check.proofs.Vocabulary.{Some, refl, ap, subst, sym, arith, ⊎_elim, slice_get, name_p, name_q, NameId}
+use Rattle.rank_check.proofs.Vocabulary.{each_soon, soon_q_x, nodes, node_number, Plan, IsNumberedPlan, here, later}
+use Rattle.rank_check.proofs.Vocabulary.{first_or_later, none_in_nil, name_r, guarded_twice, then_always_guarded}
+use Rattle.rank_check.proofs.Vocabulary.{then_always_q, Edge, Causes, first_place, visits}
 use Rattle.rank_check.proofs.BareLemmas.{first_of_plans, none_bare, none_in_plan, NoneBefore}
 use Rattle.rank_check.proofs.CauseLemmas.{edge_if_caused, caused_if_edge}
 use Rattle.rank_check.proofs.worked_cases.guards_on_paths.Goals as goal
@@ -17,7 +11,8 @@ use Rattle.rank_check.proofs.worked_cases.guards_on_paths.Goals as goal
 in_plan : (plan : Plan) (from to : NameId) → Edge (plan ∷ []) from to → Causes true [] plan from to
 in_plan plan from to edge =
     let caused = caused_if_edge from to (plan ∷ []) edge in
-    ⊎_elim (λ (same : plan ≡ caused.0). subst (λ p. Causes true [] p from to) (sym same) caused.2) (λ (none : Contains [] caused.0). absurd (none_in_nil caused.0 none)) (first_or_later caused.0 plan [] caused.1)
+    ⊎_elim (λ (same : plan ≡ caused.0). subst (λ p. Causes true [] p from to) (sym same) caused.2) (λ (none : Contains [] caused.0). absurd (none_in_nil caused.0 none))
+    (first_or_later caused.0 plan [] caused.1)
 
 not_in_one : (a b : NameId) → (a ≡ b → ⊥) → Contains (a ∷ []) b → ⊥
 not_in_one a b apart there = ⊎_elim apart (λ none. none_in_nil b none) (first_or_later b a [] there)
@@ -45,15 +40,15 @@ first_alone plan plans none (suc rule) other below is = absurd (omega (arith, be
 -- nodes that are numbered from a number on
 abbrev FromOn : ℕ → List Plan → Type 0
 FromOn first [] = Unit {0}
-FromOn first (node ∷ nodes) = (number_of node ≡ first) × FromOn (suc first) nodes
+FromOn first (node ∷ nodes) = (node_number node ≡ first) × FromOn (suc first) nodes
 
-numbered : (first : ℕ) (nodes : List Plan) → FromOn first nodes → (k : ℕ) (node : Plan) → slice_get nodes k ≡ Some node → number_of node ≡ first + k
+numbered : (first : ℕ) (nodes : List Plan) → FromOn first nodes → (k : ℕ) (node : Plan) → slice_get nodes k ≡ Some node → node_number node ≡ first + k
 numbered first [] all k node is = absurd (cc)
 numbered first (n ∷ nodes) all zero node is =
-    let same : n ≡ node = cc in let number : number_of n ≡ number_of node = ap number_of same in omega (arith, number, all.0)
+    let same : n ≡ node = cc in let number : node_number n ≡ node_number node = ap node_number same in omega (arith, number, all.0)
 numbered first (n ∷ nodes) all (suc k) node is = omega (arith, numbered (suc first) nodes all.1 k node is)
 
-in_order : (plan : Plan) → FromOn 0 (nodes plan) → IsNumbered plan
+in_order : (plan : Plan) → FromOn 0 (nodes plan) → IsNumberedPlan plan
 in_order plan all number node is = omega (arith, numbered 0 (nodes plan) all number node is)
 
 pub returns-clause-triggered : goal.returns-clause-triggered

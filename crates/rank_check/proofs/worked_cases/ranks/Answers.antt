@@ -1,16 +1,13 @@
-use Rattle.std.proofs.Common.{refl, arith}
-use Rattle.enf_formula.specs.Cases.{name_p, name_q}
-use Rattle.rank_check.specs.Cases.{name_r, in_a_row, two_in_turn}
-use Rattle.rank_check.specs.Chains.{Leads, IsRank}
-use Rattle.rank_check.specs.Paths.{Edge}
+use Rattle.rank_check.proofs.Vocabulary.{refl, arith, name_p, name_q, name_r, in_a_row, two_in_turn, EdgesLead, Edge}
+use Rattle.rank_check.proofs.Vocabulary.{IsRank}
 use Rattle.rank_check.proofs.CaseLemmas.{edge_of, no_longer, turn_of_two}
 use Rattle.rank_check.proofs.ChainLemmas.{no_rank}
 use Rattle.rank_check.proofs.worked_cases.ranks.Goals as goal
 
-to_q : Leads (Edge in_a_row) 1 name_p name_q
+to_q : EdgesLead (Edge in_a_row) 1 name_p name_q
 to_q = (name_p, refl, edge_of in_a_row name_p name_q (0, omega arith, refl))
 
-to_r : Leads (Edge in_a_row) 2 name_p name_r
+to_r : EdgesLead (Edge in_a_row) 2 name_p name_r
 to_r = (name_q, to_q, edge_of in_a_row name_q name_r (1, omega arith, refl))
 
 third : IsRank (Edge in_a_row) name_r 2

@@ -1,26 +1,16 @@
-use Rattle.std.proofs.Common.{ℕ, zero, suc, ◌-◌, ◌<◌, ◌≤◌, List, [], ◌∷◌, ◌++◌, length, map, inl, refl, subst, arith, lit<, lit≤, true≢false}
-use Rattle.std.proofs.lemmas.List.Elements.{All-from_recursion}
-use Rattle.enf_value.specs.Data.{IsTrace, no_step, step_at}
-use Rattle.enf_value.specs.ListLaws.{none_in_nil}
-use Rattle.enf_value.specs.Membership.{HasNoRepeats}
-use Rattle.enf_value.specs.Valuations.{no_values}
-use Rattle.enf_value.specs.declared.steps.Step.{Step}
-use Rattle.enf_formula.specs.Cases.{at_time, empty_step, event_p, event_q, name_p}
-use Rattle.enf_formula.specs.Formulas.{Formula}
-use Rattle.enf_formula.specs.Satisfaction.{Sat}
-use Rattle.trace_meaning.specs.Good.{Good}
-use Rattle.plan_terms.specs.Cases.{cause_q}
-use Rattle.plan_terms.specs.Owed.{IsAhead, obligation}
-use Rattle.plan_terms.specs.PlanFormula.{formula_for}
-use Rattle.plan_terms.specs.Plans.{Plan, Suppress, Either, Eventually, Until}
-use Rattle.rank_check.specs.Cases.{q_soon}
+use Rattle.rank_check.proofs.Vocabulary.{ℕ, zero, suc, ◌-◌, ◌<◌, ◌≤◌, List, [], ◌∷◌, ◌++◌}
+use Rattle.rank_check.proofs.Vocabulary.{length, map, inl, refl, subst, arith, lit<, lit≤, true≢false}
+use Rattle.rank_check.proofs.Vocabulary.{All-from_recursion, IsTrace, no_step, step_at, none_in_nil, HasNoRepeats}
+use Rattle.rank_check.proofs.Vocabulary.{no_values, Step, at_time, empty_step, event_p, event_q, name_p, Formula, Sat}
+use Rattle.rank_check.proofs.Vocabulary.{Good, plan_cause_q, IsAhead, obligation, formula_for, Plan, SuppressPlan}
+use Rattle.rank_check.proofs.Vocabulary.{Either, EventuallyPlan, UntilPlan, q_soon}
 use Rattle.rank_check.proofs.worked_cases.without_the_mark.Goals as goal
 
 abbrev either : Plan
-either = Either 0 q_soon (Eventually 3 0 0 9 (cause_q 4))
+either = Either 0 q_soon (EventuallyPlan 3 0 0 9 (plan_cause_q 4))
 
 abbrev no_p : Plan
-no_p = Suppress 3 0 name_p []
+no_p = SuppressPlan 3 0 name_p []
 
 -- ---- owed
 
@@ -39,7 +29,7 @@ returns-clause-side_owed c = record {
 
 pub returns-clause-body_owed : goal.returns-clause-body_owed
 returns-clause-body_owed c = record {
-  root = Eventually 0 0 0 9 q_soon;
+  root = EventuallyPlan 0 0 0 9 q_soon;
   of_rule = refl;
   begun = 0;
   there = lit< tt;
@@ -49,7 +39,7 @@ returns-clause-body_owed c = record {
 
 pub returns-clause-right_owed : goal.returns-clause-right_owed
 returns-clause-right_owed c = record {
-  root = Until 0 0 0 9 no_p q_soon;
+  root = UntilPlan 0 0 0 9 no_p q_soon;
   of_rule = refl;
   begun = 0;
   there = lit< tt;
@@ -65,7 +55,7 @@ too_late more later holds = holds (λ met. at met.0 met.2 met.3.1 met.4)
   where
     at : (j : ℕ) → j < length (empty_step ++ more)
         → (step_at (empty_step ++ more) j).time - (step_at (empty_step ++ more) 0).time ≤ 1
-        → Sat (empty_step ++ more) j no_values (formula_for (cause_q 2)) → ⊥
+        → Sat (empty_step ++ more) j no_values (formula_for (plan_cause_q 2)) → ⊥
     at zero there near holds = none_in_nil event_q holds
     at (suc k) there near holds = let time = later k (omega (arith, there)) in omega (arith, near, time)
 
@@ -125,11 +115,11 @@ returns-clause-side_good c = good_if either
     (λ not_soon not_later. not_soon soon)
 
 pub returns-clause-body_good : goal.returns-clause-body_good
-returns-clause-body_good c = good_if (Eventually 0 0 0 9 q_soon)
+returns-clause-body_good c = good_if (EventuallyPlan 0 0 0 9 q_soon)
     (λ none. none (1, lit≤ tt, lit< tt, (lit≤ tt, lit≤ tt), soon, λ k from before. tt))
     (λ none. none (1, lit≤ tt, lit< tt, (lit≤ tt, lit≤ tt), soon, λ k from before. tt))
 
 pub returns-clause-right_good : goal.returns-clause-right_good
-returns-clause-right_good c = good_if (Until 0 0 0 9 no_p q_soon)
+returns-clause-right_good c = good_if (UntilPlan 0 0 0 9 no_p q_soon)
     (λ none. none (1, lit≤ tt, lit< tt, (lit≤ tt, lit≤ tt), soon, λ k from before. without_p k before))
     (λ none. none (1, lit≤ tt, lit< tt, (lit≤ tt, lit≤ tt), soon, λ k from before. without_p k before))

@@ -1,5 +1,4 @@
-use Rattle.std.proofs.Common.{arith}
-use Rattle.std.proofs.lemmas.Bool.Decides.{nat_tests}
+use Rattle.save_codec.proofs.Vocabulary.{arith, nat_tests}
 use Rattle.save_codec.proofs.PlainTexts.{all_plain}
 use Rattle.save_codec.proofs.cursor.is_plain.Goals as goal
 

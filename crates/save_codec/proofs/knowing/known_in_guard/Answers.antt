@@ -1,9 +1,5 @@
-use Rattle.std.proofs.Common.{List, map, subst}
-use Rattle.std.proofs.lemmas.List.{take_all}
-use Rattle.plan_terms.specs.Plans.{plan_of}
+use Rattle.save_codec.proofs.Vocabulary.{List, map, subst, take_all, plan_of, KnowsJust, GuardTells}
 use Rattle.plan_terms.specs.declared.plans.Plan.{Plan}
-use Rattle.save_codec.specs.Judged.{KnowsJust}
-use Rattle.save_codec.specs.Sorts.{GuardTells}
 use Rattle.save_codec.proofs.KnowLemmas.{guard_step}
 use Rattle.save_codec.proofs.knowing.known_in_guard.Goals as goal
 

@@ -1,6 +1,4 @@
-use Rattle.std.proofs.Common.{map, take}
-use Rattle.plan_terms.specs.Plans.{plan_of}
-use Rattle.save_codec.specs.Judged.{KnowRules}
+use Rattle.save_codec.proofs.Vocabulary.{map, take, plan_of, KnowRules}
 use Rattle.save_codec.proofs.knowing.known_in_rules.Given as goal
 
 abbrev pub invariant-loop-plan : goal.invariant-loop-plan

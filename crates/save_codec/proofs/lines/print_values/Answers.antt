@@ -1,6 +1,4 @@
-use Rattle.std.proofs.Common.{arith}
-use Rattle.std.proofs.lemmas.Grind.{common_steps}
-use Rattle.enf_value.specs.ValueTokens.{IsValue}
+use Rattle.save_codec.proofs.Vocabulary.{arith, common_steps, IsValue}
 use Rattle.save_codec.proofs.PrintLemmas.{all_on}
 use Rattle.save_codec.proofs.lines.print_values.Goals as goal
 

@@ -1,6 +1,4 @@
-use Rattle.std.proofs.Common.{◌≡◌, ◌++◌, All, take}
-use Rattle.enf_value.specs.ValueTokens.{IsValue}
-use Rattle.save_codec.specs.Lines.{values_text}
+use Rattle.save_codec.proofs.Vocabulary.{◌≡◌, ◌++◌, All, take, IsValue, values_text}
 use Rattle.save_codec.proofs.lines.print_values.Given as goal
 
 abbrev pub invariant-loop-value : goal.invariant-loop-value

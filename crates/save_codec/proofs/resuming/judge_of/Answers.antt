@@ -1,13 +1,7 @@
 -- The names are those that the bytes spell.
-use Rattle.std.proofs.Common.{◌≡◌, ◌∙◌, [], List, Ok, map, ap, sym, subst}
-use Rattle.std.specs.List.{AllByRecursion}
-use Rattle.signature.specs.declared.entries.NameEntry.{NameEntry}
-use Rattle.plan_terms.specs.Plans.{Plan, plan_of}
-use Rattle.plan_terms.specs.Scopes.{IsScoped}
-use Rattle.past_state.specs.Operators.{all_operators}
-use Rattle.past_state.specs.Shapes.{numbered, numbered_operators}
-use Rattle.past_state.specs.declared.shapes.WindowShape.{WindowShape}
-use Rattle.save_codec.specs.Judged.{KnowRules, KnowWindows}
+use Rattle.save_codec.proofs.Vocabulary.{◌≡◌, ◌∙◌, [], List, Ok, map, ap, sym, subst, AllByRecursion}
+use Rattle.save_codec.proofs.Vocabulary.{NameEntry, Plan, plan_of, IsScopedPlan, all_operators, numbered_operators}
+use Rattle.save_codec.proofs.Vocabulary.{numbered_operator, WindowShape, KnowRules, KnowWindows}
 use Rattle.save_codec.proofs.resuming.judge_of.Goals as goal
 
 pub returns : goal.returns
@@ -20,12 +14,12 @@ returns c = λ s is.
     let windows = c.in_ok-windows.windows.items in
     record {
       plans = is.plans_are;
-      scoped = subst (AllByRecursion (λ plan. IsScoped plan [])) plans c.requires.scoped;
+      scoped = subst (AllByRecursion (λ plan. IsScopedPlan plan [])) plans c.requires.scoped;
       rules = subst (λ (l : List Plan). KnowRules s.entries l rules) plans (subst (λ (l : List NameEntry). KnowRules l (map plan_of c.args.plans.now) rules) entries c.in_ok-rules.ensures);
       listed = c.in_ok-shapes.ensures.operators ∙ ap (numbered_operators 0) (sym is.guards_are);
       operators = c.in_ok-shapes.ensures.windows ∙ ap all_operators (sym is.guards_are);
       columns = c.in_ok-shapes.ensures.columns;
-      windows = subst (λ (l : List Plan). KnowWindows s.entries l (map numbered shapes) windows) plans
-          (subst (λ (l : List NameEntry). KnowWindows l (map plan_of c.args.plans.now) (map numbered shapes) windows) entries
-          (subst (λ (l : List WindowShape). KnowWindows c.in-Ok.signature (map plan_of c.args.plans.now) (map numbered l) windows) c.as_slice.ensures.value c.in_ok-windows.ensures));
+      windows = subst (λ (l : List Plan). KnowWindows s.entries l (map numbered_operator shapes) windows) plans
+          (subst (λ (l : List NameEntry). KnowWindows l (map plan_of c.args.plans.now) (map numbered_operator shapes) windows) entries
+          (subst (λ (l : List WindowShape). KnowWindows c.in-Ok.signature (map plan_of c.args.plans.now) (map numbered_operator l) windows) c.as_slice.ensures.value c.in_ok-windows.ensures));
     }

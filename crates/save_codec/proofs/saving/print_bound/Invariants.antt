@@ -1,6 +1,4 @@
-use Rattle.std.proofs.Common.{◌≡◌, ◌++◌, All, map, take}
-use Rattle.enf_value.specs.ValueTokens.{IsValue}
-use Rattle.save_codec.specs.Lines.{values_text}
+use Rattle.save_codec.proofs.Vocabulary.{◌≡◌, ◌++◌, All, map, take, IsValue, values_text}
 use Rattle.save_codec.proofs.saving.print_bound.Given as goal
 
 abbrev pub invariant-loop-binding : goal.invariant-loop-binding

@@ -1,11 +1,7 @@
 -- The parts of the text were printed in order.
-use Rattle.std.proofs.Common.{◌++◌, All, List, ap, sym, subst, ◌∙◌, map}
-use Rattle.past_state.specs.declared.kept.KeptRow.{KeptRow}
-use Rattle.obligations.specs.declared.instances.Instance.{Instance}
-use Rattle.save_codec.specs.Forms.{IsText}
-use Rattle.save_codec.specs.Lines.{head_text, line_text, lines_text}
-use Rattle.save_codec.specs.Saved.{IsInstance, IsRow, due_line, lines_of, row_line}
-use Rattle.save_codec.specs.declared.lines.Line.TheVariants.{Clock, Last, Position}
+use Rattle.save_codec.proofs.Vocabulary.{◌++◌, All, List, ap, sym, subst, ◌∙◌, map, KeptRow, Instance}
+use Rattle.save_codec.proofs.Vocabulary.{IsTextOfLines, head_text, line_text, lines_text, due_line, lines_of, row_line}
+use Rattle.save_codec.proofs.Vocabulary.{IsStoredInstance, IsStoredRow, Clock, Last, Position}
 use Rattle.save_codec.proofs.SavedParts.{saved_parts}
 use Rattle.save_codec.proofs.SavedTexts.{lines_are, saved_is_text}
 use Rattle.save_codec.proofs.saving.save.Goals as goal
@@ -23,5 +19,6 @@ returns-clause-text c =
 pub returns-clause-form : goal.returns-clause-form
 returns-clause-form c = λ small.
     let s = c.args.snapshot.now in
-    let lines = lines_are s small (subst (All IsRow) c.as_slice.ensures c.in_ok-print_rows.ensures.rows) (subst (All IsInstance) c.as_slice-2.ensures c.in_ok-print_instances.ensures.instances) in
-    subst (λ bytes. IsText bytes c.args.signature.now c.args.policy.now (lines_of s)) (sym (returns-clause-text c)) (saved_is_text c.args.signature.now c.args.policy.now s lines)
+    let lines = lines_are s small (subst (All IsStoredRow) c.as_slice.ensures c.in_ok-print_rows.ensures.rows)
+    (subst (All IsStoredInstance) c.as_slice-2.ensures c.in_ok-print_instances.ensures.instances) in
+    subst (λ bytes. IsTextOfLines bytes c.args.signature.now c.args.policy.now (lines_of s)) (sym (returns-clause-text c)) (saved_is_text c.args.signature.now c.args.policy.now s lines)

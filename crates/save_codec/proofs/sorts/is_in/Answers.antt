@@ -1,5 +1,4 @@
-use Rattle.std.proofs.Common.{sym, ◌∙◌}
-use Rattle.valuations.specs.Columns.{is_among-Decides}
+use Rattle.save_codec.proofs.Vocabulary.{sym, ◌∙◌, is_among-Decides}
 use Rattle.save_codec.proofs.sorts.is_in.Goals as goal
 
 pub returns : goal.returns

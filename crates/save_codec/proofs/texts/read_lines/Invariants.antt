@@ -1,4 +1,4 @@
-use Rattle.std.proofs.Common.{length}
+use Rattle.save_codec.proofs.Vocabulary.{length}
 use Rattle.save_codec.proofs.ReadLemmas.{IsReadSoFar}
 use Rattle.save_codec.proofs.texts.read_lines.Given as goal
 

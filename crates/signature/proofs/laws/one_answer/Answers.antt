@@ -1,7 +1,6 @@
-use Rattle.std.proofs.Common.{[], length}
-use Rattle.signature.specs.SignatureTokens.{signature_tokens}
-use Rattle.signature.specs.declared.reading.Part.TheVariants as parts
+use Rattle.signature.proofs.Vocabulary.{[], length, signature_tokens}
 use Rattle.signature.proofs.Answering.{answer_from, answer_of, answer_to, only_answer, reader_answers, start_on}
+use Rattle.signature.specs.declared.reading.Part.TheVariants as parts
 use Rattle.signature.proofs.laws.one_answer.Goals as goal
 
 pub returns : goal.returns

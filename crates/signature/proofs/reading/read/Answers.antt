@@ -1,18 +1,16 @@
-use Rattle.std.proofs.Common.{◌≡◌, Err, ap, subst, sym, refl, ◌∙◌, length, rules, true≢false}
-use Rattle.enf_value.specs.Tokens.{Mark, tokens_at}
-use Rattle.enf_value.specs.TokenViews.{placed_of, token_of}
-use Rattle.enf_value.specs.declared.tokens.Mark.TheVariants.{Arrow}
-use Rattle.signature.specs.SignatureTokens.{onto_tokens, without_arrows}
-use Rattle.signature.specs.declared.refusals.SignatureRefusal.TheVariants.{Syntax}
+use Rattle.signature.proofs.Vocabulary.{◌≡◌, Err, ap, subst, sym, refl, ◌∙◌, length, rules, true≢false}
+use Rattle.signature.proofs.Vocabulary.{SymbolToken, tokens_at, placed_of, token_of, Arrow, onto_tokens, without_arrows}
+use Rattle.signature.proofs.Vocabulary.{Syntax}
 use Rattle.signature.proofs.Answering.{ended}
-use Rattle.signature.proofs.Loop.{Reads, arrow_refused, at_end, ended_within, not_taken, past_token, plain_token, reads_ok, reads_refused}
+use Rattle.signature.proofs.Loop.{Reads, arrow_refused, at_end, ended_within, not_taken, past_token, plain_token}
+use Rattle.signature.proofs.Loop.{reads_ok, reads_refused}
 use Rattle.signature.proofs.reading.read.Goals as goal
 
 pub loop-part-preserved : goal.loop-part-preserved
 loop-part-preserved c =
     let next = rw c.in-Some.is at c.in_ok-next.ensures.some in
     let within = rw c.in-Some.is at c.in_ok-next.ensures.within in
-    let plain : token_of c.in-Some.next.token ≡ Mark Arrow → ⊥ = λ is. true≢false (sym (c.is_arrow.ensures.1 is) ∙ c.if-is_arrow.false) in
+    let plain : token_of c.in-Some.next.token ≡ SymbolToken Arrow → ⊥ = λ is. true≢false (sym (c.is_arrow.ensures.1 is) ∙ c.if-is_arrow.false) in
     let rest = without_arrows (tokens_at c.args.bytes.now c.in-Some.next.end) in
     past_token c.args.bytes.now c.loop-part.place c.loop-part.signature c.loop-part.part c.loop-part.invariant (placed_of c.in-Some.next) rest
     (ap without_arrows next ∙ plain_token c.in-Some.next.place (token_of c.in-Some.next.token) rest plain)
@@ -22,7 +20,7 @@ refused : (c : goal.After-drop-signature-inside-in_err-part-4) → Reads c.args.
 refused c =
     let next = rw c.in-Some.is at c.in_ok-next.ensures.some in
     let same : c.from_residual-in_err-part.result ≡ Err c.in_err-part.field-0.0 = search rules in
-    let plain : token_of c.in-Some.next.token ≡ Mark Arrow → ⊥ = λ is. true≢false (sym (c.is_arrow.ensures.1 is) ∙ c.if-is_arrow.false) in
+    let plain : token_of c.in-Some.next.token ≡ SymbolToken Arrow → ⊥ = λ is. true≢false (sym (c.is_arrow.ensures.1 is) ∙ c.if-is_arrow.false) in
     let rest = without_arrows (tokens_at c.args.bytes.now c.in-Some.next.end) in
     subst (Reads c.args.bytes.now) (sym same)
     (not_taken c.args.bytes.now c.loop-part.place c.loop-part.signature c.loop-part.part c.loop-part.invariant (placed_of c.in-Some.next) rest
@@ -38,7 +36,7 @@ returns-in_err-part-clause-only c = (refused c).only
 arrow : (c : goal.After-drop-signature-inside-then-is_arrow-4) → Reads c.args.bytes.now (Err c.arrow_refusal.result)
 arrow c =
     let next = rw c.in-Some.is at c.in_ok-next.ensures.some in
-    let is : token_of c.in-Some.next.token ≡ Mark Arrow = c.is_arrow.ensures.0 c.if-is_arrow.true in
+    let is : token_of c.in-Some.next.token ≡ SymbolToken Arrow = c.is_arrow.ensures.0 c.if-is_arrow.true in
     let rest = without_arrows (tokens_at c.args.bytes.now c.in-Some.next.end) in
     arrow_refused c.args.bytes.now c.loop-part.place c.in-Some.next.place c.loop-part.signature c.loop-part.part c.loop-part.invariant
     (ap without_arrows next ∙ ap (λ token. onto_tokens c.in-Some.next.place token rest) is)

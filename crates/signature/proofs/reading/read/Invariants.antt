@@ -1,4 +1,4 @@
-use Rattle.std.proofs.Common.{◌-◌, length}
+use Rattle.signature.proofs.Vocabulary.{◌-◌, length}
 use Rattle.signature.proofs.Loop.{IsOnTheWay}
 use Rattle.signature.proofs.reading.read.Given as goal
 

@@ -1,6 +1,4 @@
-use Rattle.std.proofs.Common.{◌≡◌, ◌++◌}
-use Rattle.cursor_list.specs.Split.{items}
-use Rattle.sleepers.specs.Entries.{shown}
+use Rattle.sleepers.proofs.Vocabulary.{◌≡◌, ◌++◌, items, shown}
 use Rattle.sleepers.proofs.groups.push_all.Given as goal
 
 abbrev pub invariant-loop-entry : goal.invariant-loop-entry

@@ -1,4 +1,4 @@
-use Rattle.std.proofs.Common.{length}
+use Rattle.sleepers.proofs.Vocabulary.{length}
 use Rattle.sleepers.proofs.keys.+are_fixed.Given as goal
 
 abbrev pub decreases-are_fixed : goal.decreases-are_fixed

@@ -1,5 +1,4 @@
-use Rattle.std.proofs.Common.{◌≡◌, take}
-use Rattle.sleepers.specs.Keys.{fixed_of}
+use Rattle.sleepers.proofs.Vocabulary.{◌≡◌, take, fixed_of}
 use Rattle.sleepers.proofs.keys.made_shape.Given as goal
 
 abbrev pub invariant-loop-arg : goal.invariant-loop-arg

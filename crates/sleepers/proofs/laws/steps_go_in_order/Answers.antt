@@ -1,5 +1,5 @@
 use Rattle.sleepers.proofs.StepLemmas.{all_made, can_put_in, in_order}
-use Rattle.sleepers.specs.Entries.{IsAsleep}
+use Rattle.sleepers.proofs.Vocabulary.{IsAsleep}
 use Rattle.sleepers.proofs.laws.steps_go_in_order.Goals as goal
 
 pub returns-clause-can_put_in : goal.returns-clause-can_put_in

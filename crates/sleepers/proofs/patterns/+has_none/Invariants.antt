@@ -1,4 +1,4 @@
-use Rattle.std.proofs.Common.{length}
+use Rattle.sleepers.proofs.Vocabulary.{length}
 use Rattle.sleepers.proofs.patterns.+has_none.Given as goal
 
 abbrev pub decreases-has_none : goal.decreases-has_none

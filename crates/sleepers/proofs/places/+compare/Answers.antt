@@ -1,8 +1,8 @@
-use Rattle.std.proofs.Common.{rules, ◌≡◌, ◌<◌, [], ◌∷◌, refl, arith, length}
-use Rattle.sleepers.specs.Order.{IsBefore, Place}
+use Rattle.sleepers.proofs.Vocabulary.{rules, ◌≡◌, ◌<◌, [], ◌∷◌, refl, arith, length, IsPlaceBefore}
+use Rattle.sleepers.proofs.Vocabulary.{Place}
 use Rattle.sleepers.proofs.places.+compare.Goals as goal
 
-short_before : (p q : Place) → length p ≡ 0 → 0 < length q → IsBefore p q
+short_before : (p q : Place) → length p ≡ 0 → 0 < length q → IsPlaceBefore p q
 short_before [] [] none some = absurd (omega (arith, some))
 short_before [] (t ∷ q) none some = tt
 short_before (s ∷ p) q none some = absurd (omega (arith, none))

@@ -1,4 +1,4 @@
-use Rattle.std.proofs.Common.{length}
+use Rattle.sleepers.proofs.Vocabulary.{length}
 use Rattle.sleepers.proofs.places.+compare.Given as goal
 
 abbrev pub decreases-compare : goal.decreases-compare

@@ -1,5 +1,5 @@
-use Rattle.std.proofs.Common.{[], ◌∷◌, ◌≡◌, ℕ, Contains, ◌⊎◌, ⊎_elim, arith, refl, inl, inr, ap, length}
-use Rattle.enf_value.specs.ListLaws.{here, later, first_or_later, none_in_nil}
+use Rattle.sleepers.proofs.Vocabulary.{[], ◌∷◌, ◌≡◌, ℕ, Contains, ◌⊎◌, ⊎_elim, arith, refl, inl}
+use Rattle.sleepers.proofs.Vocabulary.{inr, ap, length, here, later, first_or_later, none_in_nil}
 use Rattle.sleepers.proofs.worked_cases.all_but_ones.Goals as goal
 
 -- the items of a list of two

@@ -1,9 +1,6 @@
-use Rattle.std.proofs.Common.{ℕ, [], ◌∷◌, Contains, inl, ⊎_elim, refl, sym, subst, arith}
-use Rattle.enf_value.specs.ListLaws.{here, first_or_later, none_in_nil}
-use Rattle.sleepers.specs.Cases.{any_pattern, ended, sleeper}
-use Rattle.sleepers.specs.Entries.{ArePlaced, IsAsleep, places}
-use Rattle.sleepers.specs.Order.{IsBefore, Place, beginning}
-use Rattle.sleepers.specs.declared.entries.Entry.{Entry}
+use Rattle.sleepers.proofs.Vocabulary.{ℕ, [], ◌∷◌, Contains, inl, ⊎_elim, refl, sym, subst, arith, here}
+use Rattle.sleepers.proofs.Vocabulary.{first_or_later, none_in_nil, any_pattern, ended, sleeper, ArePlaced, IsAsleep}
+use Rattle.sleepers.proofs.Vocabulary.{entry_places, IsPlaceBefore, Place, beginning_at, Entry}
 use Rattle.sleepers.proofs.worked_cases.steps.Goals as goal
 
 one_placed : (x : Entry ℕ) → ArePlaced (x ∷ [])
@@ -30,10 +27,10 @@ returns-clause-step c = record {
 
 pub returns-clause-puts_in : goal.returns-clause-puts_in
 returns-clause-puts_in c =
-    let one = sleeper (beginning 1 0 ∷ beginning 10 0 ∷ []) 9 in
-    let two = sleeper (beginning 2 0 ∷ []) 9 in
-    let first = λ (q : Place) (there : Contains (places (two ∷ [])) q).
-    ⊎_elim (λ same. subst (λ (p : Place). IsBefore one.place p) same (inl (inl (omega arith)))) (λ on. absurd (none_in_nil q on)) (first_or_later q two.place [] there) in (
+    let one = sleeper (beginning_at 1 0 ∷ beginning_at 10 0 ∷ []) 9 in
+    let two = sleeper (beginning_at 2 0 ∷ []) 9 in
+    let first = λ (q : Place) (there : Contains (entry_places (two ∷ [])) q).
+    ⊎_elim (λ same. subst (λ (p : Place). IsPlaceBefore one.place p) same (inl (inl (omega arith)))) (λ on. absurd (none_in_nil q on)) (first_or_later q two.place [] there) in (
       one ∷ [],
       record { front = []; back = []; fewer_is = refl; more_is = refl; placed = one_placed one },
       (

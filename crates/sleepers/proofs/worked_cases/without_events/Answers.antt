@@ -1,7 +1,5 @@
-use Rattle.std.proofs.Common.{◌≡◌, [], ◌∷◌, List, None, Some, refl, arith}
-use Rattle.enf_value.specs.ListLaws.{none_in_nil}
-use Rattle.sleepers.specs.Cases.{any_pattern}
-use Rattle.sleepers.specs.declared.patterns.Pattern.{Pattern}
+use Rattle.sleepers.proofs.Vocabulary.{◌≡◌, [], ◌∷◌, List, None, Some, refl, arith, none_in_nil}
+use Rattle.sleepers.proofs.Vocabulary.{any_pattern, Pattern}
 use Rattle.sleepers.proofs.worked_cases.without_events.Goals as goal
 
 pub returns-clause-before : goal.returns-clause-before

@@ -1,7 +1,5 @@
-use Rattle.std.proofs.Common.{◌≡◌, ◌<◌, ◌+◌, ◌++◌, ◌∷◌, ◌∙◌, [], List, length, get_or, take, ap, sym, subst, arith}
-use Rattle.std.proofs.lemmas.List.{length-take-le, take_more}
-use Rattle.enf_value.specs.declared.steps.Step.{Step}
-use Rattle.trace_audit.specs.Auditing.{Audits}
+use Rattle.trace_audit.proofs.Vocabulary.{◌≡◌, ◌<◌, ◌+◌, ◌++◌, ◌∷◌, ◌∙◌, [], List, length}
+use Rattle.trace_audit.proofs.Vocabulary.{get_or, take, ap, sym, subst, arith, length-take-le, take_more, Step, Audits}
 use Rattle.trace_audit.proofs.AuditLemmas.{front_before, same_step, within_last}
 use Rattle.trace_audit.proofs.auditor.audit.Goals as goal
 

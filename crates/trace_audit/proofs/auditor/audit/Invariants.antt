@@ -1,5 +1,4 @@
-use Rattle.std.proofs.Common.{◌≡◌, take}
-use Rattle.trace_audit.specs.Auditing.{Audits}
+use Rattle.trace_audit.proofs.Vocabulary.{◌≡◌, take, Audits}
 use Rattle.trace_audit.proofs.auditor.audit.Given as goal
 
 abbrev pub invariant-loop-step : goal.invariant-loop-step

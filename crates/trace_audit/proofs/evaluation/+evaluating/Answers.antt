@@ -1,20 +1,13 @@
-use Rattle.std.proofs.Common.{rules, ◌≡◌, ◌<◌, ◌∙◌, List, length, get_or, ap, sym, subst, ⊎_elim, true≢false}
-use Rattle.std.specs.List.{AllByRecursion}
-use Rattle.std.proofs.lemmas.Result.{IfOk-weaker}
-use Rattle.enf_value.specs.Valuations.{Valuation}
-use Rattle.enf_value.specs.declared.steps.Step.{Step}
-use Rattle.enf_value.specs.declared.values.Value.{Value}
-use Rattle.enf_formula.specs.Formulas.{tree_of}
-use Rattle.plan_terms.specs.Plans.{plan_of}
-use Rattle.plan_terms.specs.Scopes.{AtEach}
-use Rattle.valuations.specs.Scopes.{bound_in, filled}
-use Rattle.trace_audit.specs.Asking.{CanAsk, IsAskable}
-use Rattle.trace_audit.specs.Presents.{IsBegun, Tells, guards_at, moment_of}
-use Rattle.trace_audit.specs.Residuals.{AsksFor, HoldsFor}
-use Rattle.trace_audit.specs.declared.residuals.Residual.TheVariants as stored
+use Rattle.trace_audit.proofs.Vocabulary.{rules, ◌≡◌, ◌<◌, ◌∙◌, List, length, get_or, ap, sym, subst}
+use Rattle.trace_audit.proofs.Vocabulary.{⊎_elim, true≢false, AllByRecursion, IfOk-weaker, Valuation, Step, Value}
+use Rattle.trace_audit.proofs.Vocabulary.{tree_of, plan_of, AtEach, bound_in, filled_from_row, CanEvaluatePlan}
+use Rattle.trace_audit.proofs.Vocabulary.{IsAskable, IsBegunWaiting, TellsRest, moment_of, guards_at, WaitingAsks}
+use Rattle.trace_audit.proofs.Vocabulary.{PlanHoldsAt}
 use Rattle.trace_audit.proofs.AskLemmas.{binds_bound, body_can, is_test, rows_hold, test_is, within}
-use Rattle.trace_audit.proofs.TellLemmas.{TellsOf, always_begins, eventually_begins, eventually_is_early, eventually_wakes, tells_any}
-use Rattle.trace_audit.proofs.TellLemmas.{tells_as, tells_row, test_fails, test_met, until_begins, until_is_early, until_wakes}
+use Rattle.trace_audit.proofs.EvaluationLemmas.{TellsOf, always_begins, eventually_begins, eventually_is_early}
+use Rattle.trace_audit.proofs.EvaluationLemmas.{eventually_wakes, tells_any, tells_as, tells_row, test_fails, test_met}
+use Rattle.trace_audit.proofs.EvaluationLemmas.{until_begins, until_is_early, until_wakes}
+use Rattle.trace_audit.specs.declared.residuals.Residual.TheVariants as stored
 use Rattle.trace_audit.proofs.evaluation.+evaluating.Goals as goal
 
 pub evaluate-holds_under-requires-clause-test : goal.evaluate-holds_under-requires-clause-test
@@ -50,7 +43,7 @@ evaluate-evaluate_under-requires t c =
     let e = c.in_ok-rows-in-Guarded.ensures in (
       search rules,
       (
-        λ row there. subst (λ p. CanAsk guards (plan_of p) (filled v c.in_ok-rows-in-Guarded.rows.columns row)) (sym c.deref-in-Guarded.ensures)
+        λ row there. subst (λ p. CanEvaluatePlan guards (plan_of p) (filled_from_row v c.in_ok-rows-in-Guarded.rows.columns row)) (sym c.deref-in-Guarded.ensures)
             (body_can c.columns_are_variables.ensures (moment_of c.args.now.now) c.in-Guarded.node c.in-Guarded.guard (tree_of c.in-Guarded.test.value) (plan_of c.in-Guarded.body.value)
             c.requires.can.scope c.in-Guarded.vars can.0 v c.requires.can.fits c.in_ok-rows-in-Guarded.rows e.table e.columns e.evaluated guards can.1 row there),
         c.requires.in_time,
@@ -63,7 +56,7 @@ evaluate-returns-in_ok-right-in-Either t c =
     let v = bound_in c.args.v.now in
     IfOk-weaker c.any.result _ (TellsOf m v (plan_of c.args.plan.now)) (λ rest one.
     subst (λ p. TellsOf m v (plan_of p) rest) (sym c.in-Either.is)
-    (tells_any m (λ (trace : List Step). HoldsFor trace v (plan_of c.in-Either.left.value) m.position) (λ (trace : List Step). HoldsFor trace v (plan_of c.in-Either.right.value) m.position)
+    (tells_any m (λ (trace : List Step). PlanHoldsAt trace v (plan_of c.in-Either.left.value) m.position) (λ (trace : List Step). PlanHoldsAt trace v (plan_of c.in-Either.right.value) m.position)
     c.in_ok-left-in-Either.left c.in_ok-right-in-Either.right rest
     (subst (λ p. TellsOf m v (plan_of p) c.in_ok-left-in-Either.left) c.deref-in-Either.ensures c.in_ok-left-in-Either.ensures)
     (subst (λ p. TellsOf m v (plan_of p) c.in_ok-right-in-Either.right) c.deref-in-Either-2.ensures c.in_ok-right-in-Either.ensures) one)) c.any.ensures
@@ -90,10 +83,11 @@ evaluate-returns-in_ok-rows-in-Guarded t c =
     let rows = c.in_ok-rows-in-Guarded.rows in
     IfOk-weaker c.evaluate_under.result _ (TellsOf m v (plan_of c.args.plan.now)) (λ rest tells.
     subst (λ p. TellsOf m v (plan_of p) rest) (sym c.in-Guarded.is)
-    (tells_as m (λ (trace : List Step). AllByRecursion (λ (row : List Value). HoldsFor trace (filled v rows.columns row) (plan_of c.in-Guarded.body.value) m.position) rows.rows) _ rest
+    (tells_as m (λ (trace : List Step). AllByRecursion (λ (row : List Value). PlanHoldsAt trace (filled_from_row v rows.columns row) (plan_of c.in-Guarded.body.value) m.position) rows.rows) _ rest
     (λ trace is. rows_hold c.columns_are_variables.ensures m c.in-Guarded.node c.in-Guarded.guard (tree_of c.in-Guarded.test.value) (plan_of c.in-Guarded.body.value)
     c.requires.can.scope c.in-Guarded.vars can.0 v c.requires.can.fits rows e.table e.columns e.evaluated trace is)
-    (subst (λ p. Tells m (λ (trace : List Step). AllByRecursion (λ (row : List Value). HoldsFor trace (filled v rows.columns row) (plan_of p) m.position) rows.rows) rest) c.deref-in-Guarded.ensures tells))) c.evaluate_under.ensures
+    (subst (λ p. TellsRest m (λ (trace : List Step). AllByRecursion (λ (row : List Value). PlanHoldsAt trace (filled_from_row v rows.columns row) (plan_of p) m.position) rows.rows) rest)
+    c.deref-in-Guarded.ensures tells))) c.evaluate_under.ensures
 
 pub evaluate-returns-in_ok-waiting-in-Eventually :
     goal.evaluate-returns-in_ok-waiting-in-Eventually
@@ -106,12 +100,12 @@ evaluate-returns-in_ok-waiting-in-Eventually t c =
     let begun = c.in_ok-waiting-in-Eventually.ensures in
     IfOk-weaker c.wake.result _ (TellsOf m v (plan_of c.args.plan.now)) (λ rest tells. ⊎_elim
     (λ k. subst (λ p. TellsOf m v (plan_of p) rest) (sym k.3)
-    (eventually_begins m c.is_classical.ensures w v low high k.0 k.1 (plan_of k.2.value) (subst (λ p. IsBegun m (plan_of p) v low high w) k.3 begun) rest tells))
+    (eventually_begins m c.is_classical.ensures w v low high k.0 k.1 (plan_of k.2.value) (subst (λ p. IsBegunWaiting m (plan_of p) v low high w) k.3 begun) rest tells))
     (λ others. ⊎_elim
     (λ k. subst (λ p. TellsOf m v (plan_of p) rest) (sym k.3)
-    (always_begins m c.is_classical.ensures w v low high k.0 k.1 (plan_of k.2.value) (subst (λ p. IsBegun m (plan_of p) v low high w) k.3 begun) rest tells))
+    (always_begins m c.is_classical.ensures w v low high k.0 k.1 (plan_of k.2.value) (subst (λ p. IsBegunWaiting m (plan_of p) v low high w) k.3 begun) rest tells))
     (λ k. subst (λ p. TellsOf m v (plan_of p) rest) (sym k.4)
-    (until_begins m c.is_classical.ensures w v low high k.0 k.1 (plan_of k.2.value) (plan_of k.3.value) (subst (λ p. IsBegun m (plan_of p) v low high w) k.4 begun) rest tells))
+    (until_begins m c.is_classical.ensures w v low high k.0 k.1 (plan_of k.2.value) (plan_of k.3.value) (subst (λ p. IsBegunWaiting m (plan_of p) v low high w) k.4 begun) rest tells))
     others)
     c.in-Eventually.is) c.wake.ensures
 
@@ -121,8 +115,10 @@ evaluate_under-loop-row-preserved t c =
     let v = bound_in c.args.v.now in
     let row = c.row-item.result in
     let all : c.rows-row-items.result.now ≡ c.args.rows.now.rows = c.rows-row-items.ensures.rows in
-    let inner : filled v c.as_slice.result.now c.as_slice-in-loop-row.result.now ≡ filled v c.args.rows.now.columns row = (λ i. filled v ((c.as_slice.ensures ∙ c.columns.ensures.columns) i) (c.as_slice-in-loop-row.ensures i)) in
-    tells_row m (λ (r : List Value) (trace : List Step). HoldsFor trace (filled v c.args.rows.now.columns r) (plan_of c.args.body.now) m.position) c.args.rows.now.rows c.loop-row.row-index row
+    let inner : filled_from_row v c.as_slice.result.now c.as_slice-in-loop-row.result.now
+    ≡ filled_from_row v c.args.rows.now.columns row = (λ i. filled_from_row v ((c.as_slice.ensures ∙ c.columns.ensures.columns) i) (c.as_slice-in-loop-row.ensures i)) in
+    tells_row m (λ (r : List Value) (trace : List Step). PlanHoldsAt trace (filled_from_row v c.args.rows.now.columns r) (plan_of c.args.body.now) m.position) c.args.rows.now.rows
+    c.loop-row.row-index row
     (subst (λ (l : List (List Value)). c.loop-row.row-index < length l) all c.loop-row-test.true) (subst (λ l. row ≡ get_or l c.loop-row.row-index row) all c.row-item.is)
     c.loop-row.rest c.in_ok-next.next c.in_ok-rest.rest c.loop-row.invariant
     (subst (λ (u : Valuation). TellsOf m u (plan_of c.args.body.now) c.in_ok-next.next) inner c.in_ok-next.ensures) c.in_ok-rest.ensures
@@ -137,7 +133,7 @@ wake-returns-in-Eventually t c =
     let m = moment_of c.args.now.now in
     let w = c.args.waiting in
     let present = c.in_ok-present-in-Eventually.present in
-    IfOk-weaker c.any.result _ (Tells m (λ (trace : List Step). AsksFor trace m.position w)) (λ rest one.
+    IfOk-weaker c.any.result _ (TellsRest m (λ (trace : List Step). WaitingAsks trace m.position w)) (λ rest one.
     eventually_wakes m c.is_classical.ensures w c.requires.can
     c.in-Eventually.node c.in-Eventually.place c.in-Eventually.low c.in-Eventually.high (plan_of c.in-Eventually.body.value) (ap plan_of c.in-Eventually.is)
     c.if-now-waiting-2.false c.if-now-waiting.false present rest
@@ -148,7 +144,7 @@ wake-returns-then-now-waiting-6 t c =
     let m = moment_of c.args.now.now in
     let w = c.args.waiting in
     let before = c.in_ok-before-in-Until.before in
-    IfOk-weaker c.all-then-now-waiting-6.result _ (Tells m (λ (trace : List Step). AsksFor trace m.position w)) (λ rest both.
+    IfOk-weaker c.all-then-now-waiting-6.result _ (TellsRest m (λ (trace : List Step). WaitingAsks trace m.position w)) (λ rest both.
     until_is_early m c.is_classical.ensures w c.requires.can
     c.in-Until.node c.in-Until.place c.in-Until.low c.in-Until.high (plan_of c.in-Until.left.value) (plan_of c.in-Until.right.value) (ap plan_of c.in-Until.is)
     c.if-now-waiting-6.true before rest
@@ -160,7 +156,7 @@ wake-returns-in-Until t c =
     let w = c.args.waiting in
     let before = c.in_ok-before-in-Until.before in
     let present = c.in_ok-present-in-Until.present in
-    IfOk-weaker c.any-in-Until.result _ (Tells m (λ (trace : List Step). AsksFor trace m.position w)) (λ rest one.
+    IfOk-weaker c.any-in-Until.result _ (TellsRest m (λ (trace : List Step). WaitingAsks trace m.position w)) (λ rest one.
     until_wakes m c.is_classical.ensures w c.requires.can
     c.in-Until.node c.in-Until.place c.in-Until.low c.in-Until.high (plan_of c.in-Until.left.value) (plan_of c.in-Until.right.value) (ap plan_of c.in-Until.is)
     c.if-now-waiting-6.false c.if-now-waiting-5.false before present c.in_ok-waits-in-Until.waits rest

@@ -1,10 +1,5 @@
-use Rattle.std.proofs.Common.{◌+◌, ◌*◌, length, take}
-use Rattle.std.specs.List.{AllByRecursion}
-use Rattle.plan_terms.specs.Nodes.{nodes}
-use Rattle.plan_terms.specs.Plans.{plan_of}
-use Rattle.valuations.specs.Scopes.{bound_in, filled}
-use Rattle.trace_audit.specs.Presents.{Tells, moment_of}
-use Rattle.trace_audit.specs.Residuals.{HoldsFor}
+use Rattle.trace_audit.proofs.Vocabulary.{◌+◌, ◌*◌, length, take, AllByRecursion, nodes, plan_of, bound_in}
+use Rattle.trace_audit.proofs.Vocabulary.{filled_from_row, TellsRest, moment_of, PlanHoldsAt}
 use Rattle.trace_audit.proofs.evaluation.+evaluating.Given as goal
 
 abbrev pub decreases-evaluate : goal.decreases-evaluate
@@ -17,5 +12,5 @@ abbrev pub decreases-wake : goal.decreases-wake
 decreases-wake l = 3 * length (nodes (plan_of l.waiting.node.now)) + 1
 
 abbrev pub invariant-evaluate_under-loop-row : goal.invariant-evaluate_under-loop-row
-invariant-evaluate_under-loop-row l = Tells (moment_of l.now)
-    (λ trace. AllByRecursion (λ row. HoldsFor trace (filled (bound_in l.v) l.rows.columns row) (plan_of l.body) l.now.position) (take l.row-index l.rows.rows)) l.rest
+invariant-evaluate_under-loop-row l = TellsRest (moment_of l.now)
+    (λ trace. AllByRecursion (λ row. PlanHoldsAt trace (filled_from_row (bound_in l.v) l.rows.columns row) (plan_of l.body) l.now.position) (take l.row-index l.rows.rows)) l.rest

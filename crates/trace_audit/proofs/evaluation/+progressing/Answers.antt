@@ -1,13 +1,9 @@
-use Rattle.std.proofs.Common.{rules, ◌++◌, ◌∷◌, ◌∙◌, [], List, append_assoc, ap, sym, subst}
-use Rattle.std.proofs.lemmas.Result.{IfOk-weaker}
-use Rattle.enf_value.specs.declared.steps.Step.{Step}
-use Rattle.trace_audit.specs.Presents.{Tells, guards_at, moment_of}
-use Rattle.trace_audit.specs.Residuals.{CanGoOn, LinksMean, Means}
-use Rattle.trace_audit.specs.declared.residuals.Link.{Link}
-use Rattle.trace_audit.specs.declared.residuals.Residual.{Residual, the_lemmas}
-use Rattle.trace_audit.specs.declared.residuals.Residual.TheVariants as stored
+use Rattle.trace_audit.proofs.Vocabulary.{rules, ◌++◌, ◌∷◌, ◌∙◌, [], List, append_assoc, ap, sym, subst}
+use Rattle.trace_audit.proofs.Vocabulary.{IfOk-weaker, Step, TellsRest, moment_of, guards_at, ResidualCanGoOn}
+use Rattle.trace_audit.proofs.Vocabulary.{LinksMean, Means, Link, Residual, the_lemmas}
 use Rattle.trace_audit.proofs.ResidualLemmas.{chain_can, chain_means}
-use Rattle.trace_audit.proofs.TellLemmas.{tells_as, tells_both, tells_either}
+use Rattle.trace_audit.proofs.EvaluationLemmas.{tells_as, tells_both, tells_either}
+use Rattle.trace_audit.specs.declared.residuals.Residual.TheVariants as stored
 use Rattle.trace_audit.proofs.evaluation.+progressing.Goals as goal
 
 pub progress-progress_chain-requires : goal.progress-progress_chain-requires
@@ -15,7 +11,7 @@ progress-progress_chain-requires t c =
     let guards = guards_at c.args.now.now.tables.now in (
       search (rules, the_lemmas),
       (
-        (chain_can guards c.in-Chain.links).0 (subst (CanGoOn guards) c.in-Chain.is c.requires.can),
+        (chain_can guards c.in-Chain.links).0 (subst (ResidualCanGoOn guards) c.in-Chain.is c.requires.can),
         c.requires.in_time,
       ),
     )
@@ -24,7 +20,7 @@ pub progress-returns-in-Chain : goal.progress-returns-in-Chain
 progress-returns-in-Chain t c =
     let m = moment_of c.args.now.now in
     let links = c.in-Chain.links in
-    let tells : Residual → Residual → Type 0 = λ r rest. Tells m (λ (trace : List Step). Means trace m.position r) rest in
+    let tells : Residual → Residual → Type 0 = λ r rest. TellsRest m (λ (trace : List Step). Means trace m.position r) rest in
     IfOk-weaker c.progress_chain.result _ (tells c.args.rest) (λ rest told. subst (λ r. tells r rest) (sym c.in-Chain.is)
     (tells_as m (λ (trace : List Step). LinksMean trace m.position (Unit {0}) links.items)
     (λ (trace : List Step). Means trace m.position (stored.Chain links)) rest (λ trace is. chain_means trace m.position links) told))
@@ -39,7 +35,7 @@ progress_chain-loop-link-preserved-in_ok-rest-in-Both t c =
     let step = ap (λ l. done ++ l) c.in-Some.ensures.steps.0 in (
       tt,
       tt,
-      subst (λ (one : Link). Tells m (λ (trace : List Step). LinksMean trace m.position (Unit {0}) (done ++ one ∷ [])) rest) (sym c.in-Both.is)
+      subst (λ (one : Link). TellsRest m (λ (trace : List Step). LinksMean trace m.position (Unit {0}) (done ++ one ∷ [])) rest) (sym c.in-Both.is)
           (tells_both m done c.in-Both.next c.loop-link.rest c.in_ok-next-in-Both.next rest c.loop-link.invariant.2
           c.in_ok-next-in-Both.ensures c.in_ok-rest-in-Both.ensures),
       c.loop-link.invariant.3 ∙ step ∙ sym (append_assoc done (c.in-Some.link ∷ []) c.next.new.self.rest.items),
@@ -53,7 +49,7 @@ progress_chain-loop-link-preserved t c =
     let step = ap (λ l. done ++ l) c.in-Some.ensures.steps.0 in (
       tt,
       tt,
-      subst (λ (one : Link). Tells m (λ (trace : List Step). LinksMean trace m.position (Unit {0}) (done ++ one ∷ [])) rest) (sym c.in-Either.is)
+      subst (λ (one : Link). TellsRest m (λ (trace : List Step). LinksMean trace m.position (Unit {0}) (done ++ one ∷ [])) rest) (sym c.in-Either.is)
           (tells_either m done c.in-Either.next c.loop-link.rest c.in_ok-next-in-Either.next rest c.loop-link.invariant.2
           c.in_ok-next-in-Either.ensures c.in_ok-rest-in-Either.ensures),
       c.loop-link.invariant.3 ∙ step ∙ sym (append_assoc done (c.in-Some.link ∷ []) c.next.new.self.rest.items),

@@ -1,6 +1,5 @@
-use Rattle.std.proofs.Common.{◌≡◌, ◌<◌, ◌↔◌, IsTrue, List, get_or, length, sym, subst}
-use Rattle.trace_audit.specs.Residuals.{Means}
-use Rattle.trace_audit.specs.declared.residuals.Link.{Link}
+use Rattle.trace_audit.proofs.Vocabulary.{◌≡◌, ◌<◌, IsTrue, List, get_or, length, sym, subst, Means, Link}
+use Rattle.std.proofs.Common.{◌↔◌}
 use Rattle.trace_audit.proofs.ResidualLemmas.{both_ways, chain_means, link_more}
 use Rattle.trace_audit.proofs.residuals.+meeting.Goals as goal
 

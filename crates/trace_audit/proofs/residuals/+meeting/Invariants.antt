@@ -1,6 +1,5 @@
-use Rattle.std.proofs.Common.{◌↔◌, IsTrue, List, length, take}
-use Rattle.enf_value.specs.declared.steps.Step.{Step}
-use Rattle.trace_audit.specs.Residuals.{LinksMean}
+use Rattle.trace_audit.proofs.Vocabulary.{IsTrue, List, length, take, Step, LinksMean}
+use Rattle.std.proofs.Common.{◌↔◌}
 use Rattle.trace_audit.proofs.residuals.+meeting.Given as goal
 
 abbrev pub invariant-is_chain_met-loop-link : goal.invariant-is_chain_met-loop-link

@@ -1,5 +1,4 @@
-use Rattle.std.proofs.Common.{sym, subst}
-use Rattle.trace_audit.specs.Residuals.{IsAnyOf}
+use Rattle.trace_audit.proofs.Vocabulary.{sym, subst, IsAnyOf}
 use Rattle.trace_audit.proofs.ResidualLemmas.{any_of_failed, any_with_failed}
 use Rattle.trace_audit.proofs.residuals.any.Goals as goal
 

@@ -1,9 +1,7 @@
-use Rattle.std.proofs.Common.{◌∙◌, ◌++◌, ◌∷◌, [], List, ap, sym, subst}
-use Rattle.trace_audit.specs.Residuals.{IsHung}
-use Rattle.trace_audit.specs.declared.residuals.Link.{Link}
+use Rattle.trace_audit.proofs.Vocabulary.{◌∙◌, ◌++◌, ◌∷◌, [], List, ap, sym, subst, IsHung, Link}
+use Rattle.trace_audit.proofs.ResidualLemmas.{hung_on_chain, hung_on_one}
 use Rattle.trace_audit.specs.declared.residuals.Link.TheVariants as link
 use Rattle.trace_audit.specs.declared.residuals.Residual.TheVariants as stored
-use Rattle.trace_audit.proofs.ResidualLemmas.{hung_on_chain, hung_on_one}
 use Rattle.trace_audit.proofs.residuals.hang.Goals as goal
 
 pub returns-in_ok-push-in-Chain : goal.returns-in_ok-push-in-Chain

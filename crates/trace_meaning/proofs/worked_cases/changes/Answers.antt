@@ -1,5 +1,5 @@
 use Rattle.std.proofs.Common.{◌≤◌, [], arith, refl, lit<}
-use Rattle.trace_meaning.specs.Cases.{system_at}
+use Rattle.trace_meaning.specs.machine.Cases.{system_at}
 use Rattle.trace_meaning.proofs.worked_cases.changes.Goals as goal
 
 pub returns-clause-changed_twice : goal.returns-clause-changed_twice

@@ -1,24 +1,24 @@
-use Rattle.std.proofs.Common.{◌≡◌, ℕ, zero, suc, ◌<◌, ◌≤◌, List, [], ◌∷◌, ◌++◌, length, map, Contains, arith, refl, sym, ap, subst, lit<, lit≤}
+use Rattle.std.proofs.Common.{◌≡◌, ℕ, zero, suc, ◌<◌, ◌≤◌, List, [], ◌∷◌, ◌++◌, length, map}
+use Rattle.std.proofs.Common.{Contains, arith, refl, sym, ap, subst, lit<, lit≤}
 use Rattle.std.proofs.lemmas.Bool.Decides.{not_from_Decides}
 use Rattle.std.proofs.lemmas.List.Elements.{All-cons, All-nil, All-from_recursion}
-use Rattle.enf_value.specs.Data.{IsTrace, step_at, no_step}
-use Rattle.enf_value.specs.Decided.{has_event-Decides}
-use Rattle.enf_value.specs.Valuations.{no_values}
-use Rattle.enf_value.specs.declared.steps.Step.{Step}
-use Rattle.enf_formula.specs.Cases.{event_p, event_q, at_time, within, formula_p, formula_q}
-use Rattle.enf_formula.specs.Formulas.{Formula, Implies, Eventually}
-use Rattle.enf_formula.specs.Satisfaction.{Sat, elapsed}
-use Rattle.enf_value.specs.Membership.{HasNoRepeats, IsIn}
-use Rattle.trace_meaning.specs.Cases.{inserted_at, may_cause, may_suppress, p_in_time, q_at_1, q_then_p, system_at}
-use Rattle.trace_meaning.specs.Good.{Good}
-use Rattle.trace_meaning.specs.Lawful.{IsCause, IsInsertedLawfully, IsLaterThan}
-use Rattle.trace_meaning.specs.OutSteps.{Cause, IsUntil, OutStep, event_of}
+use Rattle.enf_data.specs.meaning.Data.{IsTrace, step_at, no_step}
+use Rattle.enf_data.proofs.ValueEquality.{has_event-Decides}
+use Rattle.enf_data.specs.meaning.Valuations.{no_values}
+use Rattle.enf_data.specs.declared.steps.Step.{Step}
+use Rattle.enf_formula.specs.machine.Cases.{event_p, event_q, at_time, interval_between, formula_p, formula_q}
+use Rattle.enf_formula.specs.meaning.Satisfaction.{Formula, Implies, Eventually, Sat, elapsed}
+use Rattle.enf_data.specs.meaning.Membership.{HasNoRepeats, IsIn}
+use Rattle.trace_meaning.specs.machine.Cases.{inserted_at, may_cause, may_suppress, policy_p_in_time, q_at_1, q_then_p}
+use Rattle.trace_meaning.specs.machine.Cases.{system_at}
+use Rattle.trace_meaning.specs.meaning.Traces.{Good, IsCause, IsInsertedLawfully, IsLaterThan, Cause, IsUntil, OutStep}
+use Rattle.trace_meaning.specs.meaning.Traces.{event_of}
 use Rattle.trace_meaning.specs.declared.kinds.StepKind.TheVariants.{System, Inserted}
 use Rattle.trace_meaning.proofs.Growth.{trace_begins, trace_grows}
 use Rattle.trace_meaning.proofs.worked_cases.continuing.Goals as goal
 
 abbrev rule : Formula
-rule = Implies 0 formula_q (Eventually 0 (within 0 2) formula_p)
+rule = Implies 0 formula_q (Eventually 0 (interval_between 0 2) formula_p)
 
 no_q_in_p : Contains (event_p ∷ []) event_q → ⊥
 no_q_in_p = not_from_Decides _ (has_event-Decides (event_p ∷ []) event_q) refl
@@ -40,7 +40,7 @@ satisfied zero below = λ q fails. fails (1, lit≤ tt, lit< tt, (lit≤ tt, lit
 satisfied (suc zero) below = λ q. absurd (no_q_in_p q)
 satisfied (suc (suc i)) below = absurd (omega arith)
 
-good_until_3 : (clock : ℕ) → clock ≤ 3 → Good p_in_time q_at_1 clock
+good_until_3 : (clock : ℕ) → clock ≤ 3 → Good policy_p_in_time q_at_1 clock
 good_until_3 clock le = (
   q_then_p,
   record {
@@ -49,7 +49,7 @@ good_until_3 clock le = (
     later = All-cons (λ (step : Step). clock ≤ step.time) (at_time 3 (event_p ∷ [])) [] le (All-nil (λ (step : Step). clock ≤ step.time));
     is_trace = trace;
   },
-  All-from_recursion (λ f. (i : ℕ) → i < length q_then_p → Sat q_then_p i no_values f) p_in_time (satisfied, tt),
+  All-from_recursion (λ f. (i : ℕ) → i < length q_then_p → Sat q_then_p i no_values f) policy_p_in_time (satisfied, tt),
 )
 
 pub returns-clause-good_at_the_last_moment : goal.returns-clause-good_at_the_last_moment
@@ -66,8 +66,9 @@ returns-clause-from_a_later_time c continued =
     let time : (step_at continued.more 0).time ≡ 3 = sym (ap (λ t. (step_at t 1).time) continued.begins) in
     omega arith
 
--- behind q() at time 1, where no time is below 4, p() comes too late
-late : (more : List Step) → ((i : ℕ) → i < length more → 4 ≤ (step_at more i).time) → (j : ℕ) → j < length (q_at_1 ++ more) → IsIn (within 0 2) (elapsed (q_at_1 ++ more) 0 j) → Contains (step_at (q_at_1 ++ more) j).events event_p → ⊥
+-- after q() at time 1, where no time is below 4, p() comes too late
+late : (more : List Step) → ((i : ℕ) → i < length more → 4 ≤ (step_at more i).time) → (j : ℕ) → j < length (q_at_1 ++ more)
+    → IsIn (interval_between 0 2) (elapsed (q_at_1 ++ more) 0 j) → Contains (step_at (q_at_1 ++ more) j).events event_p → ⊥
 late more later zero below near has = no_p_in_q has
 late more later (suc j) below near has = let far : 4 ≤ (step_at more j).time = later j (omega arith) in omega (arith, near.1)
 
@@ -119,5 +120,5 @@ returns-clause-all_that_is_owed c = record {
     in_order = (All-nil (λ (p : OutStep). IsLaterThan Inserted p.kind 3 p.step.time), tt);
   };
   is_trace = trace;
-  satisfied = All-from_recursion (λ f. (i : ℕ) → i < length q_then_p → Sat q_then_p i no_values f) p_in_time (satisfied, tt);
+  satisfied = All-from_recursion (λ f. (i : ℕ) → i < length q_then_p → Sat q_then_p i no_values f) policy_p_in_time (satisfied, tt);
 }

@@ -1,8 +1,8 @@
 use Rattle.std.proofs.Common.{◌≡◌, ◌<◌, List, [], ◌∷◌, length, ap, arith, lit<}
-use Rattle.enf_value.specs.declared.events.Event.{Event}
-use Rattle.enf_formula.specs.Cases.{event_p}
-use Rattle.trace_meaning.specs.Cases.{system_at}
-use Rattle.trace_meaning.specs.OutSteps.{Cause}
+use Rattle.enf_data.specs.declared.events.Event.{Event}
+use Rattle.enf_formula.specs.machine.Cases.{event_p}
+use Rattle.trace_meaning.specs.machine.Cases.{system_at}
+use Rattle.trace_meaning.specs.meaning.Traces.{Cause}
 use Rattle.trace_meaning.proofs.worked_cases.insertions.Goals as goal
 
 pub returns-clause-system_at_the_same_time : goal.returns-clause-system_at_the_same_time

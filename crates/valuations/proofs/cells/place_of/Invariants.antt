@@ -1,5 +1,4 @@
-use Rattle.std.proofs.Common.{◌≡◌, ℕ, ◌<◌, get_or}
-use Rattle.enf_value.specs.declared.terms.VarId.{VarId}
+use Rattle.valuations.proofs.Vocabulary.{◌≡◌, ℕ, ◌<◌, get_or, VarId}
 use Rattle.valuations.proofs.cells.place_of.Given as goal
 
 abbrev pub invariant-loop-place : goal.invariant-loop-place

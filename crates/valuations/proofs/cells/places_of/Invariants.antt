@@ -1,5 +1,4 @@
-use Rattle.std.proofs.Common.{take}
-use Rattle.valuations.specs.Cells.{ArePlaces}
+use Rattle.valuations.proofs.Vocabulary.{take, ArePlaces}
 use Rattle.valuations.proofs.cells.places_of.Given as goal
 
 abbrev pub invariant-loop-variable : goal.invariant-loop-variable

@@ -1,6 +1,4 @@
-use Rattle.std.proofs.Common.{◌≡◌, take, map}
-use Rattle.std.specs.Option.{option_copied}
-use Rattle.enf_value.specs.Valuations.{value_at}
+use Rattle.valuations.proofs.Vocabulary.{◌≡◌, take, map, option_copied, value_at}
 use Rattle.valuations.proofs.comparing.bounds_of.Given as goal
 
 abbrev pub invariant-loop-column : goal.invariant-loop-column

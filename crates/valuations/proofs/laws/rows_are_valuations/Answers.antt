@@ -1,4 +1,4 @@
-use Rattle.valuations.proofs.TableLemmas.{contains_valuation, contains_from_valuation}
+use Rattle.valuations.proofs.RowLaws.{contains_valuation, contains_from_valuation}
 use Rattle.valuations.proofs.laws.rows_are_valuations.Goals as goal
 
 pub returns : goal.returns

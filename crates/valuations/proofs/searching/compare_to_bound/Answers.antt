@@ -1,10 +1,9 @@
-use Rattle.std.proofs.Common.{sym, ◌∙◌}
-use Rattle.std.proofs.lemmas.Slice.Zip.{zip_end}
-use Rattle.enf_value.specs.Valuations.{value_at}
+use Rattle.valuations.proofs.Vocabulary.{sym, ◌∙◌, zip_end, value_at}
 use Rattle.valuations.proofs.LookupLemmas.{lengths_tell}
 use Rattle.valuations.proofs.searching.compare_to_bound.Goals as goal
 
 pub returns : goal.returns
 returns g c =
-    let all = zip_end c.args.row.now c.args.columns.now c.loop-value.yielded c.into_iter-value-iterator.result c.loop-value.value-iterator c.next.new.self c.next.result (cc) (cc) c.loop-value.yielded_by c.in-None.is c.next.ensures.steps in
+    let all = zip_end c.args.row.now c.args.columns.now c.loop-value.yielded c.into_iter-value-iterator.result c.loop-value.value-iterator c.next.new.self c.next.result (cc) (cc)
+    c.loop-value.yielded_by c.in-None.is c.next.ensures.steps in
     c.cmp.ensures ∙ sym (c.loop-value.invariant ∙ lengths_tell (value_at (g.V.Lookup.valuation c.args.v.now)) c.args.row.now c.args.columns.now _ all)

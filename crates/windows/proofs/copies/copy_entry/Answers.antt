@@ -1,4 +1,4 @@
-use Rattle.std.proofs.Common.{◌∙◌}
+use Rattle.windows.proofs.Vocabulary.{◌∙◌}
 use Rattle.windows.proofs.CopyLemmas.{entry_copied}
 use Rattle.windows.proofs.copies.copy_entry.Goals as goal
 

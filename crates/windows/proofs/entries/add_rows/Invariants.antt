@@ -1,10 +1,9 @@
-use Rattle.std.proofs.Common.{length, take, Contains}
-use Rattle.windows.specs.Pairs.{AddAtMost, AddsTimes, AreKept, AreLeast}
+use Rattle.windows.proofs.Vocabulary.{length, take, Contains, AddAtMost, AddsTimes, AreWindowEntries, AreLeast}
 use Rattle.windows.proofs.entries.add_rows.Given as goal
 
 abbrev pub invariant-loop-row : goal.invariant-loop-row
 invariant-loop-row l =
     AddAtMost l.now (Contains l.right.rows) l.fn.entries.entries l.entries.entries
     × AddsTimes l.interval l.now (Contains (take l.row-index l.right.rows)) l.fn.entries.entries l.entries.entries
-    × AreKept (length l.right.columns) l.now l.entries.entries
+    × AreWindowEntries (length l.right.columns) l.now l.entries.entries
     × AreLeast l.interval l.now l.entries.entries

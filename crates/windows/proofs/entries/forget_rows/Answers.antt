@@ -1,6 +1,5 @@
-use Rattle.std.proofs.Common.{◌∙◌, ◌<◌, ◌≤◌, length, take, get_or, ap, subst, Contains}
-use Rattle.std.proofs.lemmas.List.{take_all}
-use Rattle.windows.specs.Pairs.{KeepsRows}
+use Rattle.windows.proofs.Vocabulary.{◌∙◌, ◌<◌, ◌≤◌, length, take, get_or, ap, subst, Contains}
+use Rattle.windows.proofs.Vocabulary.{take_all, KeepsRows}
 use Rattle.windows.proofs.EntryLemmas.{keeps_all, keeps_then, next_of}
 use Rattle.windows.proofs.entries.forget_rows.Goals as goal
 
@@ -10,8 +9,10 @@ loop-row-init c = keeps_all c.args.entries.now.entries
 pub loop-row-preserved : goal.loop-row-preserved
 loop-row-preserved c =
     next_of (λ l. KeepsRows (λ row. Contains l row → ⊥) c.args.entries.now.entries c.forget_row.new.entries.entries) c.args.failing.now.rows c.loop-row.row-index c.row-item.result
-    (subst (λ l. c.loop-row.row-index < length l) c.rows-row-items.ensures.rows c.loop-row-test.true) (c.row-item.is ∙ ap (λ l. get_or l c.loop-row.row-index c.row-item.result) c.rows-row-items.ensures.rows)
-    (keeps_then (take c.loop-row.row-index c.args.failing.now.rows) c.row-item.result c.args.entries.now.entries c.loop-row.entries.entries c.forget_row.new.entries.entries c.loop-row.invariant c.forget_row.ensures)
+    (subst (λ l. c.loop-row.row-index < length l) c.rows-row-items.ensures.rows c.loop-row-test.true)
+    (c.row-item.is ∙ ap (λ l. get_or l c.loop-row.row-index c.row-item.result) c.rows-row-items.ensures.rows)
+    (keeps_then (take c.loop-row.row-index c.args.failing.now.rows) c.row-item.result c.args.entries.now.entries c.loop-row.entries.entries c.forget_row.new.entries.entries
+    c.loop-row.invariant c.forget_row.ensures)
 
 pub returns-clause-keeps : goal.returns-clause-keeps
 returns-clause-keeps c =

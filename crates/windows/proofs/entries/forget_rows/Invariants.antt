@@ -1,5 +1,4 @@
-use Rattle.std.proofs.Common.{take, Contains}
-use Rattle.windows.specs.Pairs.{KeepsRows}
+use Rattle.windows.proofs.Vocabulary.{take, Contains, KeepsRows}
 use Rattle.windows.proofs.entries.forget_rows.Given as goal
 
 abbrev pub invariant-loop-row : goal.invariant-loop-row

@@ -1,5 +1,4 @@
-use Rattle.std.proofs.Common.{rules, Contains}
-use Rattle.valuations.specs.Tables.{IsTable}
+use Rattle.windows.proofs.Vocabulary.{rules, Contains, IsTable}
 use Rattle.windows.proofs.EntryLemmas.{keeps_said, known_said, unique_from}
 use Rattle.windows.proofs.entries.keep_rows.Goals as goal
 

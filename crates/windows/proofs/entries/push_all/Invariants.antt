@@ -1,5 +1,4 @@
-use Rattle.std.proofs.Common.{◌↔◌, ◌⊎◌, List, map, Contains}
-use Rattle.enf_value.specs.declared.values.Value.{Value}
+use Rattle.windows.proofs.Vocabulary.{◌↔◌, ◌⊎◌, List, map, Contains, Value}
 use Rattle.windows.proofs.entries.push_all.Given as goal
 
 abbrev pub invariant-loop-row : goal.invariant-loop-row

@@ -1,4 +1,4 @@
-use Rattle.std.proofs.Common.{inl, inr, ⊎_elim}
+use Rattle.windows.proofs.Vocabulary.{inl, inr, ⊎_elim}
 use Rattle.windows.proofs.entries.push_now.Goals as goal
 
 pub returns-in_ok-push_rows-clause-rows : goal.returns-in_ok-push_rows-clause-rows

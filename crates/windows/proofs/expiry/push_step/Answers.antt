@@ -1,5 +1,4 @@
-use Rattle.windows.specs.Queues.{waiting_of}
-use Rattle.windows.specs.Slots.{with_rows}
+use Rattle.windows.proofs.Vocabulary.{waiting_of, with_rows}
 use Rattle.windows.proofs.QueueLemmas.{last_waits}
 use Rattle.windows.proofs.expiry.push_step.Goals as goal
 

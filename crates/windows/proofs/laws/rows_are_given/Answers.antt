@@ -1,8 +1,8 @@
-use Rattle.std.proofs.Common.{sym, subst, refl}
-use Rattle.windows.specs.Given.{survives_always, survives_among, survives_outside}
-use Rattle.windows.specs.GivenLaws.{among_has, given_answers, given_from, given_last_answers, given_last_from, outside_has}
+use Rattle.windows.proofs.Vocabulary.{sym, subst, refl, survives_always, survives_among, survives_outside}
+use Rattle.windows.proofs.Vocabulary.{AgreesWithRow, HasValuation}
+use Rattle.windows.proofs.GivenLaws.{among_has, given_answers, given_from, given_last_answers, given_last_from}
+use Rattle.windows.proofs.GivenLaws.{outside_has}
 use Rattle.windows.proofs.laws.rows_are_given.Goals as goal
-use Rattle.valuations.specs.Tables.{Agrees, Has}
 
 pub returns-clause-all : goal.returns-clause-all
 returns-clause-all c window time right v columns =
@@ -10,13 +10,13 @@ returns-clause-all c window time right v columns =
 
 pub returns-clause-among : goal.returns-clause-among
 returns-clause-among c window time told right v told_columns columns =
-    given_answers window time (survives_among told) right (Has told) columns
-    (λ row times w there agrees. among_has told row w (subst (λ l. Agrees w l row) (sym told_columns) agrees)) v
+    given_answers window time (survives_among told) right (HasValuation told) columns
+    (λ row times w there agrees. among_has told row w (subst (λ l. AgreesWithRow w l row) (sym told_columns) agrees)) v
 
 pub returns-clause-outside : goal.returns-clause-outside
 returns-clause-outside c window time told right v told_columns columns =
-    given_answers window time (survives_outside told) right (λ w. Has told w → ⊥) columns
-    (λ row times w there agrees. outside_has told row w (subst (λ l. Agrees w l row) (sym told_columns) agrees)) v
+    given_answers window time (survives_outside told) right (λ w. HasValuation told w → ⊥) columns
+    (λ row times w there agrees. outside_has told row w (subst (λ l. AgreesWithRow w l row) (sym told_columns) agrees)) v
 
 pub returns-clause-last : goal.returns-clause-last
 returns-clause-last c slot time v fits = given_last_answers slot time fits v

@@ -1,5 +1,4 @@
-use Rattle.std.proofs.Common.{◌≡◌, drop}
-use Rattle.windows.specs.Queries.{cells, cells_eq}
+use Rattle.windows.proofs.Vocabulary.{◌≡◌, drop, cells, cells_eq}
 use Rattle.windows.proofs.row_query.are_same.Given as goal
 
 abbrev pub invariant-loop-place : goal.invariant-loop-place

@@ -1,10 +1,6 @@
-use Rattle.std.proofs.Common.{◌<◌, length, map, Some, arith}
-use Rattle.std.proofs.lemmas.List.{length-map}
-use Rattle.std.specs.Option.{option_copied}
+use Rattle.windows.proofs.Vocabulary.{◌<◌, length, map, Some, arith, length-map, option_copied, value_at, Value}
+use Rattle.windows.proofs.Vocabulary.{cells}
 use Rattle.std.specs.Prelude.{Option}
-use Rattle.enf_value.specs.Valuations.{value_at}
-use Rattle.enf_value.specs.declared.values.Value.{Value}
-use Rattle.windows.specs.Queries.{cells}
 use Rattle.windows.proofs.QueryLemmas.{alike, apart, cell_at, some_at}
 use Rattle.windows.proofs.row_query.is_row.Goals as goal
 
@@ -14,7 +10,8 @@ returns-then-not-is_same g c =
     let within : c.loop-place.place < length c.args.row.now = omega (arith, c.loop-place-test.true, c.if-columns-row.false) in
     apart _ (cells c.args.columns.now v) (map Some c.args.row.now) c.loop-place.place (option_copied c.value.result) (Some c.index-row-place.result) c.is_same.result c.loop-place.invariant
     (omega (arith, c.loop-place-test.true, length-map c.args.columns.now (value_at v))) (omega (arith, within, length-map {B = Option Value} c.args.row.now Some))
-    (cell_at c.args.columns.now v c.loop-place.place _ _ c.loop-place-test.true c.value.ensures) (some_at c.args.row.now c.loop-place.place c.index-row-place.result within c.index-row-place.is) c.is_same.ensures c.if-not-is_same.true
+    (cell_at c.args.columns.now v c.loop-place.place _ _ c.loop-place-test.true c.value.ensures)
+    (some_at c.args.row.now c.loop-place.place c.index-row-place.result within c.index-row-place.is) c.is_same.ensures c.if-not-is_same.true
 
 pub loop-place-preserved : goal.loop-place-preserved
 loop-place-preserved g c =
@@ -22,4 +19,5 @@ loop-place-preserved g c =
     let within : c.loop-place.place < length c.args.row.now = omega (arith, c.loop-place-test.true, c.if-columns-row.false) in
     alike _ (cells c.args.columns.now v) (map Some c.args.row.now) c.loop-place.place (option_copied c.value.result) (Some c.index-row-place.result) c.is_same.result c.loop-place.invariant
     (omega (arith, c.loop-place-test.true, length-map c.args.columns.now (value_at v))) (omega (arith, within, length-map {B = Option Value} c.args.row.now Some))
-    (cell_at c.args.columns.now v c.loop-place.place _ _ c.loop-place-test.true c.value.ensures) (some_at c.args.row.now c.loop-place.place c.index-row-place.result within c.index-row-place.is) c.is_same.ensures c.if-not-is_same.false
+    (cell_at c.args.columns.now v c.loop-place.place _ _ c.loop-place-test.true c.value.ensures)
+    (some_at c.args.row.now c.loop-place.place c.index-row-place.result within c.index-row-place.is) c.is_same.ensures c.if-not-is_same.false

@@ -1,5 +1,4 @@
-use Rattle.std.proofs.Common.{◌≡◌, drop, map, Some}
-use Rattle.windows.specs.Queries.{cells, cells_eq}
+use Rattle.windows.proofs.Vocabulary.{◌≡◌, drop, map, Some, cells, cells_eq}
 use Rattle.windows.proofs.row_query.is_row.Given as goal
 
 abbrev pub invariant-loop-place : goal.invariant-loop-place

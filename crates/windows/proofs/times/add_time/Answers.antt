@@ -1,13 +1,11 @@
-use Rattle.std.proofs.Common.{◌∙◌, refl, sym, subst}
-use Rattle.std.proofs.lemmas.Bool.{false≢true}
-use Rattle.windows.specs.Pairs.{ForgetsTimes}
-use Rattle.windows.specs.Times.{RiseTo}
+use Rattle.windows.proofs.Vocabulary.{◌∙◌, refl, sym, subst, false≢true, ForgetsTimes, RiseTo}
 use Rattle.windows.proofs.TimeLemmas.{adds_at_most, adds_by, adds_no_later, rise_push}
 use Rattle.windows.proofs.times.add_time.Goals as goal
 
 pub settle-requires-clause-rise : goal.settle-requires-clause-rise
 settle-requires-clause-rise c =
-    subst (RiseTo c.args.now) (sym c.in_ok-push.ensures.ok) (rise_push c.args.now c.args.times.now.items c.requires.rise (λ there. false≢true (sym c.if-not-ends_with.true ∙ c.ends_with.ensures.1 there)))
+    subst (RiseTo c.args.now) (sym c.in_ok-push.ensures.ok) (rise_push c.args.now c.args.times.now.items c.requires.rise
+    (λ there. false≢true (sym c.if-not-ends_with.true ∙ c.ends_with.ensures.1 there)))
 
 pub returns-in_ok-push-clause-among : goal.returns-in_ok-push-clause-among
 returns-in_ok-push-clause-among c =

@@ -1,4 +1,4 @@
-use Rattle.std.proofs.Common.{◌<◌, ◌-◌, drop, length}
+use Rattle.windows.proofs.Vocabulary.{◌<◌, ◌-◌, drop, length}
 use Rattle.windows.proofs.TimeLemmas.{Passes}
 use Rattle.windows.proofs.times.count_passed.Given as goal
 

@@ -1,5 +1,4 @@
-use Rattle.std.proofs.Common.{rules, arith}
-use Rattle.std.proofs.lemmas.Bool.Decides.{Decides-eqb}
+use Rattle.windows.proofs.Vocabulary.{rules, arith, Decides-eqb}
 use Rattle.windows.proofs.TimeLemmas.{latest_of}
 use Rattle.windows.proofs.times.ends_with.Goals as goal
 

@@ -1,6 +1,5 @@
-use Rattle.std.proofs.Common.{◌∙◌, ◌<◌, ◌≤◌, ◌-◌, length, get_or, ap, sym, subst}
-use Rattle.std.proofs.lemmas.Bool.{false≢true}
-use Rattle.enf_value.specs.Membership.{IsIn}
+use Rattle.windows.proofs.Vocabulary.{◌∙◌, ◌<◌, ◌≤◌, ◌-◌, length, get_or, ap, sym, subst}
+use Rattle.windows.proofs.Vocabulary.{false≢true, IsIn}
 use Rattle.windows.proofs.TimeLemmas.{none_in, not_in}
 use Rattle.windows.proofs.times.has_in.Goals as goal
 

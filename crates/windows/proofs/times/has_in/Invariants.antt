@@ -1,5 +1,4 @@
-use Rattle.std.proofs.Common.{take}
-use Rattle.windows.specs.Pairs.{IsSomeIn}
+use Rattle.windows.proofs.Vocabulary.{take, IsSomeIn}
 use Rattle.windows.proofs.times.has_in.Given as goal
 
 abbrev pub invariant-loop-time : goal.invariant-loop-time

@@ -1,5 +1,5 @@
 -- The first argument, and then the others.
-use Rattle.std.proofs.Common.{◌≡◌, ◌++◌, ◌∷◌, sym, ap, ◌∙◌}
+use Rattle.action_report.proofs.Vocabulary.{◌≡◌, ◌++◌, ◌∷◌, sym, ap, ◌∙◌}
 use Rattle.action_report.proofs.RowLemmas.{commas, ends_value, first_fits, first_text, others_text, rows_join}
 use Rattle.action_report.proofs.cursor.Cursor.+arguments.Goals as goal
 

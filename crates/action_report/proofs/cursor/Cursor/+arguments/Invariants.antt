@@ -1,4 +1,4 @@
-use Rattle.std.proofs.Common.{length}
+use Rattle.action_report.proofs.Vocabulary.{length}
 use Rattle.action_report.proofs.cursor.Cursor.+arguments.Given as goal
 
 abbrev pub decreases-arguments : goal.decreases-arguments

@@ -1,11 +1,8 @@
 -- The first binding, and then the others.
-use Rattle.std.proofs.Common.{◌≡◌, ◌++◌, ◌∷◌, ℕ, List, arith, codes, ap, subst, sym, ◌∙◌}
-use Rattle.enf_value.specs.Spelling.{spelled}
-use Rattle.enf_value.specs.Valuations.{bindings}
-use Rattle.enf_value.specs.declared.values.Value.{Value}
-use Rattle.action_report.specs.Lines.{bindings_text}
-use Rattle.action_report.specs.Loose.{IsRising}
-use Rattle.action_report.proofs.BindLemmas.{adds_join, binding_front, bound_join, ends_binding, first_bound, none_bound, one_more_bound, rising_on}
+use Rattle.action_report.proofs.Vocabulary.{◌≡◌, ◌++◌, ◌∷◌, ℕ, List, arith, codes, ap, subst, sym}
+use Rattle.action_report.proofs.Vocabulary.{◌∙◌, spelled, bindings, Value, bindings_text, IsRising}
+use Rattle.action_report.proofs.BindLemmas.{adds_join, binding_front, bound_join, ends_binding, first_bound, none_bound}
+use Rattle.action_report.proofs.BindLemmas.{one_more_bound, rising_on}
 use Rattle.action_report.proofs.cursor.Cursor.+bindings.Goals as goal
 
 pub returns-then-not-variable-clause-again : goal.returns-then-not-variable-clause-again
@@ -29,14 +26,18 @@ pub bind-requires : goal.bind-requires
 bind-requires t c = none_bound c.args.valuation.now c.in-Some.variable.now c.in-Some.others.now (subst (IsRising (bindings c.args.valuation.now)) c.in-Some.ensures.cases.0 c.requires)
 
 pub bindings-requires : goal.bindings-requires
-bindings-requires t c =
-    (omega (arith, c.decreases, c.in-Some.ensures.cases.1), rising_on c.args.valuation.now _ c.in-Some.variable.now c.in-Some-2.value c.args.scope.now c.in-Some.others.now c.in-Some.ensures.cases.0 c.requires c.in_ok-bind.ensures.ok)
+bindings-requires t c = (
+  omega (arith, c.decreases, c.in-Some.ensures.cases.1),
+  rising_on c.args.valuation.now _ c.in-Some.variable.now c.in-Some-2.value c.args.scope.now c.in-Some.others.now
+      c.in-Some.ensures.cases.0 c.requires c.in_ok-bind.ensures.ok,
+)
 
 pub returns-clause-binds : goal.returns-clause-binds
 returns-clause-binds t c =
     let rise = subst (IsRising (bindings c.args.valuation.now)) c.in-Some.ensures.cases.0 c.requires in
     let bound = ap bindings c.in_ok-bind.ensures.ok ∙ one_more_bound c.args.valuation.now c.in-Some.variable.now c.in-Some-2.value c.in-Some.others.now rise in
-    adds_join c.bindings.result c.args.scope.now c.in-Some.others.now _ _ _ c.in-Some.variable.now c.in-Some-2.value c.in-Some.ensures.cases.0 bound (rw c.in-Some-2.is at c.in_ok-value.ensures.value) c.bindings.ensures.binds
+    adds_join c.bindings.result c.args.scope.now c.in-Some.others.now _ _ _ c.in-Some.variable.now c.in-Some-2.value c.in-Some.ensures.cases.0 bound
+    (rw c.in-Some-2.is at c.in_ok-value.ensures.value) c.bindings.ensures.binds
 
 pub returns-clause-again : goal.returns-clause-again
 returns-clause-again t c = λ values rest same are ends e.

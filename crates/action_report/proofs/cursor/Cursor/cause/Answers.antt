@@ -1,6 +1,5 @@
 -- The rule, and then the numbers.
-use Rattle.std.proofs.Common.{◌≡◌, ◌++◌, Some, codes, refl, ◌∙◌, arith}
-use Rattle.action_report.specs.Parts.{labelled}
+use Rattle.action_report.proofs.Vocabulary.{◌≡◌, ◌++◌, Some, codes, refl, ◌∙◌, arith, labelled}
 use Rattle.action_report.proofs.NumberLemmas.{cause_split}
 use Rattle.action_report.proofs.cursor.Cursor.cause.Goals as goal
 

@@ -1,20 +1,21 @@
 -- The name in front is that of the event, and its arguments follow.
-use Rattle.std.proofs.Common.{◌≡◌, ◌++◌, ◌∷◌, Some, slice_get, sym, ap, subst, ◌∙◌}
-use Rattle.log_stream.specs.Lines.{spelled_row}
-use Rattle.log_stream.specs.RoundTrip.{FitColumns}
+use Rattle.action_report.proofs.Vocabulary.{◌≡◌, ◌++◌, ◌∷◌, Some, slice_get, sym, ap, subst, ◌∙◌}
+use Rattle.action_report.proofs.Vocabulary.{spelled_row, FitColumns}
 use Rattle.action_report.proofs.RowLemmas.{event_text, name_of, paren_ends_word, same_event}
 use Rattle.action_report.proofs.cursor.Cursor.event.Goals as goal
 
 pub returns-in_default-clause-again : goal.returns-in_default-clause-again
 returns-in_default-clause-again c = λ event rest d e.
     let n = name_of c.args.signature.now event c.len-names.ensures.signature d in
-    let w = c.word.ensures d.entry.text (40 ∷ spelled_row event.args ++ 41 ∷ rest) n.word (paren_ends_word (spelled_row event.args ++ 41 ∷ rest)) (event_text c.args.signature.now event d.entry rest c.args.self.now.rest.now n e) in
+    let w = c.word.ensures d.entry.text (40 ∷ spelled_row event.args ++ 41 ∷ rest) n.word (paren_ends_word (spelled_row event.args ++ 41 ∷ rest))
+    (event_text c.args.signature.now event d.entry rest c.args.self.now.rest.now n e) in
     absurd (c.in_default.not-Some _ (c.find.ensures.only event.name (n.found ∙ ap Some (sym w.0))))
 
 pub returns-in-Some-2-clause-again : goal.returns-in-Some-2-clause-again
 returns-in-Some-2-clause-again c = λ event rest d e.
     let n = name_of c.args.signature.now event c.len-names.ensures.signature d in
-    let w = c.word.ensures d.entry.text (40 ∷ spelled_row event.args ++ 41 ∷ rest) n.word (paren_ends_word (spelled_row event.args ++ 41 ∷ rest)) (event_text c.args.signature.now event d.entry rest c.args.self.now.rest.now n e) in
+    let w = c.word.ensures d.entry.text (40 ∷ spelled_row event.args ++ 41 ∷ rest) n.word (paren_ends_word (spelled_row event.args ++ 41 ∷ rest))
+    (event_text c.args.signature.now event d.entry rest c.args.self.now.rest.now n e) in
     let found = c.in-Some.ensures.only event.name (n.found ∙ ap Some (sym w.0)) in
     let name : c.in-Some.name ≡ event.name = cc found in
     let there : Some c.in-Some-entry.entry.now ≡ Some d.entry = c.in-Some-entry.ensures ∙ ap (λ k. slice_get c.args.signature.now k.0) name ∙ d.found in
@@ -27,7 +28,8 @@ returns-in-Some-2-clause-again c = λ event rest d e.
 pub returns-in-None-clause-again : goal.returns-in-None-clause-again
 returns-in-None-clause-again c = λ event rest d e.
     let n = name_of c.args.signature.now event c.len-names.ensures.signature d in
-    let w = c.word.ensures d.entry.text (40 ∷ spelled_row event.args ++ 41 ∷ rest) n.word (paren_ends_word (spelled_row event.args ++ 41 ∷ rest)) (event_text c.args.signature.now event d.entry rest c.args.self.now.rest.now n e) in
+    let w = c.word.ensures d.entry.text (40 ∷ spelled_row event.args ++ 41 ∷ rest) n.word (paren_ends_word (spelled_row event.args ++ 41 ∷ rest))
+    (event_text c.args.signature.now event d.entry rest c.args.self.now.rest.now n e) in
     let found = c.in-Some.ensures.only event.name (n.found ∙ ap Some (sym w.0)) in
     let name : c.in-Some.name ≡ event.name = cc found in
     let there : Some c.in-Some-entry.entry.now ≡ Some d.entry = c.in-Some-entry.ensures ∙ ap (λ k. slice_get c.args.signature.now k.0) name ∙ d.found in

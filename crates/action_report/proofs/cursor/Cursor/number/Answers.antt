@@ -1,12 +1,7 @@
 -- The digits in front are those of the number, and `parse` gives it.
-use Rattle.std.proofs.Common.{ap, sym, subst, ◌∙◌, length}
-use Rattle.std.specs.Char.{is_ascii_digit}
-use Rattle.std.specs.List.{take_while}
-use Rattle.std.specs.Result.{result_ok}
-use Rattle.std.specs.Str.{IsUtf8}
-use Rattle.std.proofs.lemmas.Fmt.{parse-decimal}
-use Rattle.std.proofs.lemmas.Result.{MatchResult-at_ok}
-use Rattle.action_report.proofs.Fronts.{behind_front, err_utf8, number_front, number_utf8, ok_some}
+use Rattle.action_report.proofs.Vocabulary.{ap, sym, subst, ◌∙◌, length, is_ascii_digit, take_while, result_ok}
+use Rattle.action_report.proofs.Vocabulary.{IsUtf8, parse-decimal, MatchResult-at_ok, behind_front, ok_some}
+use Rattle.action_report.proofs.ByteFronts.{err_utf8, number_front, number_utf8}
 use Rattle.action_report.proofs.cursor.Cursor.number.Goals as goal
 
 pub returns-in_err-ok : goal.returns-in_err-ok

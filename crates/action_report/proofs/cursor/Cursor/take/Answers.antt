@@ -1,6 +1,4 @@
-use Rattle.std.proofs.Common.{Bor, List, ℕ, None, Option}
-use Rattle.std.proofs.lemmas.Bool.Decides.{Decides-eqb}
-use Rattle.std.proofs.lemmas.Slice.Eq.{strip_prefix_is}
+use Rattle.action_report.proofs.Vocabulary.{Bor, List, ℕ, None, Option, Decides-eqb, strip_prefix_is}
 use Rattle.action_report.proofs.cursor.Cursor.take.Goals as goal
 
 pub returns-in-None : goal.returns-in-None

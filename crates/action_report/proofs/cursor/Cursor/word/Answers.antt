@@ -1,7 +1,5 @@
-use Rattle.std.proofs.Common.{ap, ◌∙◌, length}
-use Rattle.std.specs.List.{take_while}
-use Rattle.enf_value.specs.Names.{is_word_byte}
-use Rattle.action_report.proofs.Fronts.{behind_front, word_front}
+use Rattle.action_report.proofs.Vocabulary.{ap, ◌∙◌, length, take_while, is_word_byte, behind_front}
+use Rattle.action_report.proofs.ByteFronts.{word_front}
 use Rattle.action_report.proofs.cursor.Cursor.word.Goals as goal
 
 pub returns : goal.returns

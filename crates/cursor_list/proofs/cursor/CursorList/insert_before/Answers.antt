@@ -1,6 +1,4 @@
-use mathlib.Core.Path.{sym, ap, ◌∙◌}
-use Prim.Native.Nat.{◌+◌}
-use native.Mathlib.Omega.{arith}
+use Rattle.cursor_list.proofs.Vocabulary.{sym, ap, ◌∙◌, ◌+◌, arith}
 use Rattle.std.proofs.Common.{◌++◌, ◌∷◌, [], take, drop}
 use Rattle.cursor_list.proofs.Cuts.{put_cut}
 use Rattle.cursor_list.proofs.cursor.CursorList.insert_before.Goals as goal

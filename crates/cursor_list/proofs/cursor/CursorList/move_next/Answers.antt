@@ -1,8 +1,5 @@
-use mathlib.Core.Path.{ap, ◌∙◌}
-use native.Mathlib.Omega.{arith}
-use Prim.Native.Nat.{suc, ◌+◌}
+use Rattle.cursor_list.proofs.Vocabulary.{ap, ◌∙◌, arith, suc, ◌+◌, length-drop}
 use Rattle.std.proofs.Common.{◌≡◌, ◌++◌, take, drop, length}
-use lib.ListN.{length-drop}
 use Rattle.cursor_list.proofs.Cuts.{take-next, drop-next}
 use Rattle.cursor_list.proofs.cursor.CursorList.move_next.Goals as goal
 

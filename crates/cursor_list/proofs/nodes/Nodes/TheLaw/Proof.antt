@@ -1,18 +1,9 @@
 -- A `&` to the nodes is made where one to an element is. Assumes `Logic`.
-use mathlib.Core.List.{[], ◌++◌}
-use base.Fml.{Incl-trans}
-use contract.BorrowLft.{meet_⊑_left}
-use denote.RattleType.{RattleType}
-use denote.Param.Laws.{Laws}
-use denote.Param.Shared.{copy_shared}
-use denote.Struct.Field.{RawPtr-field, usize-field}
-use denote.Struct.Laws.{RawPtr-copy, usize-copy}
-use denote.Struct.Lending.{of_Lends}
-use Rattle.std.specs.declared.alloc.Allocator.{Ghosts}
-use Rattle.std_collections.specs.LinkedList.Links.{links_of}
-use Rattle.cursor_list.specs.contracts.nodes.Nodes as C
+use Rattle.cursor_list.proofs.Vocabulary.{[], ◌++◌, Incl-trans, meet_⊑_left, RattleType, Laws, copy_shared}
+use Rattle.cursor_list.proofs.Vocabulary.{RawPtr-field, usize-field, RawPtr-copy, usize-copy, of_Lends, Ghosts}
+use Rattle.cursor_list.proofs.Vocabulary.{links_of, chain_lent_laws, Lends-nodes}
 use Rattle.cursor_list.proofs.nodes.Nodes.TheLaw.Statement.{statement}
-use Rattle.std_collections.proofs.ListMemory.Shared.{chain_lent_laws, Lends-nodes}
+use Rattle.cursor_list.specs.contracts.nodes.Nodes as C
 
 pub shares : (R B : RattleType) (g : Ghosts B.Denot) (L : Laws R) (K : Laws B) → statement R B g L K
 shares R B g L K = of_Lends (C.struct R B g) (C.the_codes R.Denot B.Denot R.coded B.coded) (C.the_heap R B g) (C.the_lent R B g)

@@ -1,54 +1,22 @@
 -- `elem` shows an element that the chain lends. Assumes `Logic`.
-use mathlib.Core.Path.{◌≡◌, refl, sym, ap, subst, ◌∙◌}
-use Prim.Native.Nat.{ℕ, ◌+◌, ◌<◌, ◌^◌}
-use native.Mathlib.Omega.{arith}
-use mathlib.Core.List.{List, [], ◌∷◌, ◌++◌}
-use lib.ListN.{get_or, length-map}
-use seplogic.Ra.Ura.{Ura}
-use mir.Syntax.{Fn, named, w64}
-use mir.MapTy.{inst_fn}
-use mir.Val.{Val, vint, vptr}
-use base.Logic.{SProp, ent, never, fst∗}
-use base.Fml.{Lft, Share, ftrue, flft}
-use prog.Wp.{Env, Calls, Loops, WpFn, Tables}
-use types.Logic.{Logic, sem}
-use contract.Monad.{fact}
-use contract.Running.{tables, tables_of}
-use sound.WpLaws.{WpFn-mono}
-use types.Kit.{Item, ⋆, ‵, ◌⊛◌, at_ret, ◌$◌, ◌∵◌, !, qed, by, move, keep, use1, drop, split, join, fsplit, fsplit3, fjoin, feq_i, feq_l, suffices, done}
-use types.Part.{whole, sub}
-use types.Run.{stop, fld, of_opd, addr, first, blocks, exec, returns, enter}
-use types.ByLocal.{alloc_all, pass_all, free_all, look_at, get, get_in, through, sets, sets_last, is, env}
-use denote.Exit.{yes, no}
-use denote.RattleType.{owns}
-use denote.Memory.{shared_of, hidden_shr}
-use denote.RawPtr.{ptr_val, in_a_block, ◌+ₚ◌}
-use denote.Ref.{Bor, ShrRef}
-use denote.Builtin.{RefOf, usize}
-use denote.Signature.{plain}
-use denote.Steps.{nothing}
-use denote.Opens.{hide}
-use denote.Triple.Carry.{spared}
-use denote.Triple.Clauses.{Clauses, Ended, closing}
-use denote.Triple.Entry.{on_entry}
-use denote.Triple.Spec.{Meets, triple_of}
-use denote.Triple.Table.{entered, run_framed}
-use denote.Triple.Walked.{says, needs, Stays, stay_dropped, walk_of, ends_at, Goes-dropped, walk_Meets}
-use Rattle.std_alloc.proofs.VecSteps.Shapes.{after}
-use Rattle.std_alloc.proofs.RcSteps.{word, word-Good}
-use Rattle.std.proofs.slice.Lists.{any-default}
-use denote.Struct.Lending.{lent_at}
-use Rattle.cursor_list.specs.declared.nodes.Place.{Place}
-use Rattle.cursor_list.specs.contracts.nodes.Place as Pl
-use Rattle.std_collections.specs.LinkedList.Links.{Link, links_of, place_of}
-use Rattle.std_collections.specs.LinkedList.Ownership.{elem_offset}
-use Rattle.std_collections.proofs.TreeMemory.Owned.{word_had}
-use Rattle.std_collections.proofs.ListMemory.Chained.{link_at, place_of-is}
-use Rattle.std_collections.proofs.ListMemory.Steps.{uncons}
-use Rattle.std_alloc.proofs.BoxSteps.Form.{Bx, args, X, R}
-use Rattle.std_collections.proofs.ListMemory.Seen.{elem_at}
-use Rattle.cursor_list.proofs.Memory.{D, Nr, nodes_seen}
+use Rattle.cursor_list.proofs.Vocabulary.{◌≡◌, refl, sym, ap, subst, ◌∙◌, ℕ, ◌+◌, ◌<◌, ◌^◌}
+use Rattle.cursor_list.proofs.Vocabulary.{arith, List, [], ◌∷◌, ◌++◌, get_or, length-map, Ura, Fn, named, w64}
+use Rattle.cursor_list.proofs.Vocabulary.{inst_fn, Val, vint, vptr, SProp, ent, never, fst∗, Lft, Share, ftrue, flft}
+use Rattle.cursor_list.proofs.Vocabulary.{Env, Calls, Loops, WpFn, Tables, Logic, sem, fact, tables, WpFn-mono, Item}
+use Rattle.cursor_list.proofs.Vocabulary.{⋆, ‵, ◌⊛◌, at_ret, ◌$◌, ◌∵◌, !, qed, by, move, keep, use1}
+use Rattle.cursor_list.proofs.Vocabulary.{drop, split, join, fsplit, fsplit3, fjoin, feq_i, feq_l, suffices, done}
+use Rattle.cursor_list.proofs.Vocabulary.{whole, sub, stop, fld, of_opd, addr, first, blocks, exec, returns, enter}
+use Rattle.cursor_list.proofs.Vocabulary.{alloc_all, pass_all, free_all, look_at, get, get_in, through, sets, sets_last}
+use Rattle.cursor_list.proofs.Vocabulary.{is, env, yes, no, owns, shared_of, hidden_shr, ptr_val, in_a_block}
+use Rattle.cursor_list.proofs.Vocabulary.{◌+ₚ◌, Bor, ShrRef, RefOf, usize, plain, nothing, hide, spared, Clauses}
+use Rattle.cursor_list.proofs.Vocabulary.{Ended, closing, on_entry, Meets, triple_of, entered, run_framed, says, needs}
+use Rattle.cursor_list.proofs.Vocabulary.{Stays, stay_dropped, walk_of, ends_at, Goes-dropped, walk_Meets, after, word}
+use Rattle.cursor_list.proofs.Vocabulary.{word-Good, any-default, lent_at, Place, Link, links_of, place_of, elem_offset}
+use Rattle.cursor_list.proofs.Vocabulary.{word_had, link_at, place_of-is, uncons, Bx, args, X, R, elem_at}
+use contract.Running.{tables_of}
 use Rattle.cursor_list.specs.contracts.nodes.Nodes.elem.Key.{name as #self}
+use Rattle.cursor_list.proofs.Memory.{D, Nr, nodes_seen}
+use Rattle.cursor_list.specs.contracts.nodes.Place as Pl
 use Rattle.cursor_list.proofs.nodes.Nodes.elem.Statement as stated
 use Rattle.cursor_list.proofs.nodes.Nodes.elem.Code as code
 
@@ -60,7 +28,16 @@ module _ (E : Bx) where
   function = inst_fn (args E) code.function
 
   abbrev ended : Ended
-  ended = record { signature = record { lifetimes = 1; outlives = []; params = RefOf (0 ∷ []) tt (plain (λ _. Nr E)) (λ _. tt) ∷ plain (λ _. Pl.the_row) ∷ plain (λ _. usize) ∷ []; result = RefOf (0 ∷ []) tt (plain (λ _. R E)) (λ _. tt) }; kept = (yes, (no, (no, tt))) }
+  ended = record {
+    signature = record {
+      lifetimes = 1;
+      outlives = [];
+      params = RefOf (0 ∷ []) tt (plain (λ _. Nr E)) (λ _. tt) ∷ plain (λ _. Pl.the_row) ∷ plain (λ _. usize) ∷
+          [];
+      result = RefOf (0 ∷ []) tt (plain (λ _. R E)) (λ _. tt);
+    };
+    kept = (yes, (no, (no, tt)));
+  }
 
   abbrev stayed : Stays ended.signature.params ended.kept
   stayed = (stay_dropped (RefOf (0 ∷ []) tt (plain (λ _. Nr E)) (λ _. tt)) yes, (stay_dropped (plain (λ _. Pl.the_row)) no, (stay_dropped (plain (λ _. usize)) no, tt)))
@@ -105,19 +82,25 @@ module _ (E : Bx) {M : Type 1} {𝓤 : Ura M} (𝓛 : Logic 𝓤) (C : Calls �
       sets ! (is ! (of_opd ! (get_in ! (fld ! refl (stop !)) (sub ! 0 refl (whole !)))) (ap ptr_val (here ∙ e))) refl (tt, tt) $ first ! $ blocks ! $
       sets_last ! (addr ! (through ! refl (fld ! refl (stop !)))) refl (tt, tt) $ exec ! C Λ En (after 2 (function E).body) (at_ret En Post) $ sets ! (of_opd ! (get ! refl)) refl (tt, tt) $
       feq_i ! (List Val) (r ∷ []) (r ∷ []) refl $ fjoin ! $ returns ! (look_at ! 0 refl) $ free_all ! refl $ keep ! (0 ∷ 5 ∷ []) $
-      suffices ! _ (ends_at 𝓛 (ended E) (stayed E) (spec E 𝓤) bound r (record { ref_ptr = (nb, no + k); now = x }) (tt, (tt, (tt, tt))) (tt, (tt, (tt, tt)))) $ says ! (any-default d.items i y x (omega arith)) $
+      suffices ! _ (ends_at 𝓛 (ended E) (stayed E) (spec E 𝓤) bound r (record { ref_ptr = (nb, no + k); now = x }) (tt, (tt, (tt, tt))) (tt, (tt, (tt, tt)))) $ says !
+      (any-default d.items i y x (omega arith)) $
       nothing ! $ nothing ! $ fjoin ! $ nothing ! $ fjoin ! $ nothing ! $ fjoin ! $ join ! $ nothing ! $ move ! (2 ∷ 0 ∷ []) $ join ! $ join ! $ done !))
 
   entry : Asks E d at i → ent 𝓤 (on_entry 𝓛 (ended E).signature (κ, tt) (q, tt) (self, (at, (i, tt))) (ps, (us, (vs, tt)))) (WpFn 𝓤 H C Λ (function E) (ps ++ (us ++ (vs ++ []))) Post)
   entry asked =
-      qed 𝓛 ((‵ (flft κ q) ⊛ ‵ ftrue) ∷ ‵ (owns (ShrRef (named 0) κ (Nr E) ∷ Pl.the_row ∷ usize ∷ []) (self, (at, (i, tt))) (ps, (us, (vs, tt)))) ∷ []) ∵ split ! $ move ! (2 ∷ []) $ fsplit3 ! $ fsplit ! $ feq_l ! (λ e.
+      qed 𝓛 ((‵ (flft κ q) ⊛ ‵ ftrue) ∷ ‵ (owns (ShrRef (named 0) κ (Nr E) ∷ Pl.the_row ∷ usize ∷ []) (self, (at, (i, tt))) (ps, (us, (vs, tt)))) ∷ []) ∵ split ! $
+      move ! (2 ∷ []) $ fsplit3 ! $ fsplit ! $ feq_l ! (λ e.
       move ! (1 ∷ []) $ word_had ! at.ptr us (λ f. move ! (1 ∷ []) $ fsplit ! $ fsplit ! $ feq_l ! (λ g. keep ! (2 ∷ 3 ∷ []) $
       by ! (subst (λ (ws : List Val × List Val × List Val). ent 𝓤 (⋆ 𝓛 Had) (WpFn 𝓤 H C Λ (function E) (ws.0 ++ (ws.1 ++ (ws.2 ++ []))) Post)) (λ j. (sym e j, sym f j, sym g j)) (walk asked)))))
 
 meets : (E : Bx) {M : Type 1} {𝓤 : Ura M} (𝓛 : Logic 𝓤) (𝓣 : Tables 𝓤 𝓛.H)
     → Meets 𝓛 (ended E).signature (WpFn 𝓤 𝓛.H 𝓣.C 𝓣.Λ (function E)) (closing 𝓛 (ended E) (spec E 𝓤))
 meets E {𝓤 = 𝓤} 𝓛 𝓣 =
-    walk_Meets 𝓛 (ended E) (stayed E) (Goes-dropped 𝓛 1 (RefOf (0 ∷ []) tt (plain (λ _. Nr E)) (λ _. tt)) yes (λ κs x f. refl), (Goes-dropped 𝓛 1 (plain (λ _. Pl.the_row)) no (λ κs x f. refl), (Goes-dropped 𝓛 1 (plain (λ _. usize)) no (λ κs x f. refl), tt))) (spec E 𝓤) (WpFn 𝓤 𝓛.H 𝓣.C 𝓣.Λ (function E)) (WpFn-mono 𝓤 𝓛.H 𝓛.laws 𝓣 (function E))
+    walk_Meets 𝓛 (ended E) (stayed E) (
+      Goes-dropped 𝓛 1 (RefOf (0 ∷ []) tt (plain (λ _. Nr E)) (λ _. tt)) yes (λ κs x f. refl),
+      (Goes-dropped 𝓛 1 (plain (λ _. Pl.the_row)) no (λ κs x f. refl), (Goes-dropped 𝓛 1 (plain (λ _. usize)) no (λ κs x f. refl), tt)),
+    ) (spec E 𝓤)
+    (WpFn 𝓤 𝓛.H 𝓣.C 𝓣.Λ (function E)) (WpFn-mono 𝓤 𝓛.H 𝓛.laws 𝓣 (function E))
     (λ z. let a = z.0.3 in let vss = z.0.4 in needs 𝓤 (Asks E a.0.now a.1.0 a.1.1.0) _ (entry E 𝓛 𝓣.C 𝓣.Λ z.0.0.0 z.0.1.0 a.0.ref_ptr.0 a.0.ref_ptr.1 a.0.now a.1.0 a.1.1.0 vss.0 vss.1.0 vss.1.1.0))
 
 pub elem_spec : {M : Type 1} → stated.statement M

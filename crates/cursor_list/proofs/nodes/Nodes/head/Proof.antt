@@ -1,46 +1,20 @@
 -- `head` reads through a `&`. Assumes `Logic`.
-use mathlib.Core.Path.{◌≡◌, refl, sym, subst, ◌∙◌}
-use Prim.Native.Nat.{ℕ, ◌+◌, ◌<◌}
-use native.Mathlib.Omega.{arith}
-use mathlib.Core.List.{List, [], ◌∷◌, ◌++◌}
-use lib.ListN.{length-map}
-use seplogic.Ra.Ura.{Ura}
-use mir.Syntax.{Fn, named}
-use mir.MapTy.{inst_fn}
-use mir.Val.{Val, vptr}
-use base.Logic.{SProp, ent, emp, via, fst∗}
-use base.Fml.{Lft, Share, ftrue, flft}
-use prog.Wp.{Calls, Loops, WpFn, Tables}
-use types.Logic.{Logic}
-use contract.Monad.{fact}
-use contract.Running.{tables, tables_of}
-use sound.WpLaws.{WpFn-mono}
-use types.Kit.{Item, ⋆, ‵, ◌⊛◌, ◌$◌, ◌∵◌, !, qed, by, move, keep, split, join, fsplit, fjoin, feq_l, suffices, done}
-use types.Part.{agg}
-use types.Run.{look, stop, fld, load, of_opd, and_then, no_more, returns, enter}
-use types.ByLocal.{alloc_all, pass_all, free_all, look_at, get, through, sets}
-use denote.Exit.{yes}
-use denote.RattleType.{owns}
-use denote.Memory.{hidden_shr}
-use denote.Ref.{Bor, ShrRef}
-use denote.Builtin.{RefOf}
-use denote.Signature.{plain}
-use denote.Steps.{nothing}
-use denote.Triple.Carry.{spared}
-use denote.Triple.Clauses.{Clauses, Ended, closing}
-use denote.Triple.Entry.{on_entry}
-use denote.Triple.Spec.{Meets, triple_of}
-use denote.Triple.Table.{entered, run_framed}
-use denote.Triple.Walked.{says, Stays, stay_dropped, walk_of, ends_at, Goes-dropped, walk_Meets}
-use Rattle.std_alloc.proofs.RcSteps.{Ptr-Good, word, word-Good}
-use Rattle.cursor_list.specs.contracts.nodes.Place as Pl
-use Rattle.std_collections.specs.LinkedList.Links.{links_of, place_of}
-use Rattle.std_collections.proofs.TreeMemory.Owned.{word_made}
-use Rattle.std_collections.proofs.ListMemory.Chained.{IsChained-had, place_of-is, head_is}
-use Rattle.std_alloc.proofs.BoxSteps.Form.{Bx, args}
-use Rattle.std_collections.proofs.ListMemory.Seen.{pointer_in, pointer_out}
-use Rattle.cursor_list.proofs.Memory.{D, Nr, nodes_seen}
+use Rattle.cursor_list.proofs.Vocabulary.{◌≡◌, refl, sym, subst, ◌∙◌, ℕ, ◌+◌, ◌<◌, arith, List}
+use Rattle.cursor_list.proofs.Vocabulary.{[], ◌∷◌, ◌++◌, length-map, Ura, Fn, named, inst_fn, Val, vptr}
+use Rattle.cursor_list.proofs.Vocabulary.{SProp, ent, emp, via, fst∗, Lft, Share, ftrue, flft, Calls, Loops, WpFn}
+use Rattle.cursor_list.proofs.Vocabulary.{Tables, Logic, fact, tables, WpFn-mono, Item, ⋆, ‵, ◌⊛◌, ◌$◌}
+use Rattle.cursor_list.proofs.Vocabulary.{◌∵◌, !, qed, by, move, keep, split, join, fsplit, fjoin, feq_l}
+use Rattle.cursor_list.proofs.Vocabulary.{suffices, done, agg, look, stop, fld, load, of_opd, and_then, no_more}
+use Rattle.cursor_list.proofs.Vocabulary.{returns, enter, alloc_all, pass_all, free_all, look_at, get, through, sets}
+use Rattle.cursor_list.proofs.Vocabulary.{yes, owns, hidden_shr, Bor, ShrRef, RefOf, plain, nothing, spared, Clauses}
+use Rattle.cursor_list.proofs.Vocabulary.{Ended, closing, on_entry, Meets, triple_of, entered, run_framed, says, Stays}
+use Rattle.cursor_list.proofs.Vocabulary.{stay_dropped, walk_of, ends_at, Goes-dropped, walk_Meets, Ptr-Good, word}
+use Rattle.cursor_list.proofs.Vocabulary.{word-Good, links_of, place_of, word_made, IsChained-had, place_of-is, head_is}
+use Rattle.cursor_list.proofs.Vocabulary.{Bx, args, pointer_in, pointer_out}
+use contract.Running.{tables_of}
 use Rattle.cursor_list.specs.contracts.nodes.Nodes.head.Key.{name as #self}
+use Rattle.cursor_list.proofs.Memory.{D, Nr, nodes_seen}
+use Rattle.cursor_list.specs.contracts.nodes.Place as Pl
 use Rattle.cursor_list.proofs.nodes.Nodes.head.Statement as stated
 use Rattle.cursor_list.proofs.nodes.Nodes.head.Code as code
 
@@ -82,7 +56,8 @@ module _ (E : Bx) {M : Type 1} {𝓤 : Ura M} (𝓛 : Logic 𝓤) (C : Calls �
       sets ! (of_opd ! (load ! (through ! refl (fld ! refl (stop !))) (look ! 0 refl))) refl (Ptr-Good d.head) $ sets ! (of_opd ! (get ! refl)) refl (Ptr-Good d.head) $
       sets ! (agg ! (and_then ! (get ! refl) (no_more !))) refl (word-Good Pl.the_type.name d.head) $ pointer_out ! tt d.head b (o + 0) $
       returns ! (look_at ! 0 refl) $ free_all ! refl $ keep ! (0 ∷ []) $
-      suffices ! _ (ends_at 𝓛 (ended E) (stayed E) (spec E 𝓤) bound (word d.head) (record { ptr = d.head }) (tt, tt) (tt, tt)) $ says ! (λ some. head_is d.head (links_of d.blocks) (omega arith) linked.0 ∙ sym (place_of-is (links_of d.blocks) 0)) $
+      suffices ! _ (ends_at 𝓛 (ended E) (stayed E) (spec E 𝓤) bound (word d.head) (record { ptr = d.head }) (tt, tt) (tt, tt)) $ says !
+      (λ some. head_is d.head (links_of d.blocks) (omega arith) linked.0 ∙ sym (place_of-is (links_of d.blocks) 0)) $
       word_made ! d.head $ nothing ! $ nothing ! $ fjoin ! $ join ! $ nothing ! $ move ! (2 ∷ 0 ∷ []) $ join ! $ join ! $ done !))
 
   entry : ent 𝓤 (on_entry 𝓛 (ended E).signature (κ, tt) (q, tt) (self, tt) (ps, tt)) (WpFn 𝓤 H C Λ (function E) (ps ++ []) Post)
@@ -93,7 +68,8 @@ module _ (E : Bx) {M : Type 1} {𝓤 : Ura M} (𝓛 : Logic 𝓤) (C : Calls �
 meets : (E : Bx) {M : Type 1} {𝓤 : Ura M} (𝓛 : Logic 𝓤) (𝓣 : Tables 𝓤 𝓛.H)
     → Meets 𝓛 (ended E).signature (WpFn 𝓤 𝓛.H 𝓣.C 𝓣.Λ (function E)) (closing 𝓛 (ended E) (spec E 𝓤))
 meets E {𝓤 = 𝓤} 𝓛 𝓣 =
-    walk_Meets 𝓛 (ended E) (stayed E) (Goes-dropped 𝓛 1 (RefOf (0 ∷ []) tt (plain (λ _. Nr E)) (λ _. tt)) yes (λ κs x f. refl), tt) (spec E 𝓤) (WpFn 𝓤 𝓛.H 𝓣.C 𝓣.Λ (function E)) (WpFn-mono 𝓤 𝓛.H 𝓛.laws 𝓣 (function E))
+    walk_Meets 𝓛 (ended E) (stayed E) (Goes-dropped 𝓛 1 (RefOf (0 ∷ []) tt (plain (λ _. Nr E)) (λ _. tt)) yes (λ κs x f. refl), tt) (spec E 𝓤)
+    (WpFn 𝓤 𝓛.H 𝓣.C 𝓣.Λ (function E)) (WpFn-mono 𝓤 𝓛.H 𝓛.laws 𝓣 (function E))
     (λ z. via 𝓤 _ (fst∗ 𝓤 _ (emp 𝓤)) (entry E 𝓛 𝓣.C 𝓣.Λ z.0.0.0 z.0.1.0 z.0.3.0.ref_ptr.0 z.0.3.0.ref_ptr.1 z.0.3.0.now z.0.4.0))
 
 pub head_spec : {M : Type 1} → stated.statement M

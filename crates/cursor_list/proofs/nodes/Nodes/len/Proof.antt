@@ -1,39 +1,17 @@
 -- `len` reads through a `&`. Assumes `Logic`.
-use mathlib.Core.Path.{◌≡◌, refl, sym, subst}
-use Prim.Native.Nat.{ℕ, ◌+◌, ◌<◌, ◌^◌}
-use native.Mathlib.Omega.{arith}
-use mathlib.Core.List.{List, [], ◌∷◌, ◌++◌}
-use seplogic.Ra.Ura.{Ura}
-use mir.Syntax.{Fn, named, w64}
-use mir.MapTy.{inst_fn}
-use mir.Val.{Val, vint, vptr}
-use base.Logic.{SProp, ent, emp, via, fst∗}
-use base.Fml.{Lft, Share, ftrue, flft}
-use prog.Wp.{Calls, Loops, WpFn, Tables}
-use types.Logic.{Logic}
-use contract.Monad.{fact}
-use contract.Running.{tables, tables_of}
-use sound.WpLaws.{WpFn-mono}
-use types.Kit.{Item, ⋆, ‵, ◌⊛◌, ◌$◌, ◌∵◌, !, qed, by, move, keep, split, join, fsplit, fjoin, feq_i, feq_l, flt_i, suffices, done}
-use types.Run.{look, stop, fld, load, of_opd, returns, enter}
-use types.ByLocal.{alloc_all, pass_all, free_all, look_at, through, sets}
-use denote.Exit.{yes}
-use denote.RattleType.{owns}
-use denote.Memory.{hidden_shr}
-use denote.Ref.{Bor, ShrRef}
-use denote.Builtin.{RefOf, usize}
-use denote.Signature.{plain}
-use denote.Steps.{nothing}
-use denote.Triple.Carry.{spared}
-use denote.Triple.Clauses.{Clauses, Ended, closing}
-use denote.Triple.Entry.{on_entry}
-use denote.Triple.Spec.{Meets, triple_of}
-use denote.Triple.Table.{entered, run_framed}
-use denote.Triple.Walked.{says, Stays, stay_dropped, walk_of, ends_at, Goes-dropped, walk_Meets}
-use Rattle.std_alloc.proofs.BoxSteps.Form.{Bx, args}
-use Rattle.std_collections.proofs.ListMemory.Seen.{number_in, number_out}
-use Rattle.cursor_list.proofs.Memory.{D, Nr, nodes_seen}
+use Rattle.cursor_list.proofs.Vocabulary.{◌≡◌, refl, sym, subst, ℕ, ◌+◌, ◌<◌, ◌^◌, arith, List, []}
+use Rattle.cursor_list.proofs.Vocabulary.{◌∷◌, ◌++◌, Ura, Fn, named, w64, inst_fn, Val, vint, vptr, SProp}
+use Rattle.cursor_list.proofs.Vocabulary.{ent, emp, via, fst∗, Lft, Share, ftrue, flft, Calls, Loops, WpFn, Tables}
+use Rattle.cursor_list.proofs.Vocabulary.{Logic, fact, tables, WpFn-mono, Item, ⋆, ‵, ◌⊛◌, ◌$◌, ◌∵◌}
+use Rattle.cursor_list.proofs.Vocabulary.{ !, qed, by, move, keep, split, join, fsplit, fjoin, feq_i, feq_l, flt_i}
+use Rattle.cursor_list.proofs.Vocabulary.{suffices, done, look, stop, fld, load, of_opd, returns, enter, alloc_all}
+use Rattle.cursor_list.proofs.Vocabulary.{pass_all, free_all, look_at, through, sets, yes, owns, hidden_shr, Bor}
+use Rattle.cursor_list.proofs.Vocabulary.{ShrRef, RefOf, usize, plain, nothing, spared, Clauses, Ended, closing}
+use Rattle.cursor_list.proofs.Vocabulary.{on_entry, Meets, triple_of, entered, run_framed, says, Stays, stay_dropped}
+use Rattle.cursor_list.proofs.Vocabulary.{walk_of, ends_at, Goes-dropped, walk_Meets, Bx, args, number_in, number_out}
+use contract.Running.{tables_of}
 use Rattle.cursor_list.specs.contracts.nodes.Nodes.len.Key.{name as #self}
+use Rattle.cursor_list.proofs.Memory.{D, Nr, nodes_seen}
 use Rattle.cursor_list.proofs.nodes.Nodes.len.Statement as stated
 use Rattle.cursor_list.proofs.nodes.Nodes.len.Code as code
 
@@ -75,7 +53,8 @@ module _ (E : Bx) {M : Type 1} {𝓤 : Ura M} (𝓛 : Logic 𝓤) (C : Calls �
       sets ! (of_opd ! (load ! (through ! refl (fld ! refl (stop !))) (look ! 0 refl))) refl (tt, record { fits = fits }) $ number_out ! tt d.len b (o + 16) fits $
       returns ! (look_at ! 0 refl) $ free_all ! refl $ keep ! (0 ∷ []) $
       suffices ! _ (ends_at 𝓛 (ended E) (stayed E) (spec E 𝓤) bound (vint w64 d.len) d.len (tt, tt) (tt, tt)) $ says ! refl $
-      flt_i ! d.len (2 ^ 64) fits $ feq_i ! (List Val) (vint w64 d.len ∷ []) (vint w64 d.len ∷ []) refl $ fjoin ! $ nothing ! $ nothing ! $ fjoin ! $ join ! $ nothing ! $ move ! (2 ∷ 0 ∷ []) $ join ! $ join ! $ done !))
+      flt_i ! d.len (2 ^ 64) fits $ feq_i ! (List Val) (vint w64 d.len ∷ []) (vint w64 d.len ∷ []) refl $ fjoin ! $ nothing ! $ nothing ! $ fjoin ! $ join ! $ nothing ! $ move !
+      (2 ∷ 0 ∷ []) $ join ! $ join ! $ done !))
 
   entry : ent 𝓤 (on_entry 𝓛 (ended E).signature (κ, tt) (q, tt) (self, tt) (ps, tt)) (WpFn 𝓤 H C Λ (function E) (ps ++ []) Post)
   entry =
@@ -85,7 +64,8 @@ module _ (E : Bx) {M : Type 1} {𝓤 : Ura M} (𝓛 : Logic 𝓤) (C : Calls �
 meets : (E : Bx) {M : Type 1} {𝓤 : Ura M} (𝓛 : Logic 𝓤) (𝓣 : Tables 𝓤 𝓛.H)
     → Meets 𝓛 (ended E).signature (WpFn 𝓤 𝓛.H 𝓣.C 𝓣.Λ (function E)) (closing 𝓛 (ended E) (spec E 𝓤))
 meets E {𝓤 = 𝓤} 𝓛 𝓣 =
-    walk_Meets 𝓛 (ended E) (stayed E) (Goes-dropped 𝓛 1 (RefOf (0 ∷ []) tt (plain (λ _. Nr E)) (λ _. tt)) yes (λ κs x f. refl), tt) (spec E 𝓤) (WpFn 𝓤 𝓛.H 𝓣.C 𝓣.Λ (function E)) (WpFn-mono 𝓤 𝓛.H 𝓛.laws 𝓣 (function E))
+    walk_Meets 𝓛 (ended E) (stayed E) (Goes-dropped 𝓛 1 (RefOf (0 ∷ []) tt (plain (λ _. Nr E)) (λ _. tt)) yes (λ κs x f. refl), tt) (spec E 𝓤)
+    (WpFn 𝓤 𝓛.H 𝓣.C 𝓣.Λ (function E)) (WpFn-mono 𝓤 𝓛.H 𝓛.laws 𝓣 (function E))
     (λ z. via 𝓤 _ (fst∗ 𝓤 _ (emp 𝓤)) (entry E 𝓛 𝓣.C 𝓣.Λ z.0.0.0 z.0.1.0 z.0.3.0.ref_ptr.0 z.0.3.0.ref_ptr.1 z.0.3.0.now z.0.4.0))
 
 pub len_spec : {M : Type 1} → stated.statement M

@@ -1,55 +1,28 @@
 -- `link_back` fills the block, and the last node points on to it. Assumes `Logic`.
-use mathlib.Core.Path.{◌≡◌, refl, sym, ap, subst, ◌∙◌}
-use Prim.Native.Nat.{ℕ, ◌+◌, ◌<◌, ◌^◌}
-use native.Mathlib.Omega.{arith}
-use mathlib.Core.List.{List, [], ◌∷◌, ◌++◌, append_assoc, map-append}
-use lib.ListN.{length, length-append}
-use seplogic.Ra.Ura.{Ura}
-use mir.Syntax.{Fn, named, ty_ptr}
-use mir.MapTy.{inst_fn}
-use mir.Val.{Val, vptr, vunit}
-use base.Logic.{SProp, ent, sep}
-use base.Fml.{Lft, GName, Share, ftrue, froom, flft, fobs, fbor}
-use prog.Wp.{Env, Calls, Loops, WpFn, Tables}
-use types.Logic.{Logic}
-use contract.Monad.{fact}
-use contract.Running.{tables, tables_of}
-use sound.WpLaws.{WpFn-mono}
-use types.Kit.{Item, ⋆, ‵, ◌⊛◌, at_ret, ◌$◌, ◌∵◌, !, qed, by, move, keep, use1, use2, split, join, group, rewrite, fsplit, fsplit3, fjoin, fjoin3, feq_i, feq_l, suffices, frame, done}
-use types.Part.{whole, sub, agg, look_in, store_in}
-use types.Run.{store, init, stop, fld, load, lit, unit_lit, of_opd, bin, and_then, no_more, assigns, assigns_last, first, blocks, exec, returns, enter}
-use types.ByLocal.{alloc_all, pass_all, free_all, look_at, get, get_in, through, sets, is, env}
-use types.SemTy.{Body as Borrowed}
-use denote.Exit.{yes, no}
-use denote.RattleType.{RattleType, owns}
-use denote.Memory.{mem, lone}
-use denote.RawPtr.{Ptr, block_ptr, ptr_val}
-use denote.Ref.{MutBor, MutRef}
-use denote.Builtin.{RefMutOf, unit}
-use denote.Signature.{plain}
-use denote.Steps.{nothing}
-use denote.Triple.Carry.{spared}
-use denote.Triple.Clauses.{Clauses, Ended, closing}
-use denote.Triple.Entry.{on_entry}
-use denote.Triple.Spec.{Meets, triple_of}
-use denote.Triple.Table.{entered, run_framed}
-use denote.Triple.Walked.{needs, Stays, stay_dropped, stay_ref, walk_of, ends_at, Goes-dropped, Goes-ref, walk_Meets}
-use Rattle.std_alloc.proofs.VecSteps.Shapes.{after}
-use Rattle.std_alloc.proofs.RcSteps.{Good, Ptr-Good}
-use denote.Struct.Struct.{as_fields}
-use Rattle.std.proofs.alloc.Calls.{α, token, Fits, Goes-blank}
-use Rattle.std_alloc.proofs.RawLayout.{as_written}
-use Rattle.std_alloc.proofs.BoxSteps.Form.{Bx, args, X, τ, own, R, P}
-use Rattle.std_alloc.proofs.BoxSteps.Steps.{el_tells}
-use Rattle.std_alloc.proofs.OfVacant.{Vacant, vacant_val, vacant_typed, Vacant-had}
-use Rattle.cursor_list.specs.contracts.nodes.Node as Block
-use Rattle.std_collections.specs.LinkedList.Links.{Link, links_of, IsChained}
-use Rattle.std_collections.proofs.ListMemory.Chained.{IsChained-had, IsChained-init, IsChained-join}
-use Rattle.std_collections.proofs.ListMemory.Steps.{unsnoc, node_val, Hd, block_ty, Held, One, snoc_out, snoc_in, one_opens, one_closes, node_made}
-use Rattle.cursor_list.specs.Places.{KeepsPlaces}
+use Rattle.cursor_list.proofs.Vocabulary.{◌≡◌, refl, sym, ap, subst, ◌∙◌, ℕ, ◌+◌, ◌<◌, ◌^◌}
+use Rattle.cursor_list.proofs.Vocabulary.{arith, List, [], ◌∷◌, ◌++◌, append_assoc, map-append, length}
+use Rattle.cursor_list.proofs.Vocabulary.{length-append, Ura, Fn, named, ty_ptr, inst_fn, Val, vptr, vunit, SProp, ent}
+use Rattle.cursor_list.proofs.Vocabulary.{sep, Lft, GName, Share, ftrue, froom, flft, fobs, fbor, Env, Calls, Loops}
+use Rattle.cursor_list.proofs.Vocabulary.{WpFn, Tables, Logic, fact, tables, WpFn-mono, Item, ⋆, ‵, ◌⊛◌}
+use Rattle.cursor_list.proofs.Vocabulary.{at_ret, ◌$◌, ◌∵◌, !, qed, by, move, keep, use1, use2, split, join}
+use Rattle.cursor_list.proofs.Vocabulary.{group, rewrite, fsplit, fsplit3, fjoin, fjoin3, feq_i, feq_l, suffices, frame}
+use Rattle.cursor_list.proofs.Vocabulary.{done, whole, sub, agg, look_in, store_in, store, init, stop, fld, load, lit}
+use Rattle.cursor_list.proofs.Vocabulary.{unit_lit, of_opd, bin, and_then, no_more, assigns, assigns_last, first}
+use Rattle.cursor_list.proofs.Vocabulary.{blocks, exec, returns, enter, alloc_all, pass_all, free_all, look_at, get}
+use Rattle.cursor_list.proofs.Vocabulary.{get_in, through, sets, is, env, Body as Borrowed, yes, no, RattleType, owns}
+use Rattle.cursor_list.proofs.Vocabulary.{mem, lone, Ptr, block_ptr, ptr_val, MutBor, MutRef, RefMutOf, unit, plain}
+use Rattle.cursor_list.proofs.Vocabulary.{nothing, spared, Clauses, Ended, closing, on_entry, Meets, triple_of, entered}
+use Rattle.cursor_list.proofs.Vocabulary.{run_framed, needs, Stays, stay_dropped, stay_ref, walk_of, ends_at}
+use Rattle.cursor_list.proofs.Vocabulary.{Goes-dropped, Goes-ref, walk_Meets, after, Good, Ptr-Good, as_fields, α}
+use Rattle.cursor_list.proofs.Vocabulary.{token, Fits, Goes-blank, as_written, Bx, args, X, τ, own, R, P, el_tells}
+use Rattle.cursor_list.proofs.Vocabulary.{Vacant, vacant_val, vacant_typed, Vacant-had, Link, links_of, IsChained}
+use Rattle.cursor_list.proofs.Vocabulary.{IsChained-had, IsChained-init, IsChained-join, unsnoc, node_val, Hd, block_ty}
+use Rattle.cursor_list.proofs.Vocabulary.{Held, One, snoc_out, snoc_in, one_opens, one_closes, node_made, KeepsPlaces}
+use contract.Running.{tables_of}
+use Rattle.cursor_list.specs.contracts.nodes.Nodes.link_back.Key.{name as #self}
 use Rattle.cursor_list.proofs.Kept.{keeps_through}
 use Rattle.cursor_list.proofs.Memory.{says_both, D, Nr, nodes_opens, nodes_closes}
-use Rattle.cursor_list.specs.contracts.nodes.Nodes.link_back.Key.{name as #self}
+use Rattle.cursor_list.specs.contracts.nodes.Node as Block
 use Rattle.cursor_list.proofs.nodes.Nodes.link_back.Statement as stated
 use Rattle.cursor_list.proofs.nodes.Nodes.link_back.Code as code
 
@@ -64,7 +37,15 @@ module _ (E : Bx) where
   Room = Vacant E.al Node
 
   abbrev ended : Ended
-  ended = record { signature = record { lifetimes = 1; outlives = []; params = RefMutOf (0 ∷ []) tt (plain (λ _. Nr E)) (λ _. tt) ∷ plain (λ _. Room) ∷ plain (λ _. R E) ∷ []; result = plain (λ _. unit) }; kept = (yes, (no, (no, tt))) }
+  ended = record {
+    signature = record {
+      lifetimes = 1;
+      outlives = [];
+      params = RefMutOf (0 ∷ []) tt (plain (λ _. Nr E)) (λ _. tt) ∷ plain (λ _. Room) ∷ plain (λ _. R E) ∷ [];
+      result = plain (λ _. unit);
+    };
+    kept = (yes, (no, (no, tt)));
+  }
 
   abbrev stayed : Stays ended.signature.params ended.kept
   stayed = (stay_ref (0 ∷ []) tt (plain (λ _. Nr E)), (stay_dropped (plain (λ _. Room)) no, (stay_dropped (plain (λ _. R E)) no, tt)))
@@ -81,7 +62,8 @@ module _ (E : Bx) where
   abbrev spec : {M : Type 1} {𝓤 : Ura M} (𝓛 : Logic 𝓤) → Clauses 𝓤 ended
   spec {𝓤 = 𝓤} 𝓛 κs a = record { ghost = Unit {0}; requires = λ _. fact 𝓤 (Asks a.0.now); ensures = λ _ r w. sep 𝓤 (fact 𝓤 (Gives a.0.now a.1.1.0 w.0.now)) (fact 𝓤 (Keeps a.0.now w.0.now)) }
 
-module _ (E : Bx) {M : Type 1} {𝓤 : Ura M} (𝓛 : Logic 𝓤) (C : Calls 𝓤 𝓛.H) (Λ : Loops 𝓤 𝓛.H) (κ : Lft) (q : Share) (rb ro : ℕ) (γ : GName) (d : D E) (room : (Room E).Denot) (x : X E) (ps us vs : List Val) where
+module _ (E : Bx) {M : Type 1} {𝓤 : Ura M} (𝓛 : Logic 𝓤) (C : Calls 𝓤 𝓛.H) (Λ : Loops 𝓤 𝓛.H) (κ : Lft) (q : Share) (rb ro : ℕ) (γ : GName) (d : D E)
+    (room : (Room E).Denot) (x : X E) (ps us vs : List Val) where
   open 𝓛 use {H, A}
 
   abbrev self : MutBor (D E)
@@ -96,11 +78,13 @@ module _ (E : Bx) {M : Type 1} {𝓤 : Ura M} (𝓛 : Logic 𝓤) (C : Calls �
   abbrev h : Hd E
   h = room.alloc
 
-  exits : ps ≡ vptr rb ro ∷ [] → (new : D E) → Gives E d x new → Keeps E d new → ent 𝓤 (sep 𝓤 (A.obs γ ((Nr E).coded.code new)) (sep 𝓤 (A.bor κ (Borrowed (mem (Nr E)) rb ro γ)) (A.lft κ q))) (Post vunit)
+  exits : ps ≡ vptr rb ro ∷ [] → (new : D E) → Gives E d x new → Keeps E d new → ent 𝓤
+      (sep 𝓤 (A.obs γ ((Nr E).coded.code new)) (sep 𝓤 (A.bor κ (Borrowed (mem (Nr E)) rb ro γ)) (A.lft κ q))) (Post vunit)
   exits passed new e kept =
       qed 𝓛 (‵ (fobs γ ((Nr E).coded.code new)) ∷ ‵ (fbor κ (Borrowed (mem (Nr E)) rb ro γ)) ∷ ‵ (flft κ q) ∷ []) ∵
       suffices ! _ (ends_at 𝓛 (ended E) (stayed E) (spec E 𝓛) bound vunit tt (new, ((tt, (tt, tt)), (tt, tt))) (tt, (tt, (tt, tt)))) $ says_both ! e kept $
-      nothing ! $ move ! (3 ∷ 0 ∷ []) $ join ! $ frame ! $ feq_i ! (List Val) ps (vptr rb ro ∷ []) passed $ fjoin3 ! $ nothing ! $ nothing ! $ fjoin ! $ nothing ! $ fjoin ! $ move ! (1 ∷ 0 ∷ []) $ fjoin ! $
+      nothing ! $ move ! (3 ∷ 0 ∷ []) $ join ! $ frame ! $ feq_i ! (List Val) ps (vptr rb ro ∷ []) passed $ fjoin3 ! $ nothing ! $ nothing ! $ fjoin ! $ nothing ! $ fjoin ! $ move !
+      (1 ∷ 0 ∷ []) $ fjoin ! $
       feq_i ! (List Val) (vunit ∷ []) (vunit ∷ []) refl $ move ! (1 ∷ 0 ∷ []) $ done !
 
   abbrev Had : ℕ → ℕ → Val → Val → List (Item 𝓤)
@@ -111,7 +95,8 @@ module _ (E : Bx) {M : Type 1} {𝓤 : Ura M} (𝓛 : Logic 𝓤) (C : Calls �
   walk passed asked b o hv v fa good =
       let ok = d.ok in
       let p : Ptr = block_ptr b o in
-      let typed : (n m : Ptr) → Good (lone (Node E).mir) (node_val n m v hv) = λ n m. as_fields (ty_ptr ∷ ty_ptr ∷ τ E ∷ α E.al ∷ []) (ptr_val n ∷ ptr_val m ∷ v ∷ hv ∷ []) (Ptr-Good n, (Ptr-Good m, (good, (fa, tt)))) in
+      let typed : (n m : Ptr) → Good (lone (Node E).mir) (node_val n m v hv) = λ n m. as_fields (ty_ptr ∷ ty_ptr ∷ τ E ∷ α E.al ∷ [])
+      (ptr_val n ∷ ptr_val m ∷ v ∷ hv ∷ []) (Ptr-Good n, (Ptr-Good m, (good, (fa, tt)))) in
       let fits : d.len < 2 ^ 64 = omega arith in
       let more : d.len + 1 < 2 ^ 64 = omega arith in
       let ns = unsnoc d.blocks (omega arith) in
@@ -135,7 +120,8 @@ module _ (E : Bx) {M : Type 1} {𝓤 : Ura M} (𝓛 : Logic 𝓤) (C : Calls �
       let ys = xs.0 ++ xs.1 ∷ [] in
       let still = length-append ns.0 (was ∷ []) in
       let same = length-append xs.0 (xs.1 ∷ []) in
-      let links : (links_of ns.0 ++ was.0 ∷ []) ++ now.0 ∷ [] ≡ links_of (front ++ now ∷ []) = ap (λ ls. ls ++ now.0 ∷ []) (sym (map-append (λ n. n.0) ns.0 (was ∷ []))) ∙ sym (map-append (λ n. n.0) front (now ∷ [])) in
+      let links : (links_of ns.0 ++ was.0 ∷ []) ++ now.0 ∷ [] ≡ links_of (front ++ now ∷ []) = ap (λ ls. ls ++ now.0 ∷ []) (sym (map-append (λ n. n.0) ns.0 (was ∷ []))) ∙
+      sym (map-append (λ n. n.0) front (now ∷ [])) in
       let new : D E = record {
         head = d.head;
         tail = p;
@@ -147,17 +133,20 @@ module _ (E : Bx) {M : Type 1} {𝓤 : Ura M} (𝓛 : Logic 𝓤) (C : Calls �
         chained = ∣ subst (IsChained d.head p) links (IsChained-join d.head d.tail p p (links_of ns.0) (a, m.0.1, m.0.2) (p, p, p) [] at ((refl, tt), refl)) ∣₁;
       } in
       let kept : Keeps E d new =
-      subst (λ (ks : List (Link × Hd E) × List (Link × Hd E)). KeepsPlaces d.len (links_of ks.0) (links_of ks.1)) (λ j. (sym ns.2 j, sym (append_assoc ns.0 (was ∷ []) (now ∷ [])) j)) (keeps_through ns.0 m was [] (now ∷ []) d.len (sym e) (omega arith)) in
+      subst (λ (ks : List (Link × Hd E) × List (Link × Hd E)). KeepsPlaces d.len (links_of ks.0) (links_of ks.1))
+      (λ j. (sym ns.2 j, sym (append_assoc ns.0 (was ∷ []) (now ∷ [])) j)) (keeps_through ns.0 m was [] (now ∷ []) d.len (sym e) (omega arith)) in
       move ! (9 ∷ []) $ as_written ! (lone (Node E).mir) b o $
       -- [the room; the last node, in four; the others; the words; the open borrow; obs; auth; the token; the handle; the element]
       sets ! (of_opd ! (get_in ! (fld ! refl (stop !)) (sub ! 0 refl (whole !)))) refl (tt, tt) $ sets ! (of_opd ! (get_in ! (fld ! refl (stop !)) (sub ! 1 refl (whole !)))) refl fa $
-      sets ! (is ! (of_opd ! (load ! (through ! refl (fld ! refl (stop !))) (look_in ! 6 (sub ! 1 refl (whole !))))) (ap ptr_val (last ∙ e))) refl (tt, tt) $ sets ! (of_opd ! (get ! refl)) refl (tt, tt) $
+      sets ! (is ! (of_opd ! (load ! (through ! refl (fld ! refl (stop !))) (look_in ! 6 (sub ! 1 refl (whole !))))) (ap ptr_val (last ∙ e))) refl (tt, tt) $ sets !
+      (of_opd ! (get ! refl)) refl (tt, tt) $
       first ! $ blocks ! $ sets ! (of_opd ! (get ! refl)) refl good $ sets ! (of_opd ! (get ! refl)) refl fa $
       sets ! (agg ! (and_then ! (get ! refl) (and_then ! (get ! refl) (and_then ! (get ! refl) (and_then ! (get ! refl) (no_more !)))))) refl (typed p a) $
       assigns ! (of_opd ! (get ! refl)) (through ! refl (stop !)) (init ! 0 refl (typed p a)) $
       assigns_last ! (of_opd ! (get ! refl)) (through ! refl (fld ! refl (stop !))) (store ! 2 refl (tt, tt)) $ exec ! C Λ En (after 5 (function E).body) (at_ret En Post) $
       assigns ! (of_opd ! (get ! refl)) (through ! refl (fld ! refl (stop !))) (store_in ! 6 (sub ! 1 refl (whole !)) (tt, tt)) $
-      sets ! (of_opd ! (load ! (through ! refl (fld ! refl (stop !))) (look_in ! 6 (sub ! 2 refl (whole !))))) refl (tt, record { fits = fits }) $ sets ! (bin ! (get ! refl) (lit ! tt) (record { fits = more })) refl (tt, record { fits = more }) $
+      sets ! (of_opd ! (load ! (through ! refl (fld ! refl (stop !))) (look_in ! 6 (sub ! 2 refl (whole !))))) refl (tt, record { fits = fits }) $ sets !
+      (bin ! (get ! refl) (lit ! tt) (record { fits = more })) refl (tt, record { fits = more }) $
       assigns ! (of_opd ! (get ! refl)) (through ! refl (fld ! refl (stop !))) (store_in ! 6 (sub ! 2 refl (whole !)) (tt, record { fits = more })) $
       sets ! (of_opd ! (unit_lit !)) refl (tt, tt) $ move ! (0 ∷ 10 ∷ 11 ∷ 12 ∷ []) $ group ! 4 $
       use1 𝓛 (‵ (One E now x)) (node_made E 𝓛 (Block.the_type (R E) (P E)).name b o p a h x v hv) $ move ! (1 ∷ 2 ∷ 3 ∷ 4 ∷ []) $ one_closes E ! hb ho p m.0.2 m.1 xs.1 $ move ! (0 ∷ 2 ∷ []) $
@@ -167,14 +156,22 @@ module _ (E : Bx) {M : Type 1} {𝓤 : Ura M} (𝓛 : Logic 𝓤) (C : Calls �
 
   entry : Asks E d → ent 𝓤 (on_entry 𝓛 (ended E).signature (κ, tt) (q, tt) (self, (room, (x, tt))) (ps, (us, (vs, tt)))) (WpFn 𝓤 H C Λ (function E) (ps ++ (us ++ (vs ++ []))) Post)
   entry asked =
-      qed 𝓛 ((‵ (flft κ q) ⊛ ‵ ftrue) ∷ ‵ (owns (MutRef (named 0) κ (Nr E) ∷ Room E ∷ R E ∷ []) (self, (room, (x, tt))) (ps, (us, (vs, tt)))) ∷ []) ∵ split ! $ move ! (2 ∷ []) $ fsplit3 ! $ fsplit3 ! $ feq_l ! (λ e.
+      qed 𝓛 ((‵ (flft κ q) ⊛ ‵ ftrue) ∷ ‵ (owns (MutRef (named 0) κ (Nr E) ∷ Room E ∷ R E ∷ []) (self, (room, (x, tt))) (ps, (us, (vs, tt)))) ∷ []) ∵ split ! $ move
+      ! (2 ∷ []) $ fsplit3 ! $ fsplit3 ! $ feq_l ! (λ e.
       move ! (3 ∷ []) $ fsplit ! $ el_tells E ! x vs (λ v g good. move ! (4 ∷ []) $ Vacant-had E.al (Node E) ! room us (λ b o hv at f fa. keep ! (5 ∷ 6 ∷ 7 ∷ 0 ∷ 1 ∷ 2 ∷ 3 ∷ []) $
-      by ! (subst (λ (ws : List Val × List Val × List Val). ent 𝓤 (⋆ 𝓛 (Had b o hv v)) (WpFn 𝓤 H C Λ (function E) (ws.0 ++ (ws.1 ++ (ws.2 ++ []))) Post)) (λ j. (sym e j, sym f j, sym g j)) (walk e asked b o hv v fa good)))))
+      by ! (subst (λ (ws : List Val × List Val × List Val). ent 𝓤 (⋆ 𝓛 (Had b o hv v)) (WpFn 𝓤 H C Λ (function E) (ws.0 ++ (ws.1 ++ (ws.2 ++ []))) Post))
+      (λ j. (sym e j, sym f j, sym g j)) (walk e asked b o hv v fa good)))))
 
 meets : (E : Bx) {M : Type 1} {𝓤 : Ura M} (𝓛 : Logic 𝓤) (𝓣 : Tables 𝓤 𝓛.H)
     → Meets 𝓛 (ended E).signature (WpFn 𝓤 𝓛.H 𝓣.C 𝓣.Λ (function E)) (closing 𝓛 (ended E) (spec E 𝓛))
 meets E {𝓤 = 𝓤} 𝓛 𝓣 =
-    walk_Meets 𝓛 (ended E) (stayed E) (Goes-ref 𝓛 1 0 tt (plain (λ _. Nr E)), (Goes-blank 𝓛 1 (plain (λ _. Room E)) no (λ κs x f. tt), (Goes-dropped 𝓛 1 (plain (λ _. R E)) no (λ κs x f. refl), tt))) (spec E 𝓛) (WpFn 𝓤 𝓛.H 𝓣.C 𝓣.Λ (function E)) (WpFn-mono 𝓤 𝓛.H 𝓛.laws 𝓣 (function E))
+    walk_Meets 𝓛 (ended E) (stayed E) (
+      Goes-ref 𝓛 1 0 tt (plain (λ _. Nr E)),
+      (
+        Goes-blank 𝓛 1 (plain (λ _. Room E)) no (λ κs x f. tt),
+        (Goes-dropped 𝓛 1 (plain (λ _. R E)) no (λ κs x f. refl), tt),
+      ),
+    ) (spec E 𝓛) (WpFn 𝓤 𝓛.H 𝓣.C 𝓣.Λ (function E)) (WpFn-mono 𝓤 𝓛.H 𝓛.laws 𝓣 (function E))
     (λ z. let a = z.0.3 in let vss = z.0.4 in needs 𝓤 (Asks E a.0.now) _ (entry E 𝓛 𝓣.C 𝓣.Λ z.0.0.0 z.0.1.0 a.0.ref_ptr.0 a.0.ref_ptr.1 a.0.ghost_name a.0.now a.1.0 a.1.1.0 vss.0 vss.1.0 vss.1.1.0))
 
 pub link_back_spec : {M : Type 1} → stated.statement M

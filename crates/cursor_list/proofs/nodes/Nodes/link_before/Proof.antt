@@ -1,60 +1,32 @@
 -- `link_before` fills the block, and the nodes beside it point to it. Assumes `Logic`.
-use mathlib.Core.Path.{◌≡◌, refl, sym, ap, subst, ◌∙◌}
-use Prim.Native.Nat.{ℕ, ◌+◌, ◌<◌, ◌^◌}
-use native.Mathlib.Omega.{arith}
-use mathlib.Core.List.{List, [], ◌∷◌, ◌++◌, append_assoc, map-append}
-use lib.ListN.{length, length-append, take, drop}
-use seplogic.Ra.Ura.{Ura}
-use mir.Syntax.{Fn, named, ty_ptr, w64}
-use mir.MapTy.{inst_fn}
-use mir.Val.{Val, vint, vptr, vunit}
-use base.Logic.{SProp, ent, sep}
-use base.Fml.{Lft, GName, Share, ftrue, froom, flft, fobs, fbor}
-use prog.Wp.{Env, Calls, Loops, WpFn, Tables}
-use types.Logic.{Logic}
-use contract.Monad.{fact}
-use contract.Running.{tables, tables_of}
-use sound.WpLaws.{WpFn-mono}
-use types.Kit.{Item, ⋆, ‵, ◌⊛◌, at_ret, ◌$◌, ◌∵◌, !, qed, by, move, keep, use1, use2, split, join, group, rewrite, fsplit, fsplit3, fjoin, fjoin3, feq_i, feq_l, suffices, frame, done}
-use types.Part.{whole, sub, agg, look_in, store_in}
-use types.Run.{look, store, init, stop, fld, load, lit, unit_lit, of_opd, bin, and_then, no_more, assigns, assigns_last, first, blocks, exec, returns, enter}
-use types.ByLocal.{alloc_all, pass_all, free_all, look_at, get, get_in, through, sets, is, env}
-use types.SemTy.{Body as Borrowed}
-use denote.Exit.{yes, no}
-use denote.RattleType.{RattleType, owns}
-use denote.Memory.{mem, lone}
-use denote.RawPtr.{Ptr, block_ptr, ptr_val}
-use denote.Ref.{MutBor, MutRef}
-use denote.Builtin.{RefMutOf, unit, usize}
-use denote.Signature.{plain}
-use denote.Steps.{nothing}
-use denote.Triple.Carry.{spared}
-use denote.Triple.Clauses.{Clauses, Ended, closing}
-use denote.Triple.Entry.{on_entry}
-use denote.Triple.Spec.{Meets, triple_of}
-use denote.Triple.Table.{entered, run_framed}
-use denote.Triple.Walked.{needs, Stays, stay_dropped, stay_ref, walk_of, ends_at, Goes-dropped, Goes-ref, walk_Meets}
-use Rattle.std_alloc.proofs.VecSteps.Shapes.{after}
-use Rattle.std_alloc.proofs.RcSteps.{Good, Ptr-Good, word, word-Good}
-use denote.Struct.Struct.{as_fields}
-use Rattle.std.proofs.alloc.Calls.{α, token, Fits, Goes-blank}
-use Rattle.std_alloc.proofs.RawLayout.{as_written}
-use Rattle.std_alloc.proofs.BoxSteps.Form.{Bx, args, X, τ, own, R, P}
-use Rattle.std_alloc.proofs.BoxSteps.Steps.{el_tells}
-use Rattle.std_alloc.proofs.OfVacant.{Vacant, vacant_val, vacant_typed, Vacant-had}
-use Rattle.std_collections.proofs.TreeMemory.Owned.{word_had}
-use Rattle.std_collections.proofs.ListRuns.{cut_at}
-use Rattle.cursor_list.specs.declared.nodes.Place.{Place}
-use Rattle.cursor_list.specs.contracts.nodes.Place as Pl
-use Rattle.cursor_list.specs.contracts.nodes.Node as Block
-use Rattle.std_collections.specs.LinkedList.Links.{Link, links_of, place_of, IsChained}
-use Rattle.std_collections.proofs.ListMemory.Chained.{IsChained-had}
-use Rattle.std_collections.proofs.ListMemory.Steps.{node_val, Hd, block_ty, Held, One, cons_out, cons_in, append_in, one_opens, one_closes, node_made}
-use Rattle.cursor_list.specs.Places.{KeepsPlaces}
+use Rattle.cursor_list.proofs.Vocabulary.{◌≡◌, refl, sym, ap, subst, ◌∙◌, ℕ, ◌+◌, ◌<◌, ◌^◌}
+use Rattle.cursor_list.proofs.Vocabulary.{arith, List, [], ◌∷◌, ◌++◌, append_assoc, map-append, length}
+use Rattle.cursor_list.proofs.Vocabulary.{length-append, take, Ura, Fn, named, ty_ptr, w64, inst_fn, Val, vint, vptr}
+use Rattle.cursor_list.proofs.Vocabulary.{vunit, SProp, ent, sep, Lft, GName, Share, ftrue, froom, flft, fobs, fbor}
+use Rattle.cursor_list.proofs.Vocabulary.{Env, Calls, Loops, WpFn, Tables, Logic, fact, tables, WpFn-mono, Item, ⋆}
+use Rattle.cursor_list.proofs.Vocabulary.{‵, ◌⊛◌, at_ret, ◌$◌, ◌∵◌, !, qed, by, move, keep, use1}
+use Rattle.cursor_list.proofs.Vocabulary.{use2, split, join, group, rewrite, fsplit, fsplit3, fjoin, fjoin3, feq_i}
+use Rattle.cursor_list.proofs.Vocabulary.{feq_l, suffices, frame, done, whole, sub, agg, look_in, store_in, look, store}
+use Rattle.cursor_list.proofs.Vocabulary.{init, stop, fld, load, lit, unit_lit, of_opd, bin, and_then, no_more, assigns}
+use Rattle.cursor_list.proofs.Vocabulary.{assigns_last, first, blocks, exec, returns, enter, alloc_all, pass_all}
+use Rattle.cursor_list.proofs.Vocabulary.{free_all, look_at, get, get_in, through, sets, is, env, Body as Borrowed, yes}
+use Rattle.cursor_list.proofs.Vocabulary.{no, RattleType, owns, mem, lone, Ptr, block_ptr, ptr_val, MutBor, MutRef}
+use Rattle.cursor_list.proofs.Vocabulary.{RefMutOf, unit, usize, plain, nothing, spared, Clauses, Ended, closing}
+use Rattle.cursor_list.proofs.Vocabulary.{on_entry, Meets, triple_of, entered, run_framed, needs, Stays, stay_dropped}
+use Rattle.cursor_list.proofs.Vocabulary.{stay_ref, walk_of, ends_at, Goes-dropped, Goes-ref, walk_Meets, after, Good}
+use Rattle.cursor_list.proofs.Vocabulary.{Ptr-Good, word, word-Good, as_fields, α, token, Fits, Goes-blank, as_written}
+use Rattle.cursor_list.proofs.Vocabulary.{Bx, args, X, τ, own, R, P, el_tells, Vacant, vacant_val, vacant_typed}
+use Rattle.cursor_list.proofs.Vocabulary.{Vacant-had, word_had, cut_at, Place, Link, links_of, place_of, IsChained}
+use Rattle.cursor_list.proofs.Vocabulary.{IsChained-had, node_val, Hd, block_ty, Held, One, cons_out, cons_in}
+use Rattle.cursor_list.proofs.Vocabulary.{append_in, one_opens, one_closes, node_made, KeepsPlaces}
+use lib.ListN.{drop}
+use contract.Running.{tables_of}
+use Rattle.cursor_list.specs.contracts.nodes.Nodes.link_before.Key.{name as #self}
 use Rattle.cursor_list.proofs.Kept.{Around, around, here_at, keeps_through}
 use Rattle.cursor_list.proofs.Chained.{IsChained-between}
 use Rattle.cursor_list.proofs.Memory.{append_out, says_both, D, Nr, nodes_opens, nodes_closes}
-use Rattle.cursor_list.specs.contracts.nodes.Nodes.link_before.Key.{name as #self}
+use Rattle.cursor_list.specs.contracts.nodes.Place as Pl
+use Rattle.cursor_list.specs.contracts.nodes.Node as Block
 use Rattle.cursor_list.proofs.nodes.Nodes.link_before.Statement as stated
 use Rattle.cursor_list.proofs.nodes.Nodes.link_before.Code as code
 
@@ -70,12 +42,24 @@ module _ (E : Bx) where
 
   abbrev ended : Ended
   ended = record {
-    signature = record { lifetimes = 1; outlives = []; params = RefMutOf (0 ∷ []) tt (plain (λ _. Nr E)) (λ _. tt) ∷ plain (λ _. Pl.the_row) ∷ plain (λ _. usize) ∷ plain (λ _. Room) ∷ plain (λ _. R E) ∷ []; result = plain (λ _. unit) };
+    signature = record {
+      lifetimes = 1;
+      outlives = [];
+      params = RefMutOf (0 ∷ []) tt (plain (λ _. Nr E)) (λ _. tt) ∷ plain (λ _. Pl.the_row) ∷ plain (λ _. usize) ∷ plain
+          (λ _. Room) ∷ plain (λ _. R E) ∷ [];
+      result = plain (λ _. unit);
+    };
     kept = (yes, (no, (no, (no, (no, tt)))));
   }
 
   abbrev stayed : Stays ended.signature.params ended.kept
-  stayed = (stay_ref (0 ∷ []) tt (plain (λ _. Nr E)), (stay_dropped (plain (λ _. Pl.the_row)) no, (stay_dropped (plain (λ _. usize)) no, (stay_dropped (plain (λ _. Room)) no, (stay_dropped (plain (λ _. R E)) no, tt)))))
+  stayed = (
+    stay_ref (0 ∷ []) tt (plain (λ _. Nr E)),
+    (
+      stay_dropped (plain (λ _. Pl.the_row)) no,
+      (stay_dropped (plain (λ _. usize)) no, (stay_dropped (plain (λ _. Room)) no, (stay_dropped (plain (λ _. R E)) no, tt))),
+    ),
+  )
 
   abbrev Asks : D E → Place → ℕ → Type 0
   Asks d at i = (0 < i) × (i < d.len) × (d.len + 1 < 2 ^ 63) × (at.ptr ≡ place_of (links_of d.blocks) i)
@@ -93,7 +77,8 @@ module _ (E : Bx) where
     ensures = λ _ r w. sep 𝓤 (fact 𝓤 (Gives a.0.now a.1.1.0 a.1.1.1.1.0 w.0.now)) (fact 𝓤 (Keeps a.0.now a.1.1.0 w.0.now));
   }
 
-module _ (E : Bx) {M : Type 1} {𝓤 : Ura M} (𝓛 : Logic 𝓤) (C : Calls 𝓤 𝓛.H) (Λ : Loops 𝓤 𝓛.H) (κ : Lft) (q : Share) (rb ro : ℕ) (γ : GName) (d : D E) (at : Place) (i : ℕ) (room : (Room E).Denot) (x : X E) (ps us ks rs vs : List Val) where
+module _ (E : Bx) {M : Type 1} {𝓤 : Ura M} (𝓛 : Logic 𝓤) (C : Calls 𝓤 𝓛.H) (Λ : Loops 𝓤 𝓛.H) (κ : Lft) (q : Share) (rb ro : ℕ) (γ : GName) (d : D E) (at : Place)
+    (i : ℕ) (room : (Room E).Denot) (x : X E) (ps us ks rs vs : List Val) where
   open 𝓛 use {H, A}
 
   abbrev self : MutBor (D E)
@@ -108,11 +93,13 @@ module _ (E : Bx) {M : Type 1} {𝓤 : Ura M} (𝓛 : Logic 𝓤) (C : Calls �
   abbrev h : Hd E
   h = room.alloc
 
-  exits : ps ≡ vptr rb ro ∷ [] → (new : D E) → Gives E d i x new → Keeps E d i new → ent 𝓤 (sep 𝓤 (A.obs γ ((Nr E).coded.code new)) (sep 𝓤 (A.bor κ (Borrowed (mem (Nr E)) rb ro γ)) (A.lft κ q))) (Post vunit)
+  exits : ps ≡ vptr rb ro ∷ [] → (new : D E) → Gives E d i x new → Keeps E d i new → ent 𝓤
+      (sep 𝓤 (A.obs γ ((Nr E).coded.code new)) (sep 𝓤 (A.bor κ (Borrowed (mem (Nr E)) rb ro γ)) (A.lft κ q))) (Post vunit)
   exits passed new e kept =
       qed 𝓛 (‵ (fobs γ ((Nr E).coded.code new)) ∷ ‵ (fbor κ (Borrowed (mem (Nr E)) rb ro γ)) ∷ ‵ (flft κ q) ∷ []) ∵
       suffices ! _ (ends_at 𝓛 (ended E) (stayed E) (spec E 𝓛) bound vunit tt (new, (tt, (tt, ((tt, (tt, tt)), (tt, tt))))) (tt, (tt, (tt, (tt, (tt, tt)))))) $ says_both ! e kept $
-      nothing ! $ move ! (3 ∷ 0 ∷ []) $ join ! $ frame ! $ feq_i ! (List Val) ps (vptr rb ro ∷ []) passed $ fjoin3 ! $ nothing ! $ nothing ! $ fjoin ! $ nothing ! $ fjoin ! $ nothing ! $ fjoin ! $ nothing ! $ fjoin ! $ move ! (1 ∷ 0 ∷ []) $ fjoin ! $
+      nothing ! $ move ! (3 ∷ 0 ∷ []) $ join ! $ frame ! $ feq_i ! (List Val) ps (vptr rb ro ∷ []) passed $ fjoin3 ! $ nothing ! $ nothing ! $ fjoin ! $ nothing ! $ fjoin ! $ nothing
+      ! $ fjoin ! $ nothing ! $ fjoin ! $ move ! (1 ∷ 0 ∷ []) $ fjoin ! $
       feq_i ! (List Val) (vunit ∷ []) (vunit ∷ []) refl $ move ! (1 ∷ 0 ∷ []) $ done !
 
   abbrev Had : ℕ → ℕ → Val → Val → List (Item 𝓤)
@@ -127,7 +114,8 @@ module _ (E : Bx) {M : Type 1} {𝓤 : Ura M} (𝓛 : Logic 𝓤) (C : Calls �
       let within = asked.1 in
       let few = asked.2 in
       let p : Ptr = block_ptr b o in
-      let typed : (n m : Ptr) → Good (lone (Node E).mir) (node_val n m v hv) = λ n m. as_fields (ty_ptr ∷ ty_ptr ∷ τ E ∷ α E.al ∷ []) (ptr_val n ∷ ptr_val m ∷ v ∷ hv ∷ []) (Ptr-Good n, (Ptr-Good m, (good, (fa, tt)))) in
+      let typed : (n m : Ptr) → Good (lone (Node E).mir) (node_val n m v hv) = λ n m. as_fields (ty_ptr ∷ ty_ptr ∷ τ E ∷ α E.al ∷ [])
+      (ptr_val n ∷ ptr_val m ∷ v ∷ hv ∷ []) (Ptr-Good n, (Ptr-Good m, (good, (fa, tt)))) in
       let counts : i < 2 ^ 64 = omega arith in
       let fits : d.len < 2 ^ 64 = omega arith in
       let more : d.len + 1 < 2 ^ 64 = omega arith in
@@ -144,13 +132,15 @@ module _ (E : Bx) {M : Type 1} {𝓤 : Ura M} (𝓛 : Logic 𝓤) (C : Calls �
       let alike : length ns ≡ length xs.front = omega arith in
       let rest : length ms ≡ length xs.back = omega arith in
       let here : at.ptr ≡ m.0.0 = asked.3 ∙ ap (λ ks. place_of (links_of ks) i) bs.is ∙ here_at l m ms ns i far in
-      let linked : IsChained d.head d.tail (links_of ns ++ l.0 ∷ m.0 ∷ links_of ms) = subst (IsChained d.head d.tail) (ap links_of bs.is ∙ map-append (λ n. n.0) ns (l ∷ m ∷ ms)) (IsChained-had _ _ _ d.chained) in
+      let linked : IsChained d.head d.tail (links_of ns ++ l.0 ∷ m.0 ∷ links_of ms) = subst (IsChained d.head d.tail) (ap links_of bs.is ∙ map-append (λ n. n.0) ns (l ∷ m ∷ ms))
+      (IsChained-had _ _ _ d.chained) in
       qed 𝓛 (Had b o hv v) ∵ enter ! C Λ (function E) (vptr rb ro ∷ word at.ptr ∷ vint w64 i ∷ vacant_val hv b o ∷ v ∷ []) _ $
       alloc_all ! (λ ls. pass_all ! refl ((tt, tt), (word-Good Pl.the_type.name at.ptr, ((tt, record { fits = counts }), (vacant_typed E.al (Node E) hv b o fa, (good, tt))))) $
       let En : Env 𝓤 H = env (function E).locals ls in
       nodes_opens E ! tt d rb ro $
       rewrite ! 0 (λ (ks : List (Link × Hd E)). ‵ (Held E ks d.items)) bs.is refl $ rewrite ! 0 (λ (ys : List (X E)). ‵ (Held E (ns ++ l ∷ m ∷ ms) ys)) xs.is refl $
-      use1 𝓛 (‵ (Held E ns xs.front) ⊛ ‵ (Held E (l ∷ m ∷ ms) (xs.left ∷ xs.here ∷ xs.back))) (append_out E 𝓛 ns (l ∷ m ∷ ms) xs.front (xs.left ∷ xs.here ∷ xs.back) alike) $ split ! $ move ! (1 ∷ []) $
+      use1 𝓛 (‵ (Held E ns xs.front) ⊛ ‵ (Held E (l ∷ m ∷ ms) (xs.left ∷ xs.here ∷ xs.back)))
+      (append_out E 𝓛 ns (l ∷ m ∷ ms) xs.front (xs.left ∷ xs.here ∷ xs.back) alike) $ split ! $ move ! (1 ∷ []) $
       use1 𝓛 (‵ (One E l xs.left) ⊛ ‵ (Held E (m ∷ ms) (xs.here ∷ xs.back))) (cons_out E 𝓛 l (m ∷ ms) xs.left (xs.here ∷ xs.back)) $ split ! $ move ! (1 ∷ []) $
       use1 𝓛 (‵ (One E m xs.here) ⊛ ‵ (Held E ms xs.back)) (cons_out E 𝓛 m ms xs.here xs.back) $ split ! $
       one_opens E ! m.0 m.1 xs.here (λ mb mo me. move ! (5 ∷ []) $ one_opens E ! l.0 l.1 xs.left (λ lb lo le.
@@ -175,11 +165,14 @@ module _ (E : Bx) {M : Type 1} {𝓤 : Ura M} (𝓛 : Logic 𝓤) (C : Calls �
         small = few;
         chained = ∣ subst (IsChained d.head d.tail) (sym (map-append (λ n. n.0) ns (was ∷ now ∷ on ∷ ms))) between.0 ∣₁;
       } in
-      let kept : Keeps E d i new = subst (λ (ks : List (Link × Hd E)). KeepsPlaces i (links_of ks) (links_of linked_all)) (sym bs.is) (keeps_through ns l was (m ∷ ms) (now ∷ on ∷ ms) i (sym le) (omega arith)) in
-      let cut = cut_at (xs.front ++ xs.left ∷ []) (xs.here ∷ xs.back) d.items i (append_assoc xs.front (xs.left ∷ []) (xs.here ∷ xs.back) ∙ sym xs.is) (length-append xs.front (xs.left ∷ []) ∙ omega arith) in
+      let kept : Keeps E d i new = subst (λ (ks : List (Link × Hd E)). KeepsPlaces i (links_of ks) (links_of linked_all)) (sym bs.is)
+      (keeps_through ns l was (m ∷ ms) (now ∷ on ∷ ms) i (sym le) (omega arith)) in
+      let cut = cut_at (xs.front ++ xs.left ∷ []) (xs.here ∷ xs.back) d.items i (append_assoc xs.front (xs.left ∷ []) (xs.here ∷ xs.back) ∙ sym xs.is)
+      (length-append xs.front (xs.left ∷ []) ∙ omega arith) in
       let gives : Gives E d i x new = sym (append_assoc xs.front (xs.left ∷ []) (x ∷ xs.here ∷ xs.back)) ∙ (λ j. cut.0 j ++ x ∷ cut.1 j) in
       move ! (14 ∷ []) $ as_written ! (lone (Node E).mir) b o $
-      -- [the room; the node before, in four; the node at the place, in four; those behind; those in front; the words; the open borrow; obs; auth; the token; the handle; the element]
+      -- [the room; the node before, in four; the node at the place, in four; those after; those in front; the words;
+      -- the open borrow; obs; auth; the token; the handle; the element]
       sets ! (of_opd ! (get_in ! (fld ! refl (stop !)) (sub ! 0 refl (whole !)))) refl (tt, tt) $ sets ! (of_opd ! (get_in ! (fld ! refl (stop !)) (sub ! 1 refl (whole !)))) refl fa $
       sets ! (is ! (of_opd ! (get_in ! (fld ! refl (stop !)) (sub ! 0 refl (whole !)))) (ap ptr_val (here ∙ me))) refl (tt, tt) $ first ! $ blocks ! $
       sets ! (is ! (of_opd ! (load ! (through ! refl (fld ! refl (stop !))) (look ! 7 refl))) (ap ptr_val between.2)) refl (tt, tt) $ sets ! (of_opd ! (get ! refl)) refl (tt, tt) $
@@ -188,7 +181,8 @@ module _ (E : Bx) {M : Type 1} {𝓤 : Ura M} (𝓛 : Logic 𝓤) (C : Calls �
       assigns ! (of_opd ! (get ! refl)) (through ! refl (stop !)) (init ! 0 refl (typed c a)) $
       assigns ! (of_opd ! (get ! refl)) (through ! refl (fld ! refl (stop !))) (store ! 2 refl (tt, tt)) $
       assigns_last ! (of_opd ! (get ! refl)) (through ! refl (fld ! refl (stop !))) (store ! 7 refl (tt, tt)) $ exec ! C Λ En (after 4 (function E).body) (at_ret En Post) $
-      sets ! (of_opd ! (load ! (through ! refl (fld ! refl (stop !))) (look_in ! 11 (sub ! 2 refl (whole !))))) refl (tt, record { fits = fits }) $ sets ! (bin ! (get ! refl) (lit ! tt) (record { fits = more })) refl (tt, record { fits = more }) $
+      sets ! (of_opd ! (load ! (through ! refl (fld ! refl (stop !))) (look_in ! 11 (sub ! 2 refl (whole !))))) refl (tt, record { fits = fits }) $ sets !
+      (bin ! (get ! refl) (lit ! tt) (record { fits = more })) refl (tt, record { fits = more }) $
       assigns ! (of_opd ! (get ! refl)) (through ! refl (fld ! refl (stop !))) (store_in ! 11 (sub ! 2 refl (whole !)) (tt, record { fits = more })) $
       sets ! (of_opd ! (unit_lit !)) refl (tt, tt) $ move ! (0 ∷ 15 ∷ 16 ∷ 17 ∷ []) $ group ! 4 $
       use1 𝓛 (‵ (One E now x)) (node_made E 𝓛 (Block.the_type (R E) (P E)).name b o c a h x v hv) $ move ! (1 ∷ 2 ∷ 3 ∷ 4 ∷ []) $ one_closes E ! lb lo p l.0.2 l.1 xs.left $
@@ -199,19 +193,33 @@ module _ (E : Bx) {M : Type 1} {𝓤 : Ura M} (𝓛 : Logic 𝓤) (C : Calls �
       use2 𝓛 (‵ (Held E new.blocks new.items)) (append_in E 𝓛 ns (was ∷ now ∷ on ∷ ms) xs.front (xs.left ∷ x ∷ xs.here ∷ xs.back) alike) $ nodes_closes E ! tt new rb ro $
       returns ! (look_at ! 0 refl) $ free_all ! refl $ keep ! (0 ∷ 1 ∷ 2 ∷ []) $ by ! (exits passed new gives kept))))
 
-  entry : Asks E d at i → ent 𝓤 (on_entry 𝓛 (ended E).signature (κ, tt) (q, tt) (self, (at, (i, (room, (x, tt))))) (ps, (us, (ks, (rs, (vs, tt)))))) (WpFn 𝓤 H C Λ (function E) (ps ++ (us ++ (ks ++ (rs ++ (vs ++ []))))) Post)
+  entry : Asks E d at i → ent 𝓤 (on_entry 𝓛 (ended E).signature (κ, tt) (q, tt) (self, (at, (i, (room, (x, tt))))) (ps, (us, (ks, (rs, (vs, tt))))))
+      (WpFn 𝓤 H C Λ (function E) (ps ++ (us ++ (ks ++ (rs ++ (vs ++ []))))) Post)
   entry asked =
-      qed 𝓛 ((‵ (flft κ q) ⊛ ‵ ftrue) ∷ ‵ (owns (MutRef (named 0) κ (Nr E) ∷ Pl.the_row ∷ usize ∷ Room E ∷ R E ∷ []) (self, (at, (i, (room, (x, tt))))) (ps, (us, (ks, (rs, (vs, tt)))))) ∷ []) ∵ split ! $ move ! (2 ∷ []) $ fsplit3 ! $ fsplit3 ! $ feq_l ! (λ e.
+      qed 𝓛 ((‵ (flft κ q) ⊛ ‵ ftrue) ∷ ‵ (owns (MutRef (named 0) κ (Nr E) ∷ Pl.the_row ∷ usize ∷ Room E ∷ R E ∷ []) (self, (at, (i, (room, (x, tt)))))
+      (ps, (us, (ks, (rs, (vs, tt)))))) ∷ []) ∵ split ! $ move ! (2 ∷ []) $ fsplit3 ! $ fsplit3 ! $ feq_l ! (λ e.
       move ! (2 ∷ []) $ word_had ! at.ptr us (λ f. move ! (2 ∷ []) $ fsplit3 ! $ fsplit ! $ feq_l ! (λ g. move ! (2 ∷ []) $ fsplit ! $ el_tells E ! x vs (λ v u good.
       move ! (3 ∷ []) $ Vacant-had E.al (Node E) ! room rs (λ b o hv has t fa. keep ! (6 ∷ 7 ∷ 8 ∷ 0 ∷ 1 ∷ 2 ∷ 3 ∷ []) $
-      by ! (subst (λ (ws : List Val × List Val × List Val × List Val × List Val). ent 𝓤 (⋆ 𝓛 (Had b o hv v)) (WpFn 𝓤 H C Λ (function E) (ws.0 ++ (ws.1 ++ (ws.2 ++ (ws.3 ++ (ws.4 ++ []))))) Post)) (λ j. (sym e j, sym f j, sym g j, sym t j, sym u j))
+      by ! (subst (λ (ws : List Val × List Val × List Val × List Val × List Val). ent 𝓤 (⋆ 𝓛 (Had b o hv v))
+      (WpFn 𝓤 H C Λ (function E) (ws.0 ++ (ws.1 ++ (ws.2 ++ (ws.3 ++ (ws.4 ++ []))))) Post)) (λ j. (sym e j, sym f j, sym g j, sym t j, sym u j))
       (walk e asked b o hv v fa good)))))))
 
 meets : (E : Bx) {M : Type 1} {𝓤 : Ura M} (𝓛 : Logic 𝓤) (𝓣 : Tables 𝓤 𝓛.H)
     → Meets 𝓛 (ended E).signature (WpFn 𝓤 𝓛.H 𝓣.C 𝓣.Λ (function E)) (closing 𝓛 (ended E) (spec E 𝓛))
 meets E {𝓤 = 𝓤} 𝓛 𝓣 =
-    walk_Meets 𝓛 (ended E) (stayed E)
-    (Goes-ref 𝓛 1 0 tt (plain (λ _. Nr E)), (Goes-dropped 𝓛 1 (plain (λ _. Pl.the_row)) no (λ κs x f. refl), (Goes-dropped 𝓛 1 (plain (λ _. usize)) no (λ κs x f. refl), (Goes-blank 𝓛 1 (plain (λ _. Room E)) no (λ κs x f. tt), (Goes-dropped 𝓛 1 (plain (λ _. R E)) no (λ κs x f. refl), tt)))))
+    walk_Meets 𝓛 (ended E) (stayed E) (
+      Goes-ref 𝓛 1 0 tt (plain (λ _. Nr E)),
+      (
+        Goes-dropped 𝓛 1 (plain (λ _. Pl.the_row)) no (λ κs x f. refl),
+        (
+          Goes-dropped 𝓛 1 (plain (λ _. usize)) no (λ κs x f. refl),
+          (
+            Goes-blank 𝓛 1 (plain (λ _. Room E)) no (λ κs x f. tt),
+            (Goes-dropped 𝓛 1 (plain (λ _. R E)) no (λ κs x f. refl), tt),
+          ),
+        ),
+      ),
+    )
     (spec E 𝓛) (WpFn 𝓤 𝓛.H 𝓣.C 𝓣.Λ (function E)) (WpFn-mono 𝓤 𝓛.H 𝓛.laws 𝓣 (function E))
     (λ z. let a = z.0.3 in let vss = z.0.4 in needs 𝓤 (Asks E a.0.now a.1.0 a.1.1.0) _
     (entry E 𝓛 𝓣.C 𝓣.Λ z.0.0.0 z.0.1.0 a.0.ref_ptr.0 a.0.ref_ptr.1 a.0.ghost_name a.0.now a.1.0 a.1.1.0 a.1.1.1.0 a.1.1.1.1.0 vss.0 vss.1.0 vss.1.1.0 vss.1.1.1.0 vss.1.1.1.1.0))

@@ -1,50 +1,24 @@
 -- `link_first` fills the block, which is then the only node. Assumes `Logic`.
-use mathlib.Core.Path.{◌≡◌, refl, sym, subst}
-use Prim.Native.Nat.{ℕ}
-use mathlib.Core.List.{List, [], ◌∷◌, ◌++◌}
-use lib.Dec.{lit<}
-use seplogic.Ra.Ura.{Ura}
-use mir.Syntax.{Fn, named, ty_ptr}
-use mir.MapTy.{inst_fn}
-use mir.Val.{Val, vptr, vunit}
-use base.Logic.{SProp, ent, sep}
-use base.Fml.{Lft, GName, Share, ftrue, froom, flft, fobs, fbor}
-use prog.Wp.{Env, Calls, Loops, WpFn, Tables}
-use types.Logic.{Logic}
-use contract.Monad.{fact}
-use contract.Running.{tables, tables_of}
-use sound.WpLaws.{WpFn-mono}
-use types.Kit.{Item, ⋆, ‵, ◌⊛◌, at_ret, ◌$◌, ◌∵◌, !, qed, by, move, keep, use1, use2, drop, split, join, group, fsplit, fsplit3, fjoin, fjoin3, feq_i, feq_l, suffices, frame, done}
-use types.Part.{whole, sub, agg, store_in}
-use types.Run.{init, stop, fld, lit, unit_lit, of_opd, and_then, no_more, assigns, assigns_last, first, blocks, exec, returns, enter}
-use types.ByLocal.{alloc_all, pass_all, free_all, look_at, get, get_in, through, sets, env}
-use types.SemTy.{Body as Borrowed}
-use denote.Exit.{yes, no}
-use denote.RattleType.{RattleType, owns}
-use denote.Memory.{mem, lone}
-use denote.RawPtr.{Ptr, block_ptr, ptr_val}
-use denote.Ref.{MutBor, MutRef}
-use denote.Builtin.{RefMutOf, unit}
-use denote.Signature.{plain}
-use denote.Steps.{nothing}
-use denote.Triple.Carry.{spared}
-use denote.Triple.Clauses.{Clauses, Ended, closing}
-use denote.Triple.Entry.{on_entry}
-use denote.Triple.Spec.{Meets, triple_of}
-use denote.Triple.Table.{entered, run_framed}
-use denote.Triple.Walked.{says, needs, Stays, stay_dropped, stay_ref, walk_of, ends_at, Goes-dropped, Goes-ref, walk_Meets}
-use Rattle.std_alloc.proofs.VecSteps.Shapes.{after}
-use Rattle.std_alloc.proofs.RcSteps.{Good, Ptr-Good}
-use denote.Struct.Struct.{as_fields}
-use Rattle.std.proofs.alloc.Calls.{α, token, Fits, Goes-blank}
-use Rattle.std_alloc.proofs.RawLayout.{as_written}
-use Rattle.std_alloc.proofs.BoxSteps.Form.{Bx, args, X, τ, own, R, P}
-use Rattle.std_alloc.proofs.BoxSteps.Steps.{el_tells}
-use Rattle.std_alloc.proofs.OfVacant.{Vacant, vacant_val, vacant_typed, Vacant-had}
-use Rattle.cursor_list.specs.contracts.nodes.Node as Block
-use Rattle.std_collections.proofs.ListMemory.Steps.{node_val, Hd, block_ty, Held, One, cons_in, node_made}
+use Rattle.cursor_list.proofs.Vocabulary.{◌≡◌, refl, sym, subst, ℕ, List, [], ◌∷◌, ◌++◌, lit<, Ura}
+use Rattle.cursor_list.proofs.Vocabulary.{Fn, named, ty_ptr, inst_fn, Val, vptr, vunit, SProp, ent, sep, Lft, GName}
+use Rattle.cursor_list.proofs.Vocabulary.{Share, ftrue, froom, flft, fobs, fbor, Env, Calls, Loops, WpFn, Tables, Logic}
+use Rattle.cursor_list.proofs.Vocabulary.{fact, tables, WpFn-mono, Item, ⋆, ‵, ◌⊛◌, at_ret, ◌$◌}
+use Rattle.cursor_list.proofs.Vocabulary.{◌∵◌, !, qed, by, move, keep, use1, use2, drop, split, join, group}
+use Rattle.cursor_list.proofs.Vocabulary.{fsplit, fsplit3, fjoin, fjoin3, feq_i, feq_l, suffices, frame, done, whole}
+use Rattle.cursor_list.proofs.Vocabulary.{sub, agg, store_in, init, stop, fld, lit, unit_lit, of_opd, and_then, no_more}
+use Rattle.cursor_list.proofs.Vocabulary.{assigns, assigns_last, first, blocks, exec, returns, enter, alloc_all}
+use Rattle.cursor_list.proofs.Vocabulary.{pass_all, free_all, look_at, get, get_in, through, sets, env}
+use Rattle.cursor_list.proofs.Vocabulary.{Body as Borrowed, yes, no, RattleType, owns, mem, lone, Ptr, block_ptr}
+use Rattle.cursor_list.proofs.Vocabulary.{ptr_val, MutBor, MutRef, RefMutOf, unit, plain, nothing, spared, Clauses}
+use Rattle.cursor_list.proofs.Vocabulary.{Ended, closing, on_entry, Meets, triple_of, entered, run_framed, says, needs}
+use Rattle.cursor_list.proofs.Vocabulary.{Stays, stay_dropped, stay_ref, walk_of, ends_at, Goes-dropped, Goes-ref}
+use Rattle.cursor_list.proofs.Vocabulary.{walk_Meets, after, Good, Ptr-Good, as_fields, α, token, Fits, Goes-blank}
+use Rattle.cursor_list.proofs.Vocabulary.{as_written, Bx, args, X, τ, own, R, P, el_tells, Vacant, vacant_val}
+use Rattle.cursor_list.proofs.Vocabulary.{vacant_typed, Vacant-had, node_val, Hd, block_ty, Held, One, cons_in}
+use Rattle.cursor_list.proofs.Vocabulary.{node_made, name as #self}
+use contract.Running.{tables_of}
 use Rattle.cursor_list.proofs.Memory.{D, Nr, nodes_opens, nodes_closes}
-use Rattle.cursor_list.specs.contracts.nodes.Nodes.link_first.Key.{name as #self}
+use Rattle.cursor_list.specs.contracts.nodes.Node as Block
 use Rattle.cursor_list.proofs.nodes.Nodes.link_first.Statement as stated
 use Rattle.cursor_list.proofs.nodes.Nodes.link_first.Code as code
 
@@ -59,7 +33,15 @@ module _ (E : Bx) where
   Room = Vacant E.al Node
 
   abbrev ended : Ended
-  ended = record { signature = record { lifetimes = 1; outlives = []; params = RefMutOf (0 ∷ []) tt (plain (λ _. Nr E)) (λ _. tt) ∷ plain (λ _. Room) ∷ plain (λ _. R E) ∷ []; result = plain (λ _. unit) }; kept = (yes, (no, (no, tt))) }
+  ended = record {
+    signature = record {
+      lifetimes = 1;
+      outlives = [];
+      params = RefMutOf (0 ∷ []) tt (plain (λ _. Nr E)) (λ _. tt) ∷ plain (λ _. Room) ∷ plain (λ _. R E) ∷ [];
+      result = plain (λ _. unit);
+    };
+    kept = (yes, (no, (no, tt)));
+  }
 
   abbrev stayed : Stays ended.signature.params ended.kept
   stayed = (stay_ref (0 ∷ []) tt (plain (λ _. Nr E)), (stay_dropped (plain (λ _. Room)) no, (stay_dropped (plain (λ _. R E)) no, tt)))
@@ -73,7 +55,8 @@ module _ (E : Bx) where
   abbrev spec : {M : Type 1} {𝓤 : Ura M} (𝓛 : Logic 𝓤) → Clauses 𝓤 ended
   spec {𝓤 = 𝓤} 𝓛 κs a = record { ghost = Unit {0}; requires = λ _. fact 𝓤 (Asks a.0.now); ensures = λ _ r w. fact 𝓤 (Gives a.0.now a.1.1.0 w.0.now) }
 
-module _ (E : Bx) {M : Type 1} {𝓤 : Ura M} (𝓛 : Logic 𝓤) (C : Calls 𝓤 𝓛.H) (Λ : Loops 𝓤 𝓛.H) (κ : Lft) (q : Share) (rb ro : ℕ) (γ : GName) (d : D E) (room : (Room E).Denot) (x : X E) (ps us vs : List Val) where
+module _ (E : Bx) {M : Type 1} {𝓤 : Ura M} (𝓛 : Logic 𝓤) (C : Calls 𝓤 𝓛.H) (Λ : Loops 𝓤 𝓛.H) (κ : Lft) (q : Share) (rb ro : ℕ) (γ : GName) (d : D E)
+    (room : (Room E).Denot) (x : X E) (ps us vs : List Val) where
   open 𝓛 use {H, A}
 
   abbrev self : MutBor (D E)
@@ -92,7 +75,8 @@ module _ (E : Bx) {M : Type 1} {𝓤 : Ura M} (𝓛 : Logic 𝓤) (C : Calls �
   exits passed new e =
       qed 𝓛 (‵ (fobs γ ((Nr E).coded.code new)) ∷ ‵ (fbor κ (Borrowed (mem (Nr E)) rb ro γ)) ∷ ‵ (flft κ q) ∷ []) ∵
       suffices ! _ (ends_at 𝓛 (ended E) (stayed E) (spec E 𝓛) bound vunit tt (new, ((tt, (tt, tt)), (tt, tt))) (tt, (tt, (tt, tt)))) $ says ! e $
-      nothing ! $ move ! (3 ∷ 0 ∷ []) $ join ! $ frame ! $ feq_i ! (List Val) ps (vptr rb ro ∷ []) passed $ fjoin3 ! $ nothing ! $ nothing ! $ fjoin ! $ nothing ! $ fjoin ! $ move ! (1 ∷ 0 ∷ []) $ fjoin ! $
+      nothing ! $ move ! (3 ∷ 0 ∷ []) $ join ! $ frame ! $ feq_i ! (List Val) ps (vptr rb ro ∷ []) passed $ fjoin3 ! $ nothing ! $ nothing ! $ fjoin ! $ nothing ! $ fjoin ! $ move !
+      (1 ∷ 0 ∷ []) $ fjoin ! $
       feq_i ! (List Val) (vunit ∷ []) (vunit ∷ []) refl $ move ! (1 ∷ 0 ∷ []) $ done !
 
   abbrev Had : ℕ → ℕ → Val → Val → List (Item 𝓤)
@@ -103,7 +87,8 @@ module _ (E : Bx) {M : Type 1} {𝓤 : Ura M} (𝓛 : Logic 𝓤) (C : Calls �
   walk passed asked b o hv v fa good =
       let ok = d.ok in
       let p : Ptr = block_ptr b o in
-      let typed : (n m : Ptr) → Good (lone (Node E).mir) (node_val n m v hv) = λ n m. as_fields (ty_ptr ∷ ty_ptr ∷ τ E ∷ α E.al ∷ []) (ptr_val n ∷ ptr_val m ∷ v ∷ hv ∷ []) (Ptr-Good n, (Ptr-Good m, (good, (fa, tt)))) in
+      let typed : (n m : Ptr) → Good (lone (Node E).mir) (node_val n m v hv) = λ n m. as_fields (ty_ptr ∷ ty_ptr ∷ τ E ∷ α E.al ∷ [])
+      (ptr_val n ∷ ptr_val m ∷ v ∷ hv ∷ []) (Ptr-Good n, (Ptr-Good m, (good, (fa, tt)))) in
       let new : D E = record { head = p; tail = p; len = 1; items = x ∷ []; blocks = ((p, p, p), h) ∷ []; ok = (refl, refl); small = lit< tt; chained = ∣ ((refl, tt), refl) ∣₁ } in
       qed 𝓛 (Had b o hv v) ∵ enter ! C Λ (function E) (vptr rb ro ∷ vacant_val hv b o ∷ v ∷ []) _ $ alloc_all ! (λ l. pass_all ! refl ((tt, tt), (vacant_typed E.al (Node E) hv b o fa, (good, tt))) $
       let En : Env 𝓤 H = env (function E).locals l in
@@ -123,14 +108,22 @@ module _ (E : Bx) {M : Type 1} {𝓤 : Ura M} (𝓛 : Logic 𝓤) (C : Calls �
 
   entry : Asks E d → ent 𝓤 (on_entry 𝓛 (ended E).signature (κ, tt) (q, tt) (self, (room, (x, tt))) (ps, (us, (vs, tt)))) (WpFn 𝓤 H C Λ (function E) (ps ++ (us ++ (vs ++ []))) Post)
   entry asked =
-      qed 𝓛 ((‵ (flft κ q) ⊛ ‵ ftrue) ∷ ‵ (owns (MutRef (named 0) κ (Nr E) ∷ Room E ∷ R E ∷ []) (self, (room, (x, tt))) (ps, (us, (vs, tt)))) ∷ []) ∵ split ! $ move ! (2 ∷ []) $ fsplit3 ! $ fsplit3 ! $ feq_l ! (λ e.
+      qed 𝓛 ((‵ (flft κ q) ⊛ ‵ ftrue) ∷ ‵ (owns (MutRef (named 0) κ (Nr E) ∷ Room E ∷ R E ∷ []) (self, (room, (x, tt))) (ps, (us, (vs, tt)))) ∷ []) ∵ split ! $ move
+      ! (2 ∷ []) $ fsplit3 ! $ fsplit3 ! $ feq_l ! (λ e.
       move ! (3 ∷ []) $ fsplit ! $ el_tells E ! x vs (λ v g good. move ! (4 ∷ []) $ Vacant-had E.al (Node E) ! room us (λ b o hv at f fa. keep ! (5 ∷ 6 ∷ 7 ∷ 0 ∷ 1 ∷ 2 ∷ 3 ∷ []) $
-      by ! (subst (λ (ws : List Val × List Val × List Val). ent 𝓤 (⋆ 𝓛 (Had b o hv v)) (WpFn 𝓤 H C Λ (function E) (ws.0 ++ (ws.1 ++ (ws.2 ++ []))) Post)) (λ j. (sym e j, sym f j, sym g j)) (walk e asked b o hv v fa good)))))
+      by ! (subst (λ (ws : List Val × List Val × List Val). ent 𝓤 (⋆ 𝓛 (Had b o hv v)) (WpFn 𝓤 H C Λ (function E) (ws.0 ++ (ws.1 ++ (ws.2 ++ []))) Post))
+      (λ j. (sym e j, sym f j, sym g j)) (walk e asked b o hv v fa good)))))
 
 meets : (E : Bx) {M : Type 1} {𝓤 : Ura M} (𝓛 : Logic 𝓤) (𝓣 : Tables 𝓤 𝓛.H)
     → Meets 𝓛 (ended E).signature (WpFn 𝓤 𝓛.H 𝓣.C 𝓣.Λ (function E)) (closing 𝓛 (ended E) (spec E 𝓛))
 meets E {𝓤 = 𝓤} 𝓛 𝓣 =
-    walk_Meets 𝓛 (ended E) (stayed E) (Goes-ref 𝓛 1 0 tt (plain (λ _. Nr E)), (Goes-blank 𝓛 1 (plain (λ _. Room E)) no (λ κs x f. tt), (Goes-dropped 𝓛 1 (plain (λ _. R E)) no (λ κs x f. refl), tt))) (spec E 𝓛) (WpFn 𝓤 𝓛.H 𝓣.C 𝓣.Λ (function E)) (WpFn-mono 𝓤 𝓛.H 𝓛.laws 𝓣 (function E))
+    walk_Meets 𝓛 (ended E) (stayed E) (
+      Goes-ref 𝓛 1 0 tt (plain (λ _. Nr E)),
+      (
+        Goes-blank 𝓛 1 (plain (λ _. Room E)) no (λ κs x f. tt),
+        (Goes-dropped 𝓛 1 (plain (λ _. R E)) no (λ κs x f. refl), tt),
+      ),
+    ) (spec E 𝓛) (WpFn 𝓤 𝓛.H 𝓣.C 𝓣.Λ (function E)) (WpFn-mono 𝓤 𝓛.H 𝓛.laws 𝓣 (function E))
     (λ z. let a = z.0.3 in let vss = z.0.4 in needs 𝓤 (Asks E a.0.now) _ (entry E 𝓛 𝓣.C 𝓣.Λ z.0.0.0 z.0.1.0 a.0.ref_ptr.0 a.0.ref_ptr.1 a.0.ghost_name a.0.now a.1.0 a.1.1.0 vss.0 vss.1.0 vss.1.1.0))
 
 pub link_first_spec : {M : Type 1} → stated.statement M

@@ -1,34 +1,14 @@
 -- `new` owns nothing. Assumes `Logic`.
-use mathlib.Core.Path.{◌≡◌, refl}
-use mathlib.Core.List.{[], ◌∷◌}
-use lib.Dec.{lit<}
-use seplogic.Ra.Ura.{Ura}
-use mir.Syntax.{Fn}
-use mir.MapTy.{inst_fn}
-use base.Logic.{ent, emp, via, fst∗}
-use base.Fml.{ftrue}
-use prog.Wp.{Calls, Loops, WpFn, Tables}
-use types.Logic.{Logic}
-use contract.Monad.{fact}
-use contract.Running.{tables, tables_of}
-use sound.WpLaws.{WpFn-mono}
-use types.Kit.{‵, ◌$◌, ◌∵◌, !, qed, keep, join, fjoin, suffices, done}
-use types.Part.{agg}
-use types.Run.{stop, from, lit, addr, and_then, no_more, returns, enter}
-use types.ByLocal.{alloc_all, pass_all, free_all, look_at, get, sets}
-use denote.RawPtr.{Ptr, block_ptr}
-use denote.Signature.{plain}
-use denote.Steps.{nothing}
-use denote.Triple.Carry.{spared}
-use denote.Triple.Clauses.{Clauses, Ended, closing}
-use denote.Triple.Entry.{on_entry}
-use denote.Triple.Spec.{Meets, triple_of}
-use denote.Triple.Table.{entered, run_framed}
-use denote.Triple.Walked.{says, Stays, walk_of, ends_at, walk_Meets}
-use Rattle.std_alloc.proofs.BoxSteps.Form.{Bx, args}
-use Rattle.std_collections.proofs.ListMemory.Steps.{words}
-use Rattle.cursor_list.proofs.Memory.{D, Nr, nodes_made}
+use Rattle.cursor_list.proofs.Vocabulary.{◌≡◌, refl, [], ◌∷◌, lit<, Ura, Fn, inst_fn, ent, emp, via, fst∗}
+use Rattle.cursor_list.proofs.Vocabulary.{ftrue, Calls, Loops, WpFn, Tables, Logic, fact, tables, WpFn-mono, ‵}
+use Rattle.cursor_list.proofs.Vocabulary.{◌$◌, ◌∵◌, !, qed, keep, join, fjoin, suffices, done, agg, stop}
+use Rattle.cursor_list.proofs.Vocabulary.{from, lit, addr, and_then, no_more, returns, enter, alloc_all, pass_all}
+use Rattle.cursor_list.proofs.Vocabulary.{free_all, look_at, get, sets, Ptr, block_ptr, plain, nothing, spared, Clauses}
+use Rattle.cursor_list.proofs.Vocabulary.{Ended, closing, on_entry, Meets, triple_of, entered, run_framed, says, Stays}
+use Rattle.cursor_list.proofs.Vocabulary.{walk_of, ends_at, walk_Meets, Bx, args, words}
+use contract.Running.{tables_of}
 use Rattle.cursor_list.specs.contracts.nodes.Nodes.new.Key.{name as #self}
+use Rattle.cursor_list.proofs.Memory.{D, Nr, nodes_made}
 use Rattle.cursor_list.proofs.nodes.Nodes.new.Statement as stated
 use Rattle.cursor_list.proofs.nodes.Nodes.new.Code as code
 

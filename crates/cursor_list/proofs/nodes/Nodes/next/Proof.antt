@@ -1,51 +1,23 @@
 -- `next` reads a pointer of a node that the chain lends. Assumes `Logic`.
-use mathlib.Core.Path.{◌≡◌, refl, sym, ap, subst, ◌∙◌}
-use Prim.Native.Nat.{ℕ, suc, ◌+◌, ◌<◌, ◌^◌}
-use native.Mathlib.Omega.{arith}
-use mathlib.Core.List.{List, [], ◌∷◌, ◌++◌}
-use lib.ListN.{length-map}
-use seplogic.Ra.Ura.{Ura}
-use mir.Syntax.{Fn, named, w64}
-use mir.MapTy.{inst_fn}
-use mir.Val.{Val, vint, vptr}
-use base.Logic.{SProp, ent, never, fst∗}
-use base.Fml.{Lft, Share, ftrue, flft}
-use prog.Wp.{Env, Calls, Loops, WpFn, Tables}
-use types.Logic.{Logic, sem}
-use contract.Monad.{fact}
-use contract.Running.{tables, tables_of}
-use sound.WpLaws.{WpFn-mono}
-use types.Kit.{Item, ⋆, ‵, ◌⊛◌, at_ret, ◌$◌, ◌∵◌, !, qed, by, move, keep, use1, drop, split, join, fsplit, fsplit3, fjoin, feq_l, suffices, done}
-use types.Part.{whole, sub, agg}
-use types.Run.{look, stop, fld, load, of_opd, and_then, no_more, first, blocks, exec, returns, enter}
-use types.ByLocal.{alloc_all, pass_all, free_all, look_at, get, get_in, through, sets, sets_last, is, env}
-use denote.Exit.{yes, no}
-use denote.RattleType.{owns}
-use denote.Memory.{shared_of, hidden_shr}
-use denote.RawPtr.{ptr_val, in_a_block, ◌+ₚ◌, RawPtr}
-use denote.Ref.{Bor, ShrRef}
-use denote.Builtin.{RefOf, usize}
-use denote.Signature.{plain}
-use denote.Steps.{nothing}
-use denote.Opens.{hide}
-use denote.Triple.Carry.{spared}
-use denote.Triple.Clauses.{Clauses, Ended, closing}
-use denote.Triple.Entry.{on_entry}
-use denote.Triple.Spec.{Meets, triple_of}
-use denote.Triple.Table.{entered, run_framed}
-use denote.Triple.Walked.{says, needs, Stays, stay_dropped, walk_of, ends_at, Goes-dropped, walk_Meets}
-use Rattle.std_alloc.proofs.VecSteps.Shapes.{after}
-use Rattle.std_alloc.proofs.RcSteps.{Ptr-Good, word, word-Good}
-use denote.Struct.Lending.{lent_at}
-use Rattle.cursor_list.specs.declared.nodes.Place.{Place}
-use Rattle.cursor_list.specs.contracts.nodes.Place as Pl
-use Rattle.std_collections.specs.LinkedList.Links.{Link, links_of, place_of}
-use Rattle.std_collections.proofs.TreeMemory.Owned.{word_had, word_made}
-use Rattle.std_collections.proofs.ListMemory.Chained.{IsChained-had, link_at, place_of-is, next_is}
-use Rattle.std_alloc.proofs.BoxSteps.Form.{Bx, args}
-use Rattle.std_collections.proofs.ListMemory.Seen.{pointer_in, pointer_out, link_lent_at}
-use Rattle.cursor_list.proofs.Memory.{D, Nr, nodes_seen}
+use Rattle.cursor_list.proofs.Vocabulary.{◌≡◌, refl, sym, ap, subst, ◌∙◌, ℕ, suc, ◌+◌, ◌<◌}
+use Rattle.cursor_list.proofs.Vocabulary.{◌^◌, arith, List, [], ◌∷◌, ◌++◌, length-map, Ura, Fn, named}
+use Rattle.cursor_list.proofs.Vocabulary.{w64, inst_fn, Val, vint, vptr, SProp, ent, never, fst∗, Lft, Share, ftrue}
+use Rattle.cursor_list.proofs.Vocabulary.{flft, Env, Calls, Loops, WpFn, Tables, Logic, sem, fact, tables, WpFn-mono}
+use Rattle.cursor_list.proofs.Vocabulary.{Item, ⋆, ‵, ◌⊛◌, at_ret, ◌$◌, ◌∵◌, !, qed, by, move, keep}
+use Rattle.cursor_list.proofs.Vocabulary.{use1, drop, split, join, fsplit, fsplit3, fjoin, feq_l, suffices, done, whole}
+use Rattle.cursor_list.proofs.Vocabulary.{sub, agg, look, stop, fld, load, of_opd, and_then, no_more, first, blocks}
+use Rattle.cursor_list.proofs.Vocabulary.{exec, returns, enter, alloc_all, pass_all, free_all, look_at, get, get_in}
+use Rattle.cursor_list.proofs.Vocabulary.{through, sets, sets_last, is, env, yes, no, owns, shared_of, hidden_shr}
+use Rattle.cursor_list.proofs.Vocabulary.{ptr_val, in_a_block, ◌+ₚ◌, RawPtr, Bor, ShrRef, RefOf, usize, plain}
+use Rattle.cursor_list.proofs.Vocabulary.{nothing, hide, spared, Clauses, Ended, closing, on_entry, Meets, triple_of}
+use Rattle.cursor_list.proofs.Vocabulary.{entered, run_framed, says, needs, Stays, stay_dropped, walk_of, ends_at}
+use Rattle.cursor_list.proofs.Vocabulary.{Goes-dropped, walk_Meets, after, Ptr-Good, word, word-Good, lent_at, Place}
+use Rattle.cursor_list.proofs.Vocabulary.{Link, links_of, place_of, word_had, word_made, IsChained-had, link_at}
+use Rattle.cursor_list.proofs.Vocabulary.{place_of-is, next_is, Bx, args, pointer_in, pointer_out, link_lent_at}
+use contract.Running.{tables_of}
 use Rattle.cursor_list.specs.contracts.nodes.Nodes.next.Key.{name as #self}
+use Rattle.cursor_list.proofs.Memory.{D, Nr, nodes_seen}
+use Rattle.cursor_list.specs.contracts.nodes.Place as Pl
 use Rattle.cursor_list.proofs.nodes.Nodes.next.Statement as stated
 use Rattle.cursor_list.proofs.nodes.Nodes.next.Code as code
 
@@ -57,13 +29,27 @@ module _ (E : Bx) where
   function = inst_fn (args E) code.function
 
   abbrev ended : Ended
-  ended = record { signature = record { lifetimes = 1; outlives = []; params = RefOf (0 ∷ []) tt (plain (λ _. Nr E)) (λ _. tt) ∷ plain (λ _. Pl.the_row) ∷ plain (λ _. usize) ∷ []; result = plain (λ _. Pl.the_row) }; kept = (yes, (no, (no, tt))) }
+  ended = record {
+    signature = record {
+      lifetimes = 1;
+      outlives = [];
+      params = RefOf (0 ∷ []) tt (plain (λ _. Nr E)) (λ _. tt) ∷ plain (λ _. Pl.the_row) ∷ plain (λ _. usize) ∷
+          [];
+      result = plain (λ _. Pl.the_row);
+    };
+    kept = (yes, (no, (no, tt)));
+  }
 
   abbrev stayed : Stays ended.signature.params ended.kept
   stayed = (stay_dropped (RefOf (0 ∷ []) tt (plain (λ _. Nr E)) (λ _. tt)) yes, (stay_dropped (plain (λ _. Pl.the_row)) no, (stay_dropped (plain (λ _. usize)) no, tt)))
 
   abbrev spec : {M : Type 1} (𝓤 : Ura M) → Clauses 𝓤 ended
-  spec 𝓤 κs a = record { ghost = Unit {0}; requires = λ _. fact 𝓤 (Asks E a.0.now a.1.0 a.1.1.0); ensures = λ _ r _. fact 𝓤 (a.1.1.0 + 1 < a.0.now.len → r.ptr ≡ place_of (links_of a.0.now.blocks) (a.1.1.0 + 1)) }
+  spec 𝓤 κs a = record {
+    ghost = Unit {0};
+    requires = λ _. fact 𝓤 (Asks E a.0.now a.1.0 a.1.1.0);
+    ensures = λ _ r _. fact 𝓤
+        (a.1.1.0 + 1 < a.0.now.len → r.ptr ≡ place_of (links_of a.0.now.blocks) (a.1.1.0 + 1));
+  }
 
 module _ (E : Bx) {M : Type 1} {𝓤 : Ura M} (𝓛 : Logic 𝓤) (C : Calls 𝓤 𝓛.H) (Λ : Loops 𝓤 𝓛.H) (κ : Lft) (q : Share) (b o : ℕ) (d : D E) (at : Place) (i : ℕ) (ps us vs : List Val) where
   open 𝓛 use {H}
@@ -95,25 +81,33 @@ module _ (E : Bx) {M : Type 1} {𝓤 : Ura M} (𝓛 : Logic 𝓤) (C : Calls �
       nodes_seen E ! d b o $
       let linked = IsChained-had d.head d.tail (links_of d.blocks) d.chained in
       move ! (4 ∷ []) $ use1 𝓛 (‵ (lent_at RawPtr (n.0 +ₚ 0) n.1 κ) ⊛ ‵ (lent_at RawPtr (n.0 +ₚ 8) n.2 κ)) (link_lent_at 𝓛 κ (links_of d.blocks) i (omega arith)) $ split ! $
-      in_a_block ! n.0 (λ p. lent_at RawPtr (p +ₚ 0) n.1 κ) (fst∗ 𝓤 (never 𝓤) (sem 𝓛 (shared_of RawPtr n.1 0 0 κ))) (λ nb no e. fsplit ! $ drop ! $ hide ! $ move ! (0 ∷ 6 ∷ []) $ pointer_in ! tt n.1 nb (no + 0) (λ s.
+      in_a_block ! n.0 (λ p. lent_at RawPtr (p +ₚ 0) n.1 κ) (fst∗ 𝓤 (never 𝓤) (sem 𝓛 (shared_of RawPtr n.1 0 0 κ)))
+      (λ nb no e. fsplit ! $ drop ! $ hide ! $ move ! (0 ∷ 6 ∷ []) $ pointer_in ! tt n.1 nb (no + 0) (λ s.
       sets ! (is ! (of_opd ! (get_in ! (fld ! refl (stop !)) (sub ! 0 refl (whole !)))) (ap ptr_val (here ∙ e))) refl (tt, tt) $ sets ! (of_opd ! (get ! refl)) refl (tt, tt) $ first ! $ blocks ! $
       sets_last ! (of_opd ! (load ! (through ! refl (fld ! refl (stop !))) (look ! 0 refl))) refl (Ptr-Good n.1) $ exec ! C Λ En (after 3 (function E).body) (at_ret En Post) $
       sets ! (of_opd ! (get ! refl)) refl (Ptr-Good n.1) $ sets ! (of_opd ! (get ! refl)) refl (Ptr-Good n.1) $
       sets ! (agg ! (and_then ! (get ! refl) (no_more !))) refl (word-Good Pl.the_type.name n.1) $ pointer_out ! tt n.1 nb (no + 0) $
       returns ! (look_at ! 0 refl) $ free_all ! refl $ keep ! (0 ∷ []) $
-      suffices ! _ (ends_at 𝓛 (ended E) (stayed E) (spec E 𝓤) bound (word n.1) (record { ptr = n.1 }) (tt, (tt, (tt, tt))) (tt, (tt, (tt, tt)))) $ says ! (λ more. let on : suc i ≡ i + 1 = omega arith in next_is d.head (links_of d.blocks) i (omega arith) linked.0 ∙ sym (place_of-is (links_of d.blocks) (suc i)) ∙ ap (place_of (links_of d.blocks)) on) $
+      suffices ! _ (ends_at 𝓛 (ended E) (stayed E) (spec E 𝓤) bound (word n.1) (record { ptr = n.1 }) (tt, (tt, (tt, tt))) (tt, (tt, (tt, tt)))) $ says !
+      (λ more. let on : suc i ≡ i + 1 = omega arith in next_is d.head (links_of d.blocks) i (omega arith) linked.0 ∙ sym (place_of-is (links_of d.blocks) (suc i)) ∙ ap
+      (place_of (links_of d.blocks)) on) $
       word_made ! n.1 $ nothing ! $ nothing ! $ fjoin ! $ nothing ! $ fjoin ! $ nothing ! $ fjoin ! $ join ! $ nothing ! $ move ! (2 ∷ 0 ∷ []) $ join ! $ join ! $ done !)))
 
   entry : Asks E d at i → ent 𝓤 (on_entry 𝓛 (ended E).signature (κ, tt) (q, tt) (self, (at, (i, tt))) (ps, (us, (vs, tt)))) (WpFn 𝓤 H C Λ (function E) (ps ++ (us ++ (vs ++ []))) Post)
   entry asked =
-      qed 𝓛 ((‵ (flft κ q) ⊛ ‵ ftrue) ∷ ‵ (owns (ShrRef (named 0) κ (Nr E) ∷ Pl.the_row ∷ usize ∷ []) (self, (at, (i, tt))) (ps, (us, (vs, tt)))) ∷ []) ∵ split ! $ move ! (2 ∷ []) $ fsplit3 ! $ fsplit ! $ feq_l ! (λ e.
+      qed 𝓛 ((‵ (flft κ q) ⊛ ‵ ftrue) ∷ ‵ (owns (ShrRef (named 0) κ (Nr E) ∷ Pl.the_row ∷ usize ∷ []) (self, (at, (i, tt))) (ps, (us, (vs, tt)))) ∷ []) ∵ split ! $
+      move ! (2 ∷ []) $ fsplit3 ! $ fsplit ! $ feq_l ! (λ e.
       move ! (1 ∷ []) $ word_had ! at.ptr us (λ f. move ! (1 ∷ []) $ fsplit ! $ fsplit ! $ feq_l ! (λ g. keep ! (2 ∷ 3 ∷ []) $
       by ! (subst (λ (ws : List Val × List Val × List Val). ent 𝓤 (⋆ 𝓛 Had) (WpFn 𝓤 H C Λ (function E) (ws.0 ++ (ws.1 ++ (ws.2 ++ []))) Post)) (λ j. (sym e j, sym f j, sym g j)) (walk asked)))))
 
 meets : (E : Bx) {M : Type 1} {𝓤 : Ura M} (𝓛 : Logic 𝓤) (𝓣 : Tables 𝓤 𝓛.H)
     → Meets 𝓛 (ended E).signature (WpFn 𝓤 𝓛.H 𝓣.C 𝓣.Λ (function E)) (closing 𝓛 (ended E) (spec E 𝓤))
 meets E {𝓤 = 𝓤} 𝓛 𝓣 =
-    walk_Meets 𝓛 (ended E) (stayed E) (Goes-dropped 𝓛 1 (RefOf (0 ∷ []) tt (plain (λ _. Nr E)) (λ _. tt)) yes (λ κs x f. refl), (Goes-dropped 𝓛 1 (plain (λ _. Pl.the_row)) no (λ κs x f. refl), (Goes-dropped 𝓛 1 (plain (λ _. usize)) no (λ κs x f. refl), tt))) (spec E 𝓤) (WpFn 𝓤 𝓛.H 𝓣.C 𝓣.Λ (function E)) (WpFn-mono 𝓤 𝓛.H 𝓛.laws 𝓣 (function E))
+    walk_Meets 𝓛 (ended E) (stayed E) (
+      Goes-dropped 𝓛 1 (RefOf (0 ∷ []) tt (plain (λ _. Nr E)) (λ _. tt)) yes (λ κs x f. refl),
+      (Goes-dropped 𝓛 1 (plain (λ _. Pl.the_row)) no (λ κs x f. refl), (Goes-dropped 𝓛 1 (plain (λ _. usize)) no (λ κs x f. refl), tt)),
+    ) (spec E 𝓤)
+    (WpFn 𝓤 𝓛.H 𝓣.C 𝓣.Λ (function E)) (WpFn-mono 𝓤 𝓛.H 𝓛.laws 𝓣 (function E))
     (λ z. let a = z.0.3 in let vss = z.0.4 in needs 𝓤 (Asks E a.0.now a.1.0 a.1.1.0) _ (entry E 𝓛 𝓣.C 𝓣.Λ z.0.0.0 z.0.1.0 a.0.ref_ptr.0 a.0.ref_ptr.1 a.0.now a.1.0 a.1.1.0 vss.0 vss.1.0 vss.1.1.0))
 
 pub next_spec : {M : Type 1} → stated.statement M

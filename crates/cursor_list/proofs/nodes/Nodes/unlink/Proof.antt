@@ -1,58 +1,31 @@
 -- `unlink` moves the element and the handle out of a node, and those beside it point past it. Assumes `Logic`.
-use mathlib.Core.Path.{◌≡◌, refl, sym, ap, subst, ◌∙◌}
-use Prim.Native.Nat.{ℕ, ◌+◌, ◌-◌, ◌≤◌, ◌<◌, ◌^◌}
-use native.Mathlib.Omega.{arith}
-use mathlib.Core.List.{List, [], ◌∷◌, ◌++◌, append_assoc, map-append}
-use lib.ListN.{length, length-append, take, drop}
-use seplogic.Ra.Ura.{Ura}
-use mir.Syntax.{Fn, named, w64}
-use mir.MapTy.{inst_fn}
-use mir.Val.{Val, vint, vptr}
-use base.Logic.{SProp, ent, sep}
-use base.Fml.{Lft, GName, Share, ftrue, flft, fobs, fbor}
-use prog.Wp.{Env, Calls, Loops, WpFn, Tables}
-use types.Logic.{Logic, sem}
-use contract.Monad.{fact}
-use contract.Running.{tables, tables_of}
-use sound.WpLaws.{WpFn-mono}
-use types.Kit.{Item, ⋆, ‵, ◌⊛◌, at_ret, ◌$◌, ◌∵◌, !, qed, by, move, keep, use1, use2, split, join, rewrite, fsplit, fsplit3, fjoin, fjoin3, feq_i, feq_l, suffices, frame, done}
-use types.Part.{whole, sub, agg, look_in, store_in}
-use types.Run.{look, store, stop, fld, load, lit, of_opd, bin, addr, and_then, no_more, assigns, first, blocks, exec, returns, enter}
-use types.ByLocal.{alloc_all, pass_all, free_all, look_at, get, get_in, through, sets, sets_last, is, env}
-use types.SemTy.{Body as Borrowed}
-use denote.Exit.{yes, no}
-use denote.RattleType.{RattleType, owns}
-use denote.Memory.{mem}
-use denote.RawPtr.{Ptr, block_ptr, ptr_val}
-use denote.Ref.{MutBor, MutRef}
-use denote.Builtin.{RefMutOf, usize}
-use denote.Signature.{plain}
-use denote.Steps.{nothing}
-use denote.Triple.Carry.{spared}
-use denote.Triple.Clauses.{Clauses, Ended, closing}
-use denote.Triple.Entry.{on_entry}
-use denote.Triple.Spec.{Meets, triple_of}
-use denote.Triple.Table.{entered, run_framed}
-use denote.Triple.Walked.{needs, Stays, stay_dropped, stay_ref, walk_of, ends_at, Goes-dropped, Goes-ref, walk_Meets}
-use Rattle.std_alloc.proofs.VecSteps.Shapes.{after}
-use Rattle.std_alloc.proofs.RcSteps.{word, word-Good}
-use Rattle.std_alloc.proofs.BoxSteps.Form.{Bx, args, X, τ, R, P}
-use Rattle.std_alloc.proofs.OfVacant.{Vacant, vacant_val, vacant_ty, vacant_typed, Vacant-made}
-use Rattle.std_alloc.proofs.Pairs.{pair_val, pair_Typed, pair_of}
-use denote.Struct.Tuple.{Tuple}
-use Rattle.std_collections.proofs.TreeMemory.Owned.{word_had}
-use Rattle.std_collections.proofs.ListRuns.{cut_at}
-use Rattle.cursor_list.specs.declared.nodes.Place.{Place}
-use Rattle.cursor_list.specs.contracts.nodes.Place as Pl
-use Rattle.cursor_list.specs.contracts.nodes.Node as Block
-use Rattle.std_collections.specs.LinkedList.Links.{Link, links_of, place_of, IsChained}
-use Rattle.std_collections.proofs.ListMemory.Chained.{IsChained-had}
-use Rattle.std_collections.proofs.ListMemory.Steps.{uncons, Hd, Held, One, cons_out, cons_in, append_in, one_opens, one_closes, node_unmade, block_back}
-use Rattle.cursor_list.specs.Places.{KeepsPlaces}
+use Rattle.cursor_list.proofs.Vocabulary.{◌≡◌, refl, sym, ap, subst, ◌∙◌, ℕ, ◌+◌, ◌-◌, ◌≤◌}
+use Rattle.cursor_list.proofs.Vocabulary.{◌<◌, ◌^◌, arith, List, [], ◌∷◌, ◌++◌, append_assoc}
+use Rattle.cursor_list.proofs.Vocabulary.{map-append, length, length-append, take, Ura, Fn, named, w64, inst_fn, Val}
+use Rattle.cursor_list.proofs.Vocabulary.{vint, vptr, SProp, ent, sep, Lft, GName, Share, ftrue, flft, fobs, fbor, Env}
+use Rattle.cursor_list.proofs.Vocabulary.{Calls, Loops, WpFn, Tables, Logic, sem, fact, tables, WpFn-mono, Item, ⋆}
+use Rattle.cursor_list.proofs.Vocabulary.{‵, ◌⊛◌, at_ret, ◌$◌, ◌∵◌, !, qed, by, move, keep, use1}
+use Rattle.cursor_list.proofs.Vocabulary.{use2, split, join, rewrite, fsplit, fsplit3, fjoin, fjoin3, feq_i, feq_l}
+use Rattle.cursor_list.proofs.Vocabulary.{suffices, frame, done, whole, sub, agg, look_in, store_in, look, store, stop}
+use Rattle.cursor_list.proofs.Vocabulary.{fld, load, lit, of_opd, bin, addr, and_then, no_more, assigns, first, blocks}
+use Rattle.cursor_list.proofs.Vocabulary.{exec, returns, enter, alloc_all, pass_all, free_all, look_at, get, get_in}
+use Rattle.cursor_list.proofs.Vocabulary.{through, sets, sets_last, is, env, Body as Borrowed, yes, no, RattleType}
+use Rattle.cursor_list.proofs.Vocabulary.{owns, mem, Ptr, block_ptr, ptr_val, MutBor, MutRef, RefMutOf, usize, plain}
+use Rattle.cursor_list.proofs.Vocabulary.{nothing, spared, Clauses, Ended, closing, on_entry, Meets, triple_of, entered}
+use Rattle.cursor_list.proofs.Vocabulary.{run_framed, needs, Stays, stay_dropped, stay_ref, walk_of, ends_at}
+use Rattle.cursor_list.proofs.Vocabulary.{Goes-dropped, Goes-ref, walk_Meets, after, word, word-Good, Bx, args, X, τ}
+use Rattle.cursor_list.proofs.Vocabulary.{R, P, Vacant, vacant_val, vacant_ty, vacant_typed, Vacant-made, pair_val}
+use Rattle.cursor_list.proofs.Vocabulary.{pair_Typed, pair_of, Tuple, word_had, cut_at, Place, Link, links_of, place_of}
+use Rattle.cursor_list.proofs.Vocabulary.{IsChained, IsChained-had, uncons, Hd, Held, One, cons_out, cons_in, append_in}
+use Rattle.cursor_list.proofs.Vocabulary.{one_opens, one_closes, node_unmade, block_back, KeepsPlaces}
+use lib.ListN.{drop}
+use contract.Running.{tables_of}
+use Rattle.cursor_list.specs.contracts.nodes.Nodes.unlink.Key.{name as #self}
 use Rattle.cursor_list.proofs.Kept.{Around, around, here_at, keeps_through}
 use Rattle.cursor_list.proofs.Chained.{IsChained-without}
 use Rattle.cursor_list.proofs.Memory.{append_out, says_both, D, Nr, nodes_opens, nodes_closes}
-use Rattle.cursor_list.specs.contracts.nodes.Nodes.unlink.Key.{name as #self}
+use Rattle.cursor_list.specs.contracts.nodes.Place as Pl
+use Rattle.cursor_list.specs.contracts.nodes.Node as Block
 use Rattle.cursor_list.proofs.nodes.Nodes.unlink.Statement as stated
 use Rattle.cursor_list.proofs.nodes.Nodes.unlink.Code as code
 
@@ -70,7 +43,16 @@ module _ (E : Bx) where
   Out = Tuple (R E ∷ Room ∷ [])
 
   abbrev ended : Ended
-  ended = record { signature = record { lifetimes = 1; outlives = []; params = RefMutOf (0 ∷ []) tt (plain (λ _. Nr E)) (λ _. tt) ∷ plain (λ _. Pl.the_row) ∷ plain (λ _. usize) ∷ []; result = plain (λ _. Out) }; kept = (yes, (no, (no, tt))) }
+  ended = record {
+    signature = record {
+      lifetimes = 1;
+      outlives = [];
+      params = RefMutOf (0 ∷ []) tt (plain (λ _. Nr E)) (λ _. tt) ∷ plain (λ _. Pl.the_row) ∷ plain (λ _. usize)
+          ∷ [];
+      result = plain (λ _. Out);
+    };
+    kept = (yes, (no, (no, tt)));
+  }
 
   abbrev stayed : Stays ended.signature.params ended.kept
   stayed = (stay_ref (0 ∷ []) tt (plain (λ _. Nr E)), (stay_dropped (plain (λ _. Pl.the_row)) no, (stay_dropped (plain (λ _. usize)) no, tt)))
@@ -108,7 +90,8 @@ module _ (E : Bx) {M : Type 1} {𝓤 : Ura M} (𝓛 : Logic 𝓤) (C : Calls �
   exits passed r v new e kept =
       qed 𝓛 (‵ (fobs γ ((Nr E).coded.code new)) ∷ ‵ (fbor κ (Borrowed (mem (Nr E)) rb ro γ)) ∷ ‵ (flft κ q) ∷ ‵ ((Out E).own_val r (v ∷ [])) ∷ []) ∵
       suffices ! _ (ends_at 𝓛 (ended E) (stayed E) (spec E 𝓛) bound v r (new, (tt, (tt, tt))) (tt, (tt, (tt, tt)))) $ says_both ! e kept $
-      nothing ! $ move ! (3 ∷ 0 ∷ []) $ join ! $ frame ! $ feq_i ! (List Val) ps (vptr rb ro ∷ []) passed $ fjoin3 ! $ nothing ! $ nothing ! $ fjoin ! $ nothing ! $ fjoin ! $ move ! (1 ∷ 0 ∷ []) $ fjoin ! $ done !
+      nothing ! $ move ! (3 ∷ 0 ∷ []) $ join ! $ frame ! $ feq_i ! (List Val) ps (vptr rb ro ∷ []) passed $ fjoin3 ! $ nothing ! $ nothing ! $ fjoin ! $ nothing ! $ fjoin ! $ move !
+      (1 ∷ 0 ∷ []) $ fjoin ! $ done !
 
   abbrev Had : List (Item 𝓤)
   Had = ‵ (fobs γ ((Nr E).coded.code d)) ∷ ‵ (fbor κ (Borrowed (mem (Nr E)) rb ro γ)) ∷ ‵ (flft κ q) ∷ []
@@ -146,8 +129,10 @@ module _ (E : Bx) {M : Type 1} {𝓤 : Ura M} (𝓛 : Logic 𝓤) (C : Calls �
       let all : d.blocks ≡ ns ++ l ∷ m ∷ n ∷ ms = bs.is ∙ ap (λ ks. ns ++ l ∷ m ∷ ks) behind.2 in
       let every : d.items ≡ xs.front ++ u ∷ x ∷ y ∷ ys = xs.is ∙ ap (λ zs. xs.front ++ u ∷ x ∷ zs) others.2 in
       let here : at.ptr ≡ m.0.0 = asked.2 ∙ ap (λ ks. place_of (links_of ks) i) all ∙ here_at l m (n ∷ ms) ns i far in
-      let linked : IsChained d.head d.tail (links_of ns ++ l.0 ∷ m.0 ∷ n.0 ∷ links_of ms) = subst (IsChained d.head d.tail) (ap links_of all ∙ map-append (λ k. k.0) ns (l ∷ m ∷ n ∷ ms)) (IsChained-had _ _ _ d.chained) in
-      qed 𝓛 Had ∵ enter ! C Λ (function E) (vptr rb ro ∷ word at.ptr ∷ vint w64 i ∷ []) _ $ alloc_all ! (λ ls. pass_all ! refl ((tt, tt), (word-Good Pl.the_type.name at.ptr, ((tt, record { fits = counts }), tt))) $
+      let linked : IsChained d.head d.tail (links_of ns ++ l.0 ∷ m.0 ∷ n.0 ∷ links_of ms) = subst (IsChained d.head d.tail)
+      (ap links_of all ∙ map-append (λ k. k.0) ns (l ∷ m ∷ n ∷ ms)) (IsChained-had _ _ _ d.chained) in
+      qed 𝓛 Had ∵ enter ! C Λ (function E) (vptr rb ro ∷ word at.ptr ∷ vint w64 i ∷ []) _ $ alloc_all !
+      (λ ls. pass_all ! refl ((tt, tt), (word-Good Pl.the_type.name at.ptr, ((tt, record { fits = counts }), tt))) $
       let En : Env 𝓤 H = env (function E).locals ls in
       nodes_opens E ! tt d rb ro $
       rewrite ! 0 (λ (ks : List (Link × Hd E)). ‵ (Held E ks d.items)) all refl $ rewrite ! 0 (λ (zs : List (X E)). ‵ (Held E (ns ++ l ∷ m ∷ n ∷ ms) zs)) every refl $
@@ -155,7 +140,8 @@ module _ (E : Bx) {M : Type 1} {𝓤 : Ura M} (𝓛 : Logic 𝓤) (C : Calls �
       use1 𝓛 (‵ (One E l u) ⊛ ‵ (Held E (m ∷ n ∷ ms) (x ∷ y ∷ ys))) (cons_out E 𝓛 l (m ∷ n ∷ ms) u (x ∷ y ∷ ys)) $ split ! $ move ! (1 ∷ []) $
       use1 𝓛 (‵ (One E m x) ⊛ ‵ (Held E (n ∷ ms) (y ∷ ys))) (cons_out E 𝓛 m (n ∷ ms) x (y ∷ ys)) $ split ! $ move ! (1 ∷ []) $
       use1 𝓛 (‵ (One E n y) ⊛ ‵ (Held E ms ys)) (cons_out E 𝓛 n ms y ys) $ split ! $
-      one_opens E ! n.0 n.1 y (λ nb no ne. move ! (6 ∷ []) $ one_opens E ! l.0 l.1 u (λ lb lo le. move ! (9 ∷ []) $ one_opens E ! m.0 m.1 x (λ b o me. node_unmade E ! b o m.0.1 m.0.2 m.1 x (λ v hv good fa.
+      one_opens E ! n.0 n.1 y (λ nb no ne. move ! (6 ∷ []) $ one_opens E ! l.0 l.1 u (λ lb lo le. move ! (9 ∷ []) $ one_opens E ! m.0 m.1 x
+      (λ b o me. node_unmade E ! b o m.0.1 m.0.2 m.1 x (λ v hv good fa.
       let a : Ptr = block_ptr lb lo in
       let c : Ptr = block_ptr nb no in
       let without = IsChained-without d.head d.tail (links_of ns) (a, l.0.1, l.0.2) m.0 (c, n.0.1, n.0.2) (links_of ms)
@@ -176,15 +162,18 @@ module _ (E : Bx) {M : Type 1} {𝓤 : Ura M} (𝓛 : Logic 𝓤) (C : Calls �
         small = omega arith;
         chained = ∣ subst (IsChained d.head d.tail) (sym (map-append (λ k. k.0) ns (was ∷ on ∷ ms))) without.0 ∣₁;
       } in
-      let kept : Keeps E d i new = subst (λ (ks : List (Link × Hd E)). KeepsPlaces i (links_of ks) (links_of left)) (sym all) (keeps_through ns l was (m ∷ n ∷ ms) (on ∷ ms) i (sym le) (omega arith)) in
+      let kept : Keeps E d i new = subst (λ (ks : List (Link × Hd E)). KeepsPlaces i (links_of ks) (links_of left)) (sym all)
+      (keeps_through ns l was (m ∷ n ∷ ms) (on ∷ ms) i (sym le) (omega arith)) in
       let cut = cut_at (xs.front ++ u ∷ []) (y ∷ ys) kept_items i (append_assoc xs.front (u ∷ []) (y ∷ ys)) (length-append xs.front (u ∷ []) ∙ omega arith) in
       let gives : Gives E d i x new = every ∙ sym (append_assoc xs.front (u ∷ []) (x ∷ y ∷ ys)) ∙ (λ j. cut.0 j ++ x ∷ cut.1 j) in
       let room = vacant_typed E.al (Node E) hv b o fa in
       let both = pair_Typed (τ E) (vacant_ty E.al (Node E)) v (vacant_val hv b o) good room in
       let made : (Room E).Denot = record { ptr = block_ptr b o; alloc = m.1 } in
-      -- [the node, in eight; the one before, in four; the one behind, in four; those behind; those in front; the words; the open borrow; obs; auth]
+      -- [the node, in eight; the one before, in four; the one after, in four; those after; those in front; the words;
+      -- the open borrow; obs; auth]
       sets ! (is ! (of_opd ! (get_in ! (fld ! refl (stop !)) (sub ! 0 refl (whole !)))) (ap ptr_val (here ∙ me))) refl (tt, tt) $
-      sets ! (of_opd ! (load ! (through ! refl (fld ! refl (stop !))) (look_in ! 18 (sub ! 2 refl (whole !))))) refl (tt, record { fits = fits }) $ sets ! (bin ! (get ! refl) (lit ! tt) least) refl (tt, record { fits = less }) $
+      sets ! (of_opd ! (load ! (through ! refl (fld ! refl (stop !))) (look_in ! 18 (sub ! 2 refl (whole !))))) refl (tt, record { fits = fits }) $ sets !
+      (bin ! (get ! refl) (lit ! tt) least) refl (tt, record { fits = less }) $
       assigns ! (of_opd ! (get ! refl)) (through ! refl (fld ! refl (stop !))) (store_in ! 18 (sub ! 2 refl (whole !)) (tt, record { fits = less })) $ first ! $ blocks ! $
       sets ! (is ! (of_opd ! (load ! (through ! refl (fld ! refl (stop !))) (look ! 0 refl))) (ap ptr_val without.1)) refl (tt, tt) $ sets ! (of_opd ! (get ! refl)) refl (tt, tt) $
       sets ! (is ! (of_opd ! (load ! (through ! refl (fld ! refl (stop !))) (look ! 1 refl))) (ap ptr_val without.2)) refl (tt, tt) $ sets ! (of_opd ! (get ! refl)) refl (tt, tt) $
@@ -193,7 +182,8 @@ module _ (E : Bx) {M : Type 1} {𝓤 : Ura M} (𝓛 : Logic 𝓤) (C : Calls �
       sets ! (addr ! (through ! refl (fld ! refl (stop !)))) refl (tt, tt) $ sets ! (of_opd ! (load ! (through ! refl (stop !)) (look ! 2 refl))) refl good $
       sets ! (addr ! (through ! refl (fld ! refl (stop !)))) refl (tt, tt) $ sets ! (of_opd ! (load ! (through ! refl (stop !)) (look ! 3 refl))) refl fa $
       sets ! (of_opd ! (get ! refl)) refl good $ sets ! (of_opd ! (get ! refl)) refl fa $ sets ! (agg ! (and_then ! (get ! refl) (and_then ! (get ! refl) (no_more !)))) refl room $
-      sets_last ! (agg ! (and_then ! (get ! refl) (and_then ! (get ! refl) (no_more !)))) refl both $ exec ! C Λ En (after 5 (function E).body) (at_ret En Post) $ sets ! (of_opd ! (get ! refl)) refl both $
+      sets_last ! (agg ! (and_then ! (get ! refl) (and_then ! (get ! refl) (no_more !)))) refl both $ exec ! C Λ En (after 5 (function E).body) (at_ret En Post) $ sets !
+      (of_opd ! (get ! refl)) refl both $
       block_back E ! b o m.0.1 m.0.2 v hv $ Vacant-made E.al (Node E) ! m.1 b o $ move ! (1 ∷ 0 ∷ []) $
       use2 𝓛 (‵ ((Out E).own_val (x, made) (pair_val v (vacant_val hv b o) ∷ []))) (pair_of 𝓛 (R E) (Room E) x made v (vacant_val hv b o)) $
       move ! (1 ∷ 2 ∷ 3 ∷ 4 ∷ []) $ one_closes E ! lb lo c l.0.2 l.1 u $ move ! (2 ∷ 3 ∷ 4 ∷ 5 ∷ []) $ one_closes E ! nb no n.0.1 a n.1 y $ move ! (0 ∷ 3 ∷ []) $
@@ -204,15 +194,24 @@ module _ (E : Bx) {M : Type 1} {𝓤 : Ura M} (𝓛 : Logic 𝓤) (C : Calls �
 
   entry : Asks E d at i → ent 𝓤 (on_entry 𝓛 (ended E).signature (κ, tt) (q, tt) (self, (at, (i, tt))) (ps, (us, (ks, tt)))) (WpFn 𝓤 H C Λ (function E) (ps ++ (us ++ (ks ++ []))) Post)
   entry asked =
-      qed 𝓛 ((‵ (flft κ q) ⊛ ‵ ftrue) ∷ ‵ (owns (MutRef (named 0) κ (Nr E) ∷ Pl.the_row ∷ usize ∷ []) (self, (at, (i, tt))) (ps, (us, (ks, tt)))) ∷ []) ∵ split ! $ move ! (2 ∷ []) $ fsplit3 ! $ fsplit3 ! $ feq_l ! (λ e.
+      qed 𝓛 ((‵ (flft κ q) ⊛ ‵ ftrue) ∷ ‵ (owns (MutRef (named 0) κ (Nr E) ∷ Pl.the_row ∷ usize ∷ []) (self, (at, (i, tt))) (ps, (us, (ks, tt)))) ∷ []) ∵ split ! $
+      move ! (2 ∷ []) $ fsplit3 ! $ fsplit3 ! $ feq_l ! (λ e.
       move ! (2 ∷ []) $ word_had ! at.ptr us (λ f. move ! (2 ∷ []) $ fsplit ! $ fsplit ! $ feq_l ! (λ g. keep ! (2 ∷ 3 ∷ 4 ∷ []) $
       by ! (subst (λ (ws : List Val × List Val × List Val). ent 𝓤 (⋆ 𝓛 Had) (WpFn 𝓤 H C Λ (function E) (ws.0 ++ (ws.1 ++ (ws.2 ++ []))) Post)) (λ j. (sym e j, sym f j, sym g j)) (walk e asked)))))
 
 meets : (E : Bx) {M : Type 1} {𝓤 : Ura M} (𝓛 : Logic 𝓤) (𝓣 : Tables 𝓤 𝓛.H)
     → Meets 𝓛 (ended E).signature (WpFn 𝓤 𝓛.H 𝓣.C 𝓣.Λ (function E)) (closing 𝓛 (ended E) (spec E 𝓛))
 meets E {𝓤 = 𝓤} 𝓛 𝓣 =
-    walk_Meets 𝓛 (ended E) (stayed E) (Goes-ref 𝓛 1 0 tt (plain (λ _. Nr E)), (Goes-dropped 𝓛 1 (plain (λ _. Pl.the_row)) no (λ κs x f. refl), (Goes-dropped 𝓛 1 (plain (λ _. usize)) no (λ κs x f. refl), tt))) (spec E 𝓛) (WpFn 𝓤 𝓛.H 𝓣.C 𝓣.Λ (function E)) (WpFn-mono 𝓤 𝓛.H 𝓛.laws 𝓣 (function E))
-    (λ z. let a = z.0.3 in let vss = z.0.4 in needs 𝓤 (Asks E a.0.now a.1.0 a.1.1.0) _ (entry E 𝓛 𝓣.C 𝓣.Λ z.0.0.0 z.0.1.0 a.0.ref_ptr.0 a.0.ref_ptr.1 a.0.ghost_name a.0.now a.1.0 a.1.1.0 vss.0 vss.1.0 vss.1.1.0))
+    walk_Meets 𝓛 (ended E) (stayed E) (
+      Goes-ref 𝓛 1 0 tt (plain (λ _. Nr E)),
+      (
+        Goes-dropped 𝓛 1 (plain (λ _. Pl.the_row)) no (λ κs x f. refl),
+        (Goes-dropped 𝓛 1 (plain (λ _. usize)) no (λ κs x f. refl), tt),
+      ),
+    ) (spec E 𝓛) (WpFn 𝓤 𝓛.H 𝓣.C 𝓣.Λ (function E))
+    (WpFn-mono 𝓤 𝓛.H 𝓛.laws 𝓣 (function E))
+    (λ z. let a = z.0.3 in let vss = z.0.4 in needs 𝓤 (Asks E a.0.now a.1.0 a.1.1.0) _
+    (entry E 𝓛 𝓣.C 𝓣.Λ z.0.0.0 z.0.1.0 a.0.ref_ptr.0 a.0.ref_ptr.1 a.0.ghost_name a.0.now a.1.0 a.1.1.0 vss.0 vss.1.0 vss.1.1.0))
 
 pub unlink_spec : {M : Type 1} → stated.statement M
 unfolding tables_of

@@ -1,51 +1,25 @@
 -- `unlink_front` moves the element and the handle out of the first node. Assumes `Logic`.
-use mathlib.Core.Path.{◌≡◌, refl, sym, ap, subst, ◌∙◌}
-use Prim.Native.Nat.{ℕ, ◌-◌, ◌≤◌, ◌<◌, ◌^◌}
-use native.Mathlib.Omega.{arith}
-use mathlib.Core.List.{List, [], ◌∷◌, ◌++◌}
-use lib.ListN.{length}
-use seplogic.Ra.Ura.{Ura}
-use mir.Syntax.{Fn, named}
-use mir.MapTy.{inst_fn}
-use mir.Val.{Val, vptr}
-use base.Logic.{SProp, ent, sep}
-use base.Fml.{Lft, GName, Share, ftrue, flft, fobs, fbor}
-use prog.Wp.{Env, Calls, Loops, WpFn, Tables}
-use types.Logic.{Logic, sem}
-use contract.Monad.{fact}
-use contract.Running.{tables, tables_of}
-use sound.WpLaws.{WpFn-mono}
-use types.Kit.{Item, ⋆, ‵, ◌⊛◌, at_ret, ◌$◌, ◌∵◌, !, qed, by, move, keep, use1, use2, split, join, rewrite, fsplit, fsplit3, fjoin, fjoin3, feq_i, feq_l, suffices, frame, done}
-use types.Part.{whole, sub, agg, look_in, store_in}
-use types.Run.{look, stop, fld, load, lit, of_opd, bin, addr, and_then, no_more, assigns, first, blocks, exec, returns, enter}
-use types.ByLocal.{alloc_all, pass_all, free_all, look_at, get, through, sets, sets_last, is, env}
-use types.SemTy.{Body as Borrowed}
-use denote.Exit.{yes}
-use denote.RattleType.{RattleType, owns}
-use denote.Memory.{mem}
-use denote.RawPtr.{block_ptr, ptr_val}
-use denote.Ref.{MutBor, MutRef}
-use denote.Builtin.{RefMutOf}
-use denote.Signature.{plain}
-use denote.Steps.{nothing}
-use denote.Triple.Carry.{spared}
-use denote.Triple.Clauses.{Clauses, Ended, closing}
-use denote.Triple.Entry.{on_entry}
-use denote.Triple.Spec.{Meets, triple_of}
-use denote.Triple.Table.{entered, run_framed}
-use denote.Triple.Walked.{says, needs, Stays, stay_ref, walk_of, ends_at, Goes-ref, walk_Meets}
-use Rattle.std_alloc.proofs.VecSteps.Shapes.{after}
-use Rattle.std_alloc.proofs.RcSteps.{Ptr-Good}
-use Rattle.std_alloc.proofs.BoxSteps.Form.{Bx, args, X, τ, R, P}
-use Rattle.std_alloc.proofs.OfVacant.{Vacant, vacant_val, vacant_ty, vacant_typed, Vacant-made}
-use Rattle.std_alloc.proofs.Pairs.{pair_val, pair_Typed, pair_of}
-use denote.Struct.Tuple.{Tuple}
-use Rattle.cursor_list.specs.contracts.nodes.Node as Block
-use Rattle.std_collections.specs.LinkedList.Links.{Link, links_of, IsChained}
-use Rattle.std_collections.proofs.ListMemory.Chained.{IsChained-had, IsChained-tail}
-use Rattle.std_collections.proofs.ListMemory.Steps.{uncons, Hd, Held, One, cons_out, one_opens, node_unmade, block_back}
-use Rattle.cursor_list.proofs.Memory.{D, Nr, nodes_opens, nodes_closes}
+use Rattle.cursor_list.proofs.Vocabulary.{◌≡◌, refl, sym, ap, subst, ◌∙◌, ℕ, ◌-◌, ◌≤◌, ◌<◌}
+use Rattle.cursor_list.proofs.Vocabulary.{◌^◌, arith, List, [], ◌∷◌, ◌++◌, length, Ura, Fn, named}
+use Rattle.cursor_list.proofs.Vocabulary.{inst_fn, Val, vptr, SProp, ent, sep, Lft, GName, Share, ftrue, flft, fobs}
+use Rattle.cursor_list.proofs.Vocabulary.{fbor, Env, Calls, Loops, WpFn, Tables, Logic, sem, fact, tables, WpFn-mono}
+use Rattle.cursor_list.proofs.Vocabulary.{Item, ⋆, ‵, ◌⊛◌, at_ret, ◌$◌, ◌∵◌, !, qed, by, move, keep}
+use Rattle.cursor_list.proofs.Vocabulary.{use1, use2, split, join, rewrite, fsplit, fsplit3, fjoin, fjoin3, feq_i}
+use Rattle.cursor_list.proofs.Vocabulary.{feq_l, suffices, frame, done, whole, sub, agg, look_in, store_in, look, stop}
+use Rattle.cursor_list.proofs.Vocabulary.{fld, load, lit, of_opd, bin, addr, and_then, no_more, assigns, first, blocks}
+use Rattle.cursor_list.proofs.Vocabulary.{exec, returns, enter, alloc_all, pass_all, free_all, look_at, get, through}
+use Rattle.cursor_list.proofs.Vocabulary.{sets, sets_last, is, env, Body as Borrowed, yes, RattleType, owns, mem}
+use Rattle.cursor_list.proofs.Vocabulary.{block_ptr, ptr_val, MutBor, MutRef, RefMutOf, plain, nothing, spared, Clauses}
+use Rattle.cursor_list.proofs.Vocabulary.{Ended, closing, on_entry, Meets, triple_of, entered, run_framed, says, needs}
+use Rattle.cursor_list.proofs.Vocabulary.{Stays, stay_ref, walk_of, ends_at, Goes-ref, walk_Meets, after, Ptr-Good, Bx}
+use Rattle.cursor_list.proofs.Vocabulary.{args, X, τ, R, P, Vacant, vacant_val, vacant_ty, vacant_typed, Vacant-made}
+use Rattle.cursor_list.proofs.Vocabulary.{pair_val, pair_Typed, pair_of, Tuple, Link, links_of, IsChained}
+use Rattle.cursor_list.proofs.Vocabulary.{IsChained-had, IsChained-tail, uncons, Hd, Held, One, cons_out, one_opens}
+use Rattle.cursor_list.proofs.Vocabulary.{node_unmade, block_back}
+use contract.Running.{tables_of}
 use Rattle.cursor_list.specs.contracts.nodes.Nodes.unlink_front.Key.{name as #self}
+use Rattle.cursor_list.proofs.Memory.{D, Nr, nodes_opens, nodes_closes}
+use Rattle.cursor_list.specs.contracts.nodes.Node as Block
 use Rattle.cursor_list.proofs.nodes.Nodes.unlink_front.Statement as stated
 use Rattle.cursor_list.proofs.nodes.Nodes.unlink_front.Code as code
 
@@ -110,7 +84,17 @@ module _ (E : Bx) {M : Type 1} {𝓤 : Ura M} (𝓛 : Logic 𝓤) (C : Calls �
       let long = ap length ns.2 in
       let many = ap length xs.2 in
       let linked : IsChained d.head d.tail (m.0 ∷ links_of ns.1) = subst (λ ks. IsChained d.head d.tail (links_of ks)) ns.2 (IsChained-had _ _ _ d.chained) in
-      let new : D E = record { head = m.0.1; tail = d.tail; len = d.len - 1; items = xs.1; blocks = ns.1; ok = (omega arith, omega arith); small = omega arith; chained = ∣ IsChained-tail d.head d.tail m.0 (links_of ns.1) linked ∣₁ } in
+      let new : D E = record {
+        head = m.0.1;
+        tail = d.tail;
+        len = d.len - 1;
+        items = xs.1;
+        blocks = ns.1;
+        ok = (omega arith, omega arith);
+        small = omega arith;
+        chained = ∣ IsChained-tail
+            d.head d.tail m.0 (links_of ns.1) linked ∣₁;
+      } in
       qed 𝓛 Had ∵ enter ! C Λ (function E) (vptr rb ro ∷ []) _ $ alloc_all ! (λ l. pass_all ! refl ((tt, tt), tt) $
       let En : Env 𝓤 H = env (function E).locals l in
       nodes_opens E ! tt d rb ro $
@@ -121,15 +105,18 @@ module _ (E : Bx) {M : Type 1} {𝓤 : Ura M} (𝓛 : Logic 𝓤) (C : Calls �
       let both = pair_Typed (τ E) (vacant_ty E.al (Node E)) v (vacant_val hv b o) good room in
       let made : (Room E).Denot = record { ptr = block_ptr b o; alloc = m.1 } in
       -- [the node, in eight; the others; the words; the open borrow; obs; auth]
-      sets ! (is ! (of_opd ! (load ! (through ! refl (fld ! refl (stop !))) (look_in ! 9 (sub ! 0 refl (whole !))))) (ap ptr_val (linked.0.0 ∙ e))) refl (tt, tt) $ sets ! (of_opd ! (get ! refl)) refl (tt, tt) $
-      sets ! (of_opd ! (load ! (through ! refl (fld ! refl (stop !))) (look_in ! 9 (sub ! 2 refl (whole !))))) refl (tt, record { fits = fits }) $ sets ! (bin ! (get ! refl) (lit ! tt) least) refl (tt, record { fits = less }) $
+      sets ! (is ! (of_opd ! (load ! (through ! refl (fld ! refl (stop !))) (look_in ! 9 (sub ! 0 refl (whole !))))) (ap ptr_val (linked.0.0 ∙ e))) refl (tt, tt) $ sets !
+      (of_opd ! (get ! refl)) refl (tt, tt) $
+      sets ! (of_opd ! (load ! (through ! refl (fld ! refl (stop !))) (look_in ! 9 (sub ! 2 refl (whole !))))) refl (tt, record { fits = fits }) $ sets !
+      (bin ! (get ! refl) (lit ! tt) least) refl (tt, record { fits = less }) $
       assigns ! (of_opd ! (get ! refl)) (through ! refl (fld ! refl (stop !))) (store_in ! 9 (sub ! 2 refl (whole !)) (tt, record { fits = less })) $ first ! $ blocks ! $
       sets ! (of_opd ! (load ! (through ! refl (fld ! refl (stop !))) (look ! 0 refl))) refl (Ptr-Good m.0.1) $
       assigns ! (of_opd ! (get ! refl)) (through ! refl (fld ! refl (stop !))) (store_in ! 9 (sub ! 0 refl (whole !)) (Ptr-Good m.0.1)) $
       sets ! (addr ! (through ! refl (fld ! refl (stop !)))) refl (tt, tt) $ sets ! (of_opd ! (load ! (through ! refl (stop !)) (look ! 2 refl))) refl good $
       sets ! (addr ! (through ! refl (fld ! refl (stop !)))) refl (tt, tt) $ sets ! (of_opd ! (load ! (through ! refl (stop !)) (look ! 3 refl))) refl fa $
       sets ! (of_opd ! (get ! refl)) refl good $ sets ! (of_opd ! (get ! refl)) refl fa $ sets ! (agg ! (and_then ! (get ! refl) (and_then ! (get ! refl) (no_more !)))) refl room $
-      sets_last ! (agg ! (and_then ! (get ! refl) (and_then ! (get ! refl) (no_more !)))) refl both $ exec ! C Λ En (after 6 (function E).body) (at_ret En Post) $ sets ! (of_opd ! (get ! refl)) refl both $
+      sets_last ! (agg ! (and_then ! (get ! refl) (and_then ! (get ! refl) (no_more !)))) refl both $ exec ! C Λ En (after 6 (function E).body) (at_ret En Post) $ sets !
+      (of_opd ! (get ! refl)) refl both $
       block_back E ! b o m.0.1 m.0.2 v hv $ Vacant-made E.al (Node E) ! m.1 b o $ move ! (1 ∷ 0 ∷ []) $
       use2 𝓛 (‵ ((Out E).own_val (x, made) (pair_val v (vacant_val hv b o) ∷ []))) (pair_of 𝓛 (R E) (Room E) x made v (vacant_val hv b o)) $
       move ! (1 ∷ 2 ∷ 3 ∷ 4 ∷ 5 ∷ []) $ nodes_closes E ! tt new rb ro $

@@ -1,5 +1,5 @@
 use Rattle.std.proofs.Common.{codes}
-use Rattle.enf_cli.proofs.CalmLemmas.{alone_names, alone_resumes_none}
+use Rattle.enf_run.proofs.CalmRunLemmas.{alone_names, alone_resumes_none}
 use Rattle.enf_cli.proofs.tests.calm.ran.Goals as goal
 
 pub run_calmly-status-requires-clause-words : goal.run_calmly-status-requires-clause-words

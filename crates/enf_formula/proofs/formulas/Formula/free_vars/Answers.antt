@@ -1,4 +1,4 @@
-use Rattle.enf_formula.specs.Formulas.{tree_of}
+use Rattle.enf_formula.proofs.Vocabulary.{tree_of}
 use Rattle.enf_formula.proofs.Gathering.{are_free}
 use Rattle.enf_formula.proofs.formulas.Formula.free_vars.Goals as goal
 

@@ -1,7 +1,7 @@
 -- A read gives the front of what is there, and a miss is counted.
 use Rattle.std.proofs.Common.{sym, ap, ◌∙◌}
 use Rattle.std.specs.Option.{option_map}
-use Rattle.enf_io.specs.KeptFiles.{contents_in, front_of}
+use Rattle.enf_io.specs.machine.KeptFiles.{contents_in, front_of}
 use Rattle.enf_io.proofs.Kept.{ReadsFile-found, ReadsFile-missed}
 use Rattle.enf_io.proofs.calm_files.CalmFilesFiles.read.Goals as goal
 

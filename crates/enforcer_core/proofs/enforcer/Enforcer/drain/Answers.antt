@@ -1,11 +1,8 @@
-use Rattle.std.proofs.Common.{◌+◌, ◌≤◌, ℕ, All, Contains, subst, sym, arith}
-use Rattle.choice_step.specs.Follows.{ActedStep}
-use Rattle.enforce_types.specs.Typed.{typed_of}
-use Rattle.enforcer_core.specs.Enforcers.{Enforcing, acted_steps}
-use Rattle.enforcer_core.specs.Follows.{FollowsDrainFrom}
-use Rattle.enforcer_core.specs.Stands.{SatisfiesBehind, Stands}
-use Rattle.enforcer_core.proofs.EnforcerLemmas.{drain_ends, drain_follows, drain_justified, drain_bounded, drain_satisfies, drain_serves_all, drain_within, going, serving, works_seen}
-use Rattle.enforcer_core.proofs.TransparentLemmas.{drain_alone}
+use Rattle.enforcer_core.proofs.Vocabulary.{◌+◌, ◌≤◌, ℕ, All, false, Contains, subst, sym, arith, ActedStep}
+use Rattle.enforcer_core.proofs.Vocabulary.{typed_of, EnforcerDrains, Enforcing, acted_steps, FollowsDrainFrom, Stands}
+use Rattle.enforcer_core.proofs.EnforcerLemmas.{drain_ends, drain_follows, drain_justified, drain_within, drains}
+use Rattle.enforcer_core.proofs.EnforcerLemmas.{going, seen, serving, works_seen}
+use Rattle.enforcer_core.proofs.TransparencyLemmas.{drain_alone}
 use Rattle.enforcer_core.proofs.enforcer.Enforcer.drain.Goals as goal
 
 pub pass-requires-clause-serves : goal.pass-requires-clause-serves
@@ -16,11 +13,16 @@ pub invariant_of-self-2 : goal.invariant_of-self-2
 invariant_of-self-2 c =
     (record { together = c.self.invariant.0.together; bounded = c.self.invariant.0.bounded; serves = λ on. c.in_ok-steps.ensures.passes.serves }, c.self.invariant.1)
 
-pub returns-clause-bounded : goal.returns-clause-bounded
-returns-clause-bounded c =
+pub returns-clause-drains : goal.returns-clause-drains
+returns-clause-drains c =
+    let after : Enforcing = seen c.self.inside.policy c.pass.new.self c.in_ok-steps.field-0.clock false in
     rw c.from_vec.ensures
-    (drain_bounded c.self.inside.policy c.self.inside.remembered c.pass.new.self c.self.inside.clock c.in_ok-steps.field-0.clock (acted_steps c.in_ok-steps.field-0.steps.items)
-    c.in_ok-steps.ensures.passes c.in_ok-steps.ensures.none_left (serving c.self.inside.policy c.self.inside.remembered c.self.inside.clock c.self.inside.stopped c.if-self.false (c.self.invariant.0.serves c.if-self.false)))
+    (subst (λ (e : Enforcing). EnforcerDrains e (record { steps = c.in_ok-steps.field-0.steps.items }) after)
+    (going c.self.inside.policy c.self.inside.remembered c.self.inside.clock c.self.inside.stopped c.args.self.now c.if-self.false c.self.view_is)
+    (drains c.self.inside.policy c.self.inside.remembered c.pass.new.self c.self.inside.clock c.in_ok-steps.field-0.clock c.in_ok-steps.field-0.steps.items
+    c.in_ok-steps.ensures.passes c.in_ok-steps.ensures.none_left c.pending_is_enough.ensures.enough
+    (serving c.self.inside.policy c.self.inside.remembered c.self.inside.clock c.self.inside.stopped
+    c.if-self.false (c.self.invariant.0.serves c.if-self.false))))
 
 pub returns-clause-latest : goal.returns-clause-latest
 returns-clause-latest c =
@@ -29,7 +31,8 @@ returns-clause-latest c =
     → All (λ (o : ActedStep). o.step.time ≤ last + (typed_of e.policy).ranked.horizon) (acted_steps c.in_ok-steps.field-0.steps.items)) c.self.view_is
     (drain_within c.self.inside.policy c.self.inside.remembered c.pass.new.self c.self.inside.clock c.in_ok-steps.field-0.clock (acted_steps c.in_ok-steps.field-0.steps.items)
     c.in_ok-steps.ensures.passes c.in_ok-steps.ensures.none_left c.self.invariant.0.together
-    ((serving c.self.inside.policy c.self.inside.remembered c.self.inside.clock c.self.inside.stopped c.if-self.false (c.self.invariant.0.serves c.if-self.false)).can c.self.inside.clock (omega arith)).asked.deadlines))
+    ((serving c.self.inside.policy c.self.inside.remembered c.self.inside.clock c.self.inside.stopped c.if-self.false
+    (c.self.invariant.0.serves c.if-self.false)).can c.self.inside.clock (omega arith)).asked.deadlines))
 
 pub returns-clause-horizon : goal.returns-clause-horizon
 returns-clause-horizon c = λ trace stands.
@@ -38,27 +41,6 @@ returns-clause-horizon c = λ trace stands.
     c.in_ok-steps.ensures.passes c.in_ok-steps.ensures.none_left c.step_laws.ensures c.self.invariant.0.together trace
     (subst (λ (e : Enforcing). Stands e trace)
     (sym (going c.self.inside.policy c.self.inside.remembered c.self.inside.clock c.self.inside.stopped c.args.self.now c.if-self.false c.self.view_is)) stands))
-
-pub returns-clause-decided : goal.returns-clause-decided
-returns-clause-decided c =
-    rw c.from_vec.ensures
-    (subst (λ (e : Enforcing). FollowsDrainFrom e (acted_steps c.in_ok-steps.field-0.steps.items))
-    (going c.self.inside.policy c.self.inside.remembered c.self.inside.clock c.self.inside.stopped c.args.self.now c.if-self.false c.self.view_is)
-    (drain_follows c.self.inside.policy c.self.inside.remembered c.pass.new.self c.self.inside.clock c.in_ok-steps.field-0.clock (acted_steps c.in_ok-steps.field-0.steps.items)
-    c.in_ok-steps.ensures.passes c.in_ok-steps.ensures.none_left))
-
-pub returns-clause-served : goal.returns-clause-served
-returns-clause-served c =
-    drain_serves_all c.self.inside.policy c.self.inside.remembered c.pass.new.self c.self.inside.clock c.in_ok-steps.field-0.clock (acted_steps c.in_ok-steps.field-0.steps.items)
-    c.in_ok-steps.ensures.passes c.in_ok-steps.ensures.none_left
-
-pub returns-clause-satisfied : goal.returns-clause-satisfied
-returns-clause-satisfied c =
-    rw c.from_vec.ensures
-    (subst (λ (e : Enforcing). SatisfiesBehind e (acted_steps c.in_ok-steps.field-0.steps.items))
-    (going c.self.inside.policy c.self.inside.remembered c.self.inside.clock c.self.inside.stopped c.args.self.now c.if-self.false c.self.view_is)
-    (drain_satisfies c.self.inside.policy c.self.inside.remembered c.pass.new.self c.self.inside.clock c.in_ok-steps.field-0.clock (acted_steps c.in_ok-steps.field-0.steps.items)
-    c.in_ok-steps.ensures.passes c.in_ok-steps.ensures.none_left c.pending_is_enough.ensures.enough))
 
 pub returns-clause-justified : goal.returns-clause-justified
 returns-clause-justified c =

@@ -1,30 +1,15 @@
-use Rattle.std.proofs.Common.{ℕ, ◌≤◌, List, length, map, refl, sym, subst, arith}
-use Rattle.std.specs.List.{AllByRecursion}
-use Rattle.monitorable_guard.specs.Guards.{BoundFormula}
-use Rattle.plan_terms.specs.Guards.{guards_of}
-use Rattle.plan_terms.specs.Plans.{plan_of}
+use Rattle.enforcer_core.proofs.Vocabulary.{ℕ, ◌≤◌, List, length, map, refl, sym, subst, arith, AllByRecursion}
+use Rattle.enforcer_core.proofs.Vocabulary.{BoundFormula, guards_of, plan_of, AreCopies, tree_in, all_operators}
+use Rattle.enforcer_core.proofs.Vocabulary.{AreKeptOf, MOST_HORIZON, WorkTogether, typed_of, placed_guard, NoneIsOver}
+use Rattle.enforcer_core.proofs.Vocabulary.{Pend, Instance, MOST_TIME, reach_of, CanAskOf, CanAskRoots, IsPendingListOf}
+use Rattle.enforcer_core.proofs.Vocabulary.{policy_plans, AreFactsOf, policy_operators}
 use Rattle.plan_terms.specs.declared.plans.Plan.{Plan as StoredPlan}
-use Rattle.past_state.specs.Guarded.{AreCopies, tree_in}
-use Rattle.past_state.specs.Operators.{all_operators}
-use Rattle.past_state.specs.Saved.{AreKeptOf}
-use Rattle.rank_check.specs.declared.horizon.TheConstants.{MOST_HORIZON}
-use Rattle.enforce_types.specs.Typed.{WorkTogether, typed_of}
-use Rattle.obligations.specs.Asked.{placed_guard}
-use Rattle.obligations.specs.Pending.{NoneIsOver, Pend}
-use Rattle.obligations.specs.declared.instances.Instance.{Instance}
-use Rattle.obligations.specs.declared.now.TheConstants.{MOST_TIME}
-use Rattle.enforcer_core.specs.Ending.{reach_of}
-use Rattle.obligations.specs.Waiting.{CanAskOf, CanAskRoots}
-use Rattle.pending.specs.Listed.{IsKeptFor}
-use Rattle.enforcer_core.specs.Enforcers.{plans_in}
-use Rattle.enforcer_core.specs.PlanFacts.{AreFactsOf}
-use Rattle.enforcer_core.specs.Snapshots.{operators_in}
 use Rattle.enforcer_core.proofs.SnapshotLemmas.{all_asked, from_clock, kept_in_reach, none_over_kept, rows_rise}
 use Rattle.enforcer_core.proofs.enforcer.Enforcer.from_snapshot.Goals as goal
 
 pub invariant_of-result : goal.invariant_of-result
 invariant_of-result c =
-    let plans = plans_in c.args.policy in
+    let plans = policy_plans c.args.policy in
     let guards = map placed_guard c.in_ok-past.past.guards in
     let together : WorkTogether (typed_of c.args.policy) = record {
       formed = c.plans.ensures.formed;
@@ -42,8 +27,8 @@ invariant_of-result c =
     subst (AllByRecursion (CanAskOf guards plans)) (sym c.in_ok-pending.ensures.instances)
     (all_asked c.nodes_have_scopes.ensures.found c.found_node_inherits.ensures.ends guards plans c.args.snapshot.clock c.args.snapshot.position c.args.snapshot.pending roots
     c.requires.bounds.pending) in
-    let deadlines : IsKeptFor plans c.in_ok-pending.pending =
-    subst (λ (l : List StoredPlan). IsKeptFor (map plan_of l) c.in_ok-pending.pending) c.plans-2.ensures.plans c.in_ok-pending.ensures.kept in (
+    let deadlines : IsPendingListOf plans c.in_ok-pending.pending =
+    subst (λ (l : List StoredPlan). IsPendingListOf (map plan_of l) c.in_ok-pending.pending) c.plans-2.ensures.plans c.in_ok-pending.ensures.kept in (
       record {
         together = together;
         bounded = bounded;
@@ -77,7 +62,7 @@ returns-clause-taken_up c = record {
     clock = refl;
     last = refl;
     position = refl;
-    rising = rows_rise (operators_in c.args.policy) c.args.snapshot.last c.args.snapshot.kept c.requires.bounds.kept;
+    rising = rows_rise (policy_operators c.args.policy) c.args.snapshot.last c.args.snapshot.kept c.requires.bounds.kept;
     kept = c.in_ok-past.ensures.exact;
     pending = sym c.in_ok-pending.ensures.instances;
   };
@@ -91,6 +76,6 @@ returns-clause-stands c = λ trace is_trace ready is. record {
   last = is.last;
   past = c.in_ok-past.ensures.stands trace is.last
       (subst (λ (l : List BoundFormula). AreKeptOf trace (all_operators (map tree_in l)) c.args.snapshot.kept) (sym c.guards.ensures.guards) is.kept);
-  pending = subst (Pend (plans_in c.args.policy) trace) (sym c.in_ok-pending.ensures.instances) is.pending;
-  deadlines = subst (λ (l : List StoredPlan). IsKeptFor (map plan_of l) c.in_ok-pending.pending) c.plans-2.ensures.plans c.in_ok-pending.ensures.kept;
+  pending = subst (Pend (policy_plans c.args.policy) trace) (sym c.in_ok-pending.ensures.instances) is.pending;
+  deadlines = subst (λ (l : List StoredPlan). IsPendingListOf (map plan_of l) c.in_ok-pending.pending) c.plans-2.ensures.plans c.in_ok-pending.ensures.kept;
 }

@@ -1,26 +1,13 @@
-use Rattle.std.proofs.Common.{ℕ, ◌≤◌, List, [], length, map, refl, sym, subst, arith}
-use Rattle.std.specs.List.{AllByRecursion}
-use Rattle.std.proofs.lemmas.List.Elements.{All-nil}
-use Rattle.monitorable_guard.specs.Guards.{BoundFormula}
-use Rattle.plan_terms.specs.Guards.{guards_of}
-use Rattle.plan_terms.specs.Plans.{plan_of}
+use Rattle.enforcer_core.proofs.Vocabulary.{ℕ, ◌≤◌, List, [], length, map, refl, sym, subst, arith}
+use Rattle.enforcer_core.proofs.Vocabulary.{AllByRecursion, All-nil, BoundFormula, guards_of, plan_of, AreCopies}
+use Rattle.enforcer_core.proofs.Vocabulary.{MOST_HORIZON, WorkTogether, typed_of, placed_guard, HasDeadline, NoneIsOver}
+use Rattle.enforcer_core.proofs.Vocabulary.{CanAskOf, Instance, MOST_TIME, reach_of, policy_plans, AreFactsOf}
 use Rattle.plan_terms.specs.declared.plans.Plan.{Plan as StoredPlan}
-use Rattle.past_state.specs.Guarded.{AreCopies}
-use Rattle.rank_check.specs.declared.horizon.TheConstants.{MOST_HORIZON}
-use Rattle.enforce_types.specs.Typed.{WorkTogether, typed_of}
-use Rattle.obligations.specs.Asked.{placed_guard}
-use Rattle.obligations.specs.Pending.{HasDeadline, NoneIsOver}
-use Rattle.obligations.specs.Waiting.{CanAskOf}
-use Rattle.obligations.specs.declared.instances.Instance.{Instance}
-use Rattle.obligations.specs.declared.now.TheConstants.{MOST_TIME}
-use Rattle.enforcer_core.specs.Ending.{reach_of}
-use Rattle.enforcer_core.specs.Enforcers.{plans_in}
-use Rattle.enforcer_core.specs.PlanFacts.{AreFactsOf}
 use Rattle.enforcer_core.proofs.enforcer.Enforcer.new.Goals as goal
 
 pub invariant_of-result : goal.invariant_of-result
 invariant_of-result c =
-    let plans = plans_in c.args.policy in
+    let plans = policy_plans c.args.policy in
     let guards = map placed_guard c.in_ok-past.past.guards in
     let together : WorkTogether (typed_of c.args.policy) = record {
       formed = c.plans.ensures.formed;
@@ -64,12 +51,12 @@ returns-clause-stands c = record {
     clean = λ steps below. absurd (omega arith);
     pending = [];
     pend = refl;
-    in_time = All-nil (λ (i : Instance). (deadline : ℕ) → HasDeadline (plans_in c.args.policy) i deadline → 0 ≤ deadline);
+    in_time = All-nil (λ (i : Instance). (deadline : ℕ) → HasDeadline (policy_plans c.args.policy) i deadline → 0 ≤ deadline);
     not_later = omega arith;
   };
   position = refl;
   last = refl;
   past = c.in_ok-past.ensures.stands;
   pending = c.new-pending.ensures.instances;
-  deadlines = c.new-pending.ensures.kept (plans_in c.args.policy);
+  deadlines = c.new-pending.ensures.kept (policy_plans c.args.policy);
 }

@@ -1,6 +1,4 @@
-use Rattle.std.proofs.Common.{subst}
-use Rattle.obligations.specs.Waiting.{IsLeastOf}
-use Rattle.enforcer_core.specs.Enforcers.{Enforcing}
+use Rattle.enforcer_core.proofs.Vocabulary.{subst, IsLeastOf, Enforcing}
 use Rattle.enforcer_core.proofs.enforcer.Enforcer.next_deadline.Goals as goal
 
 pub returns : goal.returns

@@ -1,6 +1,4 @@
-use Rattle.std.proofs.Common.{◌≡◌, subst}
-use Rattle.std.specs.Prelude.{IfOk}
-use Rattle.enforcer_core.specs.Enforcers.{Enforcing}
+use Rattle.enforcer_core.proofs.Vocabulary.{◌≡◌, subst, IfOk, Enforcing}
 use Rattle.enforcer_core.proofs.enforcer.Enforcer.pending.Goals as goal
 
 pub returns : goal.returns

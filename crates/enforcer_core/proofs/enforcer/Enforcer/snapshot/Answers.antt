@@ -1,11 +1,5 @@
-use Rattle.std.proofs.Common.{◌≡◌, false, refl, sym, subst}
-use Rattle.past_state.specs.Guarded.{AreCopies}
-use Rattle.past_state.specs.Operators.{all_operators}
-use Rattle.past_state.specs.Saved.{AreKeptOf}
-use Rattle.obligations.specs.Pending.{Pend}
-use Rattle.save_codec.specs.declared.snapshots.Snapshot.{Snapshot}
-use Rattle.enforcer_core.specs.Enforcers.{Enforcing, plans_in}
-use Rattle.enforcer_core.specs.Snapshots.{IsKeptOf, SavesTrace}
+use Rattle.enforcer_core.proofs.Vocabulary.{◌≡◌, false, refl, sym, subst, AreCopies, all_operators, AreKeptOf}
+use Rattle.enforcer_core.proofs.Vocabulary.{Pend, Snapshot, Enforcing, policy_plans, IsKeptOf, SavesTrace}
 use Rattle.enforcer_core.proofs.SnapshotLemmas.{few_operators, same_formulas}
 use Rattle.enforcer_core.proofs.enforcer.Enforcer.snapshot.Goals as goal
 
@@ -17,7 +11,14 @@ kept-requires c =
 
 pub returns-clause-kept : goal.returns-clause-kept
 returns-clause-kept c =
-    let s : Snapshot = record { clock = c.self.inside.clock; last = c.self.inside.remembered.last; position = c.self.inside.remembered.position; kept = c.in_ok-kept.kept; pending = c.in_ok-pending.pending } in
+    let s : Snapshot = record {
+      clock = c.self.inside.clock;
+      last = c.self.inside.remembered.last;
+      position =
+          c.self.inside.remembered.position;
+      kept = c.in_ok-kept.kept;
+      pending = c.in_ok-pending.pending;
+    } in
     subst (λ (e : Enforcing). IsKeptOf e s) c.self.view_is
     (record { clock = refl; last = refl; position = refl; rising = c.in_ok-kept.ensures.rising; kept = c.in_ok-kept.ensures.exact; pending = c.in_ok-pending.ensures })
 
@@ -25,7 +26,14 @@ pub returns-clause-saves : goal.returns-clause-saves
 returns-clause-saves c =
     let on : c.self.inside.stopped ≡ false = subst (λ (e : Enforcing). e.stopped ≡ false) (sym c.self.view_is) c.requires.goes_on in
     let copies : AreCopies c.self.inside.policy.guards c.self.inside.remembered.past.guards = (c.self.invariant.0.serves on).guards in
-    let s : Snapshot = record { clock = c.self.inside.clock; last = c.self.inside.remembered.last; position = c.self.inside.remembered.position; kept = c.in_ok-kept.kept; pending = c.in_ok-pending.pending } in
+    let s : Snapshot = record {
+      clock = c.self.inside.clock;
+      last = c.self.inside.remembered.last;
+      position =
+          c.self.inside.remembered.position;
+      kept = c.in_ok-kept.kept;
+      pending = c.in_ok-pending.pending;
+    } in
     subst (λ (e : Enforcing). SavesTrace e s) c.self.view_is
     (λ trace stands. record {
       clocked = refl;
@@ -34,5 +42,5 @@ returns-clause-saves c =
       rising = c.in_ok-kept.ensures.rising;
       kept = subst (λ fs. AreKeptOf trace (all_operators fs) c.in_ok-kept.kept) (same_formulas c.self.inside.policy.guards c.self.inside.remembered.past.guards copies)
           (c.in_ok-kept.ensures.kept trace stands.past);
-      pending = subst (Pend (plans_in c.self.inside.policy) trace) (sym c.in_ok-pending.ensures) stands.pending;
+      pending = subst (Pend (policy_plans c.self.inside.policy) trace) (sym c.in_ok-pending.ensures) stands.pending;
     })

@@ -1,9 +1,8 @@
-use Rattle.std.proofs.Common.{◌≡◌, ◌<◌, ◌≤◌, false, [], ◌∷◌, Contains, sym, subst, arith}
-use Rattle.trace_meaning.specs.Records.{Tick}
-use Rattle.enforcer_core.specs.Enforcers.{Enforcing, acted_steps}
-use Rattle.enforcer_core.specs.Follows.{FollowsFrom}
-use Rattle.enforcer_core.proofs.EnforcerLemmas.{going, records_justified, serving, works_seen}
-use Rattle.enforcer_core.proofs.TransparentLemmas.{records_alone}
+use Rattle.enforcer_core.proofs.Vocabulary.{◌≡◌, ◌<◌, ◌≤◌, false, [], ◌∷◌, Contains, sym, subst}
+use Rattle.enforcer_core.proofs.Vocabulary.{arith, Tick, Enforcing, acted_steps, LetsOut, FollowsFrom}
+use Rattle.enforcer_core.proofs.EnforcerLemmas.{going, records_justified, seen, serving, works_seen}
+use Rattle.enforcer_core.proofs.RecordLemmas.{takes_record}
+use Rattle.enforcer_core.proofs.TransparencyLemmas.{records_alone}
 use Rattle.enforcer_core.proofs.enforcer.Enforcer.tick.Goals as goal
 
 pub let_pass-requires-clause-serves : goal.let_pass-requires-clause-serves
@@ -22,6 +21,14 @@ returns-in_err-steps-clause-no_memory c later same =
     let le : c.args.time ≤ deadline = later deadline (subst (λ (e : Enforcing). Contains e.pending.deadlines deadline) c.self.view_is there) in
     let less : deadline < c.args.time = passed in
     omega (arith, le, less))
+
+pub returns-clause-takes : goal.returns-clause-takes
+returns-clause-takes c =
+    let on : c.self.inside.stopped ≡ false = subst (λ (e : Enforcing). e.stopped ≡ false) (sym c.self.view_is) c.in_ok-admit.ensures.goes_on in
+    let after : Enforcing = seen c.self.inside.policy c.let_pass.new.self c.args.time false in
+    takes_record c.args.self.now after (Tick c.args.time) c.in_ok-steps.steps c.in_ok-admit.ensures
+    (subst (λ (e : Enforcing). LetsOut e (Tick c.args.time) (acted_steps c.in_ok-steps.steps) after)
+    (going c.self.inside.policy c.self.inside.remembered c.self.inside.clock c.self.inside.stopped c.args.self.now on c.self.view_is) c.in_ok-steps.ensures.out)
 
 pub returns-clause-justified : goal.returns-clause-justified
 returns-clause-justified c =

@@ -1,5 +1,4 @@
-use Rattle.formula_reader.proofs.Parts.{part_last}
-use Rattle.formula_reader.specs.Canonical.{interval_text}
+use Rattle.formula_reader.proofs.Vocabulary.{part_last, interval_text}
 use Rattle.formula_reader.proofs.printing.OperatorWord.print.Goals as goal
 
 pub returns-in-Some-clause-err : goal.returns-in-Some-clause-err

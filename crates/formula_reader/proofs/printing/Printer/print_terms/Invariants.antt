@@ -1,6 +1,4 @@
-use Rattle.std.proofs.Common.{◌≡◌, ◌++◌, codes, take}
-use Rattle.std.specs.List.{flat_map}
-use Rattle.formula_reader.specs.Canonical.{term_text}
+use Rattle.formula_reader.proofs.Vocabulary.{◌≡◌, ◌++◌, codes, take, flat_map, term_text}
 use Rattle.formula_reader.proofs.printing.Printer.print_terms.Given as goal
 
 abbrev pub invariant-loop-term : goal.invariant-loop-term

@@ -1,6 +1,4 @@
-use Rattle.std.proofs.Common.{◌≡◌, ◌++◌, codes, take}
-use Rattle.std.specs.List.{flat_map}
-use Rattle.formula_reader.specs.Canonical.{variable_text}
+use Rattle.formula_reader.proofs.Vocabulary.{◌≡◌, ◌++◌, codes, take, flat_map, variable_text}
 use Rattle.formula_reader.proofs.printing.Printer.print_variables.Given as goal
 
 abbrev pub invariant-loop-variable : goal.invariant-loop-variable

@@ -1,8 +1,4 @@
-use Rattle.std.proofs.Common.{◌≡◌, ◌++◌, drop}
-use Rattle.std.specs.Option.{option_map}
-use Rattle.formula_reader.specs.Passing.{pass}
-use Rattle.formula_reader.specs.Points.{argument_points}
-use Rattle.formula_reader.specs.Resolution.{terms_in}
+use Rattle.formula_reader.proofs.Vocabulary.{◌≡◌, ◌++◌, drop, option_map, pass, argument_points, terms_in}
 use Rattle.formula_reader.proofs.resolving.Resolver.resolve_arguments.Given as goal
 
 abbrev pub invariant-loop-index : goal.invariant-loop-index

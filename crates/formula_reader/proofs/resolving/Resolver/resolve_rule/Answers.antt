@@ -1,8 +1,6 @@
-use Rattle.std.proofs.Common.{rules, ◌≡◌, ◌≢◌, Some}
-use Rattle.policy_syntax.specs.Trees.{rule_of as syntax_rule_of}
-use Rattle.formula_reader.specs.Sorts.{rule_refusal}
-use Rattle.formula_reader.specs.declared.policies.PolicyRefusal.TheVariants.{NoMemory as OutOfMemory}
-use Rattle.formula_reader.proofs.Rules.{rule_passes, rule_refuses}
+use Rattle.formula_reader.proofs.Vocabulary.{rules, ◌≡◌, ◌≢◌, Some, policy_rule_of as syntax_rule_of}
+use Rattle.formula_reader.proofs.Vocabulary.{rule_refusal, NoMemory as OutOfMemory}
+use Rattle.formula_reader.proofs.PassedRules.{rule_passes, rule_refuses}
 use Rattle.formula_reader.proofs.resolving.Resolver.resolve_rule.Goals as goal
 
 pub returns-in_err-formula-clause-err : goal.returns-in_err-formula-clause-err

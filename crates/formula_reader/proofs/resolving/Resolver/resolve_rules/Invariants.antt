@@ -1,8 +1,5 @@
-use Rattle.std.proofs.Common.{◌≡◌, ◌++◌, drop, map}
-use Rattle.std.specs.Option.{option_map}
-use Rattle.policy_syntax.specs.Trees.{rule_of as syntax_rule_of}
-use Rattle.formula_reader.specs.Resolution.{rule_of, rules_in}
-use Rattle.formula_reader.specs.Sorts.{policy_refusal}
+use Rattle.formula_reader.proofs.Vocabulary.{◌≡◌, ◌++◌, drop, map, option_map}
+use Rattle.formula_reader.proofs.Vocabulary.{policy_rule_of as syntax_rule_of, rule_of, rules_in, policy_refusal}
 use Rattle.formula_reader.proofs.resolving.Resolver.resolve_rules.Given as goal
 
 abbrev pub invariant-loop-rule : goal.invariant-loop-rule

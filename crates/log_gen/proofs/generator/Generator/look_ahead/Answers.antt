@@ -1,6 +1,6 @@
 -- The draws and the time of a step are within their types.
 use Rattle.std.proofs.Common.{◌+◌, ap, ◌∙◌, arith}
-use Rattle.log_gen.specs.StepLaws.{few_draws, early}
+use Rattle.log_gen.proofs.StepLaws.{few_draws, early}
 use Rattle.log_gen.proofs.generator.Generator.look_ahead.Goals as goal
 
 pub next-requires : goal.next-requires

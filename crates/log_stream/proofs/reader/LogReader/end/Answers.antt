@@ -1,14 +1,12 @@
-use Rattle.std.proofs.Common.{List, ℕ, None, ◌≡◌, ◌≤◌, inr, refl, sym, subst, length, arith}
-use Rattle.log_stream.specs.Logs.{IsPending}
-use Rattle.log_stream.specs.Readers.{Reader}
-use Rattle.log_stream.specs.Tokens.{IsGap}
-use Rattle.log_stream.proofs.Readers.{nothing_left, truncated_at}
-use Rattle.log_stream.proofs.Windows.{begins_at}
+use Rattle.log_stream.proofs.Vocabulary.{List, ℕ, None, ◌≡◌, ◌≤◌, inr, refl, sym, subst, length, arith}
+use Rattle.log_stream.proofs.Vocabulary.{IsPending, IsLogGap, Reader}
+use Rattle.log_stream.proofs.ReaderCalls.{nothing_left, truncated_at}
+use Rattle.log_stream.proofs.RestFronts.{begins_at}
 use Rattle.log_stream.proofs.reader.LogReader.end.Goals as goal
 
 pub returns-then-skip_blanks-len : goal.returns-then-skip_blanks-len
 returns-then-skip_blanks-len c =
-    let gap = subst (λ (l : List ℕ). IsGap l c.self.inside.front c.skip_blanks.result) c.deref.ensures.value c.skip_blanks.ensures.gap in
+    let gap = subst (λ (l : List ℕ). IsLogGap l c.self.inside.front c.skip_blanks.result) c.deref.ensures.value c.skip_blanks.ensures.gap in
     let within = subst (λ (l : List ℕ). c.skip_blanks.result ≤ length l) c.deref.ensures.value c.skip_blanks.ensures.within in
     let begins = begins_at c.self.inside.bytes.items c.self.inside.front c.skip_blanks.result gap within in
     let test = c.if-skip_blanks-len.true in
@@ -18,7 +16,7 @@ returns-then-skip_blanks-len c =
 
 pub returns : goal.returns
 returns c =
-    let gap = subst (λ (l : List ℕ). IsGap l c.self.inside.front c.skip_blanks.result) c.deref.ensures.value c.skip_blanks.ensures.gap in
+    let gap = subst (λ (l : List ℕ). IsLogGap l c.self.inside.front c.skip_blanks.result) c.deref.ensures.value c.skip_blanks.ensures.gap in
     let within = subst (λ (l : List ℕ). c.skip_blanks.result ≤ length l) c.deref.ensures.value c.skip_blanks.ensures.within in
     let begins = begins_at c.self.inside.bytes.items c.self.inside.front c.skip_blanks.result gap within in
     let test = c.if-skip_blanks-len.false in

@@ -1,27 +1,29 @@
-use Rattle.std.proofs.Common.{◌↔◌, IfOk, IsTrue, sym, subst, ◌∙◌}
-use Rattle.enf_formula.specs.Formulas.{tree_of}
-use Rattle.valuations.specs.Scopes.{bound_in, part_of, IsPartOf}
-use Rattle.valuations.specs.ScopeLaws.{part_is}
-use Rattle.monitorable_guard.specs.Answers.{CanAsk, IsBoundBy}
-use Rattle.monitorable_guard.specs.Present.{HoldsNow}
-use Rattle.monitorable_guard.specs.Safety.{FreeWithin}
+use Rattle.monitorable_guard.proofs.Vocabulary.{◌↔◌, IfOk, IsTrue, sym, subst, ◌∙◌, tree_of, bound_in}
+use Rattle.monitorable_guard.proofs.Vocabulary.{valuation_part, IsPartOfValuation, part_is, CanAskFormula, IsBoundBy}
+use Rattle.monitorable_guard.proofs.Vocabulary.{HoldsNow, FreeWithin}
 use Rattle.monitorable_guard.proofs.GuardLemmas.{can_ask, closed, ok_holds}
 use Rattle.monitorable_guard.proofs.guard.Guard.holds.Goals as goal
 
 pub holds-requires-clause-ask : goal.holds-requires-clause-ask
 holds-requires-clause-ask g c =
-    let part = subst (λ l. IsPartOf (bound_in c.args.v.now) l (part_of (bound_in c.args.v.now) c.as_slice.result.now)) (c.as_slice.ensures ∙ c.bound.ensures.bound) (part_is (bound_in c.args.v.now) c.as_slice.result.now) in
-    subst (λ k. CanAsk (part_of (bound_in c.args.v.now) c.as_slice.result.now) (g.P.Past.tables c.args.past.now) (tree_of k)) (sym c.formula.ensures.formula)
-    (can_ask (tree_of c.args.self.now.formula) c.args.self.now.bound (bound_in c.args.v.now) (part_of (bound_in c.args.v.now) c.as_slice.result.now) part c.requires.can.binds (g.P.Past.tables c.args.past.now) c.bound.ensures.safe c.requires.can)
+    let part = subst (λ l. IsPartOfValuation (bound_in c.args.v.now) l (valuation_part (bound_in c.args.v.now) c.as_slice.result.now)) (c.as_slice.ensures ∙ c.bound.ensures.bound)
+    (part_is (bound_in c.args.v.now) c.as_slice.result.now) in
+    subst (λ k. CanAskFormula (valuation_part (bound_in c.args.v.now) c.as_slice.result.now) (g.P.Past.tables c.args.past.now) (tree_of k)) (sym c.formula.ensures.formula)
+    (can_ask (tree_of c.args.self.now.formula) c.args.self.now.bound (bound_in c.args.v.now) (valuation_part (bound_in c.args.v.now) c.as_slice.result.now) part c.requires.can.binds
+    (g.P.Past.tables c.args.past.now) c.bound.ensures.safe c.requires.can)
 
 pub holds-requires-clause-closed : goal.holds-requires-clause-closed
 holds-requires-clause-closed g c =
-    let part = subst (λ l. IsPartOf (bound_in c.args.v.now) l (part_of (bound_in c.args.v.now) c.as_slice.result.now)) (c.as_slice.ensures ∙ c.bound.ensures.bound) (part_is (bound_in c.args.v.now) c.as_slice.result.now) in
-    subst (λ k. FreeWithin (tree_of k) (IsBoundBy (part_of (bound_in c.args.v.now) c.as_slice.result.now))) (sym c.formula.ensures.formula)
-    (closed (tree_of c.args.self.now.formula) c.args.self.now.bound (bound_in c.args.v.now) (part_of (bound_in c.args.v.now) c.as_slice.result.now) part c.requires.can.binds c.requires.test)
+    let part = subst (λ l. IsPartOfValuation (bound_in c.args.v.now) l (valuation_part (bound_in c.args.v.now) c.as_slice.result.now)) (c.as_slice.ensures ∙ c.bound.ensures.bound)
+    (part_is (bound_in c.args.v.now) c.as_slice.result.now) in
+    subst (λ k. FreeWithin (tree_of k) (IsBoundBy (valuation_part (bound_in c.args.v.now) c.as_slice.result.now))) (sym c.formula.ensures.formula)
+    (closed (tree_of c.args.self.now.formula) c.args.self.now.bound (bound_in c.args.v.now) (valuation_part (bound_in c.args.v.now) c.as_slice.result.now) part c.requires.can.binds c.requires.test)
 
 pub returns : goal.returns
 returns g c =
-    let part = subst (λ l. IsPartOf (bound_in c.args.v.now) l (part_of (bound_in c.args.v.now) c.as_slice.result.now)) (c.as_slice.ensures ∙ c.bound.ensures.bound) (part_is (bound_in c.args.v.now) c.as_slice.result.now) in
-    ok_holds (tree_of c.args.self.now.formula) c.args.self.now.bound (bound_in c.args.v.now) (part_of (bound_in c.args.v.now) c.as_slice.result.now) part c.requires.can.binds c.args.events.now (g.P.Past.tables c.args.past.now) c.requires.can.tabled c.holds.result c.requires.test
-    (subst (λ k. IfOk c.holds.result (λ b. IsTrue b ↔ HoldsNow c.args.events.now (g.P.Past.tables c.args.past.now) (part_of (bound_in c.args.v.now) c.as_slice.result.now) (tree_of k))) c.formula.ensures.formula c.holds.ensures)
+    let part = subst (λ l. IsPartOfValuation (bound_in c.args.v.now) l (valuation_part (bound_in c.args.v.now) c.as_slice.result.now)) (c.as_slice.ensures ∙ c.bound.ensures.bound)
+    (part_is (bound_in c.args.v.now) c.as_slice.result.now) in
+    ok_holds (tree_of c.args.self.now.formula) c.args.self.now.bound (bound_in c.args.v.now) (valuation_part (bound_in c.args.v.now) c.as_slice.result.now) part c.requires.can.binds
+    c.args.events.now (g.P.Past.tables c.args.past.now) c.requires.can.tabled c.holds.result c.requires.test
+    (subst (λ k. IfOk c.holds.result (λ b. IsTrue b ↔ HoldsNow c.args.events.now (g.P.Past.tables c.args.past.now) (valuation_part (bound_in c.args.v.now) c.as_slice.result.now)
+    (tree_of k))) c.formula.ensures.formula c.holds.ensures)

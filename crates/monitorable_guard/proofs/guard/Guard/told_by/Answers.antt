@@ -1,13 +1,7 @@
-use Rattle.std.proofs.Common.{◌≡◌, List, map, sym, subst, ◌∙◌}
-use Rattle.enf_value.specs.Membership.{HasNoRepeats}
-use Rattle.enf_value.specs.RisingLaws.{rising_distinct}
-use Rattle.enf_value.specs.Valuations.{Valuation, variable_cmp_total}
-use Rattle.enf_value.specs.declared.terms.Term.{Term}
-use Rattle.enf_value.specs.declared.terms.Term.TheVariants.{Var}
-use Rattle.enf_formula.specs.Formulas.{tree_of}
-use Rattle.valuations.specs.Tables.{Relation}
-use Rattle.monitorable_guard.specs.Evaluation.{HasKnownValues, HoldsFor}
-use Rattle.monitorable_guard.proofs.StandingLemmas.{some_is, told_hold, told_known, told_rows}
+use Rattle.monitorable_guard.proofs.Vocabulary.{◌≡◌, List, map, sym, subst, ◌∙◌, HasNoRepeats}
+use Rattle.monitorable_guard.proofs.Vocabulary.{rising_distinct, Valuation, variable_cmp_total, Term, Var, tree_of}
+use Rattle.monitorable_guard.proofs.Vocabulary.{Relation, HasKnownValues, AreHoldingRows}
+use Rattle.monitorable_guard.proofs.EventRowLemmas.{some_is, told_hold, told_known, told_rows}
 use Rattle.monitorable_guard.proofs.guard.Guard.told_by.Goals as goal
 
 pub told-requires : goal.told-requires
@@ -20,8 +14,8 @@ returns-then-are_variables-clause-rows c =
     let bound = c.args.self.now.bound in
     let rows = told_rows events c.named.result.now c.in-Atom.name columns c.named.ensures in
     let terms : c.in-Atom.terms ≡ map Var columns = subst (λ (l : List Term). l ≡ map Var columns) c.as_slice.ensures (c.are_variables.ensures c.if-are_variables.true) in
-    some_is c.told.result rows (λ t. (tables : List Relation) (v : Valuation) → HoldsFor events tables (tree_of c.args.self.now.formula) bound v t) c.told.ensures.rows c.told.ensures.table
-    (λ table tables v. subst (λ f. HoldsFor events tables (tree_of f) bound v rows) (sym c.in-Atom.is ∙ c.formula.ensures.formula)
+    some_is c.told.result rows (λ t. (tables : List Relation) (v : Valuation) → AreHoldingRows events tables (tree_of c.args.self.now.formula) bound v t) c.told.ensures.rows c.told.ensures.table
+    (λ table tables v. subst (λ f. AreHoldingRows events tables (tree_of f) bound v rows) (sym c.in-Atom.is ∙ c.formula.ensures.formula)
     (told_hold events c.named.result.now c.in-Atom.name columns c.named.ensures table.distinct table.fits c.in-Atom.field-0 c.in-Atom.terms terms tables bound v))
 
 pub returns-then-are_variables-clause-known : goal.returns-then-are_variables-clause-known

@@ -1,9 +1,6 @@
-use Rattle.std.proofs.Common.{refl, sym, subst}
-use Rattle.std.proofs.lemmas.Result.{on_ok_weaker}
-use Rattle.windows.specs.Windows.{IsCommittedBy}
-use Rattle.past_state.specs.Memories.{IsCommittedTo}
-use Rattle.past_state.specs.declared.memories.Memory.TheVariants as memories
+use Rattle.past_state.proofs.Vocabulary.{refl, sym, subst, on_ok_weaker, IsCommittedBy, IsCommittedTo}
 use Rattle.past_state.proofs.SurvivorLemmas.{by_view}
+use Rattle.past_state.specs.declared.memories.Memory.TheVariants as memories
 use Rattle.past_state.proofs.memories.Memory.commit.Goals as goal
 
 pub returns-in-Once-clause-ok : goal.returns-in-Once-clause-ok
@@ -18,6 +15,7 @@ pub returns-clause-ok : goal.returns-clause-ok
 returns-clause-ok c = on_ok_weaker c.commit_by-in-Since.result (λ committed.
     subst (λ m. IsCommittedTo m c.args.time c.args.tables (memories.Since c.commit_by-in-Since.new.self c.in-Since.left c.in-Since.left_tables c.in-Since.right)) (sym c.in-Since.is) (
       c.commit_by-in-Since.new.self,
-      by_view (λ S. IsCommittedBy c.in-Since.window c.args.time S c.args.tables.right c.commit_by-in-Since.new.self) c.args.tables.surviving c.as_surviving-in-Since.result c.as_surviving-in-Since.ensures committed,
+      by_view (λ S. IsCommittedBy c.in-Since.window c.args.time S c.args.tables.right c.commit_by-in-Since.new.self) c.args.tables.surviving c.as_surviving-in-Since.result
+          c.as_surviving-in-Since.ensures committed,
       refl,
     )) c.commit_by-in-Since.ensures.ok

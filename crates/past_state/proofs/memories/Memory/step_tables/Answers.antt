@@ -1,14 +1,7 @@
-use Rattle.std.proofs.Common.{◌↔◌, drop, sym, refl, subst}
-use Rattle.enf_formula.specs.Formulas.{tree_of}
-use Rattle.monitorable_guard.specs.Evaluation.{FitOperators}
-use Rattle.monitorable_guard.specs.Present.{HoldsNow, outermost}
-use Rattle.past_state.specs.Memories.{CanStep, AreStepTables}
-use Rattle.past_state.specs.Sources.{AllComeFrom}
-use Rattle.past_state.specs.declared.survivors.Survivors.TheVariants as told
-use Rattle.enf_value.specs.Valuations.{Valuation}
-use Rattle.valuations.specs.Just.{Binds}
-use Rattle.valuations.specs.Tables.{Has}
+use Rattle.past_state.proofs.Vocabulary.{◌↔◌, drop, sym, refl, subst, tree_of, FitOperators, HoldsNow, outermost}
+use Rattle.past_state.proofs.Vocabulary.{CanStep, AreStepTables, AllComeFrom, Valuation, BindsColumns, HasValuation}
 use Rattle.past_state.proofs.ColumnLemmas.{answers_all}
+use Rattle.past_state.specs.declared.survivors.Survivors.TheVariants as told
 use Rattle.past_state.proofs.memories.Memory.step_tables.Goals as goal
 
 pub all_rows-requires-clause-fresh : goal.all_rows-requires-clause-fresh
@@ -29,13 +22,15 @@ pub returns-in_ok-right-in-Prev : goal.returns-in_ok-right-in-Prev
 returns-in_ok-right-in-Prev c =
     subst (λ m. AreStepTables c.args.events.now c.args.past.now m (record { surviving = told.All; right = c.in_ok-right-in-Prev.right })) (sym c.in-Prev.is)
     (answers_all c.args.events.now c.args.past.now c.in-Prev.operand c.in-Prev.slot.columns c.in_ok-right-in-Prev.right
-    (subst (CanStep c.args.past.now) c.in-Prev.is c.requires).free c.in_ok-right-in-Prev.ensures.table c.in_ok-right-in-Prev.ensures.free c.in_ok-right-in-Prev.ensures.rows c.in_ok-right-in-Prev.ensures.known)
+    (subst (CanStep c.args.past.now) c.in-Prev.is c.requires).free c.in_ok-right-in-Prev.ensures.table c.in_ok-right-in-Prev.ensures.free c.in_ok-right-in-Prev.ensures.rows
+    c.in_ok-right-in-Prev.ensures.known)
 
 pub returns-in_ok-right-in-Once : goal.returns-in_ok-right-in-Once
 returns-in_ok-right-in-Once c =
     subst (λ m. AreStepTables c.args.events.now c.args.past.now m (record { surviving = told.All; right = c.in_ok-right-in-Once.right })) (sym c.in-Once.is) (
       answers_all c.args.events.now c.args.past.now c.in-Once.right c.in-Once.window.columns c.in_ok-right-in-Once.right
-          (subst (CanStep c.args.past.now) c.in-Once.is c.requires).free c.in_ok-right-in-Once.ensures.table c.in_ok-right-in-Once.ensures.free c.in_ok-right-in-Once.ensures.rows c.in_ok-right-in-Once.ensures.known,
+          (subst (CanStep c.args.past.now) c.in-Once.is c.requires).free c.in_ok-right-in-Once.ensures.table c.in_ok-right-in-Once.ensures.free c.in_ok-right-in-Once.ensures.rows
+          c.in_ok-right-in-Once.ensures.known,
       refl,
     )
 
@@ -44,7 +39,8 @@ returns-in_ok-surviving-in-Since c =
     subst (λ m. AreStepTables c.args.events.now c.args.past.now m (record { surviving = c.in_ok-surviving-in-Since.surviving; right = c.in_ok-right-in-Since.right })) (sym c.in-Since.is) (
       answers_all c.args.events.now (drop c.in-Since.left_tables c.args.past.now) c.in-Since.right c.in-Since.window.columns c.in_ok-right-in-Since.right
           (subst (CanStep c.args.past.now) c.in-Since.is c.requires).0.free c.in_ok-right-in-Since.ensures.table c.in_ok-right-in-Since.ensures.free
-          (subst (λ l. (v : Valuation) → Binds v c.in_ok-right-in-Since.right.columns → Has c.in_ok-right-in-Since.right v ↔ HoldsNow c.args.events.now l v (tree_of c.in-Since.right.formula))
+          (subst (λ l. (v : Valuation) → BindsColumns v c.in_ok-right-in-Since.right.columns
+          → HasValuation c.in_ok-right-in-Since.right v ↔ HoldsNow c.args.events.now l v (tree_of c.in-Since.right.formula))
           c.behind-behind.ensures c.in_ok-right-in-Since.ensures.rows)
           (subst (λ l. AllComeFrom c.args.events.now l (tree_of c.in-Since.right.formula) c.in_ok-right-in-Since.right)
           c.behind-behind.ensures c.in_ok-right-in-Since.ensures.known),

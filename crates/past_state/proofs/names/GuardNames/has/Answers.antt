@@ -1,15 +1,7 @@
-use Rattle.std.proofs.Common.{rules, ◌≡◌, ◌↔◌, IsTrue, is_ok, Contains, length, refl, subst}
-use Rattle.std.proofs.lemmas.Fn.{always_returns_same}
-use Rattle.std.specs.Cmp.{nat_cmp_total}
-use Rattle.std.specs.FinMap.{nat_cmp-IsAntisymmetric}
-use Rattle.std.specs.List.Sorted.{IsSearchInRange, IsBinarySearchResult}
-use Rattle.std.specs.Ordering.{nat_cmp}
-use Rattle.enf_value.specs.declared.events.NameId.{NameId}
-use Rattle.valuations.specs.SearchLaws.{found_tells}
+use Rattle.past_state.proofs.Vocabulary.{rules, ◌↔◌, IsTrue, is_ok, Contains, length, refl, subst}
+use Rattle.past_state.proofs.Vocabulary.{always_returns_same, nat_cmp_total, nat_cmp-IsAntisymmetric, IsSearchInRange}
+use Rattle.past_state.proofs.Vocabulary.{IsBinarySearchResult, nat_cmp, NameId, same_name, found_tells}
 use Rattle.past_state.proofs.names.GuardNames.has.Goals as goal
-
-same_name : (m n : NameId) → m.0 ≡ n.0 → m ≡ n
-same_name m n e = λ i. record { 0 = e i }
 
 pub returns : goal.returns
 returns c =

@@ -1,7 +1,5 @@
-use Rattle.std.proofs.Common.{rules, Contains, sym, subst}
-use Rattle.std.proofs.lemmas.Fn.{always_returns_same}
-use Rattle.std.proofs.lemmas.List.Sorted.{Contains-permutation, IsPermutation-sym}
-use Rattle.enf_value.specs.declared.events.NameId.{NameId}
+use Rattle.past_state.proofs.Vocabulary.{rules, Contains, sym, subst, always_returns_same, Contains-permutation}
+use Rattle.past_state.proofs.Vocabulary.{IsPermutation-sym, NameId}
 use Rattle.past_state.proofs.names.GuardNames.of.Goals as goal
 
 pub invariant_of-result : goal.invariant_of-result

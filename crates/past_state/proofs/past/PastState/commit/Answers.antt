@@ -1,15 +1,12 @@
-use Rattle.std.proofs.Common.{ap, sym, subst}
-use Rattle.past_state.specs.Past.{IsPast}
-use Rattle.past_state.specs.Runs.{AllFit, AllCommitted}
-use Rattle.std.proofs.lemmas.Result.{on_ok_weaker}
+use Rattle.past_state.proofs.Vocabulary.{ap, sym, subst, IsPast, AllMemoriesFit, AllCommitted, on_ok_weaker}
 use Rattle.past_state.proofs.CommitLemmas.{all_up_to}
 use Rattle.past_state.proofs.PastLemmas.{fits_run, still_past}
 use Rattle.past_state.proofs.past.PastState.commit.Goals as goal
 
 pub commit_shared-requires-clause-fits : goal.commit_shared-requires-clause-fits
 commit_shared-requires-clause-fits c =
-    subst (λ l. AllFit l c.tables.inside.steps.items) (sym (ap (λ p. p.operators) c.self.view_is))
-    (subst (AllFit c.args.self.now.operators) (sym (ap (λ t. t.steps) c.tables.view_is)) (fits_run _ _ _ _ _ _ c.requires.are.2.1))
+    subst (λ l. AllMemoriesFit l c.tables.inside.steps.items) (sym (ap (λ p. p.operators) c.self.view_is))
+    (subst (AllMemoriesFit c.args.self.now.operators) (sym (ap (λ t. t.steps) c.tables.view_is)) (fits_run _ _ _ _ _ _ c.requires.are.2.1))
 
 pub invariant_of-self : goal.invariant_of-self
 invariant_of-self c = (
@@ -19,9 +16,10 @@ invariant_of-self c = (
 
 pub returns-clause-up_to : goal.returns-clause-up_to
 returns-clause-up_to c =
-    on_ok_weaker c.commit_shared.result (λ committed later within. all_up_to c.args.time later c.self.inside.operators.value.items.items c.tables.inside.steps.items c.commit_shared.new.operators.value.items.items within
-    (subst (λ l. AllFit l c.tables.inside.steps.items) (sym (ap (λ p. p.operators) c.self.view_is))
-    (subst (AllFit c.args.self.now.operators) (sym (ap (λ t. t.steps) c.tables.view_is)) (fits_run _ _ _ _ _ _ c.requires.are.2.1))) committed) c.commit_shared.ensures.ok
+    on_ok_weaker c.commit_shared.result (λ committed later within. all_up_to c.args.time later c.self.inside.operators.value.items.items c.tables.inside.steps.items
+    c.commit_shared.new.operators.value.items.items within
+    (subst (λ l. AllMemoriesFit l c.tables.inside.steps.items) (sym (ap (λ p. p.operators) c.self.view_is))
+    (subst (AllMemoriesFit c.args.self.now.operators) (sym (ap (λ t. t.steps) c.tables.view_is)) (fits_run _ _ _ _ _ _ c.requires.are.2.1))) committed) c.commit_shared.ensures.ok
 
 pub returns-clause-stands : goal.returns-clause-stands
 returns-clause-stands c =

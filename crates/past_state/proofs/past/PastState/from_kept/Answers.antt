@@ -1,31 +1,34 @@
-use Rattle.std.proofs.Common.{◌∙◌, ◌↔◌, All, Contains, ap, sym, subst, map, reverse, arith}
-use Rattle.past_state.specs.GuardLaws.{copies_formulas}
-use Rattle.past_state.specs.Guarded.{tree_in}
-use Rattle.past_state.specs.Operators.{all_operators}
-use Rattle.past_state.specs.Past.{IsPast, formulas, guard_names}
-use Rattle.past_state.specs.LastTimes.{IsAtLast}
-use Rattle.past_state.specs.Runs.{AllStand, AreUpToTimeOf}
-use Rattle.past_state.specs.Saved.{StoresAt}
-use Rattle.past_state.specs.declared.kept.KeptRow.{KeptRow}
+use Rattle.past_state.proofs.Vocabulary.{◌∙◌, ◌↔◌, All, Contains, ap, sym, subst, map, reverse, arith}
+use Rattle.past_state.proofs.Vocabulary.{tree_in, all_operators, IsPast, formulas_of_guards, guard_names, IsAtLast}
+use Rattle.past_state.proofs.Vocabulary.{AllStand, AreUpToTimeOf, StoresAt, KeptRow}
+use Rattle.past_state.proofs.GuardLaws.{copies_formulas}
 use Rattle.past_state.proofs.GuardLemmas.{few_outermost, new_past}
 use Rattle.past_state.proofs.PastLemmas.{still_past}
 use Rattle.past_state.proofs.RestoredLemmas.{made_stands}
-use Rattle.past_state.proofs.RestoringLemmas.{at_last, can_restore, pushed_for, from_start, none_later, rows_exact, rows_within, same_kinds}
+use Rattle.past_state.proofs.RestoredRowLemmas.{at_last, can_restore, pushed_for, from_start, none_later, rows_exact}
+use Rattle.past_state.proofs.RestoredRowLemmas.{rows_within, same_kinds}
 use Rattle.past_state.proofs.past.PastState.from_kept.Goals as goal
 
 pub restore_each-requires : goal.restore_each-requires
-restore_each-requires c = can_restore (all_operators (map tree_in c.args.guards.now)) c.new-operators.result.items c.push_all.new.out.items c.args.last c.args.rows c.new-operators.ensures.items c.in_ok-counts.ensures.pushed c.requires.bounds
+restore_each-requires c = can_restore (all_operators (map tree_in c.args.guards.now)) c.new-operators.result.items c.push_all.new.out.items c.args.last c.args.rows
+    c.new-operators.ensures.items c.in_ok-counts.ensures.pushed c.requires.bounds
 
 pub place_all-requires-clause-few : goal.place_all-requires-clause-few
 place_all-requires-clause-few c =
-    omega (arith, few_outermost (map tree_in c.args.guards.now) c.new-operators.result.items c.push_all.new.out.items c.new-operators.ensures.items c.in_ok-counts.ensures.pushed, c.push_all.new.out.ok.0, c.push_all.new.out.small)
+    omega (
+      arith,
+      few_outermost (map tree_in c.args.guards.now) c.new-operators.result.items c.push_all.new.out.items c.new-operators.ensures.items c.in_ok-counts.ensures.pushed,
+      c.push_all.new.out.ok.0,
+      c.push_all.new.out.small,
+    )
 
 pub invariant_of-result : goal.invariant_of-result
 invariant_of-result c = (
   subst (λ s. IsPast (record { guards = c.in_ok-guards.guards.value.items; operators = s.items.items })) (sym c.in_ok-operators.ensures.ok)
       (subst (λ l. IsPast (record { guards = l; operators = c.in_ok-items.items.items })) (ap (λ v. v.items) (sym c.in_ok-guards.ensures.ok))
       (still_past (record { guards = c.in_ok-placed.placed.items; operators = c.push_all.new.out.items }) c.in_ok-items.items.items
-      (new_past c.args.guards.now c.in_ok-placed.placed.items c.new-operators.result.items c.push_all.new.out.items c.in_ok-placed.ensures.copies c.in_ok-placed.ensures.begin c.in_ok-placed.ensures.past c.requires.fresh c.new-operators.ensures.items c.in_ok-counts.ensures.pushed)
+      (new_past c.args.guards.now c.in_ok-placed.placed.items c.new-operators.result.items c.push_all.new.out.items c.in_ok-placed.ensures.copies c.in_ok-placed.ensures.begin
+      c.in_ok-placed.ensures.past c.requires.fresh c.new-operators.ensures.items c.in_ok-counts.ensures.pushed)
       (same_kinds c.args.last c.args.rows 0 c.push_all.new.out.items c.in_ok-items.items.items c.in_ok-items.ensures))),
   λ name. subst (λ l. Contains c.in_ok-names.names name ↔ Contains (guard_names l) name) (c.as_slice.ensures.value ∙ ap (λ v. v.items) (sym c.in_ok-guards.ensures.ok)) (c.in_ok-names.ensures name),
 )
@@ -42,12 +45,14 @@ pub returns-clause-exact : goal.returns-clause-exact
 returns-clause-exact c = subst (λ s. (r : KeptRow) → Contains c.args.rows r ↔ StoresAt s.items.items r) (sym c.in_ok-operators.ensures.ok)
     (rows_exact c.args.last c.args.rows c.push_all.new.out.items c.in_ok-items.items.items c.in_ok-items.ensures
     (rows_within c.push_all.new.out.items c.args.last c.args.rows
-    (can_restore (all_operators (map tree_in c.args.guards.now)) c.new-operators.result.items c.push_all.new.out.items c.args.last c.args.rows c.new-operators.ensures.items c.in_ok-counts.ensures.pushed c.requires.bounds)))
+    (can_restore (all_operators (map tree_in c.args.guards.now)) c.new-operators.result.items c.push_all.new.out.items c.args.last c.args.rows c.new-operators.ensures.items
+    c.in_ok-counts.ensures.pushed c.requires.bounds)))
 
 pub returns-clause-stands : goal.returns-clause-stands
 returns-clause-stands c = λ trace at kept.
-    subst (λ s. AllStand trace (reverse (all_operators (formulas c.in_ok-guards.guards.value.items))) s.items.items) (sym c.in_ok-operators.ensures.ok)
-    (subst (λ l. AllStand trace (reverse (all_operators (formulas l))) c.in_ok-items.items.items) (ap (λ v. v.items) (sym c.in_ok-guards.ensures.ok))
+    subst (λ s. AllStand trace (reverse (all_operators (formulas_of_guards c.in_ok-guards.guards.value.items))) s.items.items) (sym c.in_ok-operators.ensures.ok)
+    (subst (λ l. AllStand trace (reverse (all_operators (formulas_of_guards l))) c.in_ok-items.items.items) (ap (λ v. v.items) (sym c.in_ok-guards.ensures.ok))
     (subst (λ l. AllStand trace (reverse (all_operators l)) c.in_ok-items.items.items) (sym (copies_formulas c.args.guards.now c.in_ok-placed.placed.items c.in_ok-placed.ensures.copies))
     (made_stands c.dependence.ensures.values trace c.args.last c.args.rows (all_operators (map tree_in c.args.guards.now)) at kept c.push_all.new.out.items c.in_ok-items.items.items
-    (pushed_for (all_operators (map tree_in c.args.guards.now)) c.new-operators.result.items c.push_all.new.out.items c.new-operators.ensures.items c.in_ok-counts.ensures.pushed) c.in_ok-items.ensures)))
+    (pushed_for (all_operators (map tree_in c.args.guards.now)) c.new-operators.result.items c.push_all.new.out.items c.new-operators.ensures.items c.in_ok-counts.ensures.pushed)
+    c.in_ok-items.ensures)))

@@ -1,8 +1,7 @@
-use Rattle.std.proofs.Common.{◌∙◌, ◌<◌, length, ap, sym, subst, arith}
-use Rattle.past_state.specs.Past.{formulas}
-use Rattle.past_state.specs.Operators.{all_operators}
-use Rattle.past_state.specs.Saved.{AreRowsKept, AreRowsOf}
-use Rattle.past_state.proofs.SavedLemmas.{SavedUpTo, counted, counted_back, kept_of_trace, rows_of, saved_more, saved_none}
+use Rattle.past_state.proofs.Vocabulary.{◌∙◌, ◌<◌, length, ap, sym, subst, arith, formulas_of_guards}
+use Rattle.past_state.proofs.Vocabulary.{all_operators, AreRowsKept, AreStoredRows}
+use Rattle.past_state.proofs.SavedLemmas.{SavedUpTo, counted, counted_back, kept_of_trace, rows_of, saved_more}
+use Rattle.past_state.proofs.SavedLemmas.{saved_none}
 use Rattle.past_state.proofs.past.PastState.kept.Goals as goal
 
 pub loop-window-init : goal.loop-window-init
@@ -19,7 +18,7 @@ pub overflow_cast-window : goal.overflow_cast-window
 overflow_cast-window c = omega (
   arith,
   c.requires,
-  ap (λ p. length (all_operators (formulas p.guards))) c.self.view_is,
+  ap (λ p. length (all_operators (formulas_of_guards p.guards))) c.self.view_is,
   counted (record { guards = c.self.inside.guards.value.items; operators = c.self.inside.operators.value.items.items }) c.self.invariant.0,
   ap length (c.as_slice-operators.ensures.value ∙ ap (λ s. s.items.items) c.deref.ensures),
 )
@@ -35,8 +34,8 @@ saved_all : (c : goal.After-from_vec) → SavedUpTo c.self.inside.operators.valu
 saved_all c = subst (λ l. SavedUpTo l (length l) c.from_vec.result) (c.as_slice-operators.ensures.value ∙ ap (λ s. s.items.items) c.deref.ensures) (saved c)
 
 pub returns-clause-exact : goal.returns-clause-exact
-returns-clause-exact c = subst (λ p. AreRowsOf p c.from_vec.result) c.self.view_is (rows_of c.self.inside.operators.value.items.items c.from_vec.result (saved_all c))
+returns-clause-exact c = subst (λ p. AreStoredRows p c.from_vec.result) c.self.view_is (rows_of c.self.inside.operators.value.items.items c.from_vec.result (saved_all c))
 
 pub returns-clause-kept : goal.returns-clause-kept
 returns-clause-kept c = subst (λ p. AreRowsKept p c.from_vec.result) c.self.view_is (λ trace stand.
-    kept_of_trace trace (all_operators (formulas c.self.inside.guards.value.items)) c.self.inside.operators.value.items.items c.from_vec.result c.self.invariant.0.kept stand (saved_all c))
+    kept_of_trace trace (all_operators (formulas_of_guards c.self.inside.guards.value.items)) c.self.inside.operators.value.items.items c.from_vec.result c.self.invariant.0.kept stand (saved_all c))

@@ -1,6 +1,4 @@
-use Rattle.std.proofs.Common.{◌↔◌, IsTrue, Contains, subst}
-use Rattle.past_state.specs.Past.{guard_names}
-use Rattle.past_state.proofs.RowLemmas.{iff_then}
+use Rattle.past_state.proofs.Vocabulary.{◌↔◌, IsTrue, Contains, subst, iff_then, guard_names}
 use Rattle.past_state.proofs.past.PastState.looks_for.Goals as goal
 
 pub returns : goal.returns

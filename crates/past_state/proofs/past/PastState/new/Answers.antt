@@ -1,17 +1,10 @@
-use Rattle.std.proofs.Common.{ℕ, [], None, IfOk, map, refl, subst}
-use Rattle.std.proofs.lemmas.Result.{IfOk-weaker}
-use Rattle.past_state.specs.Guarded.{tree_in}
-use Rattle.past_state.specs.Operators.{all_operators}
-use Rattle.past_state.specs.Past.{PastStands}
-use Rattle.past_state.specs.LastTimes.{IsUpToLast}
-use Rattle.past_state.specs.Restoring.{WillStandFor}
-use Rattle.past_state.specs.Runs.{AreUpToTimeOf}
-use Rattle.past_state.specs.Saved.{AreRowsOf}
+use Rattle.past_state.proofs.Vocabulary.{ℕ, [], None, IfOk, map, refl, subst, IfOk-weaker, tree_in, all_operators}
+use Rattle.past_state.proofs.Vocabulary.{PastStands, IsUpToLast, WillStandFor, AreUpToTimeOf, AreStoredRows}
 use Rattle.past_state.proofs.BoundsLemmas.{kept_of_nothing}
 use Rattle.past_state.proofs.past.PastState.new.Goals as goal
 
 pub returns-clause-exact : goal.returns-clause-exact
-returns-clause-exact c = subst (λ rows. IfOk c.from_kept.result (λ p. AreRowsOf p rows)) c.new.ensures c.from_kept.ensures.exact
+returns-clause-exact c = subst (λ rows. IfOk c.from_kept.result (λ p. AreStoredRows p rows)) c.new.ensures c.from_kept.ensures.exact
 
 pub returns-clause-up_to : goal.returns-clause-up_to
 returns-clause-up_to c = IfOk-weaker c.from_kept.result (IsUpToLast None) (λ p. (time : ℕ) → AreUpToTimeOf time p.operators) (λ p up_to time. up_to time tt) c.from_kept.ensures.up_to

@@ -1,12 +1,10 @@
-use Rattle.std.proofs.Common.{◌∙◌, [], sym, subst, ap}
-use Rattle.past_state.specs.LazyTables.{CanAskEach, tables_at}
-use Rattle.past_state.specs.Past.{IsPast, AreMadeOf, AreOf}
-use Rattle.past_state.specs.Runs.{AreOrdered, Runs}
+use Rattle.past_state.proofs.Vocabulary.{◌∙◌, [], sym, subst, ap, CanAskEach, tables_at, IsPast, AreMadeOf}
+use Rattle.past_state.proofs.Vocabulary.{AreTablesAtStep, AreOrderedOperators, Runs}
 use Rattle.past_state.proofs.PastLemmas.{guards_hold, just_made, ordered, tables_are}
 use Rattle.past_state.proofs.past.PastState.tables_at.Goals as goal
 
 pub run-requires-clause-ordered : goal.run-requires-clause-ordered
-run-requires-clause-ordered c = subst AreOrdered (sym (c.as_slice.ensures.value ∙ ap (λ s. s.items.items) c.deref.ensures)) (ordered _ c.self.invariant.0)
+run-requires-clause-ordered c = subst AreOrderedOperators (sym (c.as_slice.ensures.value ∙ ap (λ s. s.items.items) c.deref.ensures)) (ordered _ c.self.invariant.0)
 
 made : (c : goal.In_ok-clone-2) → AreMadeOf c.args.self.now c.args.time c.args.events.now (record {
   guards = c.in_ok-clone.field-0.value.items;
@@ -15,12 +13,15 @@ made : (c : goal.In_ok-clone-2) → AreMadeOf c.args.self.now c.args.time c.args
 })
 made c = (
   ap (λ v. v.items) c.in_ok-clone.ensures.cases ∙ ap (λ p. p.guards) c.self.view_is,
-  subst (λ l. Runs c.args.events.now c.args.time [] l c.in_ok-ran.ran.steps.items (tables_at c.in_ok-clone-2.field-0.value.items.items c.in_ok-ran.ran.steps.items c.args.time c.in_ok-ran.ran.places.items)) (ap (λ p. p.operators) c.self.view_is)
-      (subst (λ s. Runs c.args.events.now c.args.time [] c.self.inside.operators.value.items.items c.in_ok-ran.ran.steps.items (tables_at s.items.items c.in_ok-ran.ran.steps.items c.args.time c.in_ok-ran.ran.places.items)) (sym c.in_ok-clone-2.ensures.cases)
-      (subst (λ l. Runs c.args.events.now c.args.time [] l c.in_ok-ran.ran.steps.items (tables_at l c.in_ok-ran.ran.steps.items c.args.time c.in_ok-ran.ran.places.items)) (c.as_slice.ensures.value ∙ ap (λ s. s.items.items) c.deref.ensures) c.in_ok-ran.ensures.runs)),
+  subst (λ l. Runs c.args.events.now c.args.time [] l c.in_ok-ran.ran.steps.items (tables_at c.in_ok-clone-2.field-0.value.items.items c.in_ok-ran.ran.steps.items c.args.time
+      c.in_ok-ran.ran.places.items)) (ap (λ p. p.operators) c.self.view_is)
+      (subst (λ s. Runs c.args.events.now c.args.time [] c.self.inside.operators.value.items.items c.in_ok-ran.ran.steps.items
+      (tables_at s.items.items c.in_ok-ran.ran.steps.items c.args.time c.in_ok-ran.ran.places.items)) (sym c.in_ok-clone-2.ensures.cases)
+      (subst (λ l. Runs c.args.events.now c.args.time [] l c.in_ok-ran.ran.steps.items (tables_at l c.in_ok-ran.ran.steps.items c.args.time c.in_ok-ran.ran.places.items))
+      (c.as_slice.ensures.value ∙ ap (λ s. s.items.items) c.deref.ensures) c.in_ok-ran.ensures.runs)),
 )
 
-are : (c : goal.In_ok-clone-2) → AreOf c.args.self.now c.args.time c.args.events.now (record {
+are : (c : goal.In_ok-clone-2) → AreTablesAtStep c.args.self.now c.args.time c.args.events.now (record {
   guards = c.in_ok-clone.field-0.value.items;
   steps = c.in_ok-ran.ran.steps.items;
   stack = tables_at c.in_ok-clone-2.field-0.value.items.items c.in_ok-ran.ran.steps.items c.args.time c.in_ok-ran.ran.places.items;

@@ -1,8 +1,5 @@
-use Rattle.std.proofs.Common.{◌≡◌, ◌∙◌, [], ap, map, subst, sym}
-use Rattle.deadline_queue.specs.QueueLaws.{count_entries}
-use Rattle.plan_terms.specs.Plans.{plan_of}
-use Rattle.pending.specs.Entries.{items_of, waits_of}
-use Rattle.pending.specs.Waking.{waking_of}
+use Rattle.pending.proofs.Vocabulary.{◌≡◌, ◌∙◌, [], ap, map, subst, sym, count_entries, plan_of, items_of}
+use Rattle.pending.proofs.Vocabulary.{waits_of, wake_patterns_of}
 use Rattle.pending.proofs.EntryLemmas.{entries_items, entries_wait}
 use Rattle.pending.proofs.pending.Pending.from_list.Goals as goal
 
@@ -14,5 +11,5 @@ returns-clause-kept c =
     let plans = map plan_of c.args.plans.now in
     record {
       due = λ d. count_entries c.put_listed.new.deadlines d c.put_listed.ensures.queue ∙ c.in_ok-put_listed.ensures.held d;
-      wait = subst (λ l. waits_of l ≡ map (waking_of plans) (items_of l)) (sym c.in_ok-put_listed.ensures.entries) (entries_wait plans [] 0 0 c.args.list);
+      wait = subst (λ l. waits_of l ≡ map (wake_patterns_of plans) (items_of l)) (sym c.in_ok-put_listed.ensures.entries) (entries_wait plans [] 0 0 c.args.list);
     }

@@ -1,6 +1,4 @@
-use Rattle.std.proofs.Common.{subst}
-use Rattle.obligations.specs.Waiting.{IsLeastOf}
-use Rattle.pending.specs.Listed.{PendingList}
+use Rattle.pending.proofs.Vocabulary.{subst, IsLeastOf, PendingList}
 use Rattle.pending.proofs.pending.Pending.least_deadline.Goals as goal
 
 pub returns : goal.returns

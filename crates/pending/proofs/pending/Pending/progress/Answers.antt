@@ -1,14 +1,6 @@
-use Rattle.std.proofs.Common.{◌+◌, ◌∙◌, map, subst, sym}
-use Rattle.std.proofs.lemmas.Result.{on_ok_weaker}
-use Rattle.std.specs.List.{AllByRecursion}
-use Rattle.deadline_queue.specs.QueueLaws.{count_entries}
-use Rattle.plan_terms.specs.Plans.{plan_of}
-use Rattle.obligations.specs.Asked.{guards_at}
-use Rattle.obligations.specs.Waiting.{CanAskOf}
-use Rattle.pending.specs.Entries.{AreKept}
-use Rattle.pending.specs.Listed.{IsKeptFor}
-use Rattle.pending.proofs.GoLemmas.{asked_behind, can_put, fit_next, goes, kept_later, leads, waits_behind}
-use Rattle.pending.proofs.ListedLemmas.{on_ok_both}
+use Rattle.pending.proofs.Vocabulary.{◌+◌, ◌∙◌, map, subst, sym, on_ok_weaker, AllByRecursion, on_ok_both}
+use Rattle.pending.proofs.Vocabulary.{count_entries, plan_of, guards_at, CanAskOf, ArePendingEntries, IsPendingListOf}
+use Rattle.pending.proofs.ProgressLemmas.{asked_behind, can_put, fit_next, goes, kept_later, leads, waits_behind}
 use Rattle.pending.proofs.pending.Pending.progress.Goals as goal
 
 pub carry-requires-clause-asked : goal.carry-requires-clause-asked
@@ -17,12 +9,12 @@ carry-requires-clause-asked c =
 
 pub carry-requires-clause-held : goal.carry-requires-clause-held
 carry-requires-clause-held c = λ d.
-    sym (count_entries c.self.inside.deadlines d c.self.invariant.0) ∙ (subst (IsKeptFor (map plan_of c.args.plans.now)) (sym c.self.view_is) c.requires.keeps).due d
+    sym (count_entries c.self.inside.deadlines d c.self.invariant.0) ∙ (subst (IsPendingListOf (map plan_of c.args.plans.now)) (sym c.self.view_is) c.requires.keeps).due d
 
 pub invariant_of-self : goal.invariant_of-self
 invariant_of-self c = (
   c.carry.ensures.queue,
-  subst (λ steps. AreKept steps c.carry.new.sleepers.entries) (sym c.in_ok-next.ensures.0)
+  subst (λ steps. ArePendingEntries steps c.carry.new.sleepers.entries) (sym c.in_ok-next.ensures.0)
       (c.carry.ensures.kept (c.self.inside.steps + 1) (kept_later c.self.inside.steps c.self.inside.sleepers.entries c.in_ok-next.ensures.1 c.self.invariant.1)),
 )
 
@@ -34,7 +26,7 @@ put_each-requires-clause-can c =
 pub invariant_of-self-2 : goal.invariant_of-self-2
 invariant_of-self-2 c = (
   c.put_each.ensures.queue,
-  subst (λ steps. AreKept steps c.put_each.new.sleepers.entries) (sym c.in_ok-next.ensures.0)
+  subst (λ steps. ArePendingEntries steps c.put_each.new.sleepers.entries) (sym c.in_ok-next.ensures.0)
       (c.put_each.ensures.kept (c.self.inside.steps + 1)
       (c.carry.ensures.kept (c.self.inside.steps + 1) (kept_later c.self.inside.steps c.self.inside.sleepers.entries c.in_ok-next.ensures.1 c.self.invariant.1))
       (fit_next c.args.now.now (map plan_of c.args.plans.now) c.args.inserted c.self.inside.steps c.self.inside.sleepers.entries c.carry.new.sleepers.entries c.in_ok-more.more.items

@@ -1,20 +1,19 @@
-use Rattle.std.proofs.Common.{◌+◌, [], ◌∷◌, sym, ap, subst, ◌∙◌, arith}
-use Rattle.policy_syntax.specs.Automaton.{BoundVariable, item}
-use Rattle.policy_syntax.specs.Following.{Refuses}
-use Rattle.policy_syntax.specs.Lexemes.{lexeme_of}
-use Rattle.policy_syntax.specs.declared.refusals.SyntaxRefusal.{SyntaxRefusal}
-use Rattle.policy_syntax.proofs.Moves.{IsNoName, variable_taken, variable_other, variable_many, variable_barred, no_name}
-use Rattle.policy_syntax.proofs.Continuing.{follows_err}
+use Rattle.policy_syntax.proofs.Vocabulary.{◌+◌, [], ◌∷◌, sym, ap, subst, ◌∙◌, arith, BoundVariable}
+use Rattle.policy_syntax.proofs.Vocabulary.{stack_item, lexeme_of, SyntaxRefusal}
+use Rattle.policy_syntax.specs.machine.PartOutcomes.{RefusesFrom}
+use Rattle.policy_syntax.proofs.PartMoves.{IsNoName, variable_taken, variable_other, variable_many, variable_barred}
+use Rattle.policy_syntax.proofs.PartMoves.{no_name}
+use Rattle.policy_syntax.proofs.AutomatonSteps.{follows_err}
 use Rattle.policy_syntax.proofs.parts.Parts.binding.Goals as goal
 
 pub returns-in_default-clause-follows : goal.returns-in_default-clause-follows
 returns-in_default-clause-follows c =
-    subst (λ (y : SyntaxRefusal). Refuses (item BoundVariable c.args.depth.level (c.args.depth.scope + 1) ∷ []) c.args.self.now y) (sym c.syntax.ensures)
+    subst (λ (y : SyntaxRefusal). RefusesFrom (stack_item BoundVariable c.args.depth.level (c.args.depth.scope + 1) ∷ []) c.args.self.now y) (sym c.syntax.ensures)
     (variable_other _ _ _ (subst IsNoName c.lexeme.ensures (no_name _ c.in_default.not-Name)))
 
 pub returns-then-depth-ge-MOST_VARIABLES-clause-follows : goal.returns-then-depth-ge-MOST_VARIABLES-clause-follows
 returns-then-depth-ge-MOST_VARIABLES-clause-follows c =
-    subst (λ (y : SyntaxRefusal). Refuses (item BoundVariable c.args.depth.level (c.args.depth.scope + 1) ∷ []) c.args.self.now y) (sym c.limit.ensures)
+    subst (λ (y : SyntaxRefusal). RefusesFrom (stack_item BoundVariable c.args.depth.level (c.args.depth.scope + 1) ∷ []) c.args.self.now y) (sym c.limit.ensures)
     (variable_many _ _ _ _ (sym c.lexeme.ensures ∙ ap lexeme_of c.in-Name.is) (omega (arith, c.if-depth-ge-MOST_VARIABLES.true)))
 
 pub returns-in_err-place-clause-follows : goal.returns-in_err-place-clause-follows

@@ -1,20 +1,18 @@
-use Rattle.std.proofs.Common.{List}
-use Rattle.policy_syntax.specs.Lexemes.{Placed}
-use Rattle.policy_syntax.specs.Reading.{PrimaryRead, TermRead}
-use Rattle.policy_syntax.specs.Trees.{formula_of}
-use Rattle.policy_syntax.specs.declared.trees.SyntaxFormula.{SyntaxFormula}
+use Rattle.policy_syntax.proofs.Vocabulary.{List, if_ok_map, PlacedLexeme, PrimaryRead, TermRead, syntax_tree_of}
+use Rattle.policy_syntax.proofs.Vocabulary.{SyntaxFormula}
 use Rattle.policy_syntax.specs.declared.trees.SyntaxTerm.TheVariants.{Variable}
-use Rattle.policy_syntax.proofs.PartPhrases.{event_read, variable_read, if_ok_map}
+use Rattle.policy_syntax.proofs.PartPhrases.{event_read, variable_read}
 use Rattle.policy_syntax.proofs.FormulaPhrases.{not_at}
-use Rattle.policy_syntax.proofs.Moves.{name_barred, name_taken, variable_side}
-use Rattle.policy_syntax.proofs.Continuing.{after, follows_after, follows_err, refused_after}
+use Rattle.policy_syntax.proofs.PartMoves.{name_barred, name_taken, variable_side}
+use Rattle.policy_syntax.proofs.AutomatonSteps.{after, follows_after, follows_err, refused_after}
 use Rattle.policy_syntax.proofs.parts.Parts.named.Goals as goal
 
 pub returns-then-not-is_at-clause-read : goal.returns-then-not-is_at-clause-read
 returns-then-not-is_at-clause-read c =
-    let P : SyntaxFormula → Type 0 = λ f. (before : List Placed) → TermRead c.args.depth.level c.args.depth.scope before c.name.new.self.cursor.rest (Variable c.in_ok-place.place c.in_ok-place.name)
-    → PrimaryRead c.args.depth.level c.args.depth.scope before c.comparison.new.self.cursor.rest (formula_of f) in
-    let Q : SyntaxFormula → Type 0 = λ f. PrimaryRead c.args.depth.level c.args.depth.scope c.args.self.now.cursor.rest c.comparison.new.self.cursor.rest (formula_of f) in
+    let P : SyntaxFormula → Type 0 = λ f. (before : List PlacedLexeme) → TermRead c.args.depth.level c.args.depth.scope before c.name.new.self.cursor.rest
+    (Variable c.in_ok-place.place c.in_ok-place.name)
+    → PrimaryRead c.args.depth.level c.args.depth.scope before c.comparison.new.self.cursor.rest (syntax_tree_of f) in
+    let Q : SyntaxFormula → Type 0 = λ f. PrimaryRead c.args.depth.level c.args.depth.scope c.args.self.now.cursor.rest c.comparison.new.self.cursor.rest (syntax_tree_of f) in
     if_ok_map {P = P} {Q = Q} _ (λ f read. read _ (variable_read _ _ _ _ _ _ c.requires c.in_ok-place.ensures.taken)) c.comparison.ensures.read
 
 pub returns-clause-read : goal.returns-clause-read

@@ -1,6 +1,6 @@
 use Rattle.policy_syntax.proofs.FormulaPhrases.{not_at}
-use Rattle.policy_syntax.proofs.Moves.{mark_taken, mark_stops, second_end_taken, second_end_barred, star}
-use Rattle.policy_syntax.proofs.Continuing.{follows_err}
+use Rattle.policy_syntax.proofs.PartMoves.{mark_taken, mark_stops, second_end_taken, second_end_barred, star}
+use Rattle.policy_syntax.proofs.AutomatonSteps.{follows_err}
 use Rattle.policy_syntax.proofs.parts.Parts.second_end.Goals as goal
 
 pub returns-in_err-take_symbol-clause-follows : goal.returns-in_err-take_symbol-clause-follows

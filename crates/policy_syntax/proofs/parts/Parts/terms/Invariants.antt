@@ -1,16 +1,12 @@
-use Rattle.std.proofs.Common.{ℕ, List, [], ◌∷◌, length, ◌++◌}
-use Rattle.policy_syntax.specs.Automaton.{NextArgument, item}
-use Rattle.policy_syntax.specs.Following.{Continues}
-use Rattle.policy_syntax.specs.Lexemes.{Placed}
-use Rattle.policy_syntax.specs.Reading.{TermsRead}
-use Rattle.policy_syntax.specs.declared.parts.Parts.{Parts}
-use Rattle.policy_syntax.specs.declared.trees.SyntaxTerm.{SyntaxTerm}
+use Rattle.policy_syntax.proofs.Vocabulary.{ℕ, List, [], ◌∷◌, length, ◌++◌, NextArgument, stack_item}
+use Rattle.policy_syntax.proofs.Vocabulary.{PlacedLexeme, TermsRead, Parts, SyntaxTerm}
+use Rattle.policy_syntax.specs.machine.PartOutcomes.{Continues}
 use Rattle.policy_syntax.proofs.parts.Parts.terms.Given as goal
 
 -- what the terms to come will be read with, those so far were read before; and one more is wanted
 pub record IsFront (level scope : ℕ) (start now : Parts) (terms : List SyntaxTerm) : Type 0 where
-  pub read : (more : List SyntaxTerm) (after : List Placed) → TermsRead level scope now.cursor.rest after more → TermsRead level scope start.cursor.rest after (terms ++ more)
-  pub follows : Continues (item NextArgument level scope ∷ []) (item NextArgument level scope ∷ []) start now
+  pub read : (more : List SyntaxTerm) (after : List PlacedLexeme) → TermsRead level scope now.cursor.rest after more → TermsRead level scope start.cursor.rest after (terms ++ more)
+  pub follows : Continues (stack_item NextArgument level scope ∷ []) (stack_item NextArgument level scope ∷ []) start now
 
 abbrev pub invariant-terms : goal.invariant-terms
 invariant-terms l = IsFront l.fn.depth.level l.fn.depth.scope l.initial.self l.self l.terms

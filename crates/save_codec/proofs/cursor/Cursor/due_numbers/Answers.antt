@@ -1,6 +1,5 @@
--- One number behind the other.
-use Rattle.std.proofs.Common.{◌≡◌, ◌++◌, Some, ap, codes, arith, ◌∙◌}
-use Rattle.save_codec.specs.Lines.{spaced}
+-- One number after the other.
+use Rattle.save_codec.proofs.Vocabulary.{◌≡◌, ◌++◌, Some, ap, codes, arith, ◌∙◌, spaced}
 use Rattle.save_codec.proofs.cursor.Cursor.due_numbers.Goals as goal
 
 pub returns-in_err-node-clause-again : goal.returns-in_err-node-clause-again

@@ -1,5 +1,5 @@
 -- No number begins with a dash.
-use Rattle.std.proofs.Common.{Some, ap}
+use Rattle.save_codec.proofs.Vocabulary.{Some, ap}
 use Rattle.save_codec.proofs.LineTexts.{no_dash}
 use Rattle.save_codec.proofs.cursor.Cursor.last.Goals as goal
 

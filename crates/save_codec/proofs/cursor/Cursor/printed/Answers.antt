@@ -1,6 +1,5 @@
-use Rattle.std.proofs.Common.{◌≡◌, ◌++◌, refl, ap, sym, ◌∙◌}
-use Rattle.enf_value.specs.Spelling.{quoted, spelled}
-use Rattle.save_codec.proofs.Fronts.{cancel}
+use Rattle.save_codec.proofs.Vocabulary.{◌≡◌, ◌++◌, refl, ap, sym, ◌∙◌, quoted, spelled}
+use Rattle.save_codec.proofs.Vocabulary.{cancel_front as cancel}
 use Rattle.save_codec.proofs.cursor.Cursor.printed.Goals as goal
 
 pub returns-then-quoted-clause-again : goal.returns-then-quoted-clause-again

@@ -1,6 +1,5 @@
 -- The number ends before the line feed.
-use Rattle.std.proofs.Common.{◌≡◌, ◌++◌, Some, ap, sym, codes, arith, ◌∙◌}
-use Rattle.save_codec.specs.Lines.{spaced}
+use Rattle.save_codec.proofs.Vocabulary.{◌≡◌, ◌++◌, Some, ap, sym, codes, arith, ◌∙◌, spaced}
 use Rattle.save_codec.proofs.LineTexts.{single_split}
 use Rattle.save_codec.proofs.cursor.Cursor.single.Goals as goal
 
@@ -16,8 +15,11 @@ returns-then-not-take-clause-again c = λ number rest small e.
 
 pub returns-clause-told : goal.returns-clause-told
 returns-clause-told c =
-    let first = rw c.in_ok-number.was at c.numbered.ensures.told in
-    (first.0, first.1 ∙ ap (λ l. c.args.word.now ++ (spaced c.in_ok-number.number ++ l)) (c.take.ensures.taken c.if-not-take.false) ∙ sym (single_split c.args.word.now c.in_ok-number.number c.take.new.self.rest.now))
+    let first = rw c.in_ok-number.was at c.numbered.ensures.told in (
+      first.0,
+      first.1 ∙ ap (λ l. c.args.word.now ++ (spaced c.in_ok-number.number ++ l)) (c.take.ensures.taken c.if-not-take.false) ∙ sym
+          (single_split c.args.word.now c.in_ok-number.number c.take.new.self.rest.now),
+    )
 
 pub returns-clause-again : goal.returns-clause-again
 returns-clause-again c = λ number rest small e.

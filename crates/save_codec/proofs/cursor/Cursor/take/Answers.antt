@@ -1,6 +1,4 @@
-use Rattle.std.proofs.Common.{Bor, List, ℕ, None, Some, Option}
-use Rattle.std.proofs.lemmas.Bool.Decides.{Decides-eqb}
-use Rattle.std.proofs.lemmas.Slice.Eq.{strip_prefix_is}
+use Rattle.save_codec.proofs.Vocabulary.{Bor, List, ℕ, None, Some, Option, Decides-eqb, strip_prefix_is}
 use Rattle.save_codec.proofs.cursor.Cursor.take.Goals as goal
 
 pub returns-in-Some-clause-taken : goal.returns-in-Some-clause-taken

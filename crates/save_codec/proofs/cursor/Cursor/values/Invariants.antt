@@ -1,7 +1,4 @@
-use Rattle.std.proofs.Common.{◌≡◌, ◌++◌, length}
-use Rattle.std.specs.List.{AllByRecursion}
-use Rattle.enf_value.specs.ValueTokens.{IsValue}
-use Rattle.save_codec.specs.Lines.{values_text}
+use Rattle.save_codec.proofs.Vocabulary.{◌≡◌, ◌++◌, length, AllByRecursion, IsValue, values_text}
 use Rattle.save_codec.proofs.ValueLists.{AreLeft}
 use Rattle.save_codec.proofs.cursor.Cursor.values.Given as goal
 

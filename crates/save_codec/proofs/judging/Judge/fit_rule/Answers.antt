@@ -1,6 +1,5 @@
-use Rattle.std.proofs.Common.{◌≡◌, List, None, Some, slice_get, ap, sym, ◌∙◌}
-use Rattle.std.specs.Option.{option_copied}
-use Rattle.save_codec.specs.declared.sorts.Known.{Known}
+use Rattle.save_codec.proofs.Vocabulary.{◌≡◌, List, None, Some, slice_get, ap, sym, ◌∙◌, option_copied}
+use Rattle.save_codec.proofs.Vocabulary.{Known}
 use Rattle.save_codec.proofs.InstanceLemmas.{no_rule, rule_fits}
 use Rattle.save_codec.proofs.judging.Judge.fit_rule.Goals as goal
 

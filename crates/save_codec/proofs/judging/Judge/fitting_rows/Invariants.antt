@@ -1,12 +1,10 @@
-use Rattle.std.proofs.Common.{◌≡◌, ◌++◌, map}
-use Rattle.std.specs.List.{AllByRecursion}
-use Rattle.save_codec.specs.Bounds.{RowFits, Setting, kept_of}
-use Rattle.save_codec.specs.Judged.{IsJudge}
+use Rattle.save_codec.proofs.Vocabulary.{◌≡◌, ◌++◌, map, AllByRecursion, RowFits, SaveSetting, kept_row_of}
+use Rattle.save_codec.proofs.Vocabulary.{IsJudge}
 use Rattle.save_codec.proofs.judging.Judge.fitting_rows.Given as goal
 
 abbrev pub invariant-loop-row : goal.invariant-loop-row
 invariant-loop-row l = record {
-  kept : l.kept.items ≡ map kept_of l.yielded;
-  fit : (s : Setting) → IsJudge s l.self → AllByRecursion (RowFits s) l.yielded;
+  kept : l.kept.items ≡ map kept_row_of l.yielded;
+  fit : (s : SaveSetting) → IsJudge s l.self → AllByRecursion (RowFits s) l.yielded;
   whole : l.initial.row-iterator.rest.items ≡ l.yielded ++ l.row-iterator.rest.items;
 }

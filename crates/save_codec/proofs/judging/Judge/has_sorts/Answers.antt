@@ -1,8 +1,6 @@
 -- By what is known of the window's columns.
-use Rattle.std.proofs.Common.{◌≡◌, List, None, Some, slice_get, ap, sym, ◌∙◌}
-use Rattle.std.specs.Option.{option_copied}
-use Rattle.past_state.specs.declared.shapes.WindowShape.{WindowShape}
-use Rattle.save_codec.specs.declared.sorts.Known.{Known}
+use Rattle.save_codec.proofs.Vocabulary.{◌≡◌, List, None, Some, slice_get, ap, sym, ◌∙◌, option_copied}
+use Rattle.save_codec.proofs.Vocabulary.{WindowShape, Known}
 use Rattle.save_codec.proofs.JudgeLemmas.{no_known, sorts_known}
 use Rattle.save_codec.proofs.judging.Judge.has_sorts.Goals as goal
 
@@ -20,4 +18,5 @@ returns c = λ s is.
     ap (λ (l : List WindowShape). slice_get l c.args.row.now.window) (sym c.as_slice.ensures.value) ∙ sym c.item_at.ensures ∙ ap option_copied c.in-Some.is in
     let knows : slice_get c.args.self.now.windows.items c.args.row.now.window ≡ Some c.in-Some-item_at.known.now =
     ap (λ (l : List Known). slice_get l c.args.row.now.window) (sym c.as_slice-2.ensures.value) ∙ sym c.item_at-2.ensures ∙ ap option_copied c.in-Some-item_at.is in
-    sorts_known s c.args.self.now c.args.row.now c.in-Some.shape.now c.in-Some-item_at.known.now c.as_slice-3.result.now c.as_slice-4.result.now c.fit.result is found knows c.as_slice-3.ensures c.as_slice-4.ensures c.fit.ensures
+    sorts_known s c.args.self.now c.args.row.now c.in-Some.shape.now c.in-Some-item_at.known.now c.as_slice-3.result.now c.as_slice-4.result.now c.fit.result is found knows
+    c.as_slice-3.ensures c.as_slice-4.ensures c.fit.ensures

@@ -1,5 +1,5 @@
 -- The node is the one that the numbers name.
-use Rattle.std.proofs.Common.{refl, ◌∙◌}
+use Rattle.save_codec.proofs.Vocabulary.{refl, ◌∙◌}
 use Rattle.save_codec.proofs.InstanceLemmas.{named_there}
 use Rattle.save_codec.proofs.judging.Judge.instance.Goals as goal
 

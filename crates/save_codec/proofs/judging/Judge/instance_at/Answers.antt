@@ -1,12 +1,6 @@
 -- The instance has the values of the line.
-use Rattle.std.proofs.Common.{◌≡◌, List, refl, sym, subst, ◌∙◌}
-use Rattle.std.proofs.lemmas.Bool.{false≢true}
-use Rattle.enf_value.specs.Valuations.{no_values}
-use Rattle.enf_value.specs.declared.terms.VarId.{VarId}
-use Rattle.enf_value.specs.declared.values.Value.{Value}
-use Rattle.valuations.specs.Scopes.{filled}
-use Rattle.save_codec.specs.Bounds.{RuleTells}
-use Rattle.save_codec.specs.Sorts.{FitTold}
+use Rattle.save_codec.proofs.Vocabulary.{◌≡◌, List, refl, sym, subst, ◌∙◌, false≢true, no_values, VarId}
+use Rattle.save_codec.proofs.Vocabulary.{Value, filled_from_row, RuleTells, FitTold}
 use Rattle.save_codec.proofs.InstanceLemmas.{fits_waits, is_instance, rule_there}
 use Rattle.save_codec.proofs.judging.Judge.instance_at.Goals as goal
 
@@ -25,7 +19,8 @@ returns c = λ s is named.
     subst (λ (vs : List Value). FitTold (RuleTells s.entries s.plans due.rule) found.scope.items vs) c.as_slice-2.ensures
     (subst (λ (xs : List VarId). FitTold (RuleTells s.entries s.plans due.rule) xs c.as_slice-2.result.now) c.as_slice.ensures.value
     ((c.fit_rule.ensures s there.0 is there.1).0 c.if-not-fit_rule.false)) in
-    let filling : filled no_values c.as_slice-3.result.now c.as_slice-4.result.now ≡ filled no_values found.scope.items due.values = λ k. filled no_values (c.as_slice-3.ensures.value k) (c.as_slice-4.ensures k) in
+    let filling : filled_from_row no_values c.as_slice-3.result.now c.as_slice-4.result.now
+    ≡ filled_from_row no_values found.scope.items due.values = λ k. filled_from_row no_values (c.as_slice-3.ensures.value k) (c.as_slice-4.ensures k) in
     is_instance c.nodes_have_scopes.ensures.rises s c.args.self.now c.args.clock c.args.position due found
     (record { rule = due.rule; node = due.node; valuation = c.in_ok-valuation.valuation; origin = due.origin; low = due.low; high = due.high }) is named
     (record {

@@ -1,6 +1,4 @@
-use Rattle.std.proofs.Common.{List, ap, sym, ◌∙◌}
-use Rattle.plan_terms.specs.Plans.{Plan}
-use Rattle.obligations.specs.Scopes.{future_in}
+use Rattle.save_codec.proofs.Vocabulary.{List, ap, sym, ◌∙◌, Plan, future_in}
 use Rattle.save_codec.proofs.judging.Judge.named.Goals as goal
 
 pub returns-clause-named : goal.returns-clause-named

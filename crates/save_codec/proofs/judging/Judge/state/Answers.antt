@@ -1,8 +1,7 @@
 -- Which line is the first that breaks the bounds.
-use Rattle.std.proofs.Common.{◌≡◌, ◌+◌, ◌∙◌, List, length, ap, sym, subst, rules}
-use Rattle.save_codec.specs.Judged.{AreInstancesOf, DuesFit, IsUnfit, IsUnfitLine, refusal_at}
-use Rattle.save_codec.specs.LineParts.{lines_in}
-use Rattle.save_codec.specs.declared.parts.DueLine.{DueLine}
+use Rattle.save_codec.proofs.Vocabulary.{◌≡◌, ◌+◌, ◌∙◌, List, length, ap, sym, subst, rules}
+use Rattle.save_codec.proofs.Vocabulary.{AreInstancesOf, AreDuesWithin, IsUnfit, IsUnfitLine, unfit_refusal, lines_in}
+use Rattle.save_codec.proofs.Vocabulary.{DueLine}
 use Rattle.save_codec.proofs.StateLemmas.{due_refusal, is_state, number_refusal, row_refusal}
 use Rattle.save_codec.proofs.judging.Judge.state.Goals as goal
 
@@ -22,8 +21,8 @@ returns-in-Err-instances-clause-err c = λ s is.
     let p = c.args.parts in
     let unfit = c.in-Err-instances.unfit in
     let long : length p.rows.items ≡ c.len.result = search rules in
-    let breaks = subst (λ (l : List DueLine). IsUnfit (DuesFit s p.clock p.position) l unfit) c.as_slice.ensures.value (c.in-Err-instances.ensures.err s is) in
-    subst (IsUnfitLine s (lines_in p)) (ap (λ n. refusal_at (4 + n) unfit) long ∙ sym c.refusal_at-in-Err-instances.ensures)
+    let breaks = subst (λ (l : List DueLine). IsUnfit (AreDuesWithin s p.clock p.position) l unfit) c.as_slice.ensures.value (c.in-Err-instances.ensures.err s is) in
+    subst (IsUnfitLine s (lines_in p)) (ap (λ n. unfit_refusal (4 + n) unfit) long ∙ sym c.refusal_at-in-Err-instances.ensures)
     (due_refusal s p.clock p.last p.position p.rows.items p.dues.items unfit c.in_default.ensures.none (c.in-Ok.ensures.ok s is).1 breaks)
 
 pub returns-clause-ok : goal.returns-clause-ok

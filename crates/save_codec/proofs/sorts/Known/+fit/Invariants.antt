@@ -1,4 +1,4 @@
-use Rattle.std.proofs.Common.{length}
+use Rattle.save_codec.proofs.Vocabulary.{length}
 use Rattle.save_codec.proofs.sorts.Known.+fit.Given as goal
 
 abbrev pub decreases-fit : goal.decreases-fit

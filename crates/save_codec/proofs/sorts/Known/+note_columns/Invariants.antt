@@ -1,4 +1,4 @@
-use Rattle.std.proofs.Common.{length}
+use Rattle.save_codec.proofs.Vocabulary.{length}
 use Rattle.save_codec.proofs.sorts.Known.+note_columns.Given as goal
 
 abbrev pub decreases-note_columns : goal.decreases-note_columns

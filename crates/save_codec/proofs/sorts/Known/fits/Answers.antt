@@ -1,5 +1,4 @@
-use Rattle.std.proofs.Common.{◌↔◌, Contains, IsTrue, List, subst}
-use Rattle.enf_value.specs.declared.terms.VarId.{VarId}
+use Rattle.save_codec.proofs.Vocabulary.{◌↔◌, Contains, IsTrue, List, subst, VarId}
 use Rattle.save_codec.proofs.SortLemmas.{fits_num, fits_text}
 use Rattle.save_codec.proofs.sorts.Known.fits.Goals as goal
 

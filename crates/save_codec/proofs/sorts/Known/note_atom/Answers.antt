@@ -1,6 +1,4 @@
-use Rattle.std.proofs.Common.{◌≡◌, None, slice_get, sym, ap, ◌∙◌}
-use Rattle.std.specs.Option.{option_copied}
-use Rattle.save_codec.specs.Sorts.{AtomTells}
+use Rattle.save_codec.proofs.Vocabulary.{◌≡◌, None, slice_get, sym, ap, ◌∙◌, option_copied, AtomTells}
 use Rattle.save_codec.proofs.SortLemmas.{learns_none, no_entry}
 use Rattle.save_codec.proofs.sorts.Known.note_atom.Goals as goal
 

@@ -1,8 +1,5 @@
-use Rattle.std.proofs.Common.{ℕ, Vec, sym, ◌∙◌, ap, slice_get}
-use Rattle.std.specs.Option.{option_map}
-use Rattle.std.specs.declared.alloc.Global.{Global}
-use Rattle.std.proofs.lemmas.Option.{slice_get-map}
-use Rattle.signature.specs.declared.entries.NameEntry.{NameEntry}
+use Rattle.signature.proofs.Vocabulary.{ℕ, Vec, sym, ◌∙◌, ap, slice_get, option_map, Global, slice_get-map}
+use Rattle.signature.proofs.Vocabulary.{NameEntry}
 use Rattle.signature.proofs.signatures.Signature.entry.Goals as goal
 
 pub returns : goal.returns

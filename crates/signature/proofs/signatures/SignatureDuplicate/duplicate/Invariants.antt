@@ -1,4 +1,4 @@
-use Rattle.std.proofs.Common.{◌≡◌, ◌++◌}
+use Rattle.signature.proofs.Vocabulary.{◌≡◌, ◌++◌}
 use Rattle.signature.proofs.signatures.SignatureDuplicate.duplicate.Given as goal
 
 -- what was copied, and what is left

@@ -1,4 +1,4 @@
-use Rattle.std.proofs.Common.{◌≡◌, Some, inr, ap, sym, ◌∙◌}
+use Rattle.sleepers.proofs.Vocabulary.{◌≡◌, Some, inr, ap, sym, ◌∙◌}
 use Rattle.sleepers.proofs.KeyLemmas.{patterns_eq}
 use Rattle.sleepers.proofs.entries.Entry.wakes_alike.Goals as goal
 

@@ -1,6 +1,4 @@
-use Rattle.std.proofs.Common.{◌≡◌, take}
-use Rattle.sleepers.specs.Entries.{shown}
-use Rattle.sleepers.specs.Groups.{held}
+use Rattle.sleepers.proofs.Vocabulary.{◌≡◌, take, shown, held}
 use Rattle.sleepers.proofs.groups.Groups.all.Given as goal
 
 abbrev pub invariant-loop-list : goal.invariant-loop-list

@@ -1,6 +1,4 @@
-use Rattle.std.proofs.Common.{◌≡◌, take}
-use Rattle.sleepers.specs.Entries.{shown}
-use Rattle.sleepers.specs.Groups.{entries_of}
+use Rattle.sleepers.proofs.Vocabulary.{◌≡◌, take, shown, entries_of}
 use Rattle.sleepers.proofs.groups.Groups.entries_of.Given as goal
 
 abbrev pub invariant-loop-number : goal.invariant-loop-number

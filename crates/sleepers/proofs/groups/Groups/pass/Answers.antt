@@ -1,8 +1,7 @@
-use Rattle.std.proofs.Common.{rules, ◌≡◌, refl, sym, ap, subst, ◌∙◌, arith}
-use Rattle.sleepers.proofs.ChangeLemmas.{passed_held}
-use Rattle.sleepers.specs.Groups.{held}
-use Rattle.sleepers.proofs.groups.Groups.pass.Goals as goal
+use Rattle.sleepers.proofs.Vocabulary.{rules, ◌≡◌, refl, sym, ap, subst, ◌∙◌, arith, held}
+use Rattle.sleepers.proofs.GroupChangeLemmas.{passed_held}
 use Rattle.sleepers.proofs.groups.Groups.pass.Goals.{in-Some, in_default}
+use Rattle.sleepers.proofs.groups.Groups.pass.Goals as goal
 
 pub returns-clause-held : goal.returns-clause-held
 returns-clause-held g c =
@@ -10,7 +9,8 @@ returns-clause-held g c =
     let before = c.args.self.now in
     elim c.match-get_mut.branch [
       | in-Some w ↦ subst (λ i. held i.lists.items ≡ held before) (sym w.self-inside-is)
-          (passed_held groups c.args.number w.in-Some.list.now w.move_next.new.self (omega (arith, (w.in-Some.ensures.variant).0 refl, c.self.inside.lists.ok.0)) w.in-Some.ensures.value w.move_next.ensures.before w.move_next.ensures.after
+          (passed_held groups c.args.number w.in-Some.list.now w.move_next.new.self (omega (arith, (w.in-Some.ensures.variant).0 refl, c.self.inside.lists.ok.0)) w.in-Some.ensures.value
+          w.move_next.ensures.before w.move_next.ensures.after
           ∙ ap held c.self.view_is)
       | in_default w ↦ subst (λ i. held i.lists.items ≡ held before) (sym w.self-inside-is) (search (rules, c.self.view_is))
     ]

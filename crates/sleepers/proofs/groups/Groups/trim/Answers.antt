@@ -1,7 +1,6 @@
-use Rattle.std.proofs.Common.{◌≡◌, [], subst, sym, arith}
-use Rattle.sleepers.proofs.NotedLemmas.{trimmed_stay}
-use Rattle.sleepers.proofs.WalkLemmas.{none_is}
-use Rattle.sleepers.specs.Groups.{StayGroups, entries_at}
+use Rattle.sleepers.proofs.Vocabulary.{◌≡◌, [], subst, sym, arith, StayGroups, entries_at}
+use Rattle.sleepers.proofs.NotedGroupLemmas.{trimmed_stay}
+use Rattle.sleepers.proofs.GroupWalkLemmas.{none_is}
 use Rattle.sleepers.proofs.groups.Groups.trim.Goals.{in-Some-1, in-None-1}
 use Rattle.sleepers.proofs.groups.Groups.trim.Goals as goal
 

@@ -1,4 +1,4 @@
-use Rattle.std.proofs.Common.{ℕ, ◌<◌, ◌^◌, List, Contains, sym, subst}
+use Rattle.sleepers.proofs.Vocabulary.{ℕ, ◌<◌, ◌^◌, List, Contains, sym, subst}
 use Rattle.sleepers.proofs.PairLemmas.{insert_each, insert_has, insert_keeps, pair_cmp, pair_is}
 use Rattle.sleepers.proofs.pairs.Pairs.add.Goals as goal
 

@@ -1,12 +1,8 @@
-use Rattle.std.proofs.Common.{rules, ◌≡◌, ℕ, ◌<◌, ◌^◌, List, Contains, map, sym, subst, subst₂, true}
-use Rattle.std.specs.BTreeMap.Range.{range_contains}
-use Rattle.std.specs.Map.Iter.{deref}
-use Rattle.std.specs.declared.ops.Bound.TheVariants.{Included}
-use Rattle.std.proofs.lemmas.Map.Iter.{iter_end}
-use Rattle.enf_value.specs.ListLaws.{AllByRecursion-contains}
+use Rattle.sleepers.proofs.Vocabulary.{rules, ◌≡◌, ℕ, ◌<◌, ◌^◌, List, Contains, map, sym, subst}
+use Rattle.sleepers.proofs.Vocabulary.{subst₂, true, range_contains, deref, Included, iter_end}
+use Rattle.sleepers.proofs.Vocabulary.{AllByRecursion-contains, shown}
 use Rattle.sleepers.proofs.EntryLemmas.{shown_put}
 use Rattle.sleepers.proofs.PairLemmas.{filter_has, in_range, push_on, push_seen, pair_cmp}
-use Rattle.sleepers.specs.Entries.{shown}
 use Rattle.sleepers.proofs.pairs.Pairs.find.Goals as goal
 
 pub loop-pair-preserved : goal.loop-pair-preserved

@@ -1,6 +1,4 @@
-use Rattle.std.proofs.Common.{ℕ, ◌<◌, List, Contains, arith, sym, subst}
-use Rattle.std.proofs.lemmas.List.Elements.{All-contains}
-use Rattle.std.specs.BTreeMap.Range.{IsLeBy}
+use Rattle.sleepers.proofs.Vocabulary.{ℕ, ◌<◌, List, Contains, arith, sym, subst, All-contains, IsLeBy}
 use Rattle.sleepers.proofs.PairLemmas.{least_key, none_in_short, pair_cmp}
 use Rattle.sleepers.proofs.pairs.Pairs.is_above.Goals as goal
 

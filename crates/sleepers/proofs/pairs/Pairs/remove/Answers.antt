@@ -1,5 +1,4 @@
-use Rattle.std.proofs.Common.{ℕ, ◌<◌, ◌^◌, List, Contains, inl, inr, ⊎_elim, ap, sym, subst}
-use Rattle.std.specs.BTreeMap.{is_at}
+use Rattle.sleepers.proofs.Vocabulary.{ℕ, ◌<◌, ◌^◌, List, Contains, inl, inr, ⊎_elim, ap, sym, subst, is_at}
 use Rattle.sleepers.proofs.PairLemmas.{pair_cmp, pair_tested, remove_each, remove_keeps}
 use Rattle.sleepers.proofs.pairs.Pairs.remove.Goals as goal
 

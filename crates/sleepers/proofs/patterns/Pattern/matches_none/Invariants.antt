@@ -1,5 +1,4 @@
-use Rattle.std.proofs.Common.{take}
-use Rattle.sleepers.specs.Patterns.{MatchesNone}
+use Rattle.sleepers.proofs.Vocabulary.{take, MatchesNone}
 use Rattle.sleepers.proofs.patterns.Pattern.matches_none.Given as goal
 
 abbrev pub invariant-loop-event : goal.invariant-loop-event

@@ -1,16 +1,8 @@
-use Rattle.std.proofs.Common.{◌≤◌, ◌+◌, List, map, refl, sym, subst, arith}
-use Rattle.std.specs.List.{AllByRecursion}
-use Rattle.enf_value.specs.Valuations.{no_values}
-use Rattle.enf_value.specs.declared.events.Event.{Event}
-use Rattle.past_state.specs.Guarded.{AreCopies}
-use Rattle.past_state.specs.Past.{AreOf, GuardsWillHold}
-use Rattle.past_state.specs.declared.guards.PlacedGuard.{PlacedGuard}
-use Rattle.plan_terms.specs.Plans.{plan_of}
+use Rattle.trace_audit.proofs.Vocabulary.{◌≤◌, ◌+◌, List, map, refl, sym, subst, arith, AllByRecursion}
+use Rattle.trace_audit.proofs.Vocabulary.{no_values, Event, AreCopies, AreTablesAtStep, GuardsWillHold, PlacedGuard}
+use Rattle.trace_audit.proofs.Vocabulary.{plan_of, CanEvaluatePlan, Auditing, HasTaken, JudgesStep, guards_at}
+use Rattle.trace_audit.proofs.Vocabulary.{placed_guard, audit_moment}
 use Rattle.plan_terms.specs.declared.plans.Plan.{Plan as StoredPlan}
-use Rattle.trace_audit.specs.Asking.{CanAsk}
-use Rattle.trace_audit.specs.Auditing.{Auditing, HasTaken}
-use Rattle.trace_audit.specs.Judging.{TakesStep}
-use Rattle.trace_audit.specs.Presents.{guards_at, moment, placed_guard}
 use Rattle.trace_audit.proofs.AuditLemmas.{audits_more, roots_can}
 use Rattle.trace_audit.proofs.auditor.Auditor.step.Goals as goal
 
@@ -18,13 +10,13 @@ pub follow_step-requires-clause-roots : goal.follow_step-requires-clause-roots
 follow_step-requires-clause-roots c =
     let policy = c.self.inside.policy.now in
     let (made, same, ran) = c.in_ok-tables.ensures.are in
-    subst (λ (ps : List StoredPlan). AllByRecursion (λ plan. CanAsk (guards_at c.in_ok-tables.tables) plan no_values) (map plan_of ps)) (sym c.plans.ensures.plans)
-    (subst (λ (gs : List PlacedGuard). AllByRecursion (λ plan. CanAsk (map placed_guard gs) plan no_values) (map plan_of policy.plans)) (sym ran.0)
+    subst (λ (ps : List StoredPlan). AllByRecursion (λ plan. CanEvaluatePlan (guards_at c.in_ok-tables.tables) plan no_values) (map plan_of ps)) (sym c.plans.ensures.plans)
+    (subst (λ (gs : List PlacedGuard). AllByRecursion (λ plan. CanEvaluatePlan (map placed_guard gs) plan no_values) (map plan_of policy.plans)) (sym ran.0)
     (roots_can policy.guards c.self.inside.past.guards (map plan_of policy.plans) c.self.invariant.copies c.plans.ensures.formed))
 
 pub commit-requires-clause-are : goal.commit-requires-clause-are
 commit-requires-clause-are c =
-    subst (λ (events : List Event). AreOf c.self.inside.past c.args.time events c.in_ok-tables.tables) c.in_ok-ordered.ensures c.in_ok-tables.ensures.are
+    subst (λ (events : List Event). AreTablesAtStep c.self.inside.past c.args.time events c.in_ok-tables.tables) c.in_ok-ordered.ensures c.in_ok-tables.ensures.are
 
 pub returns : goal.returns
 returns c =
@@ -34,10 +26,12 @@ returns c =
     let policy = c.self.inside.policy.now in
     let tables = c.in_ok-tables.tables in
     let later = subst (λ (a : Auditing). a.last ≤ time) (sym c.self.view_is) c.requires.later in
-    let are = subst (λ (e : List Event). AreOf past time e tables) c.in_ok-ordered.ensures c.in_ok-tables.ensures.are in
+    let are = subst (λ (e : List Event). AreTablesAtStep past time e tables) c.in_ok-ordered.ensures c.in_ok-tables.ensures.are in
     let hold = subst (λ (e : List Event). GuardsWillHold past time e tables) c.in_ok-ordered.ensures c.in_ok-tables.ensures.hold in
-    let takes = subst (λ (ps : List StoredPlan). TakesStep (moment time c.self.inside.position events tables) (map plan_of ps) c.self.inside.followed c.follow_step.new.followed) c.plans.ensures.plans
-    (subst (λ (e : List Event). TakesStep (moment time c.self.inside.position e tables) (map plan_of c.plans.result.now) c.self.inside.followed c.follow_step.new.followed) c.in_ok-ordered.ensures c.in_ok-follow_step.ensures.takes) in
+    let takes = subst (λ (ps : List StoredPlan). JudgesStep (audit_moment time c.self.inside.position events tables) (map plan_of ps) c.self.inside.followed c.follow_step.new.followed)
+    c.plans.ensures.plans
+    (subst (λ (e : List Event). JudgesStep (audit_moment time c.self.inside.position e tables) (map plan_of c.plans.result.now) c.self.inside.followed c.follow_step.new.followed)
+    c.in_ok-ordered.ensures c.in_ok-follow_step.ensures.takes) in
     let (made, same, ran) = c.in_ok-tables.ensures.are in
     let copies = subst (AreCopies policy.guards) (sym ran.0) c.self.invariant.copies in
     let before : Auditing = record {

@@ -1,10 +1,6 @@
-use Rattle.std.proofs.Common.{Contains, sym, ap, ◌∙◌}
-use Rattle.std.proofs.lemmas.Bool.{false≢true}
-use Rattle.std.specs.Option.{option_copied}
-use Rattle.enf_value.specs.Valuations.{value_at}
-use Rattle.valuations.specs.Columns.{is_among-Decides}
-use Rattle.valuations.specs.ScopeLaws.{filled_keeps, filled_unbound, part_inside, part_outside}
-use Rattle.valuations.specs.Scopes.{bound_in}
+use Rattle.valuations.proofs.Vocabulary.{Contains, sym, ap, ◌∙◌, false≢true, option_copied, value_at, bound_in}
+use Rattle.valuations.proofs.ColumnLaws.{is_among-Decides}
+use Rattle.valuations.proofs.ScopeLaws.{filled_keeps, filled_unbound, part_inside, part_outside}
 use Rattle.valuations.proofs.frame.Frame.+get.Goals as goal
 
 pub returns-then-contains : goal.returns-then-contains
@@ -27,4 +23,5 @@ returns-in-Some t c =
 pub returns-in-None : goal.returns-in-None
 returns-in-None t c =
     let unknown = sym c.get-in-Row.ensures ∙ ap option_copied c.in-None.is in
-    c.cell_of.ensures ∙ sym (filled_unbound (bound_in c.in-Row.below.now) c.in-Row.columns.now c.in-Row.row.now c.args.variable unknown) ∙ ap (λ f. value_at (bound_in f) c.args.variable) (sym c.in-Row.is)
+    c.cell_of.ensures ∙ sym (filled_unbound (bound_in c.in-Row.below.now) c.in-Row.columns.now c.in-Row.row.now c.args.variable unknown) ∙ ap
+    (λ f. value_at (bound_in f) c.args.variable) (sym c.in-Row.is)

@@ -1,12 +1,8 @@
-use Rattle.std.proofs.Common.{rules, ◌≡◌, length, subst, sym}
-use Rattle.std.specs.List.{All, dedup}
-use Rattle.std.specs.Ordering.{is_lt, eq_by_cmp}
-use Rattle.std.proofs.lemmas.Fn.{dedup_same}
-use Rattle.std.proofs.lemmas.List.Sorted.{answers_always, ranks_by, All-permutation}
-use Rattle.std.proofs.lemmas.List.Filters.{All-dedup}
-use Rattle.enf_value.specs.Order.{row_cmp}
-use Rattle.valuations.specs.Tables.{IsTable}
-use Rattle.valuations.proofs.RowOrder.{sorted_set, IsSortedSet, row_cmp_total}
+use Rattle.valuations.proofs.Vocabulary.{rules, ◌≡◌, length, subst, sym, dedup, is_lt, eq_by_cmp, dedup_same}
+use Rattle.valuations.proofs.Vocabulary.{answers_always, ranks_by, All-permutation, All-dedup, row_cmp, IsTable}
+use Rattle.valuations.proofs.Vocabulary.{row_cmp_total}
+use Rattle.std.specs.List.{All}
+use Rattle.valuations.proofs.RowOrder.{sorted_set, IsSortedSet}
 use Rattle.valuations.proofs.tables.Table.from_rows.Goals as goal
 
 deduped : (c : goal.After-dedup_by) → c.dedup_by.new.self.items ≡ dedup (eq_by_cmp row_cmp) c.sort_unstable_by.new.self.items
@@ -20,7 +16,8 @@ set_of c =
 table : (c : goal.After-dedup_by) → IsTable (record { columns = c.args.columns; rows = c.dedup_by.new.self.items })
 table c = record {
   distinct = c.requires.distinct;
-  fits = subst (All (λ row. length row ≡ length c.args.columns)) (sym (deduped c)) (All-dedup _ (λ row. length row ≡ length c.args.columns) _ (All-permutation (λ row. length row ≡ length c.args.columns) _ _ c.sort_unstable_by.ensures.permutation c.requires.fits));
+  fits = subst (All (λ row. length row ≡ length c.args.columns)) (sym (deduped c)) (All-dedup _ (λ row. length row ≡ length c.args.columns) _
+      (All-permutation (λ row. length row ≡ length c.args.columns) _ _ c.sort_unstable_by.ensures.permutation c.requires.fits));
   rising = (set_of c).rising;
 }
 

@@ -1,7 +1,5 @@
-use Rattle.std.proofs.Common.{rules}
-use Rattle.std.proofs.lemmas.Fn.{always_returns_same}
-use Rattle.enf_value.specs.Order.{row_cmp}
-use Rattle.valuations.proofs.RowOrder.{search_tells, row_cmp_total, row_cmp_exact}
+use Rattle.valuations.proofs.Vocabulary.{rules, always_returns_same, row_cmp, row_cmp_total, row_cmp_exact}
+use Rattle.valuations.proofs.RowOrder.{search_tells}
 use Rattle.valuations.proofs.tables.Table.has.Goals as goal
 
 pub returns-clause-has : goal.returns-clause-has

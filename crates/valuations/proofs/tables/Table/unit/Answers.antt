@@ -1,8 +1,6 @@
-use Rattle.std.proofs.Common.{◌≡◌, ◌∙◌, ap, subst, sym, [], ◌∷◌, ◌++◌, length, arith}
-use Rattle.enf_value.specs.declared.terms.VarId.{VarId}
-use Rattle.std.proofs.lemmas.List.Elements.{All-cons, All-nil}
+use Rattle.valuations.proofs.Vocabulary.{◌≡◌, ◌∙◌, ap, subst, sym, [], ◌∷◌, ◌++◌, length, arith}
+use Rattle.valuations.proofs.Vocabulary.{VarId, All-cons, All-nil, Relation, IsTable}
 use Rattle.std.specs.List.Sorted.{IsStrictlySortedBy}
-use Rattle.valuations.specs.Tables.{Relation, IsTable}
 use Rattle.valuations.proofs.tables.Table.unit.Goals as goal
 
 unit_is_table : IsTable (record { columns = []; rows = [] ∷ [] })

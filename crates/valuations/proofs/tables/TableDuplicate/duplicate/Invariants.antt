@@ -1,4 +1,4 @@
-use Rattle.std.proofs.Common.{◌≡◌, take}
+use Rattle.valuations.proofs.Vocabulary.{◌≡◌, take}
 use Rattle.valuations.proofs.tables.TableDuplicate.duplicate.Given as goal
 
 abbrev pub invariant-loop-row : goal.invariant-loop-row

@@ -1,4 +1,4 @@
-use Rattle.std.proofs.Common.{sym, ◌∙◌}
+use Rattle.valuations.proofs.Vocabulary.{sym, ◌∙◌}
 use Rattle.valuations.proofs.BindingLemmas.{bindings-listed}
 use Rattle.valuations.proofs.valuation.Valuation.bindings.Goals as goal
 

@@ -1,7 +1,4 @@
-use Rattle.std.proofs.Common.{sym, ◌∙◌, ap}
-use Rattle.std.proofs.lemmas.Bool.{eqb-true}
-use Rattle.std.specs.FinMap.Entries.{find}
-use Rattle.enf_value.specs.Valuations.{variable_cmp}
+use Rattle.valuations.proofs.Vocabulary.{sym, ◌∙◌, ap, eqb-true, find, variable_cmp}
 use Rattle.valuations.proofs.BindingLemmas.{value_at-listed, found_value, no_value}
 use Rattle.valuations.proofs.valuation.Valuation.get.Goals as goal
 

@@ -1,6 +1,4 @@
-use Rattle.std.proofs.Common.{◌≡◌, drop}
-use Rattle.std.specs.FinMap.Entries.{find}
-use Rattle.enf_value.specs.Valuations.{variable_cmp}
+use Rattle.valuations.proofs.Vocabulary.{◌≡◌, drop, find, variable_cmp}
 use Rattle.valuations.proofs.valuation.Valuation.get.Given as goal
 
 abbrev pub invariant-loop-binding : goal.invariant-loop-binding

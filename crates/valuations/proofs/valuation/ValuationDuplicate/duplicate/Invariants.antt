@@ -1,4 +1,4 @@
-use Rattle.std.proofs.Common.{◌≡◌, take}
+use Rattle.valuations.proofs.Vocabulary.{◌≡◌, take}
 use Rattle.valuations.proofs.valuation.ValuationDuplicate.duplicate.Given as goal
 
 abbrev pub invariant-loop-variable : goal.invariant-loop-variable

@@ -1,5 +1,4 @@
-use Rattle.std.proofs.Common.{◌-◌, ◌<◌, All, arith, subst}
-use Rattle.windows.specs.Queues.{waiting_of}
+use Rattle.windows.proofs.Vocabulary.{◌-◌, ◌<◌, All, arith, subst, waiting_of}
 use Rattle.windows.proofs.QueueLemmas.{none_far}
 use Rattle.windows.proofs.queue.StepQueue.first_far.Goals as goal
 

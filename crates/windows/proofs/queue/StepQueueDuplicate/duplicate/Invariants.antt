@@ -1,5 +1,4 @@
-use Rattle.std.proofs.Common.{◌≡◌, ◌++◌}
-use Rattle.std.specs.VecDeque.Iter.{deque_iter_rest}
+use Rattle.windows.proofs.Vocabulary.{◌≡◌, ◌++◌, deque_iter_rest}
 use Rattle.windows.proofs.queue.StepQueueDuplicate.duplicate.Given as goal
 
 abbrev pub invariant-loop-step : goal.invariant-loop-step

@@ -1,6 +1,4 @@
-use Rattle.std.proofs.Common.{◌≡◌, drop}
-use Rattle.std.specs.List.{flat_map, fold}
-use Rattle.windows.specs.Queries.{cell_fed, cells}
+use Rattle.windows.proofs.Vocabulary.{◌≡◌, drop, flat_map, fold, cell_fed, cells}
 use Rattle.windows.proofs.row_query.RowQueryHash.hash.Given as goal
 
 abbrev pub invariant-loop-column : goal.invariant-loop-column

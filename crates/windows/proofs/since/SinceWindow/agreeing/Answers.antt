@@ -1,43 +1,50 @@
-use Rattle.std.proofs.Common.{◌≡◌, ◌∙◌, ◌↔◌, ◌⊎◌, [], IsTrue, List, All, Contains, length, sym, ap, subst}
-use Rattle.enf_value.specs.Membership.{IsIn}
-use Rattle.enf_value.specs.Valuations.{Valuation}
-use Rattle.enf_value.specs.declared.values.Value.{Value}
-use Rattle.valuations.specs.Tables.{AgreesWhereBound, Has}
-use Rattle.windows.specs.Pairs.{Gives}
-use Rattle.windows.specs.Queries.{are_as_bound, cells, SurvivesUnder}
-use Rattle.windows.specs.Windows.{AnswersBy, FitsColumns, SurvivesFor}
-use Rattle.windows.proofs.UnderLemmas.{answer_under, long_under}
-use Rattle.windows.proofs.WindowLemmas.{fit_all, ok_both}
+use Rattle.windows.proofs.Vocabulary.{◌≡◌, ◌∙◌, ◌↔◌, ◌⊎◌, [], IsTrue, List, All, Contains}
+use Rattle.windows.proofs.Vocabulary.{length, sym, ap, subst, IsIn, Valuation, Value, ok_both, AgreesWhereBound}
+use Rattle.windows.proofs.Vocabulary.{HasValuation, GivesRow, are_cells_as_bound, cells, SurvivesUnder, AnswersBy}
+use Rattle.windows.proofs.Vocabulary.{FitsColumns, SurvivesFor}
+use Rattle.windows.proofs.BoundAnswerLemmas.{answer_under, long_under}
+use Rattle.windows.proofs.WindowLemmas.{fit_all}
 use Rattle.windows.proofs.since.SinceWindow.agreeing.Given.{Over}
 use Rattle.windows.proofs.since.SinceWindow.agreeing.Goals as goal
 
 middles : (g : Over) (c : goal.In_ok-duplicate g) → (row : List Value) → Contains c.push_given_under.new.out.items row
-    ↔ (Contains [] row ⊎ Gives c.self.inside.interval c.args.time (SurvivesUnder c.args.surviving.now (cells c.self.inside.columns (g.V.Lookup.valuation c.args.v.now))) c.self.inside.entries.entries row)
-middles g c = subst (λ b. (row : List Value) → Contains c.push_given_under.new.out.items row ↔ (Contains [] row ⊎ Gives c.self.inside.interval c.args.time (SurvivesUnder c.args.surviving.now b) c.self.inside.entries.entries row))
+    ↔ (Contains [] row ⊎ GivesRow c.self.inside.interval c.args.time (SurvivesUnder c.args.surviving.now (cells c.self.inside.columns (g.V.Lookup.valuation c.args.v.now)))
+    c.self.inside.entries.entries row)
+middles g c = subst (λ b. (row : List Value) → Contains c.push_given_under.new.out.items row ↔
+    (Contains [] row ⊎ GivesRow c.self.inside.interval c.args.time (SurvivesUnder c.args.surviving.now b) c.self.inside.entries.entries row))
     (ap (λ l. cells l (g.V.Lookup.valuation c.args.v.now)) c.as_slice.ensures)
-    (subst (λ l. (row : List Value) → Contains c.push_given_under.new.out.items row ↔ (Contains l row ⊎ Gives c.self.inside.interval c.args.time (SurvivesUnder c.args.surviving.now (cells c.as_slice.result.now (g.V.Lookup.valuation c.args.v.now))) c.self.inside.entries.entries row))
+    (subst (λ l. (row : List Value) → Contains c.push_given_under.new.out.items row ↔ (Contains l row
+    ⊎ GivesRow c.self.inside.interval c.args.time (SurvivesUnder c.args.surviving.now (cells c.as_slice.result.now (g.V.Lookup.valuation c.args.v.now))) c.self.inside.entries.entries
+    row))
     c.new-rows.ensures.items c.in_ok-push_given_under.ensures.rows)
 
 outs : (g : Over) (c : goal.In_ok-duplicate g) → (row : List Value) → Contains c.push_now_under.new.out.items row
-    ↔ (Contains c.push_given_under.new.out.items row ⊎ (IsIn c.self.inside.interval 0 × (Contains c.args.right.now.rows row × IsTrue (are_as_bound (cells c.self.inside.columns (g.V.Lookup.valuation c.args.v.now)) row))))
+    ↔ (Contains c.push_given_under.new.out.items row ⊎ (IsIn c.self.inside.interval 0 ×
+    (Contains c.args.right.now.rows row × IsTrue (are_cells_as_bound (cells c.self.inside.columns (g.V.Lookup.valuation c.args.v.now)) row))))
 outs g c = subst (λ l. (row : List Value) → Contains c.push_now_under.new.out.items row
-    ↔ (Contains c.push_given_under.new.out.items row ⊎ (IsIn c.self.inside.interval 0 × (Contains c.args.right.now.rows row × IsTrue (are_as_bound (cells l (g.V.Lookup.valuation c.args.v.now)) row)))))
+    ↔ (Contains c.push_given_under.new.out.items row ⊎ (IsIn c.self.inside.interval 0 ×
+    (Contains c.args.right.now.rows row × IsTrue (are_cells_as_bound (cells l (g.V.Lookup.valuation c.args.v.now)) row)))))
     c.as_slice.ensures c.in_ok-push_now_under.ensures.rows
 
 pub from_rows-requires-clause-fits : goal.from_rows-requires-clause-fits
 from_rows-requires-clause-fits g c =
     let same = ap (λ w. w.columns) c.self.view_is in
     subst (λ l. All (λ row. length row ≡ length l) c.push_now_under.new.out.items) (sym c.in_ok-duplicate.ensures)
-    (fit_all (length c.self.inside.columns) c.push_now_under.new.out.items (long_under c.args.self.now c.self.inside.interval c.self.inside.columns c.self.inside.last c.args.time c.self.inside.entries.entries c.self.invariant.distinct c.self.invariant.kept c.self.view_is
-    c.args.surviving.now c.args.right.now (g.V.Lookup.valuation c.args.v.now) c.push_given_under.new.out.items c.push_now_under.new.out.items (subst (λ l. FitsColumns l c.args.surviving.now) (sym same) c.requires.surviving_columns) c.in_ok-push_given_under.ensures.tables
+    (fit_all (length c.self.inside.columns) c.push_now_under.new.out.items (long_under c.args.self.now c.self.inside.interval c.self.inside.columns c.self.inside.last c.args.time
+    c.self.inside.entries.entries c.self.invariant.distinct c.self.invariant.kept c.self.view_is
+    c.args.surviving.now c.args.right.now (g.V.Lookup.valuation c.args.v.now) c.push_given_under.new.out.items c.push_now_under.new.out.items
+    (subst (λ l. FitsColumns l c.args.surviving.now) (sym same) c.requires.surviving_columns) c.in_ok-push_given_under.ensures.tables
     (c.requires.right_columns ∙ sym same) c.push_now_under.ensures.table (middles g c) (outs g c)))
 
 pub returns-clause-rows : goal.returns-clause-rows
 returns-clause-rows g r =
     let c : goal.In_ok-duplicate g = r.before in
     let same = ap (λ w. w.columns) c.self.view_is in
-    ok_both r.from_rows.result _ _ (λ t. (w : Valuation) → Has t w ↔ (AnswersBy r.args.self.now r.args.time (SurvivesFor r.args.surviving.now) r.args.right.now w × AgreesWhereBound r.args.self.now.columns (g.V.Lookup.valuation r.args.v.now) w))
+    ok_both r.from_rows.result _ _ (λ t. (w : Valuation) → HasValuation t w ↔ (AnswersBy r.args.self.now r.args.time (SurvivesFor r.args.surviving.now) r.args.right.now w
+    × AgreesWhereBound r.args.self.now.columns (g.V.Lookup.valuation r.args.v.now) w))
     r.from_rows.ensures.columns r.from_rows.ensures.rows
-    (λ t columns rows. answer_under c.args.self.now c.self.inside.interval c.self.inside.columns c.self.inside.last c.args.time c.self.inside.entries.entries c.self.invariant.distinct c.self.invariant.kept c.self.view_is
-    c.args.surviving.now c.args.right.now (g.V.Lookup.valuation c.args.v.now) c.push_given_under.new.out.items c.push_now_under.new.out.items (subst (λ l. FitsColumns l c.args.surviving.now) (sym same) c.requires.surviving_columns) c.in_ok-push_given_under.ensures.tables
+    (λ t columns rows. answer_under c.args.self.now c.self.inside.interval c.self.inside.columns c.self.inside.last c.args.time c.self.inside.entries.entries c.self.invariant.distinct
+    c.self.invariant.kept c.self.view_is
+    c.args.surviving.now c.args.right.now (g.V.Lookup.valuation c.args.v.now) c.push_given_under.new.out.items c.push_now_under.new.out.items
+    (subst (λ l. FitsColumns l c.args.surviving.now) (sym same) c.requires.surviving_columns) c.in_ok-push_given_under.ensures.tables
     (c.requires.right_columns ∙ sym same) c.push_now_under.ensures.table (middles g c) (outs g c) t (columns ∙ c.in_ok-duplicate.ensures) rows)

@@ -1,5 +1,4 @@
-use Rattle.std.proofs.lemmas.Result.{IfOk-weaker}
-use Rattle.windows.specs.Windows.{IsWalkedNow}
+use Rattle.windows.proofs.Vocabulary.{IfOk-weaker, IsWalkedNow}
 use Rattle.windows.proofs.WindowLemmas.{walked_now}
 use Rattle.windows.proofs.since.SinceWindow.answer.Goals as goal
 

@@ -1,17 +1,17 @@
-use Rattle.std.proofs.Common.{refl, subst}
-use Rattle.windows.specs.KeptPairs.{HaveStepsOf, HaveTimesOf}
-use Rattle.windows.specs.Windows.{kept_of}
+use Rattle.windows.proofs.Vocabulary.{refl, subst, HaveStepsOf, HaveTimesOf, kept_entries}
 use Rattle.windows.proofs.RestoreLemmas.{restored, restored_kept, restored_least, restored_pairs}
 use Rattle.windows.proofs.WindowLemmas.{keeps_least}
 use Rattle.windows.proofs.since.SinceWindow.from_kept.Goals as goal
 
 pub invariant_of-result : goal.invariant_of-result
-invariant_of-result c = restored c.args.interval c.args.columns c.args.last c.args.pairs.items c.in_ok-entries.entries.entries c.requires.keepable c.in_ok-entries.ensures c.in_ok-queue.queue c.requires.distinct
+invariant_of-result c = restored c.args.interval c.args.columns c.args.last c.args.pairs.items c.in_ok-entries.entries.entries c.requires.keepable c.in_ok-entries.ensures
+    c.in_ok-queue.queue c.requires.distinct
     c.in_ok-queue.ensures.far (subst (λ l. HaveTimesOf l c.in_ok-queue.queue.steps) c.deref.ensures.value c.in_ok-queue.ensures.within) c.in_ok-queue.ensures.none
     (λ high is. subst (λ l. HaveStepsOf l c.in_ok-queue.queue.steps) c.deref.ensures.value (c.in_ok-queue.ensures.steps high is))
 
 pub returns-clause-exact : goal.returns-clause-exact
-returns-clause-exact c = restored_pairs c.args.interval c.args.columns c.args.last c.args.pairs.items c.in_ok-entries.entries.entries c.requires.keepable c.in_ok-entries.ensures (kept_of c.in_ok-entries.entries.entries) refl
+returns-clause-exact c = restored_pairs c.args.interval c.args.columns c.args.last c.args.pairs.items c.in_ok-entries.entries.entries c.requires.keepable c.in_ok-entries.ensures
+    (kept_entries c.in_ok-entries.entries.entries) refl
 
 pub returns-clause-least : goal.returns-clause-least
 returns-clause-least c = keeps_least c.args.interval c.args.columns c.args.last c.in_ok-entries.entries.entries c.requires.distinct

@@ -1,4 +1,4 @@
-use Rattle.std.proofs.Common.{take}
+use Rattle.windows.proofs.Vocabulary.{take}
 use Rattle.windows.proofs.PairLemmas.{ArePairsOfRows}
 use Rattle.windows.proofs.since.SinceWindow.kept.Given as goal
 

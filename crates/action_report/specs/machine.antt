@@ -1,0 +1,4 @@
+pub mod Cases
+pub mod ReportedActions
+pub mod Laws
+pub mod LineParts

@@ -1,0 +1,506 @@
+-- What is left of what a root misses after an action on a name that no plan looks for, and the first that misses something
+-- there.
+use Rattle.choice_step.proofs.Vocabulary.{◌≡◌, ◌↔◌, ℕ, zero, suc, ◌+◌, ◌<◌, Bool, List, []}
+use Rattle.choice_step.proofs.Vocabulary.{◌∷◌, ◌++◌, Some, length, map, Contains, drop, get_or, take, refl}
+use Rattle.choice_step.proofs.Vocabulary.{sym, subst, ap, ◌∙◌, ⊎_elim, inl, inr, arith, append-nil}
+use Rattle.choice_step.proofs.Vocabulary.{append_assoc, length-append, slice_get, AllByRecursion, flat_map}
+use Rattle.choice_step.proofs.Vocabulary.{Contains-append_left, Contains-append_right, Contains-push}
+use Rattle.choice_step.proofs.Vocabulary.{Contains-push_cases, none-some, same_Some, no_step, step_at}
+use Rattle.choice_step.proofs.Vocabulary.{AllByRecursion-append, AllByRecursion-contains, Contains-append}
+use Rattle.choice_step.proofs.Vocabulary.{first_or_later, here, later, HasNoRepeats-middle, HasNoRepeats, no_values}
+use Rattle.choice_step.proofs.Vocabulary.{Event, NameId, Step, VarId, Contains-insert, Formula, HaveSameEvents, Past}
+use Rattle.choice_step.proofs.Vocabulary.{guard_names, NothingClashes, nodes, Plan, CausePlan, SuppressPlan, Both}
+use Rattle.choice_step.proofs.Vocabulary.{Either, TestOr, Guarded, EventuallyPlan, AlwaysPlan, UntilPlan, NextPlan}
+use Rattle.choice_step.proofs.Vocabulary.{ChangesEvents, IsLeaf, placed_guard, time_now, Missing, last_position}
+use Rattle.choice_step.proofs.Vocabulary.{MissingOf, AreThoseWith, DiffersIn, HaveMore, IsStillWanted, IsUnread}
+use Rattle.choice_step.proofs.Vocabulary.{IsUnreadIn, IsPlain, UnreadInstanceStaysMet, UnreadLeavesRest, UnreadStaysMet}
+use Rattle.choice_step.proofs.Vocabulary.{CanAskOf, CanAskRoots, Action, Instance, Literal, LiteralKind, AllCanBeAsked}
+use Rattle.choice_step.proofs.Vocabulary.{GoesFrom, IsFoundFrom, ActsInTurn, AreSpared, AreSparedBehind, HasNoChoices}
+use Rattle.choice_step.proofs.Vocabulary.{Applies, MissesNothing, Root, Waiting, action_at, action_at_root, all_asked}
+use Rattle.choice_step.proofs.Vocabulary.{is_forced, roots_from, trace_with_step, AreLiteralsBehind, IsLiteralBehind}
+use Rattle.choice_step.proofs.Vocabulary.{IsWantedFrom, IsActionFor, WillFind, IsLeftAt, WillBeLeft, WillBeMetBefore}
+use Rattle.choice_step.proofs.Vocabulary.{Place}
+use Rattle.choice_step.proofs.ActionChainLemmas.{not_behind}
+use Rattle.choice_step.proofs.UniquenessLemmas.{last_step}
+use Rattle.choice_step.proofs.FirstActionLemmas.{Met, covers_again, waiting_met, found_behind, one_more_root}
+use Rattle.choice_step.proofs.FirstActionLemmas.{root_first}
+use Rattle.choice_step.proofs.LoopLemmas.{role_of_leaf}
+use Rattle.choice_step.proofs.SparedNameLemmas.{spared_unread}
+use Rattle.obligations.specs.declared.literals.LiteralKind.TheVariants as kind
+
+-- ---- steps that differ in the event of an action
+
+-- what holds of each step and itself, and of the two last ones, holds of the steps at each position
+pub at_each : (P : Step → Step → Type 0) → ((s : Step) → P s s) → (a b : Step) → P a b → (trace : List Step) (i : ℕ)
+    → P (step_at (trace ++ a ∷ []) i) (step_at (trace ++ b ∷ []) i)
+at_each P same a b last [] zero = last
+at_each P same a b last [] (suc i) = same no_step
+at_each P same a b last (s ∷ trace) zero = same s
+at_each P same a b last (s ∷ trace) (suc i) = at_each P same a b last trace i
+
+more_itself : (k : LiteralKind) (events : List Event) → HaveMore k events events
+more_itself kind.Cause events = λ event there. there
+more_itself kind.Suppress events = λ event there. there
+
+others_stay : (k : LiteralKind) (event : Event) (events after : List Event) → Applies k event events after → (other : Event)
+    → (other.name ≡ event.name → ⊥) → Contains events other ↔ Contains after other
+others_stay kind.Cause event events after is other apart = (
+  λ there. subst (λ l. Contains l other) (sym is) (Contains-append_left events (event ∷ []) other there),
+  λ there. ⊎_elim
+      (λ before. before)
+      (λ (same : event ≡ other). absurd (apart (ap (λ (e : Event). e.name) (sym same))))
+      (Contains-push_cases events event other (subst (λ l. Contains l other) is there)),
+)
+others_stay kind.Suppress event events after taken other apart = (
+  λ there. subst (λ l. Contains l other) (sym taken.is)
+      (⊎_elim
+      (λ front. Contains-append_left taken.front taken.back other front)
+      (λ behind. ⊎_elim
+      (λ (same : event ≡ other). absurd (apart (ap (λ (e : Event). e.name) (sym same))))
+      (λ back. Contains-append_right taken.front taken.back other back)
+      (first_or_later other event taken.back behind))
+      (Contains-append taken.front (event ∷ taken.back) other (subst (λ l. Contains l other) taken.was there))),
+  λ there. subst (λ l. Contains l other) (sym taken.was) (Contains-insert taken.front taken.back event other (subst (λ l. Contains l other) taken.is there)),
+)
+
+more_after : (k : LiteralKind) (event : Event) (events after : List Event) → Applies k event events after
+    → HaveMore k events after
+more_after kind.Cause event events after is = λ other there.
+    subst (λ l. Contains l other) (sym is) (Contains-append_left events (event ∷ []) other there)
+more_after kind.Suppress event events after taken = λ other there.
+    subst (λ l. Contains l other) (sym taken.was) (Contains-insert taken.front taken.back event other (subst (λ l. Contains l other) taken.is there))
+
+differs : (k : LiteralKind) (event : Event) (events after : List Event) (trace : List Step) (time : ℕ)
+    → Applies k event events after → DiffersIn k event.name (trace_with_step trace time events) (trace_with_step trace time after)
+differs k event events after trace time applies =
+    let a : Step = record { time = time; events = events } in
+    let b : Step = record { time = time; events = after } in
+    record {
+      long = length-append trace (a ∷ []) ∙ sym (length-append trace (b ∷ []));
+      times = at_each (λ s t. s.time ≡ t.time) (λ s. refl) a b refl trace;
+      others = at_each (λ s t. (other : Event) → (other.name ≡ event.name → ⊥) → Contains s.events other ↔ Contains t.events other)
+          (λ s other apart. (λ there. there, λ there. there)) a b (others_stay k event events after applies) trace;
+      more = at_each (λ s t. HaveMore k s.events t.events) (λ s. more_itself k s.events) a b (more_after k event events after applies) trace;
+    }
+
+-- an event that was acted on is not to be acted on again
+gone : (k : LiteralKind) (event : Event) (events after : List Event) → HasNoRepeats events → Applies k event events after
+    → ChangesEvents k event after → ⊥
+gone kind.Cause event events after distinct is absent =
+    absent (subst (λ l. Contains l event) (sym is) (Contains-push events event))
+gone kind.Suppress event events after distinct taken there =
+    let whole = subst HasNoRepeats taken.was distinct in
+    ⊎_elim
+    (λ front. HasNoRepeats-middle taken.front taken.back event whole front)
+    (λ back. not_behind taken.front taken.back event whole back)
+    (Contains-append taken.front taken.back event (subst (λ l. Contains l event) taken.is there))
+
+-- ---- literals of leaves that do not want the contrary
+
+-- what is wanted after the action was wanted before it
+still : (k wants : LiteralKind) (event other : Event) (events after : List Event) → Applies k event events after
+    → ((k ≡ wants → ⊥) → other.name ≡ event.name → ⊥) → ChangesEvents wants other after → ChangesEvents wants other events
+still kind.Cause kind.Cause event other events after applies apart absent = λ there.
+    absent (more_after kind.Cause event events after applies other there)
+still kind.Cause kind.Suppress event other events after applies apart there =
+    (others_stay kind.Cause event events after applies other (apart not_both)).1 there
+  where
+    not_both : kind.Cause ≡ kind.Suppress → ⊥
+    not_both same = cc
+still kind.Suppress kind.Cause event other events after applies apart absent = λ there.
+    absent ((others_stay kind.Suppress event events after applies other (apart not_both)).0 there)
+  where
+    not_both : kind.Suppress ≡ kind.Cause → ⊥
+    not_both same = cc
+still kind.Suppress kind.Suppress event other events after applies apart there =
+    more_after kind.Suppress event events after applies other there
+
+leaf_apart : (k wants : LiteralKind) (name : NameId) (leaf : Plan) (number : ℕ) (other : Event) → IsUnread k name leaf
+    → IsLeaf leaf wants number other → (k ≡ wants → ⊥) → other.name ≡ name → ⊥
+leaf_apart kind.Cause wants name (CausePlan node place own terms) number other unread is not same = not (sym is.0)
+leaf_apart kind.Suppress wants name (CausePlan node place own terms) number other unread is not same =
+    unread refl (sym is.2 ∙ same)
+leaf_apart kind.Cause wants name (SuppressPlan node place own terms) number other unread is not same =
+    unread refl (sym is.2 ∙ same)
+leaf_apart kind.Suppress wants name (SuppressPlan node place own terms) number other unread is not same = not (sym is.0)
+leaf_apart k wants name (Both node left right) number other unread is not same = absurd is
+leaf_apart k wants name (Either node left right) number other unread is not same = absurd is
+leaf_apart k wants name (TestOr node guard test body) number other unread is not same = absurd is
+leaf_apart k wants name (Guarded node xs guard test body) number other unread is not same = absurd is
+leaf_apart k wants name (EventuallyPlan node place low high body) number other unread is not same = absurd is
+leaf_apart k wants name (AlwaysPlan node place low high body) number other unread is not same = absurd is
+leaf_apart k wants name (UntilPlan node place low high left right) number other unread is not same = absurd is
+leaf_apart k wants name (NextPlan node place high body) number other unread is not same = absurd is
+
+unread_leaf : (k : LiteralKind) (name : NameId) (plans : List Plan) (leaf : Plan) → AllByRecursion (IsUnreadIn k name) plans
+    → Contains (flat_map nodes plans) leaf → IsUnread k name leaf
+unread_leaf k name [] leaf all there = absurd (none_in leaf there)
+  where
+    none_in : (leaf : Plan) → Contains (flat_map nodes []) leaf → ⊥
+    none_in leaf (n, below, is) = omega (arith, below)
+unread_leaf k name (plan ∷ plans) leaf all there =
+    ⊎_elim
+    (λ front. AllByRecursion-contains (IsUnread k name) (nodes plan) leaf all.0 front)
+    (λ back. unread_leaf k name plans leaf all.1 back)
+    (Contains-append (nodes plan) (flat_map nodes plans) leaf there)
+
+-- the literals with the one property, of those with the other, are all that have the one, where each that has it has
+-- the other
+those_again : (P Q : Literal → Type 0) (all some left : List Literal) → ((l : Literal) → Contains all l → Q l → P l)
+    → AreThoseWith P all some → AreThoseWith Q some left → AreThoseWith Q all left
+those_again P Q [] some left turn none those = subst (λ l. AreThoseWith Q l left) none those
+those_again P Q (x ∷ all) some left turn those again =
+    ⊎_elim
+    (λ has. ⊎_elim
+    (λ still. inl (still.0, still.1, those_again P Q all has.1 still.1 (λ l there. turn l (later l x all there)) has.2 still.2, still.3))
+    (λ lost. inr (lost.0, those_again P Q all has.1 left (λ l there. turn l (later l x all there)) has.2 lost.1))
+    (subst (λ l. AreThoseWith Q l left) has.3 again))
+    (λ lacks. inr (
+      (λ is. lacks.0 (turn x (here x all) is)),
+      those_again P Q all some left (λ l there. turn l (later l x all there)) lacks.1 again,
+    ))
+    those
+
+-- ---- what comes at a place of a list, and after it
+
+drop_next : {X : Type 0} (xs : List X) (k : ℕ) (x : X) → k < length xs → x ≡ get_or xs k x → drop k xs ≡ x ∷ drop (suc k) xs
+drop_next [] k x within is = absurd (omega (arith, within))
+drop_next (y ∷ xs) zero x within is = λ i. sym is i ∷ xs
+drop_next (y ∷ xs) (suc k) x within is = drop_next xs k x (omega (arith, within)) is
+
+pub in_drop : {X : Type 0} (xs : List X) (k : ℕ) (x : X) → Contains (drop k xs) x → Contains xs x
+in_drop xs zero x there = there
+in_drop [] (suc k) x there = there
+in_drop (y ∷ xs) (suc k) x there = later x y xs (in_drop xs k x there)
+
+-- ---- what missed nothing
+
+module _ (met : UnreadStaysMet) (instances_met : UnreadInstanceStaysMet) (rest : UnreadLeavesRest) (plans : List Plan)
+    (inserted : Bool) (guards : List (Formula × List VarId)) (k : LiteralKind) (event : Event) (events after : List Event)
+    (trace : List Step) (time : ℕ) (applies : Applies k event events after)
+    (unread : AllByRecursion (IsUnreadIn k event.name) plans) where
+  abbrev S : List Step
+  S = trace_with_step trace time events
+
+  abbrev S' : List Step
+  S' = trace_with_step trace time after
+
+  differ : DiffersIn k event.name S S'
+  differ = differs k event events after trace time applies
+
+  pub roots_stay : (rule number : ℕ) (ps : List Plan) → CanAskRoots guards ps → AllByRecursion (IsUnreadIn k event.name) ps
+      → AllByRecursion (MissesNothing plans inserted S) (roots_from number (take rule ps))
+      → AllByRecursion (MissesNothing plans inserted S') (roots_from number (take rule ps))
+  roots_stay zero number ps can are none = tt
+  roots_stay (suc rule) number [] can are none = tt
+  roots_stay (suc rule) number (plan ∷ ps) can are none = (
+    met guards k event.name S S' plan no_values differ are.0 can.0.0 none.0,
+    roots_stay rule (suc number) ps can.1 are.1 none.1,
+  )
+
+  same_time : time_now S ≡ time_now S'
+  same_time =
+      ap (λ (s : Step). s.time) (last_step trace (record { time = time; events = events }))
+      ∙ sym (ap (λ (s : Step). s.time) (last_step trace (record { time = time; events = after })))
+
+  pub instances_stay : (is : List Instance) → AllByRecursion (CanAskOf guards plans) is
+      → AllByRecursion (MissesNothing plans inserted S) (map Waiting is)
+      → AllByRecursion (MissesNothing plans inserted S') (map Waiting is)
+  instances_stay [] can none = tt
+  instances_stay (i ∷ is) can none = (
+    subst (λ t. MissingOf plans S' i (is_forced inserted t i) []) same_time
+        (instances_met guards k event.name S S' plans i (is_forced inserted (time_now S) i) differ unread can.0 none.0),
+    instances_stay is can.1 none.1,
+  )
+
+  unread_at : (rule : ℕ) (ps : List Plan) (plan : Plan) → AllByRecursion (IsUnreadIn k event.name) ps
+      → slice_get ps rule ≡ Some plan → IsUnreadIn k event.name plan
+  unread_at rule [] plan all e = absurd (none-some plan e)
+  unread_at zero (first ∷ ps) plan all e = subst (IsUnreadIn k event.name) (same_Some first plan e) all.0
+  unread_at (suc rule) (first ∷ ps) plan all e = unread_at rule ps plan all.1 e
+
+  -- what is left after the action of what was missed before it
+  pub left_after : (pending : List Instance) (rule : ℕ) (plan : Plan) (literals missed : List Literal)
+      → CanAskRoots guards plans → AllByRecursion (CanAskOf guards plans) pending → slice_get plans rule ≡ Some plan
+      → AllByRecursion IsPlain (nodes plan)
+      → AllByRecursion (MissesNothing plans inserted S) (map Waiting pending)
+      → AllByRecursion (MissesNothing plans inserted S) (roots_from 0 (take rule plans)) → Missing S plan no_values missed
+      → ((left : List Literal) → AreThoseWith (IsStillWanted S') missed left → AreThoseWith (IsStillWanted S') literals left)
+      → IsLeftAt plans pending inserted S' rule literals
+  left_after pending rule plan literals missed roots instances there plain before_instances before_roots missing those =
+      let more = rest k event.name S S' plan no_values missed differ (unread_at rule plans plan unread there) plain missing in
+      record {
+        plan = plan;
+        there = there;
+        plain = plain;
+        instances = instances_stay pending instances before_instances;
+        roots = roots_stay rule 0 plans roots unread before_roots;
+        left = more.0;
+        those = those more.0 more.1;
+        missing = more.2;
+      }
+
+-- ---- the first
+
+module _ (plans : List Plan) (inserted : Bool) (trace : List Step) where
+  pub found_root : (pending : List Instance) (rule : ℕ) (plan : Plan) (literal : Literal) (more : List Literal) (action : Action)
+      → slice_get plans rule ≡ Some plan → AllByRecursion (MissesNothing plans inserted trace) (map Waiting pending)
+      → AllByRecursion (MissesNothing plans inserted trace) (roots_from 0 (take rule plans))
+      → Missing trace plan no_values (literal ∷ more) → action ≡ action_at (time_now trace) (last_position trace) (Root rule plan) literal
+      → IsActionFor plans inserted trace (all_asked plans pending) (Some action)
+  found_root pending rule plan literal more action there instances roots misses is =
+      found_behind plans inserted trace (map Waiting pending) (roots_from 0 plans) (Some action) instances
+      (Root rule plan, literal, root_first plans inserted trace 0 rule plans rule plan literal more (omega arith) there roots misses, is)
+
+-- ---- actions on names that nothing looks for
+
+-- lists after the same list
+behind_same : {X : Type 0} (xs ys zs : List X) → xs ++ ys ≡ xs ++ zs → ys ≡ zs
+behind_same [] ys zs same = same
+behind_same (x ∷ xs) ys zs same = behind_same xs ys zs (ap (drop 1) same)
+
+pub spared_none : (names : List NameId) (actions : List Action) → AreSparedBehind names actions actions
+spared_none names actions = ([], sym (append-nil actions), tt)
+
+abbrev IsSpared : List NameId → Action → Type 0
+IsSpared names action = Contains names action.event.name → ⊥
+
+pub spared_more : (names : List NameId) (before between : List Action) (action : Action) (after : List Action)
+    → AreSparedBehind names before between → (Contains names action.event.name → ⊥) → after ≡ between ++ action ∷ []
+    → AreSparedBehind names before after
+spared_more names before between action after spared this is = (
+  spared.0 ++ action ∷ [],
+  is ∙ (ap (λ l. l ++ action ∷ []) spared.1 ∙ append_assoc before spared.0 (action ∷ [])),
+  AllByRecursion-append (IsSpared names) spared.0 (action ∷ []) spared.2 (this, tt),
+)
+
+pub spared_behind : (names : List NameId) (before between after : List Action) → AreSparedBehind names before between
+    → AreSparedBehind names between after → AreSparedBehind names before after
+spared_behind names before between after first next = (
+  first.0 ++ next.0,
+  next.1 ∙ (ap (λ l. l ++ next.0) first.1 ∙ append_assoc before first.0 next.0),
+  AllByRecursion-append (IsSpared names) first.0 next.0 first.2 next.2,
+)
+
+-- those that are spared are the ones that came after
+pub spared_those : (names : List NameId) (before more after : List Action) → AreSparedBehind names before after
+    → after ≡ before ++ more → AreSpared names more
+spared_those names before more after spared is =
+    subst (AreSpared names) (behind_same before spared.0 more (sym spared.1 ∙ is)) spared.2
+
+-- ---- actions one after the other
+
+module _ (plans : List Plan) (pending : List Instance) (past : Past) (inserted : Bool) (time position : ℕ) where
+  pub goes_more : (given before : List Event) (actions : List Action) (between : List Event) (action : Action) (after : List Event)
+      → ActsInTurn plans pending past inserted time position given before actions between
+      → WillFind plans pending past inserted time position between (Some action)
+      → IsWantedFrom plans pending past given between action → Applies action.kind action.event between after
+      → ActsInTurn plans pending past inserted time position given before (actions ++ action ∷ []) after
+  goes_more given before [] between action after is finds wanted applies = (
+    after,
+    subst (λ l. WillFind plans pending past inserted time position l (Some action)) is finds,
+    subst (λ l. IsWantedFrom plans pending past given l action) is wanted,
+    subst (λ l. Applies action.kind action.event l after) is applies,
+    refl,
+  )
+  goes_more given before (a ∷ actions) between action after (next, found, is_wanted, does, more) finds wanted applies =
+      (next, found, is_wanted, does, goes_more given next actions between action after more finds wanted applies)
+
+  -- an action of a root for a literal that is wanted
+  pub wanted_from : (given events : List Event) (rule : ℕ) (literal : Literal) (action : Action)
+      → IsLiteralBehind plans pending past given literal → ChangesEvents literal.kind literal.event events
+      → action ≡ action_at_root time position rule literal → IsWantedFrom plans pending past given events action
+  wanted_from given events rule literal action literal_is changes is =
+      let by : IsWantedFrom plans pending past given events (action_at_root time position rule literal) = record {
+        leaf = literal_is.leaf;
+        there = literal_is.there;
+        asked = inl literal_is.root;
+        is = literal_is.is;
+        changes = changes;
+        known = literal_is.known;
+      } in
+      subst (IsWantedFrom plans pending past given events) (sym is) by
+
+  wanted_now : (trace : List Step) (events : List Event) (literal : Literal) → ChangesEvents literal.kind literal.event events
+      → IsStillWanted (trace_with_step trace time events) literal
+  wanted_now trace events literal changes =
+      subst (λ (s : Step). ChangesEvents literal.kind literal.event s.events) (sym (last_step trace (record { time = time; events = events }))) changes
+
+  changes_now : (trace : List Step) (events : List Event) (literal : Literal) → IsStillWanted (trace_with_step trace time events) literal
+      → ChangesEvents literal.kind literal.event events
+  changes_now trace events literal wanted =
+      subst (λ (s : Step). ChangesEvents literal.kind literal.event s.events) (last_step trace (record { time = time; events = events })) wanted
+
+  -- a literal that is not wanted any more is left out
+  pub pass : (events : List Event) (rule : ℕ) (literal : Literal) (literals : List Literal)
+      → (ChangesEvents literal.kind literal.event events → ⊥)
+      → WillBeLeft plans pending past inserted time position events rule (literal ∷ literals)
+      → WillBeLeft plans pending past inserted time position events rule literals
+  pass events rule literal literals met left trace stands long not_later =
+      let l = left trace stands long not_later in
+      record {
+        plan = l.plan;
+        there = l.there;
+        plain = l.plain;
+        instances = l.instances;
+        roots = l.roots;
+        left = l.left;
+        those = ⊎_elim (λ has. absurd (met (changes_now trace events literal has.0))) (λ lacks. lacks.1) l.those;
+        missing = l.missing;
+      }
+
+  -- the first is none any more after its action
+  pub left_but_first : (before after : List Event) (rule : ℕ) (literal : Literal) (all rest : List Literal) (action : Action)
+      → HasNoRepeats before → action ≡ action_at_root time position rule literal → all ≡ literal ∷ rest
+      → Applies action.kind action.event before after
+      → WillBeLeft plans pending past inserted time position after rule all
+      → WillBeLeft plans pending past inserted time position after rule rest
+  left_but_first before after rule literal all rest action distinct is split applies left =
+      pass after rule literal rest
+      (gone literal.kind literal.event before after distinct (subst (λ a. Applies a.kind a.event before after) is applies))
+      (subst (WillBeLeft plans pending past inserted time position after rule) split left)
+
+  -- where none is left, the root misses nothing
+  pub met_behind : (waiting : List Instance) (earlier events : List Event) (rule : ℕ) (from : Place)
+      → WillBeLeft plans pending past inserted time position events rule []
+      → WillBeMetBefore plans pending waiting past inserted time position earlier from
+      → WillBeMetBefore plans pending waiting past inserted time position events (record { instances = from.instances; rules = rule + 1 })
+  met_behind waiting earlier events rule from left before trace stands long not_later =
+      let l = left trace stands long not_later in
+      let then : List Step = trace_with_step trace time earlier in
+      let now : List Step = trace_with_step trace time events in (
+        covers_again (Met plans inserted then) (Met plans inserted now) pending (drop from.instances waiting) (before trace stands long not_later).0
+            (λ i there met. waiting_met plans inserted now pending i l.instances there),
+        one_more_root plans inserted now plans rule l.plan l.there l.roots (subst (Missing now l.plan no_values) l.those l.missing),
+      )
+
+  -- one that is wanted is the first that is missed
+  pub finds_literal : (events : List Event) (rule : ℕ) (literal : Literal) (literals : List Literal) (action : Action)
+      → ChangesEvents literal.kind literal.event events
+      → WillBeLeft plans pending past inserted time position events rule (literal ∷ literals)
+      → action ≡ action_at_root time position rule literal
+      → WillFind plans pending past inserted time position events (Some action)
+  finds_literal events rule literal literals action changes left is trace stands long not_later =
+      let l = left trace stands long not_later in
+      let now : List Step = trace_with_step trace time events in
+      let step : Step = record { time = time; events = events } in
+      let time_is : time_now now ≡ time = ap (λ (s : Step). s.time) (last_step trace step) in
+      let position_is : last_position now ≡ position = omega (arith, length-append trace (step ∷ []), long) in
+      let at : action ≡ action_at (time_now now) (last_position now) (Root rule l.plan) literal =
+      is ∙ (λ i. action_at (sym time_is i) (sym position_is i) (Root rule l.plan) literal)
+      in
+      ⊎_elim
+      (λ has. found_root plans inserted now pending rule l.plan literal has.1 action l.there l.instances l.roots
+      (subst (Missing now l.plan no_values) has.3 l.missing) at)
+      (λ lacks. absurd (lacks.0 (wanted_now trace events literal changes)))
+      l.those
+
+  -- the step keeps its events of the names that are looked for
+  pub names_stay : (given before : List Event) (actions : List Action) (after : List Event) (names : List NameId)
+      → ActsInTurn plans pending past inserted time position given before actions after → AreSpared names actions
+      → HaveSameEvents names before after
+  names_stay given before [] after names is spared event named =
+      (λ there. subst (λ l. Contains l event) (sym is) there, λ there. subst (λ l. Contains l event) is there)
+  names_stay given before (action ∷ actions) after names (between, finds, wanted, applies, more) spared event named =
+      let first = others_stay action.kind action.event before between applies event (λ same. spared.0 (subst (Contains names) same named)) in
+      let rest = names_stay given between actions after names more spared.1 event named in
+      (λ there. rest.0 (first.0 there), λ there. first.1 (rest.1 there))
+
+  -- actions lead on after those that led there
+  pub goes_behind : (given before : List Event) (actions : List Action) (between : List Event) (more : List Action) (after : List Event)
+      → ActsInTurn plans pending past inserted time position given before actions between
+      → ActsInTurn plans pending past inserted time position given between more after
+      → ActsInTurn plans pending past inserted time position given before (actions ++ more) after
+  goes_behind given before [] between more after is goes =
+      subst (λ l. ActsInTurn plans pending past inserted time position given l more after) is goes
+  goes_behind given before (a ∷ actions) between more after (next, finds, wanted, applies, rest) goes =
+      (next, finds, wanted, applies, goes_behind given next actions between more after rest goes)
+
+  -- and after what was found
+  pub acted_behind : (given before events after : List Event) (actions between all : List Action) (action : Action) (rule : ℕ)
+      (literals : List Literal) → IsFoundFrom plans pending past inserted time position given before action rule literals
+      → Applies action.kind action.event before events → between ≡ actions ++ action ∷ []
+      → GoesFrom plans pending past inserted time position given events between after all
+      → (more : List Action) × (all ≡ actions ++ action ∷ more)
+      × ActsInTurn plans pending past inserted time position given before (action ∷ more) after
+  acted_behind given before events after actions between all action rule literals found applies pushed goes = (
+    goes.0,
+    goes.1 ∙ (ap (λ l. l ++ goes.0) pushed ∙ append_assoc actions (action ∷ []) goes.0),
+    (events, found.finds, found.wanted, applies, goes.2),
+  )
+
+  module _ (met : UnreadStaysMet) (instances_met : UnreadInstanceStaysMet) (rest : UnreadLeavesRest) (can : AllCanBeAsked plans pending past) where
+    abbrev guards : List (Formula × List VarId)
+    guards = map placed_guard past.guards
+
+    -- and after the action the rest of them is left
+    pub left_behind : (events after : List Event) (rule : ℕ) (literal : Literal) (literals : List Literal) (given : List Event)
+        → HasNoRepeats events → Applies literal.kind literal.event events after
+        → AllByRecursion (IsUnreadIn literal.kind literal.event.name) plans
+        → AreLiteralsBehind plans pending past given (literal ∷ literals) → ChangesEvents literal.kind literal.event events
+        → WillBeLeft plans pending past inserted time position events rule (literal ∷ literals)
+        → WillBeLeft plans pending past inserted time position after rule literals
+    left_behind events after rule literal literals given distinct applies unread are changes left trace stands long not_later =
+        let l = left trace stands long not_later in
+        left_after met instances_met rest plans inserted guards literal.kind literal.event events after trace time applies unread
+        pending rule l.plan literals l.left can.roots can.instances l.there l.plain l.instances l.roots l.missing
+        (λ found those. ⊎_elim
+        (λ has. ⊎_elim
+        (λ again. absurd (gone literal.kind literal.event events after distinct applies (changes_now trace after literal again.0)))
+        (λ lost. those_again (IsStillWanted (trace_with_step trace time events)) (IsStillWanted (trace_with_step trace time after)) literals has.1 found
+        (λ other there wanted. let leaf = are other (later other literal literals there) in
+        wanted_now trace events other (still literal.kind other.kind literal.event other.event events after applies
+        (leaf_apart literal.kind other.kind literal.event.name leaf.leaf other.leaf other.event (unread_leaf literal.kind literal.event.name plans leaf.leaf unread leaf.there) leaf.is)
+        (changes_now trace after other wanted)))
+        has.2 lost.1)
+        (subst (λ m. AreThoseWith (IsStillWanted (trace_with_step trace time after)) m found) has.3 those))
+        (λ lacks. absurd (lacks.0 (wanted_now trace events literal changes)))
+        l.those)
+
+    -- after the first action what is left of all of them
+    pub left_first : (given events after : List Event) (rule : ℕ) (action : Action) (literals : List Literal)
+        → 0 < length literals → Applies action.kind action.event events after
+        → AllByRecursion (IsUnreadIn action.kind action.event.name) plans → HasNoChoices plans rule
+        → IsFoundFrom plans pending past inserted time position given events action rule literals
+        → WillBeLeft plans pending past inserted time position after rule literals
+    left_first given events after rule action literals some applies unread goes found trace stands long not_later =
+        let was = found.rest trace stands long not_later some in
+        left_after met instances_met rest plans inserted guards action.kind action.event events after trace time applies unread
+        pending rule goes.plan literals literals can.roots can.instances goes.there goes.plain was.0 was.1.0
+        (was.1.1 goes.plan goes.there goes.plain) (λ left those. those)
+
+    pub left_spared : NothingClashes plans → (given events after : List Event) (rule : ℕ) (action : Action) (literals : List Literal)
+        → 0 < length literals → Applies action.kind action.event events after
+        → (Contains (guard_names past.guards) action.event.name → ⊥) → HasNoChoices plans rule
+        → IsFoundFrom plans pending past inserted time position given events action rule literals
+        → WillBeLeft plans pending past inserted time position after rule literals
+    left_spared nothing given events after rule action literals some applies apart goes found =
+        let wanted = found.wanted in
+        left_first given events after rule action literals some applies
+        (spared_unread plans past.guards action.kind action.event.name nothing
+        (role_of_leaf plans wanted.leaf action.kind action.leaf action.event wanted.there wanted.is) can.roots apart)
+        goes found
+
+    -- ---- what stays after actions that nothing looks for
+
+    -- what was met before a place is met there
+    pub place_stays : (waiting : List Instance) → NothingClashes plans → (given before : List Event) (actions : List Action) (after : List Event) (place : Place)
+        → ActsInTurn plans pending past inserted time position given before actions after
+        → AreSpared (guard_names past.guards) actions
+        → WillBeMetBefore plans pending waiting past inserted time position before place
+        → WillBeMetBefore plans pending waiting past inserted time position after place
+    place_stays waiting nothing given before [] after place is spared was =
+        subst (λ l. WillBeMetBefore plans pending waiting past inserted time position l place) (sym is) was
+    place_stays waiting nothing given before (action ∷ actions) after place (between, finds, wanted, applies, more) spared was =
+        let unread : AllByRecursion (IsUnreadIn action.kind action.event.name) plans =
+        spared_unread plans past.guards action.kind action.event.name nothing
+        (role_of_leaf plans wanted.leaf action.kind action.leaf action.event wanted.there wanted.is) can.roots spared.0
+        in
+        place_stays waiting nothing given between actions after place more spared.1
+        (λ trace stands long later. let at = was trace stands long later in (
+          covers_again (Met plans inserted (trace_with_step trace time before)) (Met plans inserted (trace_with_step trace time between)) pending (drop place.instances waiting) at.0
+              (λ i there met_before. (instances_stay met instances_met rest plans inserted guards action.kind action.event before between trace time applies unread
+              (i ∷ []) (AllByRecursion-contains (CanAskOf guards plans) pending i can.instances there, tt) (met_before, tt)).0),
+          roots_stay met instances_met rest plans inserted guards action.kind action.event before between trace time applies unread
+              place.rules 0 plans can.roots unread at.1,
+        ))

@@ -1,0 +1,5 @@
+use Rattle.choice_step.proofs.Vocabulary.{All, take, IsAway}
+use Rattle.choice_step.proofs.rule_triggers.has_none_of.Given as goal
+
+abbrev pub invariant-loop-name : goal.invariant-loop-name
+invariant-loop-name l = All (IsAway l.events) (take l.name-index l.names)

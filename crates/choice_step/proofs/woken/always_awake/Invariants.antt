@@ -1,8 +1,0 @@
-use Rattle.std.proofs.Common.{◌≡◌, ◌<◌, ℕ, None, Some, Contains, map}
-use Rattle.std.specs.Prelude.{slice_get}
-use Rattle.std.specs.Option.{option_map}
-use Rattle.choice_step.proofs.woken.always_awake.Given as goal
-
-abbrev pub invariant-loop-rule : goal.invariant-loop-rule
-invariant-loop-rule l = (r : ℕ) → r < l.rule
-    → slice_get (map (option_map (λ names. names.items)) l.triggers) r ≡ Some None → Contains l.rules.items r

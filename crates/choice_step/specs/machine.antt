@@ -1,0 +1,15 @@
+pub mod ActionChains
+pub mod AskedLeaves
+pub mod FittingEvents
+pub mod Cases
+pub mod FirstActions
+pub mod FittingLaws
+pub mod JustificationLaws
+pub mod RuleTriggers
+pub mod Laws
+pub mod MetPlaces
+pub mod RootLiterals
+pub mod WantedActions
+pub mod LoopActions
+pub mod Situations
+pub mod StepChoices

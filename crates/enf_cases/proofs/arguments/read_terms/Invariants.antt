@@ -1,5 +1,0 @@
-use Rattle.std.proofs.Common.{length}
-use Rattle.enf_cases.proofs.arguments.read_terms.Given as goal
-
-abbrev pub decreases-loop-piece : goal.decreases-loop-piece
-decreases-loop-piece l = length l.rest

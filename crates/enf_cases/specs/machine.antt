@@ -1,0 +1,2 @@
+pub mod EnforcerProgress
+pub mod GuardRuns

@@ -1,8 +1,0 @@
-use Rattle.enf_cli.proofs.TwoRunsLemmas.{owed_is_one, owed_joins}
-use Rattle.enf_cli.proofs.laws.owed_joins.Goals as goal
-
-pub returns-clause-joins : goal.returns-clause-joins
-returns-clause-joins c = owed_joins c.joins.ensures
-
-pub returns-clause-one : goal.returns-clause-one
-returns-clause-one c = owed_is_one

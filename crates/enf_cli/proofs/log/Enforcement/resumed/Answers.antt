@@ -1,6 +1,0 @@
-use Rattle.std.proofs.Common.{rules}
-use Rattle.enf_cli.proofs.StartLemmas.{new_again}
-use Rattle.enf_cli.proofs.log.Enforcement.resumed.Goals as goal
-
-pub returns-clause-new : goal.returns-clause-new
-returns-clause-new c = new_again c.args.signature.now c.args.policy c.args.state _ c.in_ok-intake.ensures (search rules) c.requires.bounds c.requires.small

@@ -1,0 +1,11 @@
+pub mod Vocabulary
+pub mod EventEquality
+pub mod ListFacts
+pub mod Lists
+pub mod RisingLists
+pub mod SortedSearch
+pub mod TableKeys
+pub mod ValuationFacts
+pub mod ValuationLaws
+pub mod ValueEquality
+pub mod ValueOrder

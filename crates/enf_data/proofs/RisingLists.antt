@@ -1,0 +1,72 @@
+-- What rises has no repeats, and two rising lists of the same items are one.
+use Rattle.enf_data.proofs.Lists.{here, later, first_or_later, none_in_nil}
+use Rattle.enf_data.proofs.Vocabulary.{HasNoRepeats, ◌≡◌, List, [], ◌∷◌, ◌++◌, Contains, refl, sym, ap}
+use Rattle.enf_data.proofs.Vocabulary.{subst, ⊎_elim, ◌∙◌, Contains-append_right, sorted_head, sorted_tail}
+use Rattle.enf_data.proofs.Vocabulary.{IsTotalOrder, AllByRecursion, ordering_reverse, Ordering, Less, Greater}
+use Rattle.std.specs.List.Sorted.{IsStrictlySortedBy}
+
+module _ {X : Type 0} {R : X → X → Ordering} (order : IsTotalOrder R) where
+  not_both : (x y : X) → R x y ≡ Less → R y x ≡ Less → ⊥
+  not_both x y less more =
+      let turned : R x y ≡ ordering_reverse (R y x) = order.antisymm x y in
+      let other : ordering_reverse (R y x) ≡ Greater = ap ordering_reverse more in absurd (cc)
+
+  below_all : (x y : X) (xs : List X) → AllByRecursion (λ z. R x z ≡ Less) xs → Contains xs y → R x y ≡ Less
+  below_all x y [] all there = absurd (none_in_nil y there)
+  below_all x y (z ∷ xs) all there = ⊎_elim (λ (same : z ≡ y). subst (λ w. R x w ≡ Less) same all.0)
+      (λ behind. below_all x y xs all.1 behind) (first_or_later y z xs there)
+
+  -- what is after the first of one list is after the first of the other, where these are the same
+  behind_too : (x y : X) (xs ys : List X) → x ≡ y → IsStrictlySortedBy R (x ∷ xs)
+      → ((z : X) → Contains (x ∷ xs) z → Contains (y ∷ ys) z) → (z : X) → Contains xs z → Contains ys z
+  behind_too x y xs ys same rise into z there =
+      let above = below_all x z xs (sorted_head R x xs rise) there in
+      let itself : y ≡ z → R x x ≡ Less = λ first. subst (λ w. R x w ≡ Less) (sym (same ∙ first)) above in
+      ⊎_elim (λ (first : y ≡ z). absurd (not_both x x (itself first) (itself first))) (λ behind. behind)
+      (first_or_later z y ys (into z (later z x xs there)))
+
+  first_same : (x y : X) (xs ys : List X) → IsStrictlySortedBy R (x ∷ xs) → IsStrictlySortedBy R (y ∷ ys)
+      → Contains (y ∷ ys) x → Contains (x ∷ xs) y → x ≡ y
+  first_same x y xs ys rise too there back =
+      let neither : Contains ys x → Contains xs y → ⊥ = λ behind after.
+      not_both y x (below_all y x ys (sorted_head R y ys too) behind)
+      (below_all x y xs (sorted_head R x xs rise) after) in
+      ⊎_elim (λ (same : y ≡ x). sym same)
+      (λ behind. ⊎_elim (λ (same : x ≡ y). same) (λ after. absurd (neither behind after))
+      (first_or_later y x xs back))
+      (first_or_later x y ys there)
+
+  pub same_rising : (xs ys : List X) → IsStrictlySortedBy R xs → IsStrictlySortedBy R ys
+      → ((z : X) → Contains xs z → Contains ys z) → ((z : X) → Contains ys z → Contains xs z) → xs ≡ ys
+  same_rising [] [] rise too into from = refl
+  same_rising [] (y ∷ ys) rise too into from = absurd (none_in_nil y (from y (here y ys)))
+  same_rising (x ∷ xs) [] rise too into from = absurd (none_in_nil x (into x (here x xs)))
+  same_rising (x ∷ xs) (y ∷ ys) rise too into from =
+      let first : x ≡ y = first_same x y xs ys rise too (into x (here x xs)) (from y (here y ys)) in
+      let rest : xs ≡ ys = same_rising xs ys (sorted_tail R x xs rise) (sorted_tail R y ys too)
+      (behind_too x y xs ys first rise into) (behind_too y x ys xs (sym first) too from) in
+      ap (λ z. z ∷ xs) first ∙ ap (λ zs. y ∷ zs) rest
+
+  pub rising_distinct : (xs : List X) → IsStrictlySortedBy R xs → HasNoRepeats xs
+  rising_distinct [] rise = tt
+  rising_distinct (x ∷ xs) rise = (
+    λ there. let less = below_all x x xs (sorted_head R x xs rise) there in not_both x x less less,
+    rising_distinct xs (sorted_tail R x xs rise),
+  )
+
+  -- of a rising list no item is in front and after
+  pub rising_apart : (xs ys : List X) → IsStrictlySortedBy R (xs ++ ys) → (z : X)
+      → Contains ys z → Contains xs z → ⊥
+  rising_apart [] ys rise z behind there = absurd (none_in_nil z there)
+  rising_apart (x ∷ xs) ys rise z behind there = ⊎_elim
+      (λ (same : x ≡ z).
+      let less = below_all x z (xs ++ ys) (sorted_head R x (xs ++ ys) rise) (Contains-append_right xs ys z behind) in
+      let again : R z z ≡ Less = subst (λ w. R w z ≡ Less) same less in not_both z z again again)
+      (λ later. rising_apart xs ys (sorted_tail R x (xs ++ ys) rise) z behind later)
+      (first_or_later z x xs there)
+
+-- what stands last in a rising list rises
+pub rising_behind : {X : Type 0} (R : X → X → Ordering) (xs ys : List X) → IsStrictlySortedBy R (xs ++ ys)
+    → IsStrictlySortedBy R ys
+rising_behind R [] ys rise = rise
+rising_behind R (x ∷ xs) ys rise = rising_behind R xs ys (sorted_tail R x (xs ++ ys) rise)

@@ -1,0 +1,5 @@
+use Rattle.enf_data.proofs.Vocabulary.{◌≡◌, take}
+use Rattle.enf_data.proofs.items.ItemsDuplicate.duplicate.Given as goal
+
+abbrev pub invariant-loop-item : goal.invariant-loop-item
+invariant-loop-item g l = l.copy.items ≡ take l.item-index l.item-items

@@ -1,0 +1,4 @@
+pub mod Codes
+pub mod EventSets
+pub mod StoredEvents
+pub mod ValueTests

@@ -1,0 +1,10 @@
+-- How an event set is kept: a few events by themselves, more of them with a table.
+use Rattle.enf_data.specs.declared.event_sets.Stored.{Stored}
+use Rattle.enf_data.specs.declared.event_sets.Stored.TheVariants.{Few, Many}
+use Rattle.enf_data.specs.declared.events.Event.{Event}
+use Rattle.std.specs.Prelude.{List}
+
+-- the events, in the order in which they came
+abbrev pub stored_events : Stored → List Event
+stored_events (Few events) = events.items
+stored_events (Many table) = table.value.keys

@@ -1,0 +1,5 @@
+pub mod Membership
+pub mod Data
+pub mod Texts
+pub mod Valuations
+pub mod Values

@@ -1,0 +1,5 @@
+pub mod Agreement
+pub mod Cases
+pub mod FormulaViews
+pub mod Laws
+pub mod Variables

@@ -1,0 +1,2 @@
+pub mod FormulaShape
+pub mod Satisfaction

@@ -1,0 +1,6 @@
+pub mod Adapters
+pub mod KeptFiles
+pub mod CalmDevices
+pub mod MemDevices
+pub mod StreamCalls
+pub mod Turns

@@ -1,0 +1,4 @@
+pub mod Exchange
+pub mod ExchangeGrowth
+pub mod Files
+pub mod FileCalls

@@ -1,0 +1,57 @@
+use Rattle.enf_run.proofs.Vocabulary.{List, ◌∙◌, Err, Ok, map, refl, subst, err_from_is_err_and, FileView}
+use Rattle.enf_run.proofs.Vocabulary.{MOST_FILE_BYTES, typed_of, rule_of, policy_rules_of, check_text, CheckOutcome}
+use Rattle.enf_run.proofs.Vocabulary.{EndsFile, HoldsPolicy, HoldsRefusedPolicy, WritesText, IsCheckForm}
+use Rattle.formula_reader.specs.declared.policies.Rule.{Rule}
+use Rattle.enf_run.proofs.RunLemmas.{check_done, check_ends, check_sources, policy_ends, signature_ends}
+use Rattle.enf_run.proofs.run.check.Goals as goal
+
+pub returns-in_err-read : goal.returns-in_err-read
+returns-in_err-read g c words report after status form =
+    let p = err_from_is_err_and c.from_residual.result c.from_residual.ensures.1 in
+    rw (p.1, p.2) (signature_ends _ report (CheckOutcome _) IsCheckForm (check_sources _ report)
+    c.args.signature_file.now c.args.policy_file.now form refl c.in_err-read.field-0.0 refl refl
+    c.in_err-read.ensures.ends status)
+
+pub returns-in_err-accepted : goal.returns-in_err-accepted
+returns-in_err-accepted g c words report after status form =
+    let p = err_from_is_err_and c.from_residual-in_err-accepted.result c.from_residual-in_err-accepted.ensures.1 in
+    let entries = c.in_ok-read.read.signature in
+    let name = c.args.policy_file.now in
+    let ends = subst (λ (v : FileView). EndsFile MOST_FILE_BYTES (HoldsRefusedPolicy v.contents name entries) name v
+    (g.F.Files.seen c.read_policy.new.files) c.in_err-accepted.field-0.0) c.in_ok-read.ensures.same
+    c.in_err-accepted.ensures.ends in
+    rw (p.1, p.2) (policy_ends _ report (CheckOutcome _) IsCheckForm (check_sources _ report)
+    c.args.signature_file.now name form refl c.in_ok-read.read.bytes.items entries c.in_err-accepted.field-0.0
+    refl refl c.in_ok-read.ensures.held ends status)
+
+pub returns-in_err-give_check : goal.returns-in_err-give_check
+returns-in_err-give_check g c words report after status form =
+    let p = err_from_is_err_and c.from_residual-in_err-give_check.result c.from_residual-in_err-give_check.ensures.1 in
+    let first = c.in_ok-read.ensures.same in
+    let entries = c.in_ok-read.read.signature in
+    let accepted = c.in_ok-accepted.accepted in
+    let policy = policy_rules_of accepted.policy in
+    let cut = c.in_err-give_check.field-0.0 in
+    let holds = subst (λ (v : FileView). HoldsPolicy v.contents c.args.policy_file.now c.in_ok-accepted.accepted.bytes.items entries policy) first c.in_ok-accepted.ensures.held in
+    let text = subst (λ (rules : List Rule). WritesText {T = Unit {0}}
+    (check_text entries (map rule_of rules) accepted.typed.ranked) (Err cut) (g.G.Sink.seen c.args.gate.now)
+    (g.G.Sink.seen c.give_check.new.sink)) c.as_slice-rules.ensures c.in_err-give_check.ensures in
+    rw (p.1, p.2) (check_ends _ report c.args.signature_file.now c.args.policy_file.now form entries policy
+    c.in_ok-read.read.bytes.items c.in_ok-accepted.accepted.bytes.items c.in_ok-read.ensures.held holds
+    (typed_of accepted.typed) c.in_ok-accepted.ensures.typed (c.in_ok-accepted.ensures.same ∙ first) refl cut
+    text status)
+
+pub returns : goal.returns
+returns g c words report after status form =
+    let first = c.in_ok-read.ensures.same in
+    let entries = c.in_ok-read.read.signature in
+    let accepted = c.in_ok-accepted.accepted in
+    let policy = policy_rules_of accepted.policy in
+    let holds = subst (λ (v : FileView). HoldsPolicy v.contents c.args.policy_file.now c.in_ok-accepted.accepted.bytes.items entries policy) first c.in_ok-accepted.ensures.held in
+    let text = subst (λ (rules : List Rule). WritesText {T = Unit {0}}
+    (check_text entries (map rule_of rules) accepted.typed.ranked) (Ok tt) (g.G.Sink.seen c.args.gate.now)
+    (g.G.Sink.seen c.give_check.new.sink)) c.as_slice-rules.ensures c.in_ok-give_check.ensures in
+    check_done _ report c.args.signature_file.now c.args.policy_file.now form entries policy
+    c.in_ok-read.read.bytes.items c.in_ok-accepted.accepted.bytes.items c.in_ok-read.ensures.held holds
+    (typed_of accepted.typed) c.in_ok-accepted.ensures.typed (c.in_ok-accepted.ensures.same ∙ first) refl text
+    status

@@ -1,0 +1,76 @@
+use Rattle.enf_run.proofs.Vocabulary.{Bool, false, ◌∙◌, ◌≡◌, Err, Ok, inl, inr, is_some, subst, sym, refl}
+use Rattle.enf_run.proofs.Vocabulary.{option_map, err_from_is_err_and, Enforcing, policy_rules_of, RanAsJudged}
+use Rattle.enf_run.proofs.Vocabulary.{enforcer_setting, SavesWhereAsked, seen_of, input_log}
+use Rattle.enf_run.proofs.SavedStateLemmas.{accepted_so, same_some, took_accepted}
+use Rattle.enf_run.proofs.run.run_log.Goals as goal
+
+pub save_where_asked-requires : goal.save_where_asked-requires
+save_where_asked-requires g c = record { goes_on = subst (λ (e : Enforcing). e.stopped ≡ false) (sym c.enforcer.ensures) c.in_ok-judged.ensures.goes_on }
+
+pub returns-in_err-judged : goal.returns-in_err-judged
+returns-in_err-judged g c =
+    let p = err_from_is_err_and c.from_residual.result c.from_residual.ensures.1 in
+    rw (p.1, p.2) (inl (record { lost = c.in_err-judged.ensures.lost; ran = c.in_err-judged.ensures.cut; same = refl }))
+
+pub returns-in_err-conclude : goal.returns-in_err-conclude
+returns-in_err-conclude g c =
+    let p = err_from_is_err_and c.from_residual-in_err-conclude.result c.from_residual-in_err-conclude.ensures.1 in
+    let judged = c.in_ok-judged.judged in
+    let enforcer = c.enforce_log.new.log.enforcer in
+    let s = enforcer_setting c.args.names.now.signature.now (policy_rules_of c.args.names.now.policy.now) c.args.log.now.enforcer in
+    let before = seen_of (g.G.Sink.seen c.args.gate.now) (g.R.Sink.seen c.args.report.now) in
+    let after = seen_of (g.G.Sink.seen c.enforce_log.new.gate) (g.R.Sink.seen c.enforce_log.new.report) in
+    let saves_is = c.is_some-saves.ensures ∙ sym (same_some c.args.save) in
+    rw (p.1, p.2) (record {
+      judged = judged;
+      enforcer = enforcer;
+      took = c.in_ok-judged.ensures.took;
+      ran = λ trace built stands. subst (λ (saves : Bool). RanAsJudged saves (s trace) judged enforcer before after) saves_is (c.in_ok-judged.ensures.ran trace built stands);
+      concluded = c.in_err-conclude.ensures;
+      same = refl;
+    })
+
+pub returns-in_err-save_where_asked : goal.returns-in_err-save_where_asked
+returns-in_err-save_where_asked g c =
+    let p = err_from_is_err_and c.from_residual-in_err-save_where_asked.result c.from_residual-in_err-save_where_asked.ensures.1 in
+    let judged = c.in_ok-judged.judged in
+    let enforcer = c.enforce_log.new.log.enforcer in
+    let entries = c.args.names.now.signature.now in
+    let s = enforcer_setting entries (policy_rules_of c.args.names.now.policy.now) c.args.log.now.enforcer in
+    let before = seen_of (g.G.Sink.seen c.args.gate.now) (g.R.Sink.seen c.args.report.now) in
+    let after = seen_of (g.G.Sink.seen c.enforce_log.new.gate) (g.R.Sink.seen c.enforce_log.new.report) in
+    let saves_is = c.is_some-saves.ensures ∙ sym (same_some c.args.save) in
+    let cut = c.in_err-save_where_asked.field-0.0 in
+    let saves = subst (λ (e : Enforcing). SavesWhereAsked (option_map (λ file. file.now) c.args.save) e
+    c.args.sources.signature.now c.args.sources.policy.now (g.F.Files.seen c.args.files.now)
+    (g.F.Files.seen c.save_where_asked.new.files) (Err cut)) c.enforcer.ensures c.in_err-save_where_asked.ensures
+    in
+    rw (p.1, p.2) (inr (record {
+      accepted = judged.accepted;
+      enforcer = enforcer;
+      took = took_accepted (input_log entries c.args.log.now.enforcer.clock) judged before after c.in_ok-judged.ensures.took c.in_ok-conclude.ensures;
+      ran = λ trace built stands. accepted_so (is_some (option_map (λ file. file.now) c.args.save)) (s trace) judged enforcer before after
+          (subst (λ (saves : Bool). RanAsJudged saves (s trace) judged enforcer before after) saves_is (c.in_ok-judged.ensures.ran trace built stands)) c.in_ok-conclude.ensures;
+      saves = saves;
+    }))
+
+pub returns : goal.returns
+returns g c =
+    let judged = c.in_ok-judged.judged in
+    let enforcer = c.enforce_log.new.log.enforcer in
+    let entries = c.args.names.now.signature.now in
+    let s = enforcer_setting entries (policy_rules_of c.args.names.now.policy.now) c.args.log.now.enforcer in
+    let before = seen_of (g.G.Sink.seen c.args.gate.now) (g.R.Sink.seen c.args.report.now) in
+    let after = seen_of (g.G.Sink.seen c.enforce_log.new.gate) (g.R.Sink.seen c.enforce_log.new.report) in
+    let saves_is = c.is_some-saves.ensures ∙ sym (same_some c.args.save) in
+    let saves = subst (λ (e : Enforcing). SavesWhereAsked (option_map (λ file. file.now) c.args.save) e
+    c.args.sources.signature.now c.args.sources.policy.now (g.F.Files.seen c.args.files.now)
+    (g.F.Files.seen c.save_where_asked.new.files) (Ok tt)) c.enforcer.ensures c.in_ok-save_where_asked.ensures in
+    record {
+      accepted = judged.accepted;
+      enforcer = enforcer;
+      took = took_accepted (input_log entries c.args.log.now.enforcer.clock) judged before after c.in_ok-judged.ensures.took c.in_ok-conclude.ensures;
+      ran = λ trace built stands. accepted_so (is_some (option_map (λ file. file.now) c.args.save)) (s trace) judged enforcer before after
+          (subst (λ (saves : Bool). RanAsJudged saves (s trace) judged enforcer before after) saves_is (c.in_ok-judged.ensures.ran trace built stands)) c.in_ok-conclude.ensures;
+      saves = saves;
+    }

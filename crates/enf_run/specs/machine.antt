@@ -1,0 +1,17 @@
+pub mod LogIntake
+pub mod AuditTurns
+pub mod Cases
+pub mod CommandForms
+pub mod FormOutcomes
+pub mod Asked
+pub mod LogRunEnds
+pub mod DrillRuns
+pub mod LineCuts
+pub mod EnforceTurns
+pub mod FileReads
+pub mod LogStarts
+pub mod RunEndings
+pub mod TwoRunCalls
+pub mod TwoRunHeadlines
+pub mod TwoRunLaws
+pub mod TwoRunResuming

@@ -1,6 +1,0 @@
-use Rattle.std.proofs.lemmas.Str.{IsUtf8-from_ascii}
-use Rattle.enf_value.proofs.texts.is_utf8.Goals as goal
-
-pub returns-then-is_ascii : goal.returns-then-is_ascii
-returns-then-is_ascii c =
-    (λ ascii. IsUtf8-from_ascii c.args.bytes.now c.if-is_ascii.ensures.cases, λ utf8. c.if-is_ascii.true)

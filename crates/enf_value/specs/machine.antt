@@ -1,0 +1,5 @@
+pub mod TokenViews
+pub mod PrintedTokens
+pub mod TokenCuts
+pub mod Laws
+pub mod ValueCalls

@@ -1,7 +1,0 @@
-use Rattle.std.proofs.Common.{arith}
-use Rattle.plan_terms.specs.Plans.{plan_of}
-use Rattle.enforce_types.proofs.NumberingLemmas.{has_node}
-use Rattle.enforce_types.proofs.numbering.+number.Goals as goal
-
-pub overflow_add-below : goal.overflow_add-below
-overflow_add-below t c = omega (arith, has_node (plan_of c.args.plan.now))

@@ -1,0 +1,2 @@
+pub mod Elab
+pub mod PolicyRefusals

@@ -1,0 +1,2 @@
+pub mod FollowsPolicy
+pub mod JustifiedByPolicy

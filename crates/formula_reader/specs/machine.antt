@@ -1,0 +1,12 @@
+pub mod BareRules
+pub mod StoredRules
+pub mod CallAnswers
+pub mod WrittenBack
+pub mod RoundTrip
+pub mod Cases
+pub mod WellFormedPolicies
+pub mod Laws
+pub mod PointPasses
+pub mod PrintedOperators
+pub mod RefusalPlaces
+pub mod TextPieces

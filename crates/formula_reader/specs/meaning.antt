@@ -1,0 +1,4 @@
+pub mod Resolution
+pub mod SortRefusals
+pub mod PolicyAnswers
+pub mod RuleText

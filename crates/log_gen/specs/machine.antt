@@ -1,0 +1,3 @@
+pub mod Generators
+pub mod Laws
+pub mod SampleTexts

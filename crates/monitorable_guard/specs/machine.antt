@@ -1,0 +1,10 @@
+pub mod PresentMeaning
+pub mod ValueSources
+pub mod Evaluation
+pub mod TermMatches
+pub mod Answers
+pub mod Cases
+pub mod EventOrder
+pub mod Guards
+pub mod SatisfyingRows
+pub mod Laws

@@ -1,0 +1,177 @@
+-- What asking a plan takes: guards at their numbers, variables that have values, and rows of tables.
+use Rattle.obligations.proofs.Vocabulary.{◌≡◌, ℕ, zero, suc, ◌<◌, List, [], ◌∷◌, ◌++◌, length}
+use Rattle.obligations.proofs.Vocabulary.{map, Contains, None, Some, IsTrue, refl, sym, ap, subst, arith, ⊎_elim}
+use Rattle.obligations.proofs.Vocabulary.{◌∙◌, ◌↔◌, slice_get, IsSome, Contains-append_left}
+use Rattle.obligations.proofs.Vocabulary.{Contains-append_right, same_Some, none-some, AllByRecursion-contains}
+use Rattle.obligations.proofs.Vocabulary.{Contains-append, HasNoRepeats, rising_behind, rising_distinct, same_rising}
+use Rattle.obligations.proofs.Vocabulary.{Valuation, value_at, variable_cmp, with_values, BindsColumns}
+use Rattle.obligations.proofs.Vocabulary.{variable_cmp_total, Step, Term, Var, VarId, Value, some_value, Formula}
+use Rattle.obligations.proofs.Vocabulary.{IsFree, AreTermsInScope, AreNewVariables, IsTermInScope, new_apart, AreOpen}
+use Rattle.obligations.proofs.Vocabulary.{AreHoldingRows, HoldsNow, AreEvaluated, IsEvaluated, BindsBound}
+use Rattle.obligations.proofs.Vocabulary.{HasOpenColumns, IsGuard, IsTestOf, PastTables, guard_formula, tables_of}
+use Rattle.obligations.proofs.Vocabulary.{PlacedGuard, among_or_not, agrees_once, cell_some, table_row-length}
+use Rattle.obligations.proofs.Vocabulary.{value_at-with_inside, value_at-with_outside, filled_fresh, filled_from_row}
+use Rattle.obligations.proofs.Vocabulary.{AgreeOnColumns, AgreesWithRow, HasValuation, IsTable, Relation, FitsScope}
+use Rattle.obligations.proofs.Vocabulary.{IsGuardAt, IsNowOf, placed_guard, guards_at, AreGuardRows, HoldsLast, Now}
+use Rattle.std.specs.Prelude.{Bool}
+
+-- ---- a guard at its number
+
+pub listed : (guards : List PlacedGuard) (n : ℕ) (f : Formula) (scope : List VarId)
+    → slice_get (map placed_guard guards) n ≡ Some (f, scope)
+    → (g : PlacedGuard) × (slice_get guards n ≡ Some g) × (n < length guards) × (guard_formula g ≡ f) × (g.guard.bound ≡ scope)
+listed [] n f scope e = absurd (none-some (f, scope) e)
+listed (g ∷ guards) zero f scope e =
+    let same = same_Some (placed_guard g) (f, scope) e in
+    (g, refl, omega arith, ap (λ p. p.0) same, ap (λ p. p.1) same)
+listed (g ∷ guards) (suc n) f scope e =
+    let (h, found, within, formula, bound) = listed guards n f scope e in (h, found, omega (arith, within), formula, bound)
+
+module _ (tables : PastTables) (n : ℕ) (f : Formula) (scope : List VarId) (at : IsGuardAt (guards_at tables) n f scope) where
+  pub the_guard : (g : PlacedGuard) × (slice_get tables.guards n ≡ Some g) × (n < length tables.guards) × (guard_formula g ≡ f) × (g.guard.bound ≡ scope)
+  the_guard = listed tables.guards n f scope at.listed
+
+  pub within : n < length tables.guards
+  within = the_guard.2
+
+  pub is_guard : (g : PlacedGuard) → IsGuard tables.guards n g → (guard_formula g ≡ f) × (g.guard.bound ≡ scope)
+  is_guard g found =
+      let same : the_guard.0 ≡ g = same_Some the_guard.0 g (sym the_guard.1 ∙ found) in
+      (ap guard_formula (sym same) ∙ the_guard.3, ap (λ h. h.guard.bound) (sym same) ∙ the_guard.4)
+
+  pub binds_bound : (v : Valuation) → BindsColumns v scope → BindsBound tables.guards n v
+  binds_bound v binds g found = subst (BindsColumns v) (sym (is_guard g found).1) binds
+
+  pub is_test : ((x : VarId) → IsFree x f → Contains scope x) → IsTestOf tables.guards n
+  is_test free g found x of =
+      subst (λ xs. Contains xs x) (sym (is_guard g found).1) (free x (subst (IsFree x) (is_guard g found).0 of))
+
+-- ---- variables that have values
+
+pub leaf_binds : (scope : List VarId) (terms : List Term) (v : Valuation) → AreTermsInScope scope terms → BindsColumns v scope
+    → (x : VarId) → Contains terms (Var x) → IsSome (value_at v x)
+leaf_binds scope terms v in_scope binds x there =
+    binds x (AllByRecursion-contains (IsTermInScope scope) terms (Var x) in_scope there)
+
+pub new_distinct : (scope xs : List VarId) → AreNewVariables scope xs → HasNoRepeats xs
+new_distinct scope xs new = rising_distinct variable_cmp_total xs (rising_behind variable_cmp scope xs new)
+
+module _ (scope xs : List VarId) (new : AreNewVariables scope xs) (v : Valuation) (fit : FitsScope scope v) where
+  pub fresh_in : (x : VarId) → Contains xs x → value_at v x ≡ None
+  fresh_in x there = fit.only x (new_apart scope xs new x there)
+
+  pub filled_is : (row : List Value) → filled_from_row v xs row ≡ with_values xs row v
+  filled_is row = filled_fresh v xs row (new_distinct scope xs new) fresh_in
+
+  module _ (row : List Value) (long : length row ≡ length xs) where
+    pub same_on_scope : AgreeOnColumns scope v (with_values xs row v)
+    same_on_scope x there = sym (value_at-with_outside xs row v x (λ brought. new_apart scope xs new x brought there))
+
+    pub row_values : (x : VarId) → Contains xs x → IsSome (value_at (with_values xs row v) x)
+    row_values x there =
+        let some = cell_some xs row x long there in
+        some_value (value_at (with_values xs row v) x) some.0 (value_at-with_inside xs row v x (new_distinct scope xs new) long there ∙ some.1)
+
+    pub under_row : FitsScope (scope ++ xs) (with_values xs row v)
+    under_row = record {
+      binds = λ x there. ⊎_elim
+          (λ old. subst IsSome (same_on_scope x old) (fit.binds x old))
+          (λ brought. row_values x brought)
+          (Contains-append scope xs x there);
+      only = λ x absent. value_at-with_outside xs row v x (λ brought. absent (Contains-append_right scope xs x brought))
+          ∙ fit.only x (λ old. absent (Contains-append_left scope xs x old));
+    }
+
+-- ---- the rows of a table
+
+module _ (now : Now) (n : ℕ) (f : Formula) (scope xs : List VarId) (at : IsGuardAt (guards_at now.tables.now) n f scope)
+    (opening : AreOpen f scope xs) (new : AreNewVariables scope xs) (v : Valuation) (fit : FitsScope scope v) (t : Relation)
+    (table : IsTable t) (columns : HasOpenColumns now.tables.now n t)
+    (evaluated : AreEvaluated now.tables.now n now.ordered.now v t) where
+  abbrev g : PlacedGuard
+  g = (the_guard now.tables.now n f scope at).0
+
+  abbrev found : IsGuard now.tables.now.guards n g
+  found = (the_guard now.tables.now n f scope at).1
+
+  abbrev formula_is : guard_formula g ≡ f
+  formula_is = (the_guard now.tables.now n f scope at).3
+
+  abbrev bound_is : g.guard.bound ≡ scope
+  bound_is = (the_guard now.tables.now n f scope at).4
+
+  opens : AreOpen f scope t.columns
+  opens = subst (λ h. AreOpen h scope t.columns) formula_is
+      (subst (λ b. AreOpen (guard_formula g) b t.columns) bound_is (columns g found))
+
+  pub same_columns : t.columns ≡ xs
+  same_columns = same_rising variable_cmp_total t.columns xs opens.rising opening.rising
+      (λ z there. (opening.exact z).1 ((opens.exact z).0 there))
+      (λ z there. (opens.exact z).1 ((opening.exact z).0 there))
+
+  same_table : t ≡ record { columns = xs; rows = t.rows }
+  same_table = ap (λ c. record { columns = c; rows = t.rows }) same_columns
+
+  pub is_table : IsTable (record { columns = xs; rows = t.rows })
+  is_table = subst IsTable same_table table
+
+  holds_for : AreHoldingRows now.ordered.now (tables_of g now.tables.now) (guard_formula g) scope v (record { columns = xs; rows = t.rows })
+  holds_for = subst (λ u. AreHoldingRows now.ordered.now (tables_of g now.tables.now) (guard_formula g) scope v u) same_table
+      (subst (λ b. AreHoldingRows now.ordered.now (tables_of g now.tables.now) (guard_formula g) b v t) bound_is (evaluated g found))
+
+  -- each row of the table is ps long ps the variables
+  pub row_fits : (row : List Value) → Contains t.rows row → length row ≡ length xs
+  row_fits row there = table_row-length (record { columns = xs; rows = t.rows }) row is_table there
+
+  -- for each row of the table the guard holds by its tables
+  pub row_holds : (row : List Value) → Contains t.rows row → (tables : List Relation) × HoldsNow now.ordered.now tables (with_values xs row v) f
+  row_holds row there =
+      let long = row_fits row there in (
+        tables_of g now.tables.now,
+        subst (HoldsNow now.ordered.now (tables_of g now.tables.now) (with_values xs row v)) formula_is
+            ((holds_for (with_values xs row v) (same_on_scope scope xs new v fit row long) (row_values scope xs new v fit row long)).0
+            (row, there, λ x among. value_at-with_inside xs row v x (new_distinct scope xs new) long among)),
+      )
+
+  module _ (trace : List Step) (is : IsNowOf now trace) (row : List Value) (long : length row ≡ length xs) where
+    abbrev w : Valuation
+    w = with_values xs row v
+
+    free_binds : (x : VarId) → IsFree x f → IsSome (value_at w x)
+    free_binds x free =
+        ⊎_elim
+        (λ old. (under_row scope xs new v fit row long).binds x (Contains-append_left scope xs x old))
+        (λ other. row_values scope xs new v fit row long x ((opening.exact x).1 (free, other)))
+        (among_or_not scope x)
+
+    on_trace : HoldsNow now.ordered.now (tables_of g now.tables.now) w (guard_formula g) ↔ HoldsLast trace w (guard_formula g)
+    on_trace = is.guards n g found w (λ x free. free_binds x (subst (IsFree x) formula_is free))
+
+    by_table : HasValuation (record { columns = xs; rows = t.rows }) w ↔ HoldsNow now.ordered.now (tables_of g now.tables.now) w (guard_formula g)
+    by_table = holds_for w (same_on_scope scope xs new v fit row long) (row_values scope xs new v fit row long)
+
+    agrees : AgreesWithRow w xs row
+    agrees x there = value_at-with_inside xs row v x (new_distinct scope xs new) long there
+
+    pub is_row : Contains t.rows row ↔ HoldsLast trace w f
+    is_row = (
+      λ there. subst (HoldsLast trace w) formula_is (on_trace.0 (by_table.0 (row, there, agrees))),
+      λ holds. let has = by_table.1 (on_trace.1 (subst (HoldsLast trace w) (sym formula_is) holds)) in
+          subst (Contains t.rows) (agrees_once w xs has.0 row (new_distinct scope xs new) (row_fits has.0 has.1) long has.2 agrees) has.1,
+    )
+
+  pub rows_are : (trace : List Step) → IsNowOf now trace → AreGuardRows trace v xs f t.rows
+  rows_are trace is = record { fit = is_table.fits; rise = table.rising; are = λ row long. is_row trace is row long }
+
+-- a test holds at the step where it holds by its tables
+pub test_is : (now : Now) (trace : List Step) (n : ℕ) (f : Formula) (scope : List VarId)
+    → IsGuardAt (guards_at now.tables.now) n f scope → ((x : VarId) → IsFree x f → Contains scope x) → IsNowOf now trace
+    → (v : Valuation) → BindsColumns v scope → (holds : Bool) → IsEvaluated now.tables.now n now.ordered.now v holds
+    → IsTrue holds ↔ HoldsLast trace v f
+test_is now trace n f scope at free is v binds holds evaluated =
+    let (g, found, within, formula, bound) = the_guard now.tables.now n f scope at in
+    let told = evaluated g found in
+    let on_trace = is.guards n g found v (λ x of. binds x (free x (subst (IsFree x) formula of))) in (
+      λ is_true. subst (HoldsLast trace v) formula (on_trace.0 (told.0 is_true)),
+      λ holds. told.1 (on_trace.1 (subst (HoldsLast trace v) (sym formula) holds)),
+    )

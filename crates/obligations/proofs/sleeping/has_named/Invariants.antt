@@ -1,6 +1,0 @@
-use Rattle.std.proofs.Common.{◌≡◌, map, take}
-use Rattle.std.specs.List.{AllByRecursion}
-use Rattle.obligations.proofs.sleeping.has_named.Given as goal
-
-abbrev pub invariant-loop-event : goal.invariant-loop-event
-invariant-loop-event l = AllByRecursion (λ n. n ≡ l.name → ⊥) (map (λ e. e.name) (take l.event-index l.events))

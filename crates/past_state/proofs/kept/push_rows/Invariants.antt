@@ -1,9 +1,0 @@
-use Rattle.std.proofs.Common.{◌≡◌, ◌++◌, map}
-use Rattle.past_state.specs.Saved.{kept_row}
-use Rattle.past_state.proofs.kept.push_rows.Given as goal
-
-abbrev pub invariant-loop-pair : goal.invariant-loop-pair
-invariant-loop-pair l =
-    (goal.iterator-loop-pair).can_next l.pair-iterator ×
-    (goal.iterator-loop-pair).is_finite l.pair-iterator
-    × (l.out.items ≡ l.fn.out.items ++ map (kept_row l.window) l.yielded) × (l.initial.pair-iterator.rest.items ≡ l.yielded ++ l.pair-iterator.rest.items)

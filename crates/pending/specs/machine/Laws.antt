@@ -1,0 +1,25 @@
+-- That what sleeps misses nothing and becomes itself.
+use Rattle.enf_data.specs.declared.steps.Step.{Step}
+use Rattle.enf_data.specs.declared.terms.VarId.{VarId}
+use Rattle.std.specs.Prelude.{◌≡◌, false, List, [], ◌∷◌}
+use Rattle.enf_formula.specs.meaning.Satisfaction.{Formula}
+use Rattle.plan_terms.specs.meaning.Plans.{Plan}
+use Rattle.obligations.specs.declared.instances.Instance.{Instance}
+use Rattle.obligations.specs.declared.literals.Literal.{Literal}
+use Rattle.obligations.specs.machine.AskablePlans.{CanAskOf}
+use Rattle.obligations.specs.meaning.Obligations.{time_now}
+use Rattle.obligations.specs.meaning.Pending.{MissingOf, After, node_of}
+use Rattle.pending.specs.machine.WakePatterns.{InstanceSleeps, IsWindowNotOver}
+
+-- an instance that sleeps misses nothing, where it is not forced
+abbrev pub SleepersMissNothing : Type 0
+SleepersMissNothing = (guards : List (Formula × List VarId)) (plans : List Plan) (trace : List Step) (i : Instance)
+    → CanAskOf guards plans i → InstanceSleeps plans trace i
+    → (literals : List Literal) → MissingOf plans trace i false literals → literals ≡ []
+
+-- an instance that sleeps becomes itself
+abbrev pub SleepersStay : Type 0
+SleepersStay = (guards : List (Formula × List VarId)) (plans : List Plan) (trace : List Step) (i : Instance)
+    → CanAskOf guards plans i → InstanceSleeps plans trace i
+    → IsWindowNotOver (node_of plans i) i (time_now trace)
+    → (after : List Instance) → After plans trace i after → after ≡ i ∷ []

@@ -1,0 +1,9 @@
+pub mod Cases
+pub mod GuardPlaces
+pub mod GuardProperties
+pub mod IntervalEnds
+pub mod NamedNodes
+pub mod Laws
+pub mod NameBounds
+pub mod StoredPlans
+pub mod WellFormed

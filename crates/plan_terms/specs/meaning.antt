@@ -1,0 +1,3 @@
+pub mod Owed
+pub mod Scopes
+pub mod Plans

@@ -1,0 +1,10 @@
+pub mod Automaton
+pub mod BareTrees
+pub mod StoredTrees
+pub mod CallAnswers
+pub mod Cases
+pub mod Cursor
+pub mod WrittenTrees
+pub mod Laws
+pub mod PhraseReading
+pub mod PartOutcomes

@@ -1,7 +1,0 @@
-use Rattle.std.proofs.Common.{map}
-use Rattle.plan_terms.specs.Plans.{plan_of}
-use Rattle.rank_check.proofs.BareLemmas.{NoneBefore}
-use Rattle.rank_check.proofs.untriggered.first_untriggered.Given as goal
-
-abbrev pub invariant-loop-plan : goal.invariant-loop-plan
-invariant-loop-plan l = NoneBefore (map plan_of l.plans) l.plan-index

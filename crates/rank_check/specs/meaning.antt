@@ -1,0 +1,4 @@
+pub mod AcceptedPlans
+pub mod Horizon
+pub mod Ranked
+pub mod Refusals

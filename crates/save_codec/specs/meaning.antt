@@ -1,0 +1,4 @@
+pub mod SavedTexts
+pub mod ToldSorts
+pub mod SavedBounds
+pub mod SaveRefusals

@@ -1,5 +1,0 @@
-use Rattle.sleepers.specs.Noted.{IsWithinBut}
-use Rattle.sleepers.proofs.index.remove_each.Given as goal
-
-abbrev pub invariant-loop-pattern : goal.invariant-loop-pattern
-invariant-loop-pattern l = IsWithinBut l.group l.fn.by_pattern l.by_pattern

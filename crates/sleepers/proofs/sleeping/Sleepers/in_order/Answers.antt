@@ -1,9 +1,0 @@
-use Rattle.std.proofs.Common.{ap, ◌∙◌}
-use Rattle.sleepers.proofs.SortedLemmas.{all_in_order}
-use Rattle.sleepers.specs.Groups.{held}
-use Rattle.sleepers.proofs.sleeping.Sleepers.in_order.Goals as goal
-
-pub returns : goal.returns
-returns g c =
-    all_in_order c.in_ok-all.all.items c.sort_by_place.new.entries.items c.sort_by_place.ensures.same c.sort_by_place.ensures.order (held c.self.inside.groups) c.in_ok-all.ensures c.self.invariant.apart
-    ∙ ap (λ s. s.entries) c.self.view_is

@@ -1,0 +1,9 @@
+pub mod Patterns
+pub mod Places
+pub mod Entries
+pub mod EntrySteps
+pub mod Cases
+pub mod PatternKeys
+pub mod NotedGroups
+pub mod Groups
+pub mod Laws

@@ -1,0 +1,321 @@
+-- What is known of rules at positions, as one after another is settled.
+use Rattle.trace_audit.proofs.Vocabulary.{◌≡◌, ℕ, ◌+◌, List, [], ◌∷◌, ◌++◌, length, Option, None}
+use Rattle.trace_audit.proofs.Vocabulary.{Some, refl, sym, ap, subst, arith, inl, inr, ⊎_elim, ◌⊎◌, ◌∙◌}
+use Rattle.trace_audit.proofs.Vocabulary.{◌↔◌, slice_get, AllByRecursion, cases_lt, Contains-append_left}
+use Rattle.trace_audit.proofs.Vocabulary.{Contains-append_right, option_map, length-map, same_Some, slice_get-map}
+use Rattle.trace_audit.proofs.Vocabulary.{slice_get_within, AllByRecursion-append, AllByRecursion-of_append}
+use Rattle.trace_audit.proofs.Vocabulary.{AllByRecursion-weaker, first_or_later, here, none_in_nil, no_values, Step}
+use Rattle.trace_audit.proofs.Vocabulary.{VarId, Formula, Sat, formula_for, Plan, formulas_for, NothingElse}
+use Rattle.trace_audit.proofs.Vocabulary.{RulesAreMet, BeginsRules, RulesCanGoOn, FollowsAsked, FollowsOneAsked}
+use Rattle.trace_audit.proofs.Vocabulary.{IsRuleBefore, IsRuleBeforeAny, IsJudged, IsAskedFor, PutsIn, JudgesStep}
+use Rattle.trace_audit.proofs.Vocabulary.{asked_at, rule_at, IsAt, AuditMoment, TellsRest, ResidualCanGoOn, PlanHoldsAt}
+use Rattle.trace_audit.proofs.Vocabulary.{Means, IsBroken, Followed, OpenRule, Residual, RuleAt}
+use Rattle.trace_audit.specs.declared.residuals.Residual.TheVariants as stored
+
+-- ---- the order
+
+before_trans : (a b c : RuleAt) → IsRuleBefore a b → IsRuleBefore b c → IsRuleBefore a c
+before_trans a b c (inl p) (inl q) = inl (omega (arith, p, q))
+before_trans a b c (inl p) (inr q) = let same = q.0 in inl (omega (arith, p, same))
+before_trans a b c (inr p) (inl q) = let same = p.0 in inl (omega (arith, same, q))
+before_trans a b c (inr p) (inr q) =
+    let one = p.0 in let two = q.0 in let less = p.1 in let more = q.1 in
+    inr (omega (arith, one, two), omega (arith, less, more))
+
+before_any : (a b : RuleAt) (other : Option RuleAt) → IsRuleBefore a b → IsRuleBeforeAny b other → IsRuleBeforeAny a other
+before_any a b None before any = tt
+before_any a b (Some c) before any = before_trans a b c before any
+
+not_before_itself : (a : RuleAt) → IsRuleBefore a a → ⊥
+not_before_itself a (inl p) = omega (arith, p)
+not_before_itself a (inr p) = let less = p.1 in omega (arith, less)
+
+module _ (policy : List Formula) (trace : List Step) (from : ℕ) where
+  -- ---- a claim that is settled
+
+  module _ (end : RuleAt) (Rest : RuleAt → Type 0) (at : RuleAt) (P : Type 0) where
+    abbrev pub WithClaim : RuleAt → Type 0
+    WithClaim other = Rest other × (at ≡ other → P)
+
+    abbrev Judged : (Others : RuleAt → Type 0) → List OpenRule → Option RuleAt → Type 0
+    Judged Others asked broken = IsJudged policy trace from end Others asked broken
+
+    -- it holds
+    pub claim_met : (asked : List OpenRule) (broken : Option RuleAt) → P → Judged WithClaim asked broken → Judged Rest asked broken
+    claim_met asked broken holds judged = record {
+      items = judged.items;
+      failed = judged.failed;
+      others = λ other rule is before any met rest. judged.others other rule is before any met (rest, λ same. holds);
+    }
+
+    -- it comes after what is broken
+    pub claim_behind : (asked : List OpenRule) (broken : Option RuleAt) → (IsRuleBeforeAny at broken → ⊥)
+        → Judged WithClaim asked broken → Judged Rest asked broken
+    claim_behind asked broken behind judged = record {
+      items = judged.items;
+      failed = judged.failed;
+      others = λ other rule is before any met rest. judged.others other rule is before any met
+          (rest, λ same. absurd (behind (subst (λ o. IsRuleBeforeAny o broken) (sym same) any)));
+    }
+
+    -- it does not hold, and is the first that is broken
+    pub claim_failed : (asked : List OpenRule) (broken : Option RuleAt) → IsRuleBefore at end → IsRuleBeforeAny at broken
+        → IsBroken policy trace at.rule at.position → Judged WithClaim asked broken → Judged Rest asked (Some at)
+    claim_failed asked broken early first fails judged = record {
+      items = judged.items;
+      failed = λ other same. let is = same_Some at other same in
+          (subst (λ o. IsRuleBefore o end) is early, subst (λ (o : RuleAt). IsBroken policy trace o.rule o.position) is fails);
+      others = λ other rule is before any met rest. judged.others other rule is before
+          (before_any other at broken any first) met
+          (rest, λ same. absurd (not_before_itself other (subst (IsRuleBefore other) same any)));
+    }
+
+    -- it is asked
+    pub claim_asked : (asked : List OpenRule) (broken : Option RuleAt) (rest : Residual) → IsAskedFor policy trace from end (asked_at at rest)
+        → (Means trace from rest → P) → Judged WithClaim asked broken → Judged Rest (asked ++ asked_at at rest ∷ []) broken
+    claim_asked asked broken rest is tells judged = record {
+      items = AllByRecursion-append (IsAskedFor policy trace from end) asked (asked_at at rest ∷ []) judged.items (is, tt);
+      failed = judged.failed;
+      others = λ other rule of_rule before any met others. judged.others other rule of_rule before any
+          (λ item there same. met item (Contains-append_left asked (asked_at at rest ∷ []) item there) same)
+          (others, λ same. tells (met (asked_at at rest) (Contains-append_right asked (asked_at at rest ∷ []) (asked_at at rest) (here (asked_at at rest) [])) same));
+    }
+
+    put_asked : (rule : Formula) (rest : Residual) (before after : Followed) → slice_get policy at.rule ≡ Some rule
+        → IsRuleBefore at end → P ↔ Sat trace at.position no_values rule → P ↔ Means trace from rest
+        → (after.asked.items ≡ before.asked.items ++ asked_at at rest ∷ []) × (after.broken ≡ before.broken)
+        → Judged WithClaim before.asked.items before.broken → Judged Rest after.asked.items after.broken
+    put_asked rule rest before after of_rule early sat means puts judged =
+        subst (Judged Rest after.asked.items) (sym puts.1) (subst (λ items. Judged Rest items before.broken) (sym puts.0)
+        (claim_asked before.asked.items before.broken rest (record {
+          rule = rule;
+          of_rule = of_rule;
+          before = early;
+          means = (λ m. sat.0 (means.1 m), λ holds. means.0 (sat.1 holds));
+        }) means.1 judged))
+
+    -- what is asked for it is put in
+    pub claim_put : (rule : Formula) (rest : Residual) (before after : Followed) → slice_get policy at.rule ≡ Some rule
+        → IsRuleBefore at end → IsRuleBeforeAny at before.broken → P ↔ Sat trace at.position no_values rule
+        → P ↔ Means trace from rest → PutsIn at rest before after → Judged WithClaim before.asked.items before.broken
+        → Judged Rest after.asked.items after.broken
+    claim_put rule stored.Met before after of_rule early first sat means puts judged =
+        subst (λ (a : Followed). Judged Rest a.asked.items a.broken) (sym puts) (claim_met before.asked.items before.broken (means.1 tt) judged)
+    claim_put rule stored.Failed before after of_rule early first sat means puts judged =
+        subst (λ (a : Followed). Judged Rest a.asked.items a.broken) (sym puts)
+        (claim_failed before.asked.items before.broken early first (rule, of_rule, λ holds. means.0 (sat.1 holds)) judged)
+    claim_put rule (stored.Waits w) before after of_rule early first sat means puts judged =
+        put_asked rule (stored.Waits w) before after of_rule early sat means puts judged
+    claim_put rule (stored.Chain' shape links) before after of_rule early first sat means puts judged =
+        put_asked rule (stored.Chain' shape links) before after of_rule early sat means puts judged
+
+  -- where less else is known
+  pub judged_weaker : (end : RuleAt) (Rest Others : RuleAt → Type 0) → ((at : RuleAt) → Others at → Rest at)
+      → (asked : List OpenRule) (broken : Option RuleAt) → IsJudged policy trace from end Rest asked broken
+      → IsJudged policy trace from end Others asked broken
+  judged_weaker end Rest Others weaker asked broken judged = record {
+    items = judged.items;
+    failed = judged.failed;
+    others = λ other rule is before any met rest. judged.others other rule is before any met (weaker other rest);
+  }
+
+  -- up to a later end, where those between are known
+  pub judged_further : (end further : RuleAt) (Rest Others : RuleAt → Type 0) (asked : List OpenRule) (broken : Option RuleAt)
+      → ((at : RuleAt) → IsRuleBefore at end → IsRuleBefore at further)
+      → ((at : RuleAt) → Others at → Rest at)
+      → ((at : RuleAt) (rule : Formula) → slice_get policy at.rule ≡ Some rule → IsRuleBefore at further → IsRuleBeforeAny at broken
+      → Others at → IsRuleBefore at end ⊎ Sat trace at.position no_values rule)
+      → IsJudged policy trace from end Rest asked broken → IsJudged policy trace from further Others asked broken
+  judged_further end further Rest Others asked broken more weaker between judged = record {
+    items = AllByRecursion-weaker (IsAskedFor policy trace from end) (IsAskedFor policy trace from further) asked
+        (λ item is. record { rule = is.rule; of_rule = is.of_rule; before = more item.at is.before; means = is.means }) judged.items;
+    failed = λ at same. let is = judged.failed at same in (more at is.0, is.1);
+    others = λ at rule is before any met others. ⊎_elim
+        (λ early. judged.others at rule is early any met (weaker at others))
+        (λ holds. holds)
+        (between at rule is before any others);
+  }
+
+-- what is met of some is met of the first and of the others
+with_first : (policy : List Formula) (trace : List Step) (from at : ℕ) (end : RuleAt) (item : OpenRule) (left asked : List OpenRule)
+    (broken : Option RuleAt) → IsJudged policy trace from end (RulesAreMet trace at (item ∷ left)) asked broken
+    → IsJudged policy trace from end (WithClaim policy trace from end (RulesAreMet trace at left) item.at (Means trace at item.rest)) asked broken
+with_first policy trace from at end item left asked broken judged =
+    judged_weaker policy trace from end (RulesAreMet trace at (item ∷ left))
+    (WithClaim policy trace from end (RulesAreMet trace at left) item.at (Means trace at item.rest))
+    (λ place claims other there same. ⊎_elim
+    (λ one. subst (λ (o : OpenRule). Means trace at o.rest) one (claims.1 (subst (λ (o : OpenRule). o.at ≡ place) (sym one) same)))
+    (λ later. claims.0 other later same)
+    (first_or_later other item left there)) asked broken judged
+
+-- ---- what is asked is followed over a step, one after another
+
+module _ (now : AuditMoment) where
+  pub follow_item : (item : OpenRule) (rest : Residual) (before after : Followed)
+      → TellsRest now (λ trace. Means trace now.position item.rest) rest → IsRuleBeforeAny item.at before.broken
+      → PutsIn item.at rest before after → FollowsOneAsked now item before after
+  follow_item item rest before after tells first puts = λ policy trace end left is of judged.
+      claim_put policy trace (now.position + 1) end (RulesAreMet trace now.position left) item.at (Means trace now.position item.rest)
+      of.rule rest before after of.of_rule of.before first of.means (tells.means trace is) puts
+      (with_first policy trace (now.position + 1) now.position end item left before.asked.items before.broken judged)
+
+  pub follow_behind : (item : OpenRule) (followed : Followed) → (IsRuleBeforeAny item.at followed.broken → ⊥)
+      → FollowsOneAsked now item followed followed
+  follow_behind item followed behind = λ policy trace end left is of judged.
+      claim_behind policy trace (now.position + 1) end (RulesAreMet trace now.position left) item.at (Means trace now.position item.rest)
+      followed.asked.items followed.broken behind
+      (with_first policy trace (now.position + 1) now.position end item left followed.asked.items followed.broken judged)
+
+  -- where these of what was asked are still to be followed
+  abbrev pub FollowsOn : (asked : List OpenRule) (broken : Option RuleAt) → (left : List OpenRule) → Followed → Type 0
+  FollowsOn asked broken left followed = (policy : List Formula) (trace : List Step) (end : RuleAt) → IsAt now trace
+      → IsJudged policy trace now.position end NothingElse asked broken
+      → IsJudged policy trace (now.position + 1) end (RulesAreMet trace now.position left) followed.asked.items followed.broken
+
+  module _ (asked : List OpenRule) (broken : Option RuleAt) where
+    pub follows_first : (followed : Followed) → followed.asked.items ≡ [] → followed.broken ≡ broken
+        → FollowsOn asked broken asked followed
+    follows_first followed none same = λ policy trace end is judged.
+        subst (λ items. IsJudged policy trace (now.position + 1) end (RulesAreMet trace now.position asked) items followed.broken) (sym none)
+        (subst (IsJudged policy trace (now.position + 1) end (RulesAreMet trace now.position asked) []) (sym same) (record {
+          items = tt;
+          failed = judged.failed;
+          others = λ at rule of_rule before any met rest. judged.others at rule of_rule before any rest tt;
+        }))
+
+    pub follows_next : (done : List OpenRule) (item : OpenRule) (left : List OpenRule) (before after : Followed)
+        → asked ≡ done ++ item ∷ left → FollowsOn asked broken (item ∷ left) before → FollowsOneAsked now item before after
+        → FollowsOn asked broken left after
+    follows_next done item left before after split on one = λ policy trace end is judged.
+        let all = subst (AllByRecursion (IsAskedFor policy trace now.position end)) split judged.items in
+        let of = (AllByRecursion-of_append (IsAskedFor policy trace now.position end) done (item ∷ left) all).1.0 in
+        one policy trace end left is of (on policy trace end is judged)
+
+    pub follows_all : (followed : Followed) → FollowsOn asked broken [] followed → (policy : List Formula) (trace : List Step)
+        (end : RuleAt) → IsAt now trace → IsJudged policy trace now.position end NothingElse asked broken
+        → IsJudged policy trace (now.position + 1) end NothingElse followed.asked.items followed.broken
+    follows_all followed on = λ policy trace end is judged.
+        judged_weaker policy trace (now.position + 1) end (RulesAreMet trace now.position []) NothingElse
+        (λ at anything item there same. absurd (none_in_nil item there)) followed.asked.items followed.broken
+        (on policy trace end is judged)
+
+  -- ---- and so is each rule at the step
+
+  module _ (plans : List Plan) (before : Followed) where
+    abbrev here_at : ℕ → RuleAt
+    here_at count = rule_at count now.position
+
+    below_next : (count : ℕ) (at : RuleAt) → IsRuleBefore at (here_at count) → IsRuleBefore at (here_at (count + 1))
+    below_next count at (inl p) = inl p
+    below_next count at (inr p) = let less = p.1 in inr (p.0, omega (arith, less))
+
+    below_or_it : (count : ℕ) (at : RuleAt) → IsRuleBefore at (here_at (count + 1)) → IsRuleBefore at (here_at count) ⊎ (here_at count ≡ at)
+    below_or_it count at (inl p) = inl (inl p)
+    below_or_it count at (inr p) = let less = p.1 in ⊎_elim
+        (λ lower. inl (inr (p.0, lower)))
+        (λ upper. let same : count ≡ at.rule = omega (arith, less, upper) in inr (λ i. record { rule = same i; position = sym p.0 i }))
+        (cases_lt at.rule count)
+
+    pub begins_next : (count : ℕ) (plan : Plan) (rest : Residual) (between after : Followed)
+        → slice_get plans count ≡ Some plan → BeginsRules now plans count before between
+        → IsRuleBeforeAny (here_at count) between.broken
+        → TellsRest now (λ trace. PlanHoldsAt trace no_values plan now.position) rest
+        → PutsIn (here_at count) rest between after → BeginsRules now plans (count + 1) before after
+    begins_next count plan rest between after of begins first tells puts = λ trace is judged.
+        let holds : Type 0 = PlanHoldsAt trace no_values plan now.position in
+        let formulas = formulas_for plans in
+        let of_rule : slice_get formulas count ≡ Some (formula_for plan) = slice_get-map formula_for plans count ∙ ap (option_map formula_for) of in
+        claim_put formulas trace (now.position + 1) (here_at (count + 1)) NothingElse (here_at count) holds
+        (formula_for plan) rest between after of_rule (inr (refl, omega arith)) first (λ h. h, λ h. h) (tells.means trace is) puts
+        (judged_further formulas trace (now.position + 1) (here_at count) (here_at (count + 1)) NothingElse
+        (WithClaim formulas trace (now.position + 1) (here_at (count + 1)) NothingElse (here_at count) holds)
+        between.asked.items between.broken (below_next count) (λ at claim. tt)
+        (λ at rule is_rule early any claims. ⊎_elim
+        (λ below. inl below)
+        (λ same. let said : Sat trace now.position no_values (formula_for plan) = claims.1 same in
+        let rule_is : formula_for plan ≡ rule = same_Some (formula_for plan) rule (sym of_rule
+        ∙ (ap (λ (a : RuleAt). slice_get formulas a.rule) same ∙ is_rule)) in
+        inr (subst (λ (a : RuleAt). Sat trace a.position no_values rule) same (subst (Sat trace now.position no_values) rule_is said)))
+        (below_or_it count at early))
+        (begins trace is judged))
+
+-- ---- the first that is broken at the end
+
+-- where these of what was asked are still to be looked at
+abbrev pub FindsFirst : (asked : List OpenRule) (broken : Option RuleAt) → (left : List OpenRule) → Option RuleAt → Type 0
+FindsFirst asked broken left first = (policy : List Formula) (trace : List Step) (end : RuleAt)
+    → IsJudged policy trace (length trace) end NothingElse asked broken
+    → IsJudged policy trace (length trace) end (RulesAreMet trace (length trace) left) [] first
+
+module _ (asked : List OpenRule) (broken : Option RuleAt) where
+  pub finds_it : (done : List OpenRule) (item : OpenRule) (left : List OpenRule) (first : Option RuleAt) → asked ≡ done ++ item ∷ left
+      → FindsFirst asked broken (item ∷ left) first → IsRuleBeforeAny item.at first
+      → ((trace : List Step) → Means trace (length trace) item.rest → ⊥)
+      → FindsFirst asked broken left (Some item.at)
+  finds_it done item left first split finds before fails = λ policy trace end judged.
+      let all = subst (AllByRecursion (IsAskedFor policy trace (length trace) end)) split judged.items in
+      let of = (AllByRecursion-of_append (IsAskedFor policy trace (length trace) end) done (item ∷ left) all).1.0 in
+      claim_failed policy trace (length trace) end (RulesAreMet trace (length trace) left) item.at (Means trace (length trace) item.rest)
+      [] first of.before before (of.rule, of.of_rule, λ holds. fails trace (of.means.1 holds))
+      (with_first policy trace (length trace) (length trace) end item left [] first (finds policy trace end judged))
+
+  pub finds_met : (item : OpenRule) (left : List OpenRule) (first : Option RuleAt) → FindsFirst asked broken (item ∷ left) first
+      → ((trace : List Step) → Means trace (length trace) item.rest) → FindsFirst asked broken left first
+  finds_met item left first finds met = λ policy trace end judged.
+      claim_met policy trace (length trace) end (RulesAreMet trace (length trace) left) item.at (Means trace (length trace) item.rest)
+      [] first (met trace) (with_first policy trace (length trace) (length trace) end item left [] first (finds policy trace end judged))
+
+  pub finds_behind : (item : OpenRule) (left : List OpenRule) (first : Option RuleAt) → FindsFirst asked broken (item ∷ left) first
+      → (IsRuleBeforeAny item.at first → ⊥) → FindsFirst asked broken left first
+  finds_behind item left first finds behind = λ policy trace end judged.
+      claim_behind policy trace (length trace) end (RulesAreMet trace (length trace) left) item.at (Means trace (length trace) item.rest)
+      [] first behind (with_first policy trace (length trace) (length trace) end item left [] first (finds policy trace end judged))
+
+  pub finds_all : (first : Option RuleAt) → FindsFirst asked broken [] first → (policy : List Formula) (trace : List Step) (end : RuleAt)
+      → IsJudged policy trace (length trace) end NothingElse asked broken
+      → IsJudged policy trace (length trace) end NothingElse [] first
+  finds_all first finds = λ policy trace end judged.
+      judged_weaker policy trace (length trace) end (RulesAreMet trace (length trace) []) NothingElse
+      (λ at anything item there same. absurd (none_in_nil item there)) [] first (finds policy trace end judged)
+
+-- ---- a whole step
+
+pub takes_step : (now : AuditMoment) (plans : List Plan) (before between after : Followed) → FollowsAsked now before between
+    → BeginsRules now plans (length plans) between after → JudgesStep now plans before after
+takes_step now plans before between after follows begins = λ trace is judged.
+    judged_further (formulas_for plans) trace (now.position + 1) (rule_at (length plans) now.position) (rule_at 0 (now.position + 1)) NothingElse NothingElse
+    after.asked.items after.broken more (λ at any. tt) (λ at rule of early any others. inl (up_to at rule of early))
+    (begins trace is (follows (formulas_for plans) trace (rule_at 0 now.position) is judged))
+  where
+    more : (at : RuleAt) → IsRuleBefore at (rule_at (length plans) now.position) → IsRuleBefore at (rule_at 0 (now.position + 1))
+    more at (inl p) = inl (omega (arith, p))
+    more at (inr p) = let same = p.0 in inl (omega (arith, same))
+
+    up_to : (at : RuleAt) (rule : Formula) → slice_get (formulas_for plans) at.rule ≡ Some rule → IsRuleBefore at (rule_at 0 (now.position + 1))
+        → IsRuleBefore at (rule_at (length plans) now.position)
+    up_to at rule of (inr p) = let none = p.1 in absurd (omega (arith, none))
+    up_to at rule of (inl p) = ⊎_elim
+        (λ less. inl less)
+        (λ most. inr (omega (arith, p, most), omega (arith, slice_get_within (formulas_for plans) at.rule rule of, length-map plans formula_for)))
+        (cases_lt at.position now.position)
+
+-- ---- lists
+
+pub none_left : {X : Type 0} (xs : List X) → length xs ≡ 0 → xs ≡ []
+none_left [] none = refl
+none_left (x ∷ xs) none = absurd (omega (arith, none))
+
+can_more : (guards : List (Formula × List VarId)) (at : RuleAt) (rest : Residual) (before after : Followed) → ResidualCanGoOn guards rest
+    → after.asked.items ≡ before.asked.items ++ asked_at at rest ∷ [] → RulesCanGoOn guards before.asked.items
+    → RulesCanGoOn guards after.asked.items
+can_more guards at rest before after can grown all = subst (RulesCanGoOn guards) (sym grown)
+    (AllByRecursion-append (λ (item : OpenRule). ResidualCanGoOn guards item.rest) before.asked.items (asked_at at rest ∷ []) all (can, tt))
+
+-- what was put in can be followed
+pub can_put : (guards : List (Formula × List VarId)) (at : RuleAt) (rest : Residual) (before after : Followed) → ResidualCanGoOn guards rest
+    → PutsIn at rest before after → RulesCanGoOn guards before.asked.items → RulesCanGoOn guards after.asked.items
+can_put guards at stored.Met before after can puts all = subst (λ (a : Followed). RulesCanGoOn guards a.asked.items) (sym puts) all
+can_put guards at stored.Failed before after can puts all = subst (λ (a : Followed). RulesCanGoOn guards a.asked.items) (sym puts) all
+can_put guards at (stored.Waits w) before after can puts all = can_more guards at (stored.Waits w) before after can puts.0 all
+can_put guards at (stored.Chain' shape links) before after can puts all =
+    can_more guards at (stored.Chain' shape links) before after can puts.0 all

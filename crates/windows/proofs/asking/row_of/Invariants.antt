@@ -1,6 +1,0 @@
-use Rattle.std.proofs.Common.{◌≡◌, map, take, Some}
-use Rattle.windows.specs.Queries.{cells}
-use Rattle.windows.proofs.asking.row_of.Given as goal
-
-abbrev pub invariant-loop-column : goal.invariant-loop-column
-invariant-loop-column g l = cells (take l.column-index l.columns) (g.V.Lookup.valuation l.v) ≡ map Some l.values.items

@@ -1,9 +1,0 @@
-use Rattle.std.proofs.Common.{◌≡◌, ◌++◌}
-use Rattle.windows.specs.KeptPairs.{AreEntriesOf}
-use Rattle.windows.proofs.kept.entries_of.Given as goal
-
-abbrev pub invariant-loop-pair : goal.invariant-loop-pair
-invariant-loop-pair l =
-    (goal.iterator-loop-pair).can_next l.pair-iterator ×
-    (goal.iterator-loop-pair).is_finite l.pair-iterator
-    × AreEntriesOf l.yielded l.entries.entries × (l.initial.pair-iterator.rest.items ≡ l.yielded ++ l.pair-iterator.rest.items)

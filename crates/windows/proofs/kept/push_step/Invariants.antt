@@ -1,6 +1,0 @@
-use Rattle.std.proofs.Common.{◌≡◌, ◌++◌, map, take}
-use Rattle.windows.specs.KeptPairs.{pair}
-use Rattle.windows.proofs.kept.push_step.Given as goal
-
-abbrev pub invariant-loop-row : goal.invariant-loop-row
-invariant-loop-row l = l.out.items ≡ l.fn.out.items ++ map (λ row. pair row l.time) (take l.row-index l.rows)

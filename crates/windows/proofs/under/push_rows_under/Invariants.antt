@@ -1,8 +1,0 @@
-use Rattle.std.proofs.Common.{◌↔◌, ◌⊎◌, IsTrue, List, take, Contains}
-use Rattle.enf_value.specs.declared.values.Value.{Value}
-use Rattle.windows.specs.Queries.{are_as_bound, cells}
-use Rattle.windows.proofs.under.push_rows_under.Given as goal
-
-abbrev pub invariant-loop-row : goal.invariant-loop-row
-invariant-loop-row g l = (row : List Value) → Contains l.out.items row ↔ (Contains l.fn.out.items row
-    ⊎ (Contains (take l.row-index l.rows.rows) row × IsTrue (are_as_bound (cells l.query.columns.now (g.V.Lookup.valuation l.query.values.now)) row)))

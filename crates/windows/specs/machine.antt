@@ -1,0 +1,12 @@
+pub mod RowTimes
+pub mod WindowEntries
+pub mod RowQueries
+pub mod Slots
+pub mod CommittedSteps
+pub mod StepQueues
+pub mod Windows
+pub mod AnswerTables
+pub mod StoredPairs
+pub mod AnswerLaws
+pub mod Cases
+pub mod Laws
